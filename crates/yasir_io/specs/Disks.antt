@@ -1,0 +1,55 @@
+-- A disk of two slots of sixteen bytes, and what a crash may leave of it.
+use Rattle.std.specs.Prelude.{◌≡◌, ℕ, ◌<◌, ◌≤◌, ◌⊎◌, List, length, Option, Some, None, IfSome, option_map}
+use Rattle.yasir_io.specs.declared.disk.Slot.{Slot}
+use Rattle.yasir_io.specs.declared.disk.Slot.TheVariants.{A, B}
+
+-- what both slots hold, as a read gives them
+pub record Slots : Type 0 where
+  pub a : List ℕ
+  pub b : List ℕ
+
+abbrev pub slot_in : Slots → Slot → List ℕ
+slot_in slots A = slots.a
+slot_in slots B = slots.b
+
+abbrev pub other_slot : Slot → Slot
+other_slot A = B
+other_slot B = A
+
+-- the slots with one of them set to these bytes
+abbrev pub with_slot : Slots → Slot → List ℕ → Slots
+with_slot slots A bytes = record slots { a = bytes }
+with_slot slots B bytes = record slots { b = bytes }
+
+-- sixteen bytes
+pub record IsSlot (bytes : List ℕ) : Type 0 where
+  pub size : length bytes ≡ 16
+
+-- the slot may hold any sixteen bytes, and the other is as it was
+abbrev pub Torn : Slot → Slots → Slots → Type 0
+Torn slot old new = (bytes : List ℕ) × (length bytes ≡ 16) × (new ≡ with_slot old slot bytes)
+
+-- each new image is an old one after a step
+abbrev pub Follows : (Slots → Slots → Type 0) → (Slots → Type 0) → (Slots → Type 0) → Type 0
+Follows step old new = (c : Slots) → new c → (d : Slots) × old d × step d c
+
+-- each new image is an old one
+abbrev pub NoMore : (Slots → Type 0) → (Slots → Type 0) → Type 0
+NoMore old new = (c : Slots) → new c → old c
+
+-- where the slots are told, the one image is the slots as read
+abbrev pub OneImage : Option Slots → (Slots → Type 0) → Type 0
+OneImage told may_leave = (c : Slots) → may_leave c → told ≡ Some c
+
+-- Time goes on: a crash since t might have left what it might have left before, or what it may leave now.
+pub record Elapses (before now : ℕ) (past since : ℕ → Slots → Type 0) (may_leave : Slots → Type 0) : Type 0 where
+  pub later : before ≤ now
+  pub nothing_else : (t : ℕ) (c : Slots) → t ≤ before → since t c → past t c ⊎ may_leave c
+  pub keeps : (t : ℕ) (c : Slots) → t ≤ before → past t c → since t c
+
+-- A crash at any moment since `old` leaves an image that has P.
+pub record LeavesOnly {D : Type 0} (moment : D → ℕ) (left_since : D → ℕ → Slots → Type 0) (old new : D) (P : Slots → Type 0) : Type 0 where
+  pub later : moment old ≤ moment new
+  pub each : (c : Slots) → left_since new (moment old) c → P c
+  -- for a run that began earlier
+  pub before : (t : ℕ) (c : Slots) → t ≤ moment old → left_since new t c → left_since old t c ⊎ P c

@@ -1,0 +1,63 @@
+ghost use Rattle.std.specs.Prelude.{◌≡◌, ℕ, ◌≤◌, Option, Some, option_map, OnOk, IfOk, OnErr, IfSome};
+ghost use Rattle.yasir_io.specs.Causes.{HasCause};
+
+use crate::Failed;
+
+/// The name of a slot.
+#[derive(Clone, Copy, Debug, PartialEq, Eq)]
+pub enum Slot {
+    A,
+    B,
+}
+
+/// A disk of two slots of sixteen bytes.
+pub trait SlotDisk {
+    ghost use Rattle.yasir_io.specs.Disks.{Slots, slot_in, with_slot, Torn, Follows, NoMore, OneImage, Elapses};
+
+    /// The slots as a read gives them, where the disk tells them.
+    ghost told: { Self → Option Slots };
+
+    /// What a crash now may leave; nothing where the disk doesn't tell it.
+    ghost may_leave: { Self → Slots → Type 0 };
+
+    /// A clock that never falls.
+    ghost moment: { Self → ℕ };
+
+    /// What a crash at some moment since a given time might have left.
+    ghost left_since: { Self → ℕ → Slots → Type 0 };
+
+    /// How often a call has failed.
+    ghost faults: { Self → ℕ };
+
+    fn read_slot(&mut self, slot: Slot) -> Result<[u8; 16], Failed>
+        ensures bytes { IfOk result (λ bytes. IfSome (told self.old) (λ slots. bytes ≡ slot_in slots slot)) }
+        ensures told { told self.new ≡ told self.old }
+        ensures images { NoMore (may_leave self.old) (may_leave self.new) }
+        ensures images_back { NoMore (may_leave self.new) (may_leave self.old) }
+        ensures time { Elapses (moment self.old) (moment self.new) (left_since self.old) (left_since self.new) (may_leave self.new) }
+        ensures cause { HasCause (faults self.old) (faults self.new) result };
+
+    /// Sets a slot. After a failure it reads as before, but a crash may leave any sixteen bytes there.
+    fn write_slot(&mut self, slot: Slot, bytes: &[u8; 16]) -> Result<(), Failed>
+        ensures written { OnOk result (told self.new ≡ option_map (λ slots. with_slot slots slot bytes.now) (told self.old)) }
+        ensures unwritten { OnErr result (told self.new ≡ told self.old) }
+        ensures images { Follows (Torn slot) (may_leave self.old) (may_leave self.new) }
+        ensures time { Elapses (moment self.old) (moment self.new) (left_since self.old) (left_since self.new) (may_leave self.new) }
+        ensures cause { HasCause (faults self.old) (faults self.new) result };
+
+    /// Makes what was written outlive a crash.
+    fn sync(&mut self) -> Result<(), Failed>
+        ensures durable { OnOk result (OneImage (told self.new) (may_leave self.new)) }
+        ensures told { told self.new ≡ told self.old }
+        ensures images { NoMore (may_leave self.old) (may_leave self.new) }
+        ensures images_back { OnErr result (NoMore (may_leave self.new) (may_leave self.old)) }
+        ensures time { Elapses (moment self.old) (moment self.new) (left_since self.old) (left_since self.new) (may_leave self.new) }
+        ensures cause { HasCause (faults self.old) (faults self.new) result };
+
+    /// The slots as they read are one of the images, where there is any.
+    ghost reads_an_image: { (disk : Self) (s c : Slots) → told disk ≡ Some s → may_leave disk c → may_leave disk s };
+
+    ghost counts_now: { (disk : Self) (t : ℕ) (c : Slots) → t ≤ moment disk → may_leave disk c → left_since disk t c };
+
+    ghost only_now: { (disk : Self) (c : Slots) → left_since disk (moment disk) c → may_leave disk c };
+}

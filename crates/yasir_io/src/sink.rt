@@ -1,0 +1,27 @@
+ghost use Rattle.std.specs.Prelude.{◌≡◌, ℕ, ◌≤◌, ◌<◌, Option, List, take, length, IfOk, OnErr};
+ghost use Rattle.std.specs.Io.KnownBytes.{append_known};
+ghost use Rattle.yasir_io.specs.Causes.{HasCause};
+
+use crate::Failed;
+
+/// Where bytes go to.
+pub trait Sink {
+    /// The bytes held, where the sink tells them.
+    ghost held: { Self → Option (List ℕ) };
+
+    /// How often a write or a flush has failed.
+    ghost faults: { Self → ℕ };
+
+    /// Appends the first bytes of the piece, and answers how many: at least one, unless the piece is empty.
+    fn write(&mut self, piece: &[u8]) -> Result<usize, Failed>
+        ensures within { IfOk result (λ n. n ≤ length piece.now) }
+        ensures some { IfOk result (λ n. 0 < length piece.now → 0 < n) }
+        ensures bytes { IfOk result (λ n. held self.new ≡ append_known (held self.old) (take n piece.now)) }
+        ensures err { OnErr result (held self.new ≡ held self.old) }
+        ensures cause { HasCause (faults self.old) (faults self.new) result };
+
+    /// Hands on what is held.
+    fn flush(&mut self) -> Result<(), Failed>
+        ensures same { held self.new ≡ held self.old }
+        ensures cause { HasCause (faults self.old) (faults self.new) result };
+}

@@ -1,0 +1,28 @@
+-- Bursts of a line: the line is cut wherever `cut` or more silent ticks stand together. The start of the line counts as quiet.
+use Rattle.std.specs.Prelude.{ℕ, suc, ◌+◌, ◌-◌, nat_lt, List, [], ◌∷◌, ◌++◌, if◌then◌else◌}
+use Rattle.yasir_ticks.specs.Ticks.{silent}
+use Rattle.yasir_ticks.specs.declared.tick.Tick.{Tick}
+use Rattle.yasir_ticks.specs.declared.tick.Tick.TheVariants.{Silent, Byte}
+
+-- from the tick of its first byte, the ticks up to its last byte
+pub record Burst : Type 0 where
+  pub start : ℕ
+  pub body : List Tick
+
+-- A byte at tick n, before these bursts: it joins one that starts fewer than `cut` silent ticks after it.
+unfoldable pub with_byte : ℕ → ℕ → ℕ → List Burst → List Burst
+with_byte cut n b [] = record { start = n; body = Byte b ∷ [] } ∷ []
+with_byte cut n b (d ∷ ds) =
+    if nat_lt d.start (suc n + cut)
+    then record { start = n; body = Byte b ∷ (silent (d.start - suc n) ++ d.body) } ∷ ds
+    else record { start = n; body = Byte b ∷ [] } ∷ d ∷ ds
+
+-- the bursts of ticks whose first one is tick n of the line
+unfoldable pub bursts_from : ℕ → ℕ → List Tick → List Burst
+bursts_from cut n [] = []
+bursts_from cut n (Silent ∷ l) = bursts_from cut (suc n) l
+bursts_from cut n (Byte b ∷ l) = with_byte cut n b (bursts_from cut (suc n) l)
+
+-- the bursts of a line, which four silent ticks cut
+abbrev pub bursts : List Tick → List Burst
+bursts l = bursts_from 4 0 l

@@ -1,0 +1,150 @@
+-- Tick text: a recorded line as text, one line of text for a run of bytes, of silence, or a mark.
+-- The format is this project's own; docs/TICK_TEXT.md has it in full.
+use Rattle.std.specs.Prelude.{◌≡◌, ℕ, ◌+◌, ◌*◌, ◌-◌, ◌<◌, ◌==◌, ◌&&◌, ◌||◌, ◌%◌, nat_le, suc, Bool, true, false, not, if◌then◌else◌, List, [], ◌∷◌, ◌++◌, length, map, replicate, Option, Some, None, is_some, unwrap_or, option_map, option_and_then}
+use Rattle.std.specs.List.{flat_map, list_all}
+use Rattle.std.specs.Option.{option_map_or}
+use Rattle.std.specs.Result.{result_ok}
+use Rattle.hex.specs.Hex.{decode_of, is_hex_digit}
+use Rattle.yasir_ticks.specs.Ticks.{Item, marks_in}
+use Rattle.yasir_ticks.specs.Ticks.Item.{tick, mark}
+use Rattle.yasir_ticks.specs.declared.fault.TickFault.{TickFault}
+use Rattle.yasir_ticks.specs.declared.fault.TickFault.TheVariants.{Char, Odd, Long, Count, Empty, Mark}
+use Rattle.yasir_ticks.specs.declared.fault.BadTicks.{BadTicks}
+use Rattle.yasir_ticks.specs.declared.tick.Tick.TheVariants.{Silent, Byte}
+
+-- A text cut at each LF: the lines that an LF ended, and the last line, which may be empty.
+pub record Lines : Type 0 where
+  pub ended : List (List ℕ)
+  pub last : List ℕ
+
+-- a byte other than LF before these lines
+abbrev pub with_front : ℕ → List (List ℕ) → List ℕ → Lines
+with_front b [] last = record { ended = []; last = b ∷ last }
+with_front b (l ∷ ls) last = record { ended = (b ∷ l) ∷ ls; last = last }
+
+unfoldable pub lines_of : List ℕ → Lines
+lines_of [] = record { ended = []; last = [] }
+lines_of (b ∷ x) =
+    if b == 10
+    then record { ended = [] ∷ (lines_of x).ended; last = (lines_of x).last }
+    else with_front b (lines_of x).ended (lines_of x).last
+
+-- `+`: 1 to 32 pairs of hex digits of either case, that many bytes
+abbrev pub byte_items : List ℕ → Option (List Item)
+byte_items digits =
+    if nat_le 1 (length digits) && nat_le (length digits) 64
+    then option_map (λ bytes. map (λ b. tick (Byte b)) bytes) (result_ok (decode_of digits))
+    else None
+
+-- the number that decimal digits spell, after a number that was spelled before them
+abbrev pub number_after : ℕ → List ℕ → ℕ
+number_after n [] = n
+number_after n (d ∷ digits) = number_after (10 * n + (d - 48)) digits
+
+abbrev pub is_decimal_digit : ℕ → Bool
+is_decimal_digit c = nat_le 48 c && nat_le c 57
+
+-- digits alone, at least one, and the first not 0
+abbrev pub is_plain_decimal : List ℕ → Bool
+is_plain_decimal [] = false
+is_plain_decimal (d ∷ digits) = not (d == 48) && list_all is_decimal_digit (d ∷ digits)
+
+-- `-`: a decimal number from 1 to 1000000 without leading zero, that many silent ticks
+abbrev pub silence_items : List ℕ → Option (List Item)
+silence_items digits =
+    if is_plain_decimal digits && nat_le (number_after 0 digits) 1000000
+    then Some (replicate (number_after 0 digits) (tick Silent))
+    else None
+
+-- what the content of a line that is no comment stands for; none where it has no right form
+abbrev pub content_items : List ℕ → Option (List Item)
+content_items [] = Some []
+content_items (c ∷ x) =
+    if c == 43 then byte_items x
+    else if c == 45 then silence_items x
+    else if c == 37 then (if length x == 0 then Some (mark ∷ []) else None)
+    else None
+
+-- a line without the CR that may stand as its last byte
+abbrev pub without_return : List ℕ → List ℕ
+without_return [] = []
+without_return (c ∷ []) = if c == 13 then [] else c ∷ []
+without_return (c ∷ d ∷ x) = c ∷ without_return (d ∷ x)
+
+-- what a line stands for: `#` and at most 120 bytes are a comment, in which a CR is a byte like any other
+unfoldable pub line_items : List ℕ → Option (List Item)
+line_items [] = Some []
+line_items (c ∷ x) =
+    if c == 35
+    then (if nat_le (length x) 120 then Some [] else None)
+    else content_items (without_return (c ∷ x))
+
+-- what these lines stand for; none where one of them has no right form
+abbrev pub all_items : List (List ℕ) → Option (List Item)
+all_items [] = Some []
+all_items (l ∷ ls) = option_and_then (λ items. option_map (λ more. items ++ more) (all_items ls)) (line_items l)
+
+-- The text stands for these items, and has exactly so many marks.
+pub record IsTickText (marks : ℕ) (text : List ℕ) (items : List Item) : Type 0 where
+  pub lines : all_items ((lines_of text).ended ++ (lines_of text).last ∷ []) ≡ Some items
+  pub marked : marks_in items ≡ marks
+
+-- The text is the beginning of a right text with so many marks.
+abbrev pub BeginsTickText : ℕ → List ℕ → Type 0
+BeginsTickText marks text = (more : List ℕ) × (items : List Item) × IsTickText marks (text ++ more) items
+
+-- The refused place of a text: the end of its shortest prefix that begins no right text.
+pub record IsRefusedAfter (marks : ℕ) (before : List ℕ) (byte : ℕ) : Type 0 where
+  pub begins : BeginsTickText marks before
+  pub refused : ¬ BeginsTickText marks (before ++ byte ∷ [])
+
+-- what the lines stand for that an LF ended, each of them having a right form
+abbrev pub ended_items : List ℕ → List Item
+ended_items text = flat_map (λ l. unwrap_or (line_items l) []) (lines_of text).ended
+
+-- the line, counted from 1, in which the byte after this text stands, or its end
+abbrev pub line_after : List ℕ → ℕ
+line_after text = suc (length (lines_of text).ended)
+
+-- whether a byte, or the end of the text, ends the content of a line
+abbrev pub ends_content : Option ℕ → Bool
+ends_content None = true
+ends_content (Some b) = b == 10 || b == 13
+
+-- Why a byte, or the end of the text, is refused after a beginning of its line that isn't refused.
+abbrev pub fault_in_bytes : List ℕ → Option ℕ → TickFault
+fault_in_bytes digits next =
+    if ends_content next && length digits == 0 then Empty
+    else if ends_content next && length digits % 2 == 1 then Odd
+    else if option_map_or is_hex_digit next false && length digits == 64 then Long
+    else Char
+
+abbrev pub fault_in_silence : List ℕ → Option ℕ → TickFault
+fault_in_silence digits next =
+    if ends_content next && length digits == 0 then Empty
+    else if option_map_or is_decimal_digit next false then Count
+    else Char
+
+abbrev pub ends_in_return : List ℕ → Bool
+ends_in_return [] = false
+ends_in_return (c ∷ []) = c == 13
+ends_in_return (c ∷ d ∷ x) = ends_in_return (d ∷ x)
+
+abbrev pub fault_in_line : List ℕ → Option ℕ → TickFault
+fault_in_line [] next = Char
+fault_in_line (c ∷ x) next =
+    if c == 35 then Long
+    else if ends_in_return (c ∷ x) then Char
+    else if c == 43 then fault_in_bytes x next
+    else if c == 45 then fault_in_silence x next
+    else Char
+
+-- why the byte after this text is refused
+abbrev pub fault_after : List ℕ → ℕ → TickFault
+fault_after text byte = fault_in_line (lines_of text).last (Some byte)
+
+-- why the end of this text is refused
+abbrev pub fault_at_end : List ℕ → TickFault
+fault_at_end text =
+    if is_some (line_items (lines_of text).last) then Mark
+    else fault_in_line (lines_of text).last None

@@ -1,0 +1,23 @@
+/// Why a tick text is refused.
+#[derive(Clone, Copy, Debug, PartialEq, Eq)]
+pub enum TickFault {
+    /// A byte that may not stand at its place.
+    Char,
+    /// The end of a `+` line after an odd number of hex digits.
+    Odd,
+    /// The 65th hex digit of a `+` line, or the 121st byte after `#`.
+    Long,
+    /// A `-` line whose number begins with 0 or is above 1000000.
+    Count,
+    /// A `+` or `-` line with nothing after its sign.
+    Empty,
+    /// The end of a text that has fewer marks than stated.
+    Mark,
+}
+
+/// A refusal of a tick text: the line, counted from 1, in which the refused byte or the end of the text stands.
+#[derive(Clone, Copy, Debug, PartialEq, Eq)]
+pub struct BadTicks {
+    pub line: u32,
+    pub why: TickFault,
+}

@@ -1,0 +1,13 @@
+//! Ticks of a serial line, and tick text: the recorded line that a program reads.
+#![tactic(auto)]
+
+mod fault;
+mod run;
+mod tick;
+
+pub use fault::{BadTicks, TickFault};
+pub use run::{LineBytes, Run};
+pub use tick::Tick;
+
+/// How many ticks may be taken at most by whatever counts its ticks: 2^62.
+pub const MAX_TICKS: u64 = 4_611_686_018_427_387_904;
