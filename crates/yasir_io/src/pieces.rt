@@ -46,8 +46,11 @@ impl Pieces {
             → (result ≡ Ok (Some b)) × (kept_bytes self.new ≡ rest) × (source.new ≡ source.old) }
 
         // Only the end ends it.
-        ensures goes_on { IfOk result (λ next. OnSome next (has_ended self.new ≡ has_ended self.old)) }
-        ensures same { OnErr result ((kept_bytes self.new ≡ kept_bytes self.old) × (has_ended self.new ≡ has_ended self.old)) }
+        ensures still_open { IfOk result (λ next. OnSome next (has_ended self.new ≡ has_ended self.old)) }
+        ensures err_open { OnErr result (has_ended self.new ≡ has_ended self.old) }
+
+        // A read fails only where nothing is kept.
+        ensures err_kept { OnErr result ((kept_bytes self.old ≡ []) × (kept_bytes self.new ≡ [])) }
 
         // The end, and after it.
         ensures end { result ≡ Ok None → (has_ended self.new ≡ true) × (kept_bytes self.new ≡ []) }
@@ -72,8 +75,9 @@ impl Pieces {
         ensures next { IfOk result (λ next. S.left source.old
             ≡ prepend_known (option_to_list next) (to_come self.new (S.left source.new))) }
         ensures err { OnErr result (to_come self.new (S.left source.new) ≡ S.left source.old) }
-        ensures goes_on { IfOk result (λ next. OnSome next (has_ended self.new ≡ has_ended self.old)) }
-        ensures same { OnErr result ((kept_bytes self.new ≡ []) × (has_ended self.new ≡ has_ended self.old)) }
+        ensures still_open { IfOk result (λ next. OnSome next (has_ended self.new ≡ has_ended self.old)) }
+        ensures err_open { OnErr result (has_ended self.new ≡ has_ended self.old) }
+        ensures err_kept { OnErr result (kept_bytes self.new ≡ []) }
         ensures end { result ≡ Ok None → (has_ended self.new ≡ true) × (kept_bytes self.new ≡ []) }
         ensures nothing_left { result ≡ Ok None → has_ended self.old ≡ false → IsAtEnd (S.left source.new) }
         ensures for_good { has_ended self.old ≡ true → (result ≡ Ok None) × (self.new ≡ self.old) × (source.new ≡ source.old) }
