@@ -1,0 +1,6 @@
+pub mod Lines
+pub mod Items
+pub mod Contents
+pub mod Digits
+pub mod Steps
+pub mod Readers
