@@ -149,6 +149,7 @@ silence_items-big x h = either_way (is_plain_decimal x) (leb (number_after 0 x) 
   where
     beyond : (n : ℕ) → 1000000 < n → leb n 1000000 ≡ false
     beyond n h = grind arith
+
     either_way : (p q : Bool) (items : Option (List Item)) → q ≡ false → cond (p && q) items None ≡ None
     either_way true q items h = rw h refl
     either_way false q items h = refl

@@ -4,3 +4,5 @@ pub mod Contents
 pub mod Digits
 pub mod Steps
 pub mod Readers
+pub mod Completions
+pub mod Feeding

@@ -1,5 +1,5 @@
 -- The lines of a text, and of a text with more behind it.
-use Rattle.std.proofs.Common.{◌≡◌, ◌≢◌, ◌∙◌, ◌==◌, ℕ, Bool, true, false, List, [], ◌∷◌, ◌++◌, refl, ap, sym, cond, arith, append_assoc}
+use Rattle.std.proofs.Common.{◌≡◌, ◌≢◌, ◌∙◌, ◌==◌, ℕ, zero, suc, Bool, true, false, List, [], ◌∷◌, ◌++◌, replicate, refl, ap, sym, cond, arith}
 use Rattle.std.proofs.lemmas.Bool.{cases_eq, both_ways}
 use Rattle.yasir_ticks.specs.TickText.{Lines, lines_of, with_front}
 
@@ -89,3 +89,30 @@ all_lines-append (c ∷ x) y =
     fronted_all (c == 10) c (lines_of (x ++ y))
     ∙ ap (λ ls. cond (c == 10) ([] ∷ ls) (joined (c ∷ []) ls)) (all_lines-append x y)
     ∙ front_step (c == 10) c (lines_of x) (all_lines y)
+
+pub all_lines-lf : (x : List ℕ) → all_lines (10 ∷ x) ≡ [] ∷ all_lines x
+unfolding lines_of
+all_lines-lf x = refl
+
+pub all_lines-byte : (b : ℕ) (x : List ℕ) → b ≢ 10 → all_lines (b ∷ x) ≡ joined (b ∷ []) (all_lines x)
+unfolding lines_of
+all_lines-byte b x h = fronted_all (b == 10) b (lines_of x) ∙ rw (test_of b h) refl
+
+-- there is a first line
+pub all_lines-first : (x : List ℕ) → (l : List ℕ) × (ls : List (List ℕ)) × (all_lines x ≡ l ∷ ls)
+all_lines-first x = first (lines_of x).ended (lines_of x).last
+  where
+    first : (ended : List (List ℕ)) (last : List ℕ) → (l : List ℕ) × (ls : List (List ℕ)) × (ended ++ last ∷ [] ≡ l ∷ ls)
+    first [] last = (last, [], refl)
+    first (l ∷ ls) last = (l, ls ++ last ∷ [], refl)
+
+-- further lines that are a mark each
+abbrev pub mark_lines : ℕ → List ℕ
+mark_lines zero = []
+mark_lines (suc n) = 10 ∷ 37 ∷ mark_lines n
+
+pub all_lines-marks : (n : ℕ) → all_lines (mark_lines n) ≡ [] ∷ replicate n (37 ∷ [])
+unfolding lines_of
+all_lines-marks zero = refl
+all_lines-marks (suc n) =
+    ap (λ ls. [] ∷ ls) (all_lines-byte 37 (mark_lines n) (λ e. absurd (omega arith)) ∙ ap (joined (37 ∷ [])) (all_lines-marks n))

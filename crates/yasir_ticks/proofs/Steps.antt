@@ -137,6 +137,7 @@ open_pairs bytes h = record {
     no_bytes : (digits : List ℕ) → length digits ≡ 0 → byte_items digits ≡ None
     no_bytes [] h = refl
     no_bytes (d ∷ digits) h = absurd (omega arith)
+
     empty_cause : (digits : List ℕ) (next : Option ℕ) → ends_in_return (43 ∷ digits) ≡ false → ends_content next ≡ true → length digits ≡ 0
         → fault_in_line (43 ∷ digits) next ≡ Empty
     empty_cause [] next w e h = rw e refl
@@ -158,10 +159,10 @@ odd_cause digits next k w e h = rw (w, e, h, odd_of (suc (2 * k)) k refl) (tests
 pub open_half_pair : (high : ℕ) (bytes : List ℕ) → IsOpen (HalfPair high) bytes Odd
 open_half_pair high bytes = record {
   wrong = λ line r. rw r.is (
-    plain_items (43 ∷ (r.digits ++ r.digit ∷ [])) (plain_half_pair bytes r.digits r.digit high r.decoded r.value)
-    ∙ byte_items-odd (r.digits ++ r.digit ∷ []) (odd_of _ (length bytes) (odd_length r.digits bytes r.digit r.decoded)));
+      plain_items (43 ∷ (r.digits ++ r.digit ∷ [])) (plain_half_pair bytes r.digits r.digit high r.decoded r.value)
+      ∙ byte_items-odd (r.digits ++ r.digit ∷ []) (odd_of _ (length bytes) (odd_length r.digits bytes r.digit r.decoded)));
   cause = λ line next e r. rw r.is (odd_cause (r.digits ++ r.digit ∷ []) next (length bytes)
-    (plain_half_pair bytes r.digits r.digit high r.decoded r.value).whole e (odd_length r.digits bytes r.digit r.decoded));
+      (plain_half_pair bytes r.digits r.digit high r.decoded r.value).whole e (odd_length r.digits bytes r.digit r.decoded));
 }
 
 pub open_minus : (bytes : List ℕ) → IsOpen Minus bytes Empty
@@ -274,7 +275,7 @@ pub refuses_open_return : (place : Place) (bytes : List ℕ) (why : TickFault) �
 refuses_open_return place bytes why f o =
     refuses (λ e. absurd (omega arith))
     (λ line r more. let p = foreign_plain place 13 bytes line f r in
-      line_items-return_open line more p.apart (sym (plain_items line p) ∙ o.wrong line r))
+    line_items-return_open line more p.apart (sym (plain_items line p) ∙ o.wrong line r))
     (λ line r. o.cause line (Some 13) refl r)
 
 pub refuses_comment : (n : ℕ) (bytes : List ℕ) (b : ℕ) → 120 ≤ n → b ≢ 10 → Refuses (Comment n) bytes b Long
@@ -296,9 +297,9 @@ pub refuses_long : (bytes : List ℕ) (b : ℕ) → is_hex_digit b ≡ true → 
 refuses_long bytes b d h =
     refuses_inside (hex_not_lf b d) (hex_not_cr b d) (λ line r more. rw r.is refl)
     (λ line r more. rw r.is (byte_items-long (r.digits ++ b ∷ more)
-      (omega (arith, length-append r.digits (b ∷ more), hex_length r.digits bytes r.decoded))))
+    (omega (arith, length-append r.digits (b ∷ more), hex_length r.digits bytes r.decoded))))
     (λ line r. rw r.is (long_cause r.digits (plain_pairs bytes r.digits r.decoded).whole
-      (omega (arith, hex_length r.digits bytes r.decoded, r.fits))))
+    (omega (arith, hex_length r.digits bytes r.decoded, r.fits))))
   where
     long_cause : (digits : List ℕ) → ends_in_return (43 ∷ digits) ≡ false → length digits ≡ 64 → fault_in_line (43 ∷ digits) (Some b) ≡ Long
     long_cause digits w e = rw (w, test_of b 10 (hex_not_lf b d), test_of b 13 (hex_not_cr b d), d, e) refl
@@ -313,7 +314,7 @@ pub refuses_count : (n : ℕ) (bytes : List ℕ) (b : ℕ) → is_decimal_digit 
 refuses_count n bytes b d h =
     refuses_inside (digit_not_lf b d) (digit_not_cr b d) (λ line r more. rw r.is refl)
     (λ line r more. rw r.is (silence_items-big (r.digits ++ b ∷ more)
-      (omega (arith, number_after-append 0 r.digits b more, number_after-grows (10 * number_after 0 r.digits + (b - 48)) more, r.number))))
+    (omega (arith, number_after-append 0 r.digits b more, number_after-grows (10 * number_after 0 r.digits + (b - 48)) more, r.number))))
     (λ line r. rw r.is (count_cause r.digits (plain_number r.digits r.plain).whole))
   where
     count_cause : (digits : List ℕ) → ends_in_return (45 ∷ digits) ≡ false → fault_in_line (45 ∷ digits) (Some b) ≡ Count
@@ -328,6 +329,7 @@ refuses_after_return content bytes b l =
     ends : (c : ℕ) (x : List ℕ) → ends_in_return (c ∷ (x ++ 13 ∷ [])) ≡ true
     ends c [] = refl
     ends c (d ∷ x) = ends d x
+
     return_cause : (x : List ℕ) → starts_comment x ≡ false → fault_in_line (x ++ 13 ∷ []) (Some b) ≡ Char
     return_cause [] h = refl
     return_cause (c ∷ x) h = rw (h, ends c x) refl
@@ -353,8 +355,10 @@ refuses_start bytes b f l c = record {
         let one = or_false (b == 35 || b == 43) (b == 45) (not_true (b == 35 || b == 43 || b == 45) f) in
         let two = or_false (b == 35) (b == 43) one.0 in
         (two.0, two.1, one.1)
+
     line_of : (line : List ℕ) → line ≡ [] → (more : List ℕ) → line_items (line ++ b ∷ more) ≡ content_items (b ∷ without_return more)
     line_of line r more = rw r (line_items-byte [] b more signs.0 c)
+
     by_percent : (t : Bool) (n : ℕ) (items : List Item) → cond t (cond (n == 0) (Some (mark ∷ [])) None) None ≡ Some items → 0 < marks_in items
     by_percent false n items e = cc
     by_percent true n items e = by_length (n == 0) items e
@@ -362,6 +366,7 @@ refuses_start bytes b f l c = record {
         by_length : (t : Bool) (items : List Item) → cond t (Some (mark ∷ [])) None ≡ Some items → 0 < marks_in items
         by_length false items e = cc
         by_length true items e = let same : mark ∷ [] ≡ items = cc in rw (← same) (omega arith)
+
     only_mark : (more : List ℕ) (items : List Item) → content_items (b ∷ more) ≡ Some items → 0 < marks_in items
     only_mark more items e =
         let same : content_items (b ∷ more) ≡ cond (b == 37) (cond (length more == 0) (Some (mark ∷ [])) None) None = rw (signs.1, signs.2) refl in

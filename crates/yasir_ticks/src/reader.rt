@@ -89,6 +89,7 @@ impl TickReader {
     /// The run of a line that ends here with this content.
     fn run_of(&mut self, content: Content) -> Run
         ensures items { items_of_run result ≡ items_of_content content self.old.bytes.items }
+        ensures place { self.new.place ≡ self.old.place }
         ensures line { self.new.line ≡ self.old.line }
     {
         match content {
