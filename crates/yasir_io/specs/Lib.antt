@@ -1,2 +1,10 @@
+pub mod Calls
 pub mod Causes
 pub mod Disks
+pub mod Edge
+pub mod MemSink
+pub mod MemSource
+pub mod Output
+pub mod Pieces
+pub mod Steady
+pub mod TextBuffer
