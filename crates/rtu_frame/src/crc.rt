@@ -1,4 +1,4 @@
-ghost use Rattle.std.specs.Prelude.{◌≡◌, ◌^◌, ◌<◌};
+ghost use Rattle.std.specs.Prelude.{◌≡◌};
 ghost use Rattle.rtu_frame.specs.Crc.{bit_step, byte_step, crc_rtu};
 
 // x^16 + x^15 + x^2 + 1, its bits in reverse order.

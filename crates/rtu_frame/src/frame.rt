@@ -1,5 +1,5 @@
-ghost use Rattle.std.specs.Prelude.{◌≡◌, ◌+◌, ◌≤◌, ◌↔◌, ◌++◌, IsTrue, length};
-ghost use Rattle.rtu_frame.specs.Frame.{IsFrame, is_frame as frame_test};
+ghost use Rattle.std.specs.Prelude.{◌↔◌, IsTrue};
+ghost use Rattle.rtu_frame.specs.Frame.{IsFrame};
 
 use crate::crc::crc16;
 
