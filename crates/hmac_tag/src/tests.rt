@@ -1,4 +1,4 @@
-use crate::{HmacSha1, Mac};
+use crate::{HmacSha1, Mac, TagBytes};
 
 // HMAC-SHA-1 by Python's `hmac`: of the text whose byte i is 5 i + 1 (modulo 256), whole with 150 bytes and empty, under the
 // first bytes of the key whose byte i is 7 i + 3.
@@ -57,6 +57,12 @@ fn bytes<const N: usize>(step: u8, first: u8) -> [u8; N] {
         next = next.wrapping_add(step);
     }
     bytes
+}
+
+fn tag_of_parts<M: Mac>(mac: &mut M, first: &[u8], second: &[u8]) -> TagBytes {
+    mac.update(first);
+    mac.update(second);
+    mac.finish()
 }
 
 #[test]
