@@ -1,3 +1,4 @@
 pub mod Ticks
 pub mod Bursts
+pub mod BurstsOf
 pub mod TickText
