@@ -1,3 +1,4 @@
-mod ReadLaws
-mod OpenBurstLaws
-mod RtuLaws
+pub mod ReadLaws
+pub mod OpenBurstLaws
+pub mod RtuLaws
+pub mod Rows

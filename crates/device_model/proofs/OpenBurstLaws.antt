@@ -2,7 +2,7 @@
 use Rattle.std.proofs.Common.{◌≡◌, ℕ, zero, suc, ◌+◌, ◌-◌, ◌<◌, ◌≤◌, nat_le, nat_lt, cond, Bool, true, false, not, ◌&&◌, ◌||◌, List, [], ◌∷◌, ◌++◌, length, refl, arith, sym, ◌∙◌, ap, subst, inl, inr, length-append}
 use Rattle.std.proofs.Common.{⊎_elim}
 use Rattle.std.proofs.lemmas.Bool.{le-leb, lt-leb, lt-ltb, le-ltb, cases_lt, and_left, and_right, or_left, or_right, or_from}
-use Rattle.std.proofs.lemmas.List.{append_assoc, append-nil, length-replicate}
+use Rattle.std.proofs.lemmas.List.{append_assoc, length-replicate}
 use Rattle.rtu_frame.specs.Frame.{is_frame}
 use Rattle.yasir_ticks.specs.Ticks.{bytes_in, silent}
 use Rattle.yasir_ticks.specs.Bursts.{Burst, bursts_from, end_of, AreClosed}
@@ -11,8 +11,8 @@ use Rattle.yasir_ticks.specs.declared.tick.Tick.TheVariants.{Silent, Byte}
 use Rattle.yasir_ticks.proofs.BurstLaws.{alone, with_last, extended, bursts_from-byte, bursts_from-silent, extended-closed, extended-joins, AreClosed-later, AreClosed-more}
 use Rattle.device_model.specs.Frames.{FrameRead}
 use Rattle.device_model.specs.RtuReads.{has_silence, is_frame_body, frame_in, frames_read}
-use Rattle.device_model.specs.OpenBurst.{Keeps, StandsFor, goes_on, kept_with}
-use Rattle.device_model.proofs.ReadLaws.{has_silence-append, has_silence-silent, frames_read-append, frames_read-ended, frames_read-open, frames_read-later, is_frame-long}
+use Rattle.device_model.specs.OpenBurst.{IsOpen, Keeps, StandsFor, goes_on, kept_with}
+use Rattle.device_model.proofs.ReadLaws.{has_silence-append, has_silence-silent, frames_read-front, frames_read-last, frames_read-later, is_frame-long}
 
 longer : (line : List Tick) (t : Tick) → length (line ++ t ∷ []) ≡ length line + 1
 longer line t = length-append line (t ∷ [])
@@ -84,14 +84,44 @@ reads cut pause line = frames_read cut pause (length line) (bursts_from cut 0 li
 
 -- A device whose bursts end after `cut` silent ticks, more than k silent ticks together spoiling one.
 module _ (cut k room : ℕ) where
+  -- the bursts after one more byte
+  bursts-begin : (b : ℕ) (line : List Tick) → AreClosed cut (length line) (bursts_from cut 0 line)
+      → bursts_from cut 0 (line ++ Byte b ∷ []) ≡ bursts_from cut 0 line ++ alone (length line) b ∷ []
+  bursts-begin b line closed =
+      let at : 0 + length line ≡ length line = omega arith in
+      bursts_from-byte cut 0 (length line) b line at ∙ extended-closed cut (length line) b (bursts_from cut 0 line) closed
+
+  bursts-more : (b : ℕ) (line : List Tick) (front : List Burst) (d : Burst) → bursts_from cut 0 line ≡ front ++ d ∷ []
+      → length line < end_of d + cut
+      → bursts_from cut 0 (line ++ Byte b ∷ []) ≡ front ++ with_last d (length line) b ∷ []
+  bursts-more b line front d all near =
+      let at : 0 + length line ≡ length line = omega arith in
+      bursts_from-byte cut 0 (length line) b line at
+      ∙ (ap (λ x. extended cut (length line) b x) all ∙ extended-joins cut (length line) b front d near)
+
+  -- what is kept of a burst that goes on by j silent ticks and a byte
+  keeps-with_last : (quiet m b : ℕ) (sound : Bool) (bytes : List ℕ) (d : Burst) (before : List Tick) (byte : ℕ)
+      → d.body ≡ before ++ Byte byte ∷ [] → m - end_of d ≡ quiet → Keeps (suc k) room sound bytes d.body
+      → Keeps (suc k) room (goes_on (suc k) room quiet sound bytes) (kept_with (goes_on (suc k) room quiet sound bytes) bytes b)
+      (with_last d m b).body
+  keeps-with_last quiet m b sound bytes d before byte ends gap kept =
+      keeps-more k room quiet sound bytes d.body (with_last d m b).body b
+      (bytes_in-append d.body (silent (m - end_of d) ++ Byte b ∷ [])
+      ∙ ap (λ x. bytes_in d.body ++ x) (bytes_in-silent (m - end_of d) (Byte b ∷ [])))
+      (ap (λ x. has_silence (suc k) (x ++ (silent (m - end_of d) ++ Byte b ∷ []))) ends
+      ∙ (has_silence-append k before byte (silent (m - end_of d) ++ Byte b ∷ [])
+      ∙ (ap (λ x. has_silence (suc k) x || has_silence (suc k) (silent (m - end_of d) ++ Byte b ∷ [])) (sym ends)
+      ∙ (ap (λ v. has_silence (suc k) d.body || v) (has_silence-silent k (m - end_of d) b)
+      ∙ ap (λ j. has_silence (suc k) d.body || nat_le (suc k) j) gap))))
+      kept
+
   -- the first byte of a burst
   pub stands-begin : (taken quiet start b : ℕ) (sound : Bool) (bytes : List ℕ) (line : List Tick) → 0 < cut → cut ≤ quiet
       → StandsFor cut (suc k) room taken quiet start sound bytes line
       → StandsFor cut (suc k) room (taken + 1) 0 taken true (b ∷ []) (line ++ Byte b ∷ [])
   stands-begin taken quiet start b sound bytes line some enough stands =
       let n = longer line (Byte b) in
-      let le : length line ≤ length (line ++ Byte b ∷ []) = omega arith in
-      let at : 0 + length line ≡ length line = omega arith in
+      let later : length line ≤ length (line ++ Byte b ∷ []) = omega arith in
       let count = stands.count in
       ⊎_elim
       (λ ongoing. absurd (let few : quiet < cut = ongoing.few in omega arith))
@@ -100,8 +130,8 @@ module _ (cut k room : ℕ) where
         burst = inl (record {
           front = bursts_from cut 0 line;
           last = alone (length line) b;
-          all = bursts_from-byte cut 0 (length line) b line at ∙ extended-closed cut (length line) b (bursts_from cut 0 line) rest.closed;
-          closed = AreClosed-later cut (length line) (length (line ++ Byte b ∷ [])) (bursts_from cut 0 line) le rest.closed;
+          all = bursts-begin b line rest.closed;
+          closed = AreClosed-later cut (length line) (length (line ++ Byte b ∷ [])) (bursts_from cut 0 line) later rest.closed;
           begins = sym count;
           silence = omega arith;
           few = some;
@@ -120,87 +150,38 @@ module _ (cut k room : ℕ) where
       (kept_with (goes_on (suc k) room quiet sound bytes) bytes b) (line ++ Byte b ∷ [])
   stands-more taken quiet start b sound bytes line few stands =
       let n = longer line (Byte b) in
-      let le : length line ≤ length (line ++ Byte b ∷ []) = omega arith in
-      let at : 0 + length line ≡ length line = omega arith in
+      let later : length line ≤ length (line ++ Byte b ∷ []) = omega arith in
       let count = stands.count in
       ⊎_elim
       (λ ongoing.
-      let d : Burst = ongoing.last in
-      let silence : end_of d + quiet ≡ length line = ongoing.silence in
-      let near : length line < end_of d + cut = omega arith in
-      let after : end_of d ≤ length line = omega arith in
-      let gap : length line - end_of d ≡ quiet = omega arith in
-      let end = end_of-with_last d (length line) b after in
+      let silence : end_of ongoing.last + quiet ≡ length line = ongoing.silence in
+      let end = end_of-with_last ongoing.last (length line) b (omega arith) in
       record {
         count = omega arith;
         burst = inl (record {
           front = ongoing.front;
-          last = with_last d (length line) b;
-          all = bursts_from-byte cut 0 (length line) b line at
-              ∙ (ap (λ x. extended cut (length line) b x) ongoing.all ∙ extended-joins cut (length line) b ongoing.front d near);
-          closed = AreClosed-later cut (length line) (length (line ++ Byte b ∷ [])) ongoing.front le ongoing.closed;
+          last = with_last ongoing.last (length line) b;
+          all = bursts-more b line ongoing.front ongoing.last ongoing.all (omega arith);
+          closed = AreClosed-later cut (length line) (length (line ++ Byte b ∷ [])) ongoing.front later ongoing.closed;
           begins = ongoing.begins;
           silence = omega arith;
           few = omega arith;
-          before = d.body ++ silent (length line - end_of d);
+          before = ongoing.last.body ++ silent (length line - end_of ongoing.last);
           byte = b;
-          ends = sym (append_assoc d.body (silent (length line - end_of d)) (Byte b ∷ []));
-          kept = keeps-more k room quiet sound bytes d.body (d.body ++ (silent (length line - end_of d) ++ Byte b ∷ [])) b
-              (bytes_in-append d.body (silent (length line - end_of d) ++ Byte b ∷ [])
-              ∙ ap (λ x. bytes_in d.body ++ x) (bytes_in-silent (length line - end_of d) (Byte b ∷ [])))
-              (ap (λ x. has_silence (suc k) (x ++ (silent (length line - end_of d) ++ Byte b ∷ []))) ongoing.ends
-              ∙ (has_silence-append k ongoing.before ongoing.byte (silent (length line - end_of d) ++ Byte b ∷ [])
-              ∙ (ap (λ x. has_silence (suc k) x || has_silence (suc k) (silent (length line - end_of d) ++ Byte b ∷ [])) (sym ongoing.ends)
-              ∙ (ap (λ v. has_silence (suc k) d.body || v) (has_silence-silent k (length line - end_of d) b)
-              ∙ ap (λ j. has_silence (suc k) d.body || nat_le (suc k) j) gap))))
-              ongoing.kept;
+          ends = sym (append_assoc ongoing.last.body (silent (length line - end_of ongoing.last)) (Byte b ∷ []));
+          kept = keeps-with_last quiet (length line) b sound bytes ongoing.last ongoing.before ongoing.byte ongoing.ends (omega arith) ongoing.kept;
         });
       })
       (λ rest. absurd (let enough : cut ≤ quiet = rest.enough in omega arith))
       stands.burst
 
-  -- Nothing is read in the step of a byte.
-  pub reads-byte : (taken quiet start b : ℕ) (sound : Bool) (bytes : List ℕ) (line : List Tick) → 0 < cut
-      → StandsFor cut (suc k) room taken quiet start sound bytes line
-      → reads cut (suc k) (line ++ Byte b ∷ []) ≡ reads cut (suc k) line
-  reads-byte taken quiet start b sound bytes line some stands =
-      let n = longer line (Byte b) in
-      let le : length line ≤ length (line ++ Byte b ∷ []) = omega arith in
-      let at : 0 + length line ≡ length line = omega arith in
-      let more = length (line ++ Byte b ∷ []) in
-      let byte = bursts_from-byte cut 0 (length line) b line at in
-      ⊎_elim
-      (λ ongoing.
-      let d : Burst = ongoing.last in
-      let silence : end_of d + quiet ≡ length line = ongoing.silence in
-      let few : quiet < cut = ongoing.few in
-      let near : length line < end_of d + cut = omega arith in
-      let after : end_of d ≤ length line = omega arith in
-      let end = end_of-with_last d (length line) b after in
-      let here : more < end_of (with_last d (length line) b) + cut = omega arith in
-      ap (λ x. frames_read cut (suc k) more x) (byte ∙ (ap (λ x. extended cut (length line) b x) ongoing.all ∙ extended-joins cut (length line) b ongoing.front d near))
-      ∙ (frames_read-append cut (suc k) more ongoing.front (with_last d (length line) b ∷ [])
-      ∙ (ap (λ x. frames_read cut (suc k) more ongoing.front ++ x) (frames_read-open cut (suc k) more (with_last d (length line) b) here)
-      ∙ (ap (λ x. x ++ []) (frames_read-later cut (suc k) (length line) more ongoing.front le ongoing.closed)
-      ∙ sym (ap (λ x. frames_read cut (suc k) (length line) x) ongoing.all
-      ∙ (frames_read-append cut (suc k) (length line) ongoing.front (d ∷ [])
-      ∙ ap (λ x. frames_read cut (suc k) (length line) ongoing.front ++ x) (frames_read-open cut (suc k) (length line) d near)))))))
-      (λ rest.
-      let here : more < end_of (alone (length line) b) + cut = omega arith in
-      ap (λ x. frames_read cut (suc k) more x) (byte ∙ extended-closed cut (length line) b (bursts_from cut 0 line) rest.closed)
-      ∙ (frames_read-append cut (suc k) more (bursts_from cut 0 line) (alone (length line) b ∷ [])
-      ∙ (ap (λ x. frames_read cut (suc k) more (bursts_from cut 0 line) ++ x) (frames_read-open cut (suc k) more (alone (length line) b) here)
-      ∙ (append-nil (frames_read cut (suc k) more (bursts_from cut 0 line))
-      ∙ frames_read-later cut (suc k) (length line) more (bursts_from cut 0 line) le rest.closed))))
-      stands.burst
-
-  -- Silence after silence: each burst so far is ended, and none is read.
+  -- Silence after silence: each burst so far is ended.
   pub stands-rests : (taken quiet start : ℕ) (sound : Bool) (bytes : List ℕ) (line : List Tick) → cut ≤ quiet
       → StandsFor cut (suc k) room taken quiet start sound bytes line
       → StandsFor cut (suc k) room (taken + 1) quiet start sound bytes (line ++ Silent ∷ [])
   stands-rests taken quiet start sound bytes line enough stands =
       let n = longer line Silent in
-      let le : length line ≤ length (line ++ Silent ∷ []) = omega arith in
+      let later : length line ≤ length (line ++ Silent ∷ []) = omega arith in
       let count = stands.count in
       let P : List Burst → Type 0 = λ x. AreClosed cut (length (line ++ Silent ∷ [])) x in
       ⊎_elim
@@ -209,31 +190,19 @@ module _ (cut k room : ℕ) where
         count = omega arith;
         burst = inr (record {
           closed = subst P (sym (bursts_from-silent cut 0 line))
-              (AreClosed-later cut (length line) (length (line ++ Silent ∷ [])) (bursts_from cut 0 line) le rest.closed);
+              (AreClosed-later cut (length line) (length (line ++ Silent ∷ [])) (bursts_from cut 0 line) later rest.closed);
           enough = enough;
         });
       })
       stands.burst
 
-  pub reads-rests : (taken quiet start : ℕ) (sound : Bool) (bytes : List ℕ) (line : List Tick) → cut ≤ quiet
-      → StandsFor cut (suc k) room taken quiet start sound bytes line
-      → reads cut (suc k) (line ++ Silent ∷ []) ≡ reads cut (suc k) line
-  reads-rests taken quiet start sound bytes line enough stands =
-      let n = longer line Silent in
-      let le : length line ≤ length (line ++ Silent ∷ []) = omega arith in
-      ⊎_elim
-      (λ ongoing. absurd (let few : quiet < cut = ongoing.few in omega arith))
-      (λ rest. ap (λ x. frames_read cut (suc k) (length (line ++ Silent ∷ [])) x) (bursts_from-silent cut 0 line)
-      ∙ frames_read-later cut (suc k) (length line) (length (line ++ Silent ∷ [])) (bursts_from cut 0 line) le rest.closed)
-      stands.burst
-
-  -- Silence inside or after a burst, too little to end it.
+  -- Silence after a byte, too little to end the burst.
   pub stands-waits : (taken quiet start : ℕ) (sound : Bool) (bytes : List ℕ) (line : List Tick) → quiet + 1 < cut
       → StandsFor cut (suc k) room taken quiet start sound bytes line
       → StandsFor cut (suc k) room (taken + 1) (quiet + 1) start sound bytes (line ++ Silent ∷ [])
   stands-waits taken quiet start sound bytes line few stands =
       let n = longer line Silent in
-      let le : length line ≤ length (line ++ Silent ∷ []) = omega arith in
+      let later : length line ≤ length (line ++ Silent ∷ []) = omega arith in
       let count = stands.count in
       ⊎_elim
       (λ ongoing. let silence : end_of ongoing.last + quiet ≡ length line = ongoing.silence in
@@ -243,7 +212,7 @@ module _ (cut k room : ℕ) where
           front = ongoing.front;
           last = ongoing.last;
           all = bursts_from-silent cut 0 line ∙ ongoing.all;
-          closed = AreClosed-later cut (length line) (length (line ++ Silent ∷ [])) ongoing.front le ongoing.closed;
+          closed = AreClosed-later cut (length line) (length (line ++ Silent ∷ [])) ongoing.front later ongoing.closed;
           begins = ongoing.begins;
           silence = omega arith;
           few = few;
@@ -256,76 +225,106 @@ module _ (cut k room : ℕ) where
       (λ rest. absurd (let enough : cut ≤ quiet = rest.enough in omega arith))
       stands.burst
 
-  pub reads-waits : (taken quiet start : ℕ) (sound : Bool) (bytes : List ℕ) (line : List Tick) → quiet + 1 < cut
-      → StandsFor cut (suc k) room taken quiet start sound bytes line
-      → reads cut (suc k) (line ++ Silent ∷ []) ≡ reads cut (suc k) line
-  reads-waits taken quiet start sound bytes line few stands =
-      let n = longer line Silent in
-      let more = length (line ++ Silent ∷ []) in
-      let le : length line ≤ length (line ++ Silent ∷ []) = omega arith in
-      ⊎_elim
-      (λ ongoing.
-      let d : Burst = ongoing.last in
-      let silence : end_of d + quiet ≡ length line = ongoing.silence in
-      let near : length line < end_of d + cut = omega arith in
-      let here : more < end_of d + cut = omega arith in
-      ap (λ x. frames_read cut (suc k) more x) (bursts_from-silent cut 0 line ∙ ongoing.all)
-      ∙ (frames_read-append cut (suc k) more ongoing.front (d ∷ [])
-      ∙ (ap (λ x. frames_read cut (suc k) more ongoing.front ++ x) (frames_read-open cut (suc k) more d here)
-      ∙ (ap (λ x. x ++ []) (frames_read-later cut (suc k) (length line) more ongoing.front le ongoing.closed)
-      ∙ sym (ap (λ x. frames_read cut (suc k) (length line) x) ongoing.all
-      ∙ (frames_read-append cut (suc k) (length line) ongoing.front (d ∷ [])
-      ∙ ap (λ x. frames_read cut (suc k) (length line) ongoing.front ++ x) (frames_read-open cut (suc k) (length line) d near)))))))
-      (λ rest. absurd (let enough : cut ≤ quiet = rest.enough in omega arith))
-      stands.burst
-
-  -- The silent tick that ends a burst.
+  -- The silent tick that ends a burst; of what was kept nothing is needed any more.
   pub stands-closes : (taken quiet start start' : ℕ) (sound sound' : Bool) (bytes bytes' : List ℕ) (line : List Tick) → quiet + 1 ≡ cut
       → StandsFor cut (suc k) room taken quiet start sound bytes line
       → StandsFor cut (suc k) room (taken + 1) (quiet + 1) start' sound' bytes' (line ++ Silent ∷ [])
   stands-closes taken quiet start start' sound sound' bytes bytes' line last stands =
       let n = longer line Silent in
-      let le : length line ≤ length (line ++ Silent ∷ []) = omega arith in
+      let later : length line ≤ length (line ++ Silent ∷ []) = omega arith in
       let count = stands.count in
       let P : List Burst → Type 0 = λ x. AreClosed cut (length (line ++ Silent ∷ [])) x in
       ⊎_elim
       (λ ongoing. let silence : end_of ongoing.last + quiet ≡ length line = ongoing.silence in
-      let ended : end_of ongoing.last + cut ≤ length (line ++ Silent ∷ []) = omega arith in
       record {
         count = omega arith;
         burst = inr (record {
           closed = subst P (sym (bursts_from-silent cut 0 line ∙ ongoing.all))
               (AreClosed-more cut (length (line ++ Silent ∷ [])) ongoing.front ongoing.last
-              (AreClosed-later cut (length line) (length (line ++ Silent ∷ [])) ongoing.front le ongoing.closed) ended);
+              (AreClosed-later cut (length line) (length (line ++ Silent ∷ [])) ongoing.front later ongoing.closed) (omega arith));
           enough = omega arith;
         });
       })
       (λ rest. absurd (let enough : cut ≤ quiet = rest.enough in omega arith))
       stands.burst
 
+  -- ---- what is read
+
+  -- While the last burst is open, the frames of those before it are read.
+  reads-open : (quiet start : ℕ) (sound : Bool) (bytes : List ℕ) (line : List Tick)
+      → (o : IsOpen cut (suc k) room quiet start sound bytes line)
+      → reads cut (suc k) line ≡ frames_read cut (suc k) (length line) o.front
+  reads-open quiet start sound bytes line o =
+      let silence : end_of o.last + quiet ≡ length line = o.silence in
+      let few : quiet < cut = o.few in
+      ap (λ x. frames_read cut (suc k) (length line) x) o.all
+      ∙ frames_read-front cut (suc k) (length line) (length line) o.front o.last (omega arith) o.closed (omega arith)
+
+  -- Nothing is read in the step of a byte,
+  pub reads-byte : (taken quiet start b : ℕ) (sound : Bool) (bytes : List ℕ) (line : List Tick) → 0 < cut
+      → StandsFor cut (suc k) room taken quiet start sound bytes line
+      → reads cut (suc k) (line ++ Byte b ∷ []) ≡ reads cut (suc k) line
+  reads-byte taken quiet start b sound bytes line some stands =
+      let n = longer line (Byte b) in
+      ⊎_elim
+      (λ ongoing.
+      let silence : end_of ongoing.last + quiet ≡ length line = ongoing.silence in
+      let few : quiet < cut = ongoing.few in
+      let end = end_of-with_last ongoing.last (length line) b (omega arith) in
+      ap (λ x. frames_read cut (suc k) (length (line ++ Byte b ∷ [])) x) (bursts-more b line ongoing.front ongoing.last ongoing.all (omega arith))
+      ∙ (frames_read-front cut (suc k) (length line) (length (line ++ Byte b ∷ [])) ongoing.front
+      (with_last ongoing.last (length line) b) (omega arith) ongoing.closed (omega arith)
+      ∙ sym (reads-open quiet start sound bytes line ongoing)))
+      (λ rest.
+      ap (λ x. frames_read cut (suc k) (length (line ++ Byte b ∷ [])) x) (bursts-begin b line rest.closed)
+      ∙ frames_read-front cut (suc k) (length line) (length (line ++ Byte b ∷ [])) (bursts_from cut 0 line)
+      (alone (length line) b) (omega arith) rest.closed (omega arith))
+      stands.burst
+
+  -- nor in that of silence after silence,
+  pub reads-rests : (taken quiet start : ℕ) (sound : Bool) (bytes : List ℕ) (line : List Tick) → cut ≤ quiet
+      → StandsFor cut (suc k) room taken quiet start sound bytes line
+      → reads cut (suc k) (line ++ Silent ∷ []) ≡ reads cut (suc k) line
+  reads-rests taken quiet start sound bytes line enough stands =
+      let n = longer line Silent in
+      ⊎_elim
+      (λ ongoing. absurd (let few : quiet < cut = ongoing.few in omega arith))
+      (λ rest. ap (λ x. frames_read cut (suc k) (length (line ++ Silent ∷ [])) x) (bursts_from-silent cut 0 line)
+      ∙ frames_read-later cut (suc k) (length line) (length (line ++ Silent ∷ [])) (bursts_from cut 0 line) (omega arith) rest.closed)
+      stands.burst
+
+  -- nor in that of silence which doesn't end the burst yet;
+  pub reads-waits : (taken quiet start : ℕ) (sound : Bool) (bytes : List ℕ) (line : List Tick) → quiet + 1 < cut
+      → StandsFor cut (suc k) room taken quiet start sound bytes line
+      → reads cut (suc k) (line ++ Silent ∷ []) ≡ reads cut (suc k) line
+  reads-waits taken quiet start sound bytes line few stands =
+      let n = longer line Silent in
+      ⊎_elim
+      (λ ongoing.
+      let silence : end_of ongoing.last + quiet ≡ length line = ongoing.silence in
+      ap (λ x. frames_read cut (suc k) (length (line ++ Silent ∷ [])) x) (bursts_from-silent cut 0 line ∙ ongoing.all)
+      ∙ (frames_read-front cut (suc k) (length line) (length (line ++ Silent ∷ [])) ongoing.front ongoing.last
+      (omega arith) ongoing.closed (omega arith)
+      ∙ sym (reads-open quiet start sound bytes line ongoing)))
+      (λ rest. absurd (let enough : cut ≤ quiet = rest.enough in omega arith))
+      stands.burst
+
+  -- where the silence ends the burst, its frame is read.
   pub reads-closes : (taken quiet start : ℕ) (sound : Bool) (bytes : List ℕ) (line : List Tick) → 256 ≤ room → quiet + 1 ≡ cut
       → StandsFor cut (suc k) room taken quiet start sound bytes line
       → reads cut (suc k) (line ++ Silent ∷ [])
       ≡ reads cut (suc k) line ++ cond (sound && is_frame bytes) (record { start = start; frame = bytes } ∷ []) []
   reads-closes taken quiet start sound bytes line enough last stands =
       let n = longer line Silent in
-      let more = length (line ++ Silent ∷ []) in
-      let le : length line ≤ length (line ++ Silent ∷ []) = omega arith in
       ⊎_elim
       (λ ongoing.
-      let d : Burst = ongoing.last in
-      let silence : end_of d + quiet ≡ length line = ongoing.silence in
-      let near : length line < end_of d + cut = omega arith in
-      let ended : end_of d + cut ≤ more = omega arith in
-      ap (λ x. frames_read cut (suc k) more x) (bursts_from-silent cut 0 line ∙ ongoing.all)
-      ∙ (frames_read-append cut (suc k) more ongoing.front (d ∷ [])
-      ∙ (ap (λ x. frames_read cut (suc k) more ongoing.front ++ x)
-      (frames_read-ended cut (suc k) more d ended ∙ keeps-frame k room start sound bytes d enough ongoing.begins ongoing.kept)
+      let silence : end_of ongoing.last + quiet ≡ length line = ongoing.silence in
+      ap (λ x. frames_read cut (suc k) (length (line ++ Silent ∷ [])) x) (bursts_from-silent cut 0 line ∙ ongoing.all)
+      ∙ (frames_read-last cut (suc k) (length line) (length (line ++ Silent ∷ [])) ongoing.front ongoing.last
+      (omega arith) ongoing.closed (omega arith)
+      ∙ (ap (λ x. frames_read cut (suc k) (length line) ongoing.front ++ x)
+      (keeps-frame k room start sound bytes ongoing.last enough ongoing.begins ongoing.kept)
       ∙ ap (λ x. x ++ cond (sound && is_frame bytes) (let r : FrameRead = record { start = start; frame = bytes } in r ∷ []) [])
-      (frames_read-later cut (suc k) (length line) more ongoing.front le ongoing.closed
-      ∙ sym (ap (λ x. frames_read cut (suc k) (length line) x) ongoing.all
-      ∙ (frames_read-append cut (suc k) (length line) ongoing.front (d ∷ [])
-      ∙ (ap (λ x. frames_read cut (suc k) (length line) ongoing.front ++ x) (frames_read-open cut (suc k) (length line) d near)
-      ∙ append-nil (frames_read cut (suc k) (length line) ongoing.front))))))))
+      (sym (reads-open quiet start sound bytes line ongoing)))))
       (λ rest. absurd (let much : cut ≤ quiet = rest.enough in omega arith))
       stands.burst

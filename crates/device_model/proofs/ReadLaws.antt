@@ -3,7 +3,7 @@ use Rattle.std.proofs.Common.{◌≡◌, ℕ, zero, suc, ◌+◌, ◌<◌, ◌�
 use Rattle.std.specs.Prelude.{filter}
 use Rattle.std.proofs.Common.{⊎_elim}
 use Rattle.std.proofs.lemmas.Bool.{le-leb, lt-leb, cases_lt, cases_Bool}
-use Rattle.std.proofs.lemmas.List.{map-append}
+use Rattle.std.proofs.lemmas.List.{append-nil, map-append}
 use Rattle.std.proofs.lemmas.List.Elements.{filter-append}
 use Rattle.rtu_frame.specs.Frame.{is_frame}
 use Rattle.rtu_frame.proofs.FrameLaws.{is_frame-true}
@@ -115,6 +115,23 @@ module _ (cut pause : ℕ) where
       ∙ (ap (λ x. x ++ frames_read cut pause n ds) (frames_read-ended n d still ∙ sym (frames_read-ended m d ended))
       ∙ (ap (λ x. frames_read cut pause m (d ∷ []) ++ x) (frames_read-later m n ds later closed.1)
       ∙ sym (frames_read-append m (d ∷ []) ds)))
+
+  -- An open burst after ended ones adds nothing.
+  pub frames_read-front : (m n : ℕ) (front : List Burst) (d : Burst) → m ≤ n → AreClosed cut m front → n < end_of d + cut
+      → frames_read cut pause n (front ++ d ∷ []) ≡ frames_read cut pause m front
+  frames_read-front m n front d later closed here =
+      frames_read-append n front (d ∷ [])
+      ∙ (ap (λ x. frames_read cut pause n front ++ x) (frames_read-open n d here)
+      ∙ (append-nil (frames_read cut pause n front) ∙ frames_read-later m n front later closed))
+
+  -- A burst that ends after ended ones adds its frame.
+  pub frames_read-last : (m n : ℕ) (front : List Burst) (d : Burst) → m ≤ n → AreClosed cut m front → end_of d + cut ≤ n
+      → frames_read cut pause n (front ++ d ∷ [])
+      ≡ frames_read cut pause m front ++ cond (is_frame_body pause d.body) (frame_in d ∷ []) []
+  frames_read-last m n front d later closed ended =
+      frames_read-append n front (d ∷ [])
+      ∙ (ap (λ x. frames_read cut pause n front ++ x) (frames_read-ended n d ended)
+      ∙ ap (λ x. x ++ cond (is_frame_body pause d.body) (frame_in d ∷ []) []) (frames_read-later m n front later closed))
 
 -- a frame isn't longer than the longest one
 pub is_frame-long : (f : List ℕ) → 256 < length f → is_frame f ≡ false

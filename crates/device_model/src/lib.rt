@@ -6,3 +6,6 @@ mod rtu;
 
 pub use device::{Device, FrameAt};
 pub use rtu::RtuDevice;
+
+#[cfg(test)]
+mod tests;

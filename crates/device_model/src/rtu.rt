@@ -24,7 +24,7 @@ pub struct RtuDevice {
 }
 
 impl RtuDevice {
-    ghost use Rattle.std.specs.Prelude.{◌≡◌, ◌+◌, ◌<◌, ◌≤◌, ◌∷◌, [], ◌++◌, List, true, false};
+    ghost use Rattle.std.specs.Prelude.{◌≡◌, ◌+◌, ◌<◌, List, [], ◌∷◌, ◌++◌, true};
     ghost use Rattle.yasir_ticks.specs.declared.tick.Tick.{Tick};
     ghost use Rattle.yasir_ticks.specs.declared.tick.Tick.TheVariants.{Silent, Byte};
     ghost use Rattle.device_model.specs.Frames.{frames_of};

@@ -5,6 +5,7 @@ use Rattle.std.proofs.lemmas.Bool.{cases_lt, lt-ltb, le-ltb, cond-true, cond-fal
 use Rattle.std.proofs.lemmas.List.{length-replicate}
 use Rattle.yasir_ticks.specs.Ticks.{silent}
 use Rattle.yasir_ticks.specs.Bursts.{Burst, with_byte, bursts_from, end_of, AreClosed}
+use Rattle.yasir_ticks.specs.BurstsOf.{StartsFrom}
 use Rattle.yasir_ticks.specs.declared.tick.Tick.{Tick}
 use Rattle.yasir_ticks.specs.declared.tick.Tick.TheVariants.{Silent, Byte}
 
@@ -26,11 +27,6 @@ extended cut m b [] = alone m b ∷ []
 extended cut m b (d ∷ []) =
     cond (nat_lt m (end_of d + cut)) (with_last d m b ∷ []) (d ∷ alone m b ∷ [])
 extended cut m b (d ∷ e ∷ ds) = d ∷ extended cut m b (e ∷ ds)
-
--- the first of these bursts doesn't start before tick n
-abbrev pub StartsFrom : ℕ → List Burst → Type 0
-StartsFrom n [] = Unit {0}
-StartsFrom n (d ∷ ds) = n ≤ d.start
 
 module _ (cut : ℕ) where
   pub with_byte-near : (n b : ℕ) (d : Burst) (ds : List Burst) → d.start < suc n + cut
