@@ -11,6 +11,8 @@ mod pieces;
 mod sink;
 mod source;
 mod steady;
+#[cfg(test)]
+mod tests;
 mod text_buffer;
 
 pub use calls::{NoMemory, Plan};

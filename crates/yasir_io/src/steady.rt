@@ -1,7 +1,5 @@
-ghost use Rattle.std.specs.Prelude.{◌≡◌, ℕ, ◌≤◌, min, take, length, Option, Some, option_map, IsOk, IfOk, IfSome, OnOk, OnErr};
-ghost use Rattle.std.specs.Io.KnownBytes.{prepend_known, IsAtEnd};
-ghost use Rattle.yasir_io.specs.Causes.{HasCause};
-ghost use Rattle.yasir_io.specs.Disks.{Slots, slot_in, with_slot};
+ghost use Rattle.std.specs.Prelude.{◌≡◌, Some};
+ghost use Rattle.yasir_io.specs.Disks.{slot_in};
 ghost use Rattle.yasir_io.specs.Steady.{steady_bytes, steady_slots};
 
 use crate::{Failed, Slot, SlotDisk, Source};
@@ -26,15 +24,7 @@ impl<'a> Source for SteadySource<'a> {
 
     ghost faults = { λ _. 0 };
 
-    fn read(&mut self, buf: &mut [u8; 512]) -> Result<usize, Failed>
-        ensures within { IfOk result (λ n. n ≤ 512) }
-        ensures bytes { IfOk result (λ n. Some (steady_bytes self.old) ≡ prepend_known (take n buf.new) (Some (steady_bytes self.new))) }
-        ensures end { IfOk result (λ n. n ≡ 0 → IsAtEnd (Some (steady_bytes self.new))) }
-        ensures err { OnErr result (Some (steady_bytes self.new) ≡ Some (steady_bytes self.old)) }
-        ensures cause { HasCause 0 0 result }
-        ensures never_fails { IsOk result }
-        ensures size { IfOk result (λ n. n ≡ min (length (steady_bytes self.old)) 512) }
-    {
+    fn read(&mut self, buf: &mut [u8; 512]) -> Result<usize, Failed> {
         let n = self.bytes.len().min(512);
         let (front, rest) = self.bytes.split_at(n);
         buf[..n].copy_from_slice(front);
@@ -43,7 +33,7 @@ impl<'a> Source for SteadySource<'a> {
     }
 }
 
-/// Two slots in memory that never fail and outlive no crash.
+/// Two slots in memory. No call fails, and of a crash nothing is told.
 #[derive(Drop)]
 pub struct SteadySlots {
     a: [u8; 16],

@@ -1,3 +1,6 @@
 pub mod Ticks
 pub mod Bursts
 pub mod TickText
+pub mod Place
+pub mod Reader
+pub mod ReaderStep

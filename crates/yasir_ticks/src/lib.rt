@@ -2,10 +2,13 @@
 #![tactic(auto)]
 
 mod fault;
+mod place;
+mod reader;
 mod run;
 mod tick;
 
 pub use fault::{BadTicks, TickFault};
+pub use reader::TickReader;
 pub use run::{LineBytes, Run};
 pub use tick::Tick;
 

@@ -1,0 +1,9 @@
+use Rattle.std.proofs.Common.{◌≡◌, ◌≢◌, ◌⊎◌, inl, inr, ◌∙◌, ◌==◌, ℕ, ◌+◌, ◌*◌, ◌-◌, ◌≤◌, ◌<◌, Bool, true, false, List, [], ◌∷◌, ◌++◌, length, Option, Some, None, Result, Ok, Err, is_some, refl, ap, sym, arith, rules}
+use Rattle.yasir_ticks.proofs.Readers.{step_refused}
+use Rattle.yasir_ticks.proofs.Steps.{refuses_foreign}
+use Rattle.yasir_ticks.proofs.reader.TickReader.after_content.Goals as goal
+
+pub returns-in_default : goal.returns-in_default
+returns-in_default c =
+    step_refused _ _ _ _ _ _ refl c.refuse.ensures.err c.refuse.ensures.place c.refuse.ensures.line
+    (refuses_foreign _ _ _ c.requires.foreign (grind arith) (grind arith))

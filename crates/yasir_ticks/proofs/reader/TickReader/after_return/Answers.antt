@@ -1,0 +1,8 @@
+use Rattle.std.proofs.Common.{◌≡◌, ◌≢◌, ◌⊎◌, inl, inr, ◌∙◌, ◌==◌, ℕ, ◌+◌, ◌*◌, ◌-◌, ◌≤◌, ◌<◌, Bool, true, false, List, [], ◌∷◌, ◌++◌, length, Option, Some, None, Result, Ok, Err, is_some, refl, ap, sym, arith, rules}
+use Rattle.yasir_ticks.proofs.Readers.{step_refused}
+use Rattle.yasir_ticks.proofs.Steps.{refuses_after_return}
+use Rattle.yasir_ticks.proofs.reader.TickReader.after_return.Goals as goal
+
+pub returns-else-b-eq10 : goal.returns-else-b-eq10
+returns-else-b-eq10 c =
+    step_refused _ _ _ _ _ _ c.requires.place c.refuse.ensures.err c.refuse.ensures.place c.refuse.ensures.line (refuses_after_return _ _ _ c.if-b-eq10.false)

@@ -1,0 +1,9 @@
+use Rattle.std.proofs.Common.{◌≡◌, ◌≢◌, ◌⊎◌, inl, inr, ◌∙◌, ◌==◌, ℕ, ◌+◌, ◌*◌, ◌-◌, ◌≤◌, ◌<◌, Bool, true, false, List, [], ◌∷◌, ◌++◌, length, Option, Some, None, Result, Ok, Err, is_some, refl, ap, sym, arith, rules}
+use Rattle.yasir_ticks.proofs.Readers.{step_on}
+use Rattle.yasir_ticks.proofs.Steps.{accepts_plus}
+use Rattle.yasir_ticks.proofs.reader.TickReader.at_start.Goals as goal
+
+pub returns-in-43 : goal.returns-in-43
+returns-in-43 c =
+    rw c.in-43.is (step_on _ _ _ _ _ _ _ c.requires.place c.go.ensures.place (c.go.ensures.bytes ∙ c.clear.ensures) c.go.ensures.line c.go.ensures.ok
+    (λ e. omega arith) (accepts_plus _))

@@ -1,0 +1,14 @@
+use Rattle.std.proofs.Common.{◌≡◌, ◌≢◌, ◌⊎◌, inl, inr, ◌∙◌, ◌==◌, ℕ, ◌+◌, ◌*◌, ◌-◌, ◌≤◌, ◌<◌, Bool, true, false, List, [], ◌∷◌, ◌++◌, length, Option, Some, None, Result, Ok, Err, is_some, refl, ap, sym, arith, rules}
+use Rattle.yasir_ticks.proofs.Readers.{step_on, step_refused}
+use Rattle.yasir_ticks.proofs.Steps.{accepts_return, refuses_open_return}
+use Rattle.yasir_ticks.proofs.reader.TickReader.end_content.Goals as goal
+
+pub returns-in-Ok : goal.returns-in-Ok
+returns-in-Ok c =
+    step_on _ _ _ _ _ _ _ refl c.go.ensures.place c.go.ensures.bytes c.go.ensures.line c.go.ensures.ok (λ e. omega arith)
+    (accepts_return _ _ _ c.requires c.in-Ok.ensures.content)
+
+pub returns-in-Err : goal.returns-in-Err
+returns-in-Err c =
+    step_refused _ _ _ _ _ _ refl c.refuse.ensures.err c.refuse.ensures.place c.refuse.ensures.line
+    (refuses_open_return _ _ _ c.requires c.in-Err.ensures.content)

@@ -1,0 +1,9 @@
+use Rattle.std.proofs.Common.{◌≡◌, ◌≢◌, ◌⊎◌, inl, inr, ◌∙◌, ◌==◌, ℕ, ◌+◌, ◌*◌, ◌-◌, ◌≤◌, ◌<◌, Bool, true, false, List, [], ◌∷◌, ◌++◌, length, Option, Some, None, Result, Ok, Err, is_some, refl, ap, sym, arith, rules}
+use Rattle.yasir_ticks.proofs.Readers.{step_refused}
+use Rattle.yasir_ticks.proofs.Steps.{refuses_long}
+use Rattle.yasir_ticks.proofs.reader.TickReader.in_pairs.Goals as goal
+
+pub returns-then-is_full : goal.returns-then-is_full
+returns-then-is_full c =
+    step_refused _ _ _ _ _ _ c.requires.place c.refuse.ensures.err c.refuse.ensures.place c.refuse.ensures.line
+    (refuses_long _ _ (ap is_some (sym c.in-Some.ensures.value)) (grind arith))

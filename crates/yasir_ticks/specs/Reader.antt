@@ -1,0 +1,92 @@
+-- What a reader of tick text stands for: a text with a number of marks, up to some place of its last line.
+use Rattle.std.specs.Prelude.{◌≡◌, ℕ, ◌+◌, ◌≤◌, ◌<◌, ◌==◌, Bool, true, false, List, [], ◌∷◌, ◌++◌, length, map, replicate, Option, Some, None, Ok}
+use Rattle.hex.specs.Hex.{decode_of, hex_digit_value}
+use Rattle.yasir_ticks.specs.Ticks.{Item, marks_in}
+use Rattle.yasir_ticks.specs.Ticks.Item.{tick}
+use Rattle.yasir_ticks.specs.TickText.{lines_of, all_items, ended_items, line_after, content_items, is_plain_decimal, number_after}
+use Rattle.yasir_ticks.specs.declared.fault.BadTicks.{BadTicks}
+use Rattle.yasir_ticks.specs.declared.tick.Tick.TheVariants.{Silent, Byte}
+use Rattle.yasir_ticks.specs.declared.place.Content.{Content}
+use Rattle.yasir_ticks.specs.declared.place.Content.TheVariants.{NoTick, KeptBytes, SilentTicks}
+use Rattle.yasir_ticks.specs.declared.place.Place.{Place}
+use Rattle.yasir_ticks.specs.declared.place.Place.TheVariants.{Start, Comment, Pairs, HalfPair, Minus, Number, Returned, Refused}
+use Rattle.yasir_ticks.specs.declared.reader.TickReader.{TickReader}
+
+-- what a line stands for whose content this is, the bytes of a `+` line being these
+abbrev pub items_of_content : Content → List ℕ → List Item
+items_of_content NoTick bytes = []
+items_of_content KeptBytes bytes = map (λ b. tick (Byte b)) bytes
+items_of_content (SilentTicks n) bytes = replicate n (tick Silent)
+
+abbrev pub starts_comment : List ℕ → Bool
+starts_comment [] = false
+starts_comment (c ∷ x) = c == 35
+
+-- `#` and so many bytes
+pub record IsComment (n : ℕ) (line : List ℕ) : Type 0 where
+  pub after : List ℕ
+  pub is : line ≡ 35 ∷ after
+  pub long : length after ≡ n
+  pub fits : n ≤ 120
+
+-- `+` and the digits of these bytes
+pub record HasPairs (bytes line : List ℕ) : Type 0 where
+  pub digits : List ℕ
+  pub is : line ≡ 43 ∷ digits
+  pub decoded : decode_of digits ≡ Ok bytes
+  pub fits : length bytes ≤ 32
+
+-- `+`, the digits of these bytes and one more, of this value
+pub record HasHalfPair (high : ℕ) (bytes line : List ℕ) : Type 0 where
+  pub digits : List ℕ
+  pub digit : ℕ
+  pub is : line ≡ 43 ∷ (digits ++ digit ∷ [])
+  pub decoded : decode_of digits ≡ Ok bytes
+  pub value : hex_digit_value digit ≡ Some high
+  pub fits : length bytes < 32
+
+-- `-` and the digits of this number
+pub record HasNumber (n : ℕ) (line : List ℕ) : Type 0 where
+  pub digits : List ℕ
+  pub is : line ≡ 45 ∷ digits
+  pub plain : is_plain_decimal digits ≡ true
+  pub number : number_after 0 digits ≡ n
+  pub fits : n ≤ 1000000
+
+-- a content, and then a CR
+pub record IsReturned (content : Content) (bytes line : List ℕ) : Type 0 where
+  pub before : List ℕ
+  pub is : line ≡ before ++ 13 ∷ []
+  pub apart : starts_comment before ≡ false
+  pub stands : content_items before ≡ Some (items_of_content content bytes)
+
+-- The line so far brings a reader to this place, with these bytes kept.
+abbrev pub Reads : Place → List ℕ → List ℕ → Type 0
+Reads Start bytes line = line ≡ []
+Reads (Comment n) bytes line = IsComment n line
+Reads Pairs bytes line = HasPairs bytes line
+Reads (HalfPair high) bytes line = HasHalfPair high bytes line
+Reads Minus bytes line = line ≡ 45 ∷ []
+Reads (Number n) bytes line = HasNumber n line
+Reads (Returned content) bytes line = IsReturned content bytes line
+Reads (Refused why) bytes line = ⊥
+
+-- A text with so many marks, of which these are left, brings a reader to this place.
+pub record IsAt (place : Place) (bytes : List ℕ) (line left marks : ℕ) (text : List ℕ) : Type 0 where
+  pub ended : all_items (lines_of text).ended ≡ Some (ended_items text)
+  pub marked : marks_in (ended_items text) + left ≡ marks
+  pub counted : line ≡ line_after text
+  pub last : Reads place bytes (lines_of text).last
+
+-- The reader has taken this text, and no byte of it is refused; no mark is left.
+pub record StandsFor (reader : TickReader) (marks : ℕ) (text : List ℕ) : Type 0 where
+  pub at : IsAt reader.place reader.bytes.items reader.line 0 marks text
+
+-- the line in which the reader stands
+abbrev pub reader_line : TickReader → ℕ
+reader_line reader = reader.line
+
+-- The reader has refused its text so, and answers so from then on.
+pub record HasRefused (reader : TickReader) (bad : BadTicks) : Type 0 where
+  pub place : reader.place ≡ Refused bad.why
+  pub line : reader.line ≡ bad.line

@@ -1,0 +1,55 @@
+-- What one byte of a tick text, or its end, does at a place of its line.
+use Rattle.std.specs.Prelude.{◌≡◌, ℕ, ◌+◌, ◌<◌, ◌==◌, ◌≢◌, ◌⊎◌, Bool, true, false, List, [], ◌∷◌, ◌++◌, Option, Some, None, Result, Ok, Err, if◌then◌else◌}
+use Rattle.yasir_ticks.specs.Ticks.{Item, items_of_run, marks_in}
+use Rattle.yasir_ticks.specs.TickText.{line_items, fault_in_line, ends_content}
+use Rattle.yasir_ticks.specs.Reader.{Reads, items_of_content, HasRefused}
+use Rattle.yasir_ticks.specs.declared.fault.BadTicks.{BadTicks}
+use Rattle.yasir_ticks.specs.declared.fault.TickFault.{TickFault}
+use Rattle.yasir_ticks.specs.declared.run.Run.{Run}
+use Rattle.yasir_ticks.specs.declared.run.Run.TheVariants.{Nothing}
+use Rattle.yasir_ticks.specs.declared.place.Content.{Content}
+use Rattle.yasir_ticks.specs.declared.place.Place.{Place}
+use Rattle.yasir_ticks.specs.declared.place.Place.TheVariants.{Start, Refused}
+use Rattle.yasir_ticks.specs.declared.reader.TickReader.{TickReader}
+
+-- A byte that goes on with the line brings its reader to the new place; an LF ends the line, which stands for the run.
+pub record Accepts (place : Place) (bytes : List ℕ) (b : ℕ) (run : Run) (new_place : Place) (new_bytes : List ℕ) : Type 0 where
+  pub nothing : b ≢ 10 → run ≡ Nothing
+  pub reads : b ≢ 10 → (line : List ℕ) → Reads place bytes line → Reads new_place new_bytes (line ++ b ∷ [])
+  pub start : b ≡ 10 → new_place ≡ Start
+  pub stands : b ≡ 10 → (line : List ℕ) → Reads place bytes line → line_items line ≡ Some (items_of_run run)
+
+-- No line goes on with this byte, but one with more marks than are left (and none is left); an LF ends a line of no right form.
+pub record Refuses (place : Place) (bytes : List ℕ) (b : ℕ) (why : TickFault) : Type 0 where
+  pub wrong : b ≢ 10 → (line : List ℕ) → Reads place bytes line
+      → (more : List ℕ) (items : List Item) → line_items (line ++ b ∷ more) ≡ Some items → 0 < marks_in items
+  pub ended : b ≡ 10 → (line : List ℕ) → Reads place bytes line → line_items line ≡ None
+  pub cause : (line : List ℕ) → Reads place bytes line → fault_in_line line (Some b) ≡ why
+
+-- A line that ends here stands for this content.
+pub record Closes (place : Place) (bytes : List ℕ) (content : Content) : Type 0 where
+  pub stands : (line : List ℕ) → Reads place bytes line → line_items line ≡ Some (items_of_content content bytes)
+
+-- A line that ends here, by a CR, an LF or the end of the text, has no right form.
+pub record IsOpen (place : Place) (bytes : List ℕ) (why : TickFault) : Type 0 where
+  pub wrong : (line : List ℕ) → Reads place bytes line → line_items line ≡ None
+  pub cause : (line : List ℕ) (next : Option ℕ) → ends_content next ≡ true → Reads place bytes line → fault_in_line line next ≡ why
+
+abbrev pub StepCase : TickReader → ℕ → Result Run BadTicks → TickReader → Type 0
+StepCase old b (Ok run) new =
+    Accepts old.place old.bytes.items b run new.place new.bytes.items
+    × (new.line ≡ (if b == 10 then old.line + 1 else old.line))
+StepCase old b (Err bad) new =
+    Refuses old.place old.bytes.items b bad.why × (bad.line ≡ old.line) × HasRefused new bad
+
+-- one byte at a reader
+pub record Steps (old : TickReader) (b : ℕ) (result : Result Run BadTicks) (new : TickReader) : Type 0 where
+  pub case : StepCase old b result new
+
+abbrev pub EndCase : TickReader → Result Run BadTicks → Type 0
+EndCase reader (Ok run) = (line : List ℕ) → Reads reader.place reader.bytes.items line → line_items line ≡ Some (items_of_run run)
+EndCase reader (Err bad) = IsOpen reader.place reader.bytes.items bad.why × (bad.line ≡ reader.line)
+
+-- the end of the text at a reader
+pub record Stops (reader : TickReader) (result : Result Run BadTicks) : Type 0 where
+  pub case : EndCase reader result

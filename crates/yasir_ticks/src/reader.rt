@@ -1,0 +1,346 @@
+ghost use Rattle.std.specs.Prelude.{◌≡◌, ℕ, ◌+◌, ◌-◌, ◌*◌, ◌<◌, ◌≤◌, ◌^◌, ◌==◌, ◌++◌, ◌∷◌, [], List, true, length, IsTrue, MatchResult, Some, if◌then◌else◌};
+ghost use Rattle.hex.specs.Hex.{hex_digit_value, is_hex_digit};
+ghost use Rattle.yasir_ticks.specs.Place.{has_room, is_foreign};
+
+use crate::place::{Content, Place};
+use crate::{BadTicks, LineBytes, Run, TickFault};
+
+/// The most bytes of a comment after its `#`.
+const MAX_COMMENT: u8 = 120;
+
+/// The most silent ticks that one line stands for.
+const MAX_SILENCE: u64 = 1_000_000;
+
+/// A reader of tick text, byte by byte. Each line that ends is answered as a run.
+#[derive(Drop)]
+pub struct TickReader {
+    line: u32,
+    place: Place,
+    bytes: LineBytes,
+    ghost room: { has_room place bytes.items ≡ true },
+}
+
+/// The value of a hex digit of either case.
+#[inline]
+fn hex_value(b: u8) -> Option<u8>
+    ensures value { result ≡ hex_digit_value b }
+{
+    match b {
+        b'0'..=b'9' => Some(b - b'0'),
+        b'a'..=b'f' => Some(b - b'a' + 10),
+        b'A'..=b'F' => Some(b - b'A' + 10),
+        _ => None,
+    }
+}
+
+impl TickReader {
+    ghost use Rattle.std.specs.Prelude.{◌≢◌, ◌⊎◌, OnOk, IfOk, IfErr, ◌%◌, Err};
+    ghost use Rattle.yasir_ticks.specs.declared.fault.TickFault.{TickFault};
+    ghost use Rattle.yasir_ticks.specs.declared.fault.BadTicks.{BadTicks};
+    ghost use Rattle.yasir_ticks.specs.Ticks.{Item, items_of_run};
+    ghost use Rattle.yasir_ticks.specs.TickText.{IsTickText, BeginsTickText, IsRefusedAfter, ended_items, line_after, fault_after, fault_at_end};
+    ghost use Rattle.yasir_ticks.specs.Reader.{StandsFor, HasRefused, reader_line, items_of_content};
+    ghost use Rattle.yasir_ticks.specs.ReaderStep.{Steps, Stops, Closes, IsOpen};
+
+    /// A reader of a text with exactly so many marks.
+    pub fn new(marks: u8) -> TickReader
+        requires { marks ≡ 0 }
+        ensures stands { StandsFor result marks [] }
+        ensures begins { BeginsTickText marks [] }
+        ensures line { reader_line result ≡ 1 }
+    {
+        let _ = marks;
+        TickReader {
+            line: 1,
+            place: Place::Start,
+            bytes: LineBytes::new(),
+        }
+    }
+
+    /// The line, counted from 1, in which the reader stands.
+    pub fn line(&self) -> u32
+        ensures { result ≡ reader_line self.now }
+    {
+        self.line
+    }
+
+    /// What the line stands for if it ends here.
+    fn content(&self) -> Result<Content, TickFault>
+        ensures content { MatchResult result (Closes self.now.place self.now.bytes.items) (IsOpen self.now.place self.now.bytes.items) }
+        ensures refused { (why : TickFault) → self.now.place ≡ Place.Refused why → result ≡ Err why }
+    {
+        match self.place {
+            Place::Start | Place::Comment(_) => Ok(Content::NoTick),
+            Place::Pairs => {
+                if self.bytes.is_empty() {
+                    Err(TickFault::Empty)
+                } else {
+                    Ok(Content::KeptBytes)
+                }
+            }
+            Place::HalfPair(_) => Err(TickFault::Odd),
+            Place::Minus => Err(TickFault::Empty),
+            Place::Number(n) => Ok(Content::SilentTicks(n)),
+            Place::Returned(content) => Ok(content),
+            Place::Refused(why) => Err(why),
+        }
+    }
+
+    /// The run of a line that ends here with this content.
+    fn run_of(&mut self, content: Content) -> Run
+        ensures items { items_of_run result ≡ items_of_content content self.old.bytes.items }
+        ensures place { self.new.place ≡ self.old.place }
+        ensures line { self.new.line ≡ self.old.line }
+    {
+        match content {
+            Content::NoTick => Run::Nothing,
+            Content::KeptBytes => Run::Bytes(self.bytes.take()),
+            Content::SilentTicks(n) => Run::Silence(n),
+        }
+    }
+
+    /// Goes to a place of the same line.
+    #[inline]
+    fn go(&mut self, place: Place) -> Result<Run, BadTicks>
+        requires { has_room place self.old.bytes.items ≡ true }
+        ensures ok { result ≡ Ok Run.Nothing }
+        ensures place { self.new.place ≡ place }
+        ensures bytes { self.new.bytes.items ≡ self.old.bytes.items }
+        ensures line { self.new.line ≡ self.old.line }
+    {
+        self.place = place;
+        Ok(Run::Nothing)
+    }
+
+    /// Refuses the text here, for good.
+    #[cold]
+    fn refuse(&mut self, why: TickFault) -> Result<Run, BadTicks>
+        ensures err { result ≡ Err (record { line = self.old.line; why = why }) }
+        ensures place { self.new.place ≡ Place.Refused why }
+        ensures line { self.new.line ≡ self.old.line }
+    {
+        self.place = Place::Refused(why);
+        Err(BadTicks {
+            line: self.line,
+            why,
+        })
+    }
+
+    /// Ends the line at its LF.
+    fn end_line(&mut self) -> Result<Run, BadTicks>
+        requires { reader_line self.old < 2 ^ 32 - 1 }
+        ensures { Steps self.old 10 result self.new }
+    {
+        match self.content() {
+            Ok(content) => {
+                self.line += 1;
+                self.place = Place::Start;
+                Ok(self.run_of(content))
+            }
+            Err(why) => self.refuse(why),
+        }
+    }
+
+    /// Ends the content at the CR behind it.
+    fn end_content(&mut self) -> Result<Run, BadTicks>
+        requires { is_foreign self.old.place 13 ≡ true }
+        ensures { Steps self.old 13 result self.new }
+    {
+        match self.content() {
+            Ok(content) => self.go(Place::Returned(content)),
+            Err(why) => self.refuse(why),
+        }
+    }
+
+    /// A byte that is no part of a content: an LF, a CR, or one that may not stand here.
+    fn after_content(&mut self, b: u8) -> Result<Run, BadTicks>
+        requires foreign { is_foreign self.old.place b ≡ true }
+        requires line { reader_line self.old < 2 ^ 32 - 1 }
+        ensures { Steps self.old b result self.new }
+    {
+        match b {
+            b'\n' => self.end_line(),
+            b'\r' => self.end_content(),
+            _ => self.refuse(TickFault::Char),
+        }
+    }
+
+    fn at_start(&mut self, b: u8) -> Result<Run, BadTicks>
+        requires place { self.old.place ≡ Place.Start }
+        requires line { reader_line self.old < 2 ^ 32 - 1 }
+        ensures { Steps self.old b result self.new }
+    {
+        match b {
+            b'+' => {
+                self.bytes.clear();
+                self.go(Place::Pairs)
+            }
+            b'-' => self.go(Place::Minus),
+            b'#' => self.go(Place::Comment(0)),
+            _ => self.after_content(b),
+        }
+    }
+
+    fn in_comment(&mut self, length: u8, b: u8) -> Result<Run, BadTicks>
+        requires place { self.old.place ≡ Place.Comment length }
+        requires line { reader_line self.old < 2 ^ 32 - 1 }
+        ensures { Steps self.old b result self.new }
+    {
+        if b == b'\n' {
+            self.end_line()
+        } else if length < MAX_COMMENT {
+            self.go(Place::Comment(length + 1))
+        } else {
+            self.refuse(TickFault::Long)
+        }
+    }
+
+    #[inline]
+    fn in_pairs(&mut self, b: u8) -> Result<Run, BadTicks>
+        requires place { self.old.place ≡ Place.Pairs }
+        requires line { reader_line self.old < 2 ^ 32 - 1 }
+        ensures { Steps self.old b result self.new }
+    {
+        match hex_value(b) {
+            Some(high) => {
+                if self.bytes.is_full() {
+                    self.refuse(TickFault::Long)
+                } else {
+                    self.go(Place::HalfPair(high))
+                }
+            }
+            None => self.after_content(b),
+        }
+    }
+
+    #[inline]
+    fn in_half_pair(&mut self, high: u8, b: u8) -> Result<Run, BadTicks>
+        requires place { self.old.place ≡ Place.HalfPair high }
+        requires line { reader_line self.old < 2 ^ 32 - 1 }
+        ensures { Steps self.old b result self.new }
+    {
+        match hex_value(b) {
+            Some(low) => {
+                let nothing = self.go(Place::Pairs);
+                self.bytes.push(high * 16 + low);
+                nothing
+            }
+            None => self.after_content(b),
+        }
+    }
+
+    fn after_minus(&mut self, b: u8) -> Result<Run, BadTicks>
+        requires place { self.old.place ≡ Place.Minus }
+        requires line { reader_line self.old < 2 ^ 32 - 1 }
+        ensures { Steps self.old b result self.new }
+    {
+        match b {
+            b'1'..=b'9' => self.go(Place::Number(u32::from(b - b'0'))),
+            b'0' => self.refuse(TickFault::Count),
+            _ => self.after_content(b),
+        }
+    }
+
+    fn in_number(&mut self, number: u32, b: u8) -> Result<Run, BadTicks>
+        requires place { self.old.place ≡ Place.Number number }
+        requires line { reader_line self.old < 2 ^ 32 - 1 }
+        ensures { Steps self.old b result self.new }
+    {
+        match b {
+            b'0'..=b'9' => {
+                let next = u64::from(number) * 10 + u64::from(b - b'0');
+                if next <= MAX_SILENCE {
+                    self.go(Place::Number(next as u32))
+                } else {
+                    self.refuse(TickFault::Count)
+                }
+            }
+            _ => self.after_content(b),
+        }
+    }
+
+    fn after_return(&mut self, content: Content, b: u8) -> Result<Run, BadTicks>
+        requires place { self.old.place ≡ Place.Returned content }
+        requires line { reader_line self.old < 2 ^ 32 - 1 }
+        ensures { Steps self.old b result self.new }
+    {
+        if b == b'\n' {
+            self.end_line()
+        } else {
+            self.refuse(TickFault::Char)
+        }
+    }
+
+    /// One byte, or the refusal that stands.
+    #[inline]
+    fn step(&mut self, b: u8) -> Result<Run, BadTicks>
+        requires { reader_line self.old < 2 ^ 32 - 1 }
+        ensures step { Steps self.old b result self.new }
+        ensures for_good { (bad : BadTicks) → HasRefused self.old bad → (result ≡ Err bad) × (self.new ≡ self.old) }
+    {
+        match self.place {
+            Place::Pairs => self.in_pairs(b),
+            Place::HalfPair(high) => self.in_half_pair(high, b),
+            Place::Start => self.at_start(b),
+            Place::Minus => self.after_minus(b),
+            Place::Number(number) => self.in_number(number, b),
+            Place::Comment(length) => self.in_comment(length, b),
+            Place::Returned(content) => self.after_return(content, b),
+            Place::Refused(why) => Err(BadTicks {
+                line: self.line,
+                why,
+            }),
+        }
+    }
+
+    /// Takes the next byte of the text, and answers the run of the line that this byte ends, or `Nothing`.
+    /// A refused byte is answered for good.
+    #[inline]
+    pub fn feed(&mut self, b: u8) -> Result<Run, BadTicks>
+        requires { reader_line self.old < 2 ^ 32 - 1 }
+        ensures stands { (marks : ℕ) (text : List ℕ) → StandsFor self.old marks text
+            → OnOk result (StandsFor self.new marks (text ++ b ∷ [])) }
+        ensures begins { (marks : ℕ) (text : List ℕ) → StandsFor self.old marks text
+            → OnOk result (BeginsTickText marks (text ++ b ∷ [])) }
+        // The runs are those of the lines that ended.
+        ensures run { (marks : ℕ) (text : List ℕ) → StandsFor self.old marks text
+            → IfOk result (λ run. ended_items (text ++ b ∷ []) ≡ ended_items text ++ items_of_run run) }
+        // It refuses the text at its refused place, and nowhere else.
+        ensures refused { (marks : ℕ) (text : List ℕ) → StandsFor self.old marks text
+            → IfErr result (λ bad. IsRefusedAfter marks text b
+            × (bad.line ≡ line_after text) × (bad.why ≡ fault_after text b)) }
+        ensures line { OnOk result (reader_line self.new ≡ (if b == 10 then reader_line self.old + 1 else reader_line self.old)) }
+        ensures line_by_one { reader_line self.new ≤ reader_line self.old + 1 }
+        ensures again { IfErr result (λ bad. HasRefused self.new bad) }
+        ensures for_good { (bad : BadTicks) → HasRefused self.old bad → (result ≡ Err bad) × (self.new ≡ self.old) }
+    {
+        self.step(b)
+    }
+
+    /// Takes the end of the text, and answers the run of a last line without LF, or `Nothing`.
+    pub fn finish(self) -> Result<Run, BadTicks>
+        ensures right { (marks : ℕ) (text : List ℕ) → StandsFor self marks text
+            → IfOk result (λ run. IsTickText marks text (ended_items text ++ items_of_run run)) }
+        ensures refused { (marks : ℕ) (text : List ℕ) → StandsFor self marks text
+            → IfErr result (λ bad. (¬ ((items : List Item) × IsTickText marks text items))
+            × (bad.line ≡ line_after text) × (bad.why ≡ fault_at_end text)) }
+        ensures again { (bad : BadTicks) → HasRefused self bad → result ≡ Err bad }
+    {
+        let mut reader = self;
+        reader.stop()
+    }
+
+    /// The end of the text.
+    fn stop(&mut self) -> Result<Run, BadTicks>
+        ensures stop { Stops self.old result }
+        ensures again { (bad : BadTicks) → HasRefused self.old bad → result ≡ Err bad }
+    {
+        match self.content() {
+            Ok(content) => Ok(self.run_of(content)),
+            Err(why) => Err(BadTicks {
+                line: self.line,
+                why,
+            }),
+        }
+    }
+}
