@@ -1,0 +1,4 @@
+pub mod Known
+pub mod Items
+pub mod Moving
+pub mod Driving

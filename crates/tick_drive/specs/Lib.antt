@@ -1,0 +1,4 @@
+pub mod Consumers
+pub mod Input
+pub mod Intake
+pub mod Drive
