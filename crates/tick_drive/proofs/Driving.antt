@@ -7,11 +7,12 @@ use Rattle.yasir_ticks.specs.Ticks.{Item, ticks_in, items_of_run}
 use Rattle.yasir_ticks.specs.TickText.{IsTickText, BeginsTickText, ended_items, lines_of}
 use Rattle.yasir_ticks.specs.declared.run.Run.{Run}
 use Rattle.tick_drive.specs.Consumers.{Held, Start, Moves, Stops, IsSinkCause, IsDiskCause}
+use Rattle.tick_drive.specs.Items.{silent_items}
 use Rattle.tick_drive.specs.Input.{Takes, IsMetOf, HasTooManyTicks, max_ticks, is_read_fault, IsReadCause}
 use Rattle.tick_drive.specs.Intake.{IsMet, StepAnswer, FinishAnswer}
-use Rattle.tick_drive.specs.Drive.{EndsAs, HandsOver, is_write_stop, is_journal_stop}
-use Rattle.tick_drive.proofs.Items.{ticks_in-append}
-use Rattle.tick_drive.proofs.Moving.{moves_then, stops_then}
+use Rattle.tick_drive.specs.Drive.{EndsAs, EndsWith, HandsOver, is_write_stop, is_journal_stop}
+use Rattle.tick_drive.proofs.ItemLaws.{ticks_in-append}
+use Rattle.tick_drive.proofs.Moving.{moves_then, stops_then, stops_before}
 use Rattle.tick_drive.specs.declared.consumer.Stop.{Stop}
 use Rattle.tick_drive.specs.declared.intake.Intake.{Intake}
 use Rattle.tick_drive.specs.declared.end.End.{End}
@@ -52,7 +53,6 @@ progress_start stands marks before intake old first met = record {
 
 module _ {C : Type 0} (stands : C → Start → Held → List Item → Type 0) (stopped : C → Stop → Start → Held → List Item → Type 0)
     (marks : ℕ) (before : Option (List ℕ)) where
-
   -- a byte that ends no line with ticks
   pub progress_byte : (now later : Option (List ℕ)) (intake next : Intake) (old : C) (first : Held) (new : C) (last : Held) (ticks : ℕ)
       → (p : Progress stands marks before now intake old first new last ticks) → (byte : ℕ) → IsMet next marks before later (p.text ++ byte ∷ [])
@@ -60,12 +60,12 @@ module _ {C : Type 0} (stands : C → Start → Held → List Item → Type 0) (
       → Progress stands marks before later next old first new last ticks
   progress_byte now later intake next old first new last ticks p byte met same =
       let e : ended_items (p.text ++ byte ∷ []) ≡ ended_items p.text = same ∙ append-nil _ in record {
-    text = p.text ++ byte ∷ [];
-    met = met;
-    moved = subst (Moves stands old first new last) (sym e) p.moved;
-    sum = p.sum ∙ ap (λ items. length (ticks_in items)) (sym e);
-    within = p.within;
-  }
+        text = p.text ++ byte ∷ [];
+        met = met;
+        moved = subst (Moves stands old first new last) (sym e) p.moved;
+        sum = p.sum ∙ ap (λ items. length (ticks_in items)) (sym e);
+        within = p.within;
+      }
 
   -- a line that was handed over
   pub progress_line : (now later : Option (List ℕ)) (intake next : Intake) (old : C) (first : Held) (mid : C) (between : Held) (new : C) (last : Held) (ticks sum : ℕ)
@@ -78,10 +78,10 @@ module _ {C : Type 0} (stands : C → Start → Held → List Item → Type 0) (
     met = met;
     moved = subst (Moves stands old first new last) (sym e) (moves_then stands stopped old first mid between new last _ line p.moved handed.0);
     sum = let joined : length (ticks_in (ended_items p.text ++ line)) ≡ length (ticks_in (ended_items p.text)) + length (ticks_in line) =
-              ap length (ticks_in-append (ended_items p.text) line) ∙ length-append (ticks_in (ended_items p.text)) (ticks_in line) in
-          let shown : length (ticks_in (ended_items (p.text ++ byte ∷ []))) ≡ length (ticks_in (ended_items p.text ++ line)) =
-              ap (λ items. length (ticks_in items)) e in
-          omega (arith, joined, shown, handed.1, p.sum);
+        ap length (ticks_in-append (ended_items p.text) line) ∙ length-append (ticks_in (ended_items p.text)) (ticks_in line) in
+        let shown : length (ticks_in (ended_items (p.text ++ byte ∷ []))) ≡ length (ticks_in (ended_items p.text ++ line)) =
+        ap (λ items. length (ticks_in items)) e in
+        omega (arith, joined, shown, handed.1, p.sum);
     within = handed.2;
   }
 
@@ -145,18 +145,28 @@ module _ {C : Type 0} (stands : C → Start → Held → List Item → Type 0) (
       → (all : List Item) × Takes marks before now all end × EndsAs stands stopped old first new last all end
   line_ends now text items line (TooLong Ticks count) old first mid between new last ticks met ended moved sum within h =
       let joined : length (ticks_in (items ++ line)) ≡ length (ticks_in items) + length (ticks_in line) =
-          ap length (ticks_in-append items line) ∙ length-append (ticks_in items) (ticks_in line) in
-      (items, (text, record {
-        line = line; met = met; ended = ended;
-        within = subst (λ n. n ≤ max_ticks) sum within;
-        sum = omega (arith, joined, sum, h.2);
-        above = h.3;
-      }), subst (λ c. Moves stands old first c last items) (sym h.0) (subst (λ x. Moves stands old first mid x items) (sym h.1) moved))
+      ap length (ticks_in-append items line) ∙ length-append (ticks_in items) (ticks_in line) in (
+        items,
+        (
+          text,
+          record {
+            line = line;
+            met = met;
+            ended = ended;
+            within = subst (λ n. n ≤ max_ticks) sum within;
+            sum = omega (arith, joined, sum, h.2);
+            above = h.3;
+          },
+        ),
+        subst (λ c. Moves stands old first c last items) (sym h.0) (subst (λ x. Moves stands old first mid x items) (sym h.1) moved),
+      )
   line_ends now text items line (Stopped stop) old first mid between new last ticks met ended moved sum within h =
       let joined : length (ticks_in (items ++ line)) ≡ length (ticks_in items) + length (ticks_in line) =
-          ap length (ticks_in-append items line) ∙ length-append (ticks_in items) (ticks_in line) in
-      (items ++ line, (text, met, elim ended [ inl e ↦ inl (sym e) | inr right ↦ inr right ], omega (arith, joined, sum, h.1)),
-       stops_then stands stopped old first mid between new last items line stop moved h.0)
+      ap length (ticks_in-append items line) ∙ length-append (ticks_in items) (ticks_in line) in (
+        items ++ line,
+        (text, met, elim ended [ inl e ↦ inl (sym e) | inr right ↦ inr right ], omega (arith, joined, sum, h.1)),
+        stops_then stands stopped old first mid between new last items line stop moved h.0,
+      )
   line_ends now text items line (TooLong Bytes count) old first mid between new last ticks met ended moved sum within h = absurd h
   line_ends now text items line (Refused bad) old first mid between new last ticks met ended moved sum within h = absurd h
   line_ends now text items line ReadFault old first mid between new last ticks met ended moved sum within h = absurd h
@@ -171,12 +181,23 @@ module _ {C : Type 0} (stands : C → Start → Held → List Item → Type 0) (
   line_reads_no_fault items ReadFault mid between new last ticks h = absurd h
   line_reads_no_fault items Whole mid between new last ticks h = absurd h
 
+-- silence behind a whole input changes nothing of any other end
+pub ends_with_rest : {C : Type 0} (stands : C → Start → Held → List Item → Type 0) (stopped : C → Stop → Start → Held → List Item → Type 0) (rest : ℕ)
+    (old : C) (first : Held) (new : C) (last : Held) (items : List Item) (end : End) → (end ≡ Whole → ⊥)
+    → EndsAs stands stopped old first new last items end → EndsWith stands stopped rest old first new last items end
+ends_with_rest stands stopped rest old first new last items Whole other h = absurd (other refl)
+ends_with_rest stands stopped rest old first new last items (Refused bad) other h = h
+ends_with_rest stands stopped rest old first new last items (TooLong what count) other h = h
+ends_with_rest stands stopped rest old first new last items ReadFault other h = h
+ends_with_rest stands stopped rest old first new last items (Stopped stop) other h =
+    stops_before stands stopped old first new last items (silent_items rest) stop h
+
 -- how many ticks there are with a line more
 pub within_line : (items line : List Item) (ticks sum : ℕ) → ticks ≡ length (ticks_in items) → sum ≡ ticks + length (ticks_in line) → sum ≤ max_ticks
     → length (ticks_in (items ++ line)) ≤ max_ticks
 within_line items line ticks sum before with_line within =
     let joined : length (ticks_in (items ++ line)) ≡ length (ticks_in items) + length (ticks_in line) =
-        ap length (ticks_in-append items line) ∙ length-append (ticks_in items) (ticks_in line) in
+    ap length (ticks_in-append items line) ∙ length-append (ticks_in items) (ticks_in line) in
     omega (arith, joined)
 
 -- counts that had not changed before this call

@@ -1,4 +1,4 @@
 pub mod Known
-pub mod Items
+pub mod ItemLaws
 pub mod Moving
 pub mod Driving

@@ -1,7 +1,7 @@
 -- What takes the ticks of an input, and what is said of it: always over what the sinks and the disk hold.
-use Rattle.std.specs.Prelude.{◌≡◌, ℕ, ◌≤◌, ◌⊎◌, List, ◌++◌, take, Option, Result, Ok, Err, Bool, true, false, IsTrue}
+use Rattle.std.specs.Prelude.{◌≡◌, ℕ, ◌+◌, ◌≤◌, ◌⊎◌, List, ◌++◌, length, take, Option, Result, Ok, Err, OnOk, IfErr, Bool, true, false}
 use Rattle.yasir_io.specs.Causes.{Rose}
-use Rattle.yasir_io.specs.Disks.{Slots}
+use Rattle.yasir_io.specs.Disks.{Slots, LeavesOnly}
 use Rattle.yasir_ticks.specs.Ticks.{Item}
 use Rattle.tick_drive.specs.declared.consumer.Stop.{Stop}
 use Rattle.tick_drive.specs.declared.consumer.Stop.TheVariants.{WriteFault, JournalFault}
@@ -31,6 +31,20 @@ abbrev pub Stops : {C : Type 0} → (C → Start → Held → List Item → Type
     → C → Held → C → Held → List Item → Stop → Type 0
 Stops stands stopped old before new after more stop =
     (start : Start) (line : List Item) → stands old start before line → (n : ℕ) × stopped new stop start after (line ++ take n more)
+
+-- What a call does to a consumer that is given these items, and to its disk.
+pub record Advances {C D T : Type 0} (stands : C → Start → Held → List Item → Type 0) (stopped : C → Stop → Start → Held → List Item → Type 0)
+    (taken : C → ℕ) (able kept : C → D → Type 0) (safe : C → Slots → Type 0) (moment : D → ℕ) (left_since : D → ℕ → Slots → Type 0)
+    (old new : C) (before after : Held) (disk_old disk_new : D) (items : List Item) (result : Result T Stop) : Type 0 where
+  -- it has taken them, or stopped at one of them
+  pub moved : OnOk result (Moves stands old before new after items)
+  pub ended : IfErr result (Stops stands stopped old before new after items)
+  pub counted : OnOk result (taken new ≡ taken old + length items)
+  pub is_able : OnOk result (able new disk_new)
+  -- the disk's images keep what was asked of them, and are safe at any moment, whether it stopped or not
+  pub is_kept : kept old disk_old → kept new disk_new
+  pub any_moment : kept old disk_old → LeavesOnly moment left_since disk_old disk_new (safe old)
+  pub safer : (c : Slots) → safe new c → safe old c
 
 abbrev pub is_write_fault : {T : Type 0} → Result T Stop → Bool
 is_write_fault (Err WriteFault) = true

@@ -1,7 +1,8 @@
 -- How the run over an input ends, and what the consumer has then taken.
-use Rattle.std.specs.Prelude.{◌≡◌, ℕ, ◌+◌, ◌<◌, ◌≤◌, List, length, Result, Ok, Err, Bool, true, false}
+use Rattle.std.specs.Prelude.{◌≡◌, ℕ, ◌+◌, ◌<◌, ◌≤◌, List, ◌++◌, length, Result, Ok, Err, Bool, true, false}
 use Rattle.yasir_ticks.specs.Ticks.{Item, ticks_in}
 use Rattle.tick_drive.specs.Input.{max_ticks}
+use Rattle.tick_drive.specs.Items.{silent_items}
 use Rattle.tick_drive.specs.Consumers.{Held, Start, Moves, Stops}
 use Rattle.tick_drive.specs.declared.consumer.Stop.{Stop}
 use Rattle.tick_drive.specs.declared.consumer.Stop.TheVariants.{WriteFault, JournalFault}
@@ -17,6 +18,15 @@ EndsAs stands stopped old before new after items (Refused bad) = Moves stands ol
 EndsAs stands stopped old before new after items (TooLong what count) = Moves stands old before new after items
 EndsAs stands stopped old before new after items ReadFault = Moves stands old before new after items
 EndsAs stands stopped old before new after items (Stopped stop) = Stops stands stopped old before new after items stop
+
+-- The same, with so many silent ticks behind a whole input.
+abbrev pub EndsWith : {C : Type 0} → (C → Start → Held → List Item → Type 0) → (C → Stop → Start → Held → List Item → Type 0)
+    → ℕ → C → Held → C → Held → List Item → End → Type 0
+EndsWith stands stopped rest old before new after items Whole = Moves stands old before new after (items ++ silent_items rest)
+EndsWith stands stopped rest old before new after items (Refused bad) = Moves stands old before new after items
+EndsWith stands stopped rest old before new after items (TooLong what count) = Moves stands old before new after items
+EndsWith stands stopped rest old before new after items ReadFault = Moves stands old before new after items
+EndsWith stands stopped rest old before new after items (Stopped stop) = Stops stands stopped old before new after (items ++ silent_items rest) stop
 
 abbrev pub is_write_stop : End → Bool
 is_write_stop (Stopped WriteFault) = true

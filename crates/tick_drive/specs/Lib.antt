@@ -1,3 +1,4 @@
+pub mod Items
 pub mod Consumers
 pub mod Input
 pub mod Intake

@@ -3,7 +3,7 @@ ghost use Rattle.yasir_io.specs.Disks.{Slots, LeavesOnly};
 ghost use Rattle.yasir_ticks.specs.Ticks.{Item, items_of_run, ticks_in};
 ghost use Rattle.tick_drive.specs.Input.{Takes, IsReadCause, is_read_fault};
 ghost use Rattle.tick_drive.specs.Consumers.{held_by, IsDiskCause, IsSinkCause};
-ghost use Rattle.tick_drive.specs.Drive.{EndsAs, HandsOver, is_write_stop, is_journal_stop, is_write_answer, is_journal_answer};
+ghost use Rattle.tick_drive.specs.Drive.{EndsAs, EndsWith, HandsOver, is_write_stop, is_journal_stop, is_write_answer, is_journal_answer};
 
 use crate::intake::Intake;
 use crate::{Consumer, End, Stop, TooMuch};
@@ -75,9 +75,9 @@ pub fn drive<S: Source, O: Sink, L: Sink, D: SlotDisk, C: Consumer<O, L, D>>(
     requires able { C.able consumer.old disk.old }
     ensures end { (items : List Item) × Takes marks (S.left input.old) (S.left input.new) items result
         × EndsAs C.stands C.stopped
-            consumer.old (held_by (O.held out.old) (L.held log.old) (D.told disk.old))
-            consumer.new (held_by (O.held out.new) (L.held log.new) (D.told disk.new)) items result }
-    ensures goes_on { result ≡ End.Whole → (C.able consumer.new disk.new × (C.taken consumer.new ≤ 16777216)) }
+        consumer.old (held_by (O.held out.old) (L.held log.old) (D.told disk.old))
+        consumer.new (held_by (O.held out.new) (L.held log.new) (D.told disk.new)) items result }
+    ensures goes_on { result ≡ End.Whole → C.able consumer.new disk.new × (C.taken consumer.new ≤ 16777216) }
     ensures kept { C.kept consumer.old disk.old → C.kept consumer.new disk.new }
     ensures any_moment { C.kept consumer.old disk.old → LeavesOnly D.moment D.left_since disk.old disk.new (C.safe consumer.old) }
     ensures safer { (c : Slots) → C.safe consumer.new c → C.safe consumer.old c }
@@ -108,5 +108,39 @@ pub fn drive<S: Source, O: Sink, L: Sink, D: SlotDisk, C: Consumer<O, L, D>>(
     match hand_over(ticks, &last, consumer, out, log, disk) {
         Ok(_) => End::Whole,
         Err(end) => end,
+    }
+}
+
+/// Drives an input into a consumer, and then so many silent ticks behind an input that was taken whole.
+pub fn drive_to_rest<S: Source, O: Sink, L: Sink, D: SlotDisk, C: Consumer<O, L, D>>(
+    marks: u8,
+    rest: u32,
+    input: &mut S,
+    consumer: &mut C,
+    out: &mut O,
+    log: &mut L,
+    disk: &mut D,
+) -> End
+    requires no_mark { marks ≡ 0 }
+    requires fresh { C.taken consumer.old ≡ 0 }
+    requires able { C.able consumer.old disk.old }
+    ensures end { (items : List Item) × Takes marks (S.left input.old) (S.left input.new) items result
+        × EndsWith C.stands C.stopped rest
+            consumer.old (held_by (O.held out.old) (L.held log.old) (D.told disk.old))
+            consumer.new (held_by (O.held out.new) (L.held log.new) (D.told disk.new)) items result }
+    ensures kept { C.kept consumer.old disk.old → C.kept consumer.new disk.new }
+    ensures any_moment { C.kept consumer.old disk.old → LeavesOnly D.moment D.left_since disk.old disk.new (C.safe consumer.old) }
+    ensures safer { (c : Slots) → C.safe consumer.new c → C.safe consumer.old c }
+    ensures read { IsReadCause (S.faults input.old) (S.faults input.new) (is_read_fault result) }
+    ensures disk { IsDiskCause (D.faults disk.old) (D.faults disk.new) (is_journal_stop result) }
+    ensures sinks { IsSinkCause (O.faults out.old) (O.faults out.new) (L.faults log.old) (L.faults log.new) (is_write_stop result) }
+{
+    match drive(marks, input, consumer, out, log, disk) {
+        End::Whole => {}
+        end => return end,
+    }
+    match consumer.take(out, log, disk, &Run::Silence(rest)) {
+        Ok(()) => End::Whole,
+        Err(stop) => End::Stopped(stop),
     }
 }

@@ -66,7 +66,11 @@ impl Intake {
     pub fn finish(self) -> Result<Run, End>
         ensures { (marks : ℕ) (text : List ℕ) → HasFed self marks text → FinishAnswer marks text result }
     {
-        let Intake { pieces: _, reader, bytes: _ } = self;
+        let Intake {
+            pieces: _,
+            reader,
+            bytes: _,
+        } = self;
         match reader.finish() {
             Ok(run) => Ok(run),
             Err(bad) => Err(End::Refused(bad)),

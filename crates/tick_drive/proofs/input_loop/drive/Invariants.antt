@@ -6,8 +6,8 @@ use Rattle.tick_drive.proofs.input_loop.drive.Given as goal
 abbrev pub invariant-loop-run : goal.invariant-loop-run
 invariant-loop-run g l =
     Progress g.C.Consumer.stands l.marks (g.S.Source.left l.fn.input) (g.S.Source.left l.input) l.intake
-        l.fn.consumer (held_by (g.O.Sink.held l.fn.out) (g.L.Sink.held l.fn.log) (g.D.SlotDisk.told l.fn.disk))
-        l.consumer (held_by (g.O.Sink.held l.out) (g.L.Sink.held l.log) (g.D.SlotDisk.told l.disk)) l.ticks
+    l.fn.consumer (held_by (g.O.Sink.held l.fn.out) (g.L.Sink.held l.fn.log) (g.D.SlotDisk.told l.fn.disk))
+    l.consumer (held_by (g.O.Sink.held l.out) (g.L.Sink.held l.log) (g.D.SlotDisk.told l.disk)) l.ticks
     × Calm g.C.Consumer.able g.C.Consumer.kept g.C.Consumer.safe g.D.SlotDisk.moment g.D.SlotDisk.left_since l.fn.consumer l.consumer l.fn.disk l.disk
     × (g.C.Consumer.taken l.consumer ≡ l.ticks)
     × (g.S.Source.faults l.input ≡ g.S.Source.faults l.fn.input)

@@ -16,12 +16,12 @@ pub returns-in-Err-feed-clause-answer : goal.returns-in-Err-feed-clause-answer
 returns-in-Err-feed-clause-answer g c = λ marks before text met.
     let refused = c.in-Err-feed.ensures.refused marks text met.stands in
     record {
-  byte = c.in-Ok-Some.byte;
-  met = (_, met_byte _ _ text _ _ met.source (rw c.in-Ok-Some.field-0-is at c.in-Ok-Some.ensures.next));
-  refused = refused.0;
-  line = refused.1;
-  why = refused.2;
-}
+      byte = c.in-Ok-Some.byte;
+      met = (_, met_byte _ _ text _ _ met.source (rw c.in-Ok-Some.field-0-is at c.in-Ok-Some.ensures.next));
+      refused = refused.0;
+      line = refused.1;
+      why = refused.2;
+    }
 
 pub returns-in-Ok-clause-answer : goal.returns-in-Ok-clause-answer
 returns-in-Ok-clause-answer g c = λ marks before text met. (
