@@ -1,14 +1,12 @@
 -- How the run over an input goes on by a byte and by a line, and how it ends.
-use Rattle.std.proofs.Common.{◌≡◌, ℕ, ◌+◌, ◌<◌, ◌≤◌, ◌⊎◌, inl, inr, List, [], ◌∷◌, ◌++◌, length, Option, Some, None, Result, Ok, Err, Bool, true, false, subst, sym, ap, refl, ◌∙◌, arith, append-nil, length-append}
+use Rattle.std.proofs.Common.{◌≡◌, ℕ, ◌+◌, ◌≤◌, ◌⊎◌, inl, inr, List, [], ◌∷◌, ◌++◌, length, Option, Ok, Err, Bool, true, false, subst, sym, ap, refl, ◌∙◌, arith, append-nil, length-append}
 use Rattle.std.specs.Io.KnownBytes.{prepend_known, IsAtEnd}
-use Rattle.yasir_io.specs.Causes.{Rose}
 use Rattle.yasir_io.specs.Disks.{Slots, LeavesOnly}
-use Rattle.yasir_ticks.specs.Ticks.{Item, ticks_in, items_of_run}
+use Rattle.yasir_ticks.specs.Ticks.{Item, ticks_in}
 use Rattle.yasir_ticks.specs.TickText.{IsTickText, BeginsTickText, ended_items, lines_of}
-use Rattle.yasir_ticks.specs.declared.run.Run.{Run}
-use Rattle.tick_drive.specs.Consumers.{Held, Start, Moves, Stops, IsSinkCause, IsDiskCause}
+use Rattle.tick_drive.specs.Consumers.{Held, Start, Moves, IsSinkCause, IsDiskCause}
 use Rattle.tick_drive.specs.Items.{silent_items}
-use Rattle.tick_drive.specs.Input.{Takes, IsMetOf, HasTooManyTicks, max_ticks, is_read_fault, IsReadCause}
+use Rattle.tick_drive.specs.Input.{Takes, IsMetOf, EndsLine, EndsLast, max_ticks, is_read_fault, IsReadCause}
 use Rattle.tick_drive.specs.Intake.{IsMet, StepAnswer, FinishAnswer}
 use Rattle.tick_drive.specs.Drive.{EndsAs, EndsWith, HandsOver, is_write_stop, is_journal_stop}
 use Rattle.tick_drive.proofs.ItemLaws.{ticks_in-append}
@@ -137,40 +135,48 @@ module _ {C : Type 0} (stands : C → Start → Held → List Item → Type 0) (
   finish_stops_none text Whole h = absurd h
   finish_stops_none text (Stopped stop) h = absurd h
 
+  -- what a line that ended says of the text with it
+  line_text : (now : Option (List ℕ)) (text : List ℕ) (line : List Item)
+      → EndsLine before text (ended_items text) line ⊎ EndsLast marks before now text (ended_items text) line
+      → (whole : List ℕ) × IsMetOf before whole × ((ended_items text ++ line ≡ ended_items whole) ⊎ IsTickText marks whole (ended_items text ++ line))
+  line_text now text line (inl e) = (text ++ e.byte ∷ [], e.met, inl (sym e.ended))
+  line_text now text line (inr e) = (text, (now, e.met), inr e.ended)
+
   -- a line that wasn't handed over whole ends the run
-  pub line_ends : (now : Option (List ℕ)) (text : List ℕ) (items line : List Item) (end : End) (old : C) (first : Held) (mid : C) (between : Held) (new : C) (last : Held) (ticks : ℕ)
-      → IsMetOf before text → (ended_items text ≡ items ++ line) ⊎ IsTickText marks text (items ++ line)
-      → Moves stands old first mid between items → ticks ≡ length (ticks_in items) → ticks ≤ max_ticks
+  pub line_ends : (now : Option (List ℕ)) (text : List ℕ) (line : List Item) (end : End) (old : C) (first : Held) (mid : C) (between : Held) (new : C) (last : Held) (ticks : ℕ)
+      → EndsLine before text (ended_items text) line ⊎ EndsLast marks before now text (ended_items text) line
+      → Moves stands old first mid between (ended_items text) → ticks ≡ length (ticks_in (ended_items text)) → ticks ≤ max_ticks
       → HandsOver stands stopped mid between new last ticks line (Err end)
       → (all : List Item) × Takes marks before now all end × EndsAs stands stopped old first new last all end
-  line_ends now text items line (TooLong Ticks count) old first mid between new last ticks met ended moved sum within h =
-      let joined : length (ticks_in (items ++ line)) ≡ length (ticks_in items) + length (ticks_in line) =
-      ap length (ticks_in-append items line) ∙ length-append (ticks_in items) (ticks_in line) in (
-        items,
+  line_ends now text line (TooLong Ticks count) old first mid between new last ticks ended moved sum within h =
+      let joined : length (ticks_in (ended_items text ++ line)) ≡ length (ticks_in (ended_items text)) + length (ticks_in line) =
+      ap length (ticks_in-append (ended_items text) line) ∙ length-append (ticks_in (ended_items text)) (ticks_in line) in (
+        ended_items text,
         (
           text,
           record {
-            line = line;
-            met = met;
-            ended = ended;
+            taken = refl;
             within = subst (λ n. n ≤ max_ticks) sum within;
+            line = line;
+            ended = ended;
             sum = omega (arith, joined, sum, h.2);
             above = h.3;
           },
         ),
-        subst (λ c. Moves stands old first c last items) (sym h.0) (subst (λ x. Moves stands old first mid x items) (sym h.1) moved),
+        subst (λ c. Moves stands old first c last (ended_items text)) (sym h.0) (subst (λ x. Moves stands old first mid x (ended_items text)) (sym h.1) moved),
       )
-  line_ends now text items line (Stopped stop) old first mid between new last ticks met ended moved sum within h =
-      let joined : length (ticks_in (items ++ line)) ≡ length (ticks_in items) + length (ticks_in line) =
-      ap length (ticks_in-append items line) ∙ length-append (ticks_in items) (ticks_in line) in (
-        items ++ line,
-        (text, met, elim ended [ inl e ↦ inl (sym e) | inr right ↦ inr right ], omega (arith, joined, sum, h.1)),
-        stops_then stands stopped old first mid between new last items line stop moved h.0,
+  line_ends now text line (Stopped stop) old first mid between new last ticks ended moved sum within h =
+      let joined : length (ticks_in (ended_items text ++ line)) ≡ length (ticks_in (ended_items text)) + length (ticks_in line) =
+      ap length (ticks_in-append (ended_items text) line) ∙ length-append (ticks_in (ended_items text)) (ticks_in line) in
+      let whole = line_text now text line ended in (
+        ended_items text ++ line,
+        (whole.0, whole.1, whole.2, omega (arith, joined, sum, h.1)),
+        stops_then stands stopped old first mid between new last (ended_items text) line stop moved h.0,
       )
-  line_ends now text items line (TooLong Bytes count) old first mid between new last ticks met ended moved sum within h = absurd h
-  line_ends now text items line (Refused bad) old first mid between new last ticks met ended moved sum within h = absurd h
-  line_ends now text items line ReadFault old first mid between new last ticks met ended moved sum within h = absurd h
-  line_ends now text items line Whole old first mid between new last ticks met ended moved sum within h = absurd h
+  line_ends now text line (TooLong Bytes count) old first mid between new last ticks ended moved sum within h = absurd h
+  line_ends now text line (Refused bad) old first mid between new last ticks ended moved sum within h = absurd h
+  line_ends now text line ReadFault old first mid between new last ticks ended moved sum within h = absurd h
+  line_ends now text line Whole old first mid between new last ticks ended moved sum within h = absurd h
 
   pub line_reads_no_fault : (items : List Item) (end : End) (mid : C) (between : Held) (new : C) (last : Held) (ticks : ℕ)
       → HandsOver stands stopped mid between new last ticks items (Err end) → (is_read_fault end ≡ false) × (end ≡ Whole → ⊥)

@@ -25,9 +25,9 @@ pub byte_items-at : (bytes : List ℕ) (i : ℕ) → i < length bytes
 byte_items-at bytes i within =
     let whole : byte_items bytes ≡ byte_items (take (i + 1) bytes ++ drop (i + 1) bytes) = ap byte_items (sym (take-append-drop (i + 1) bytes)) in
     let cut : byte_items (take (i + 1) bytes ++ drop (i + 1) bytes) ≡ byte_items (take (i + 1) bytes) ++ byte_items (drop (i + 1) bytes) =
-        map-append (λ b. tick (Byte b)) (take (i + 1) bytes) (drop (i + 1) bytes) in
+    map-append (λ b. tick (Byte b)) (take (i + 1) bytes) (drop (i + 1) bytes) in
     let more : byte_items (take (i + 1) bytes) ≡ byte_items (take i bytes) ++ tick (Byte (get_or bytes i 0)) ∷ [] =
-        ap byte_items (take_more bytes i 0 within) ∙ map-append (λ b. tick (Byte b)) (take i bytes) (get_or bytes i 0 ∷ []) in
+    ap byte_items (take_more bytes i 0 within) ∙ map-append (λ b. tick (Byte b)) (take i bytes) (get_or bytes i 0 ∷ []) in
     whole ∙ cut ∙ ap (λ l. l ++ byte_items (drop (i + 1) bytes)) more
 
 -- one silent tick between those before it and those after it

@@ -1,5 +1,5 @@
 -- What a consumer has taken, and what its disk's images have, from one call to the next.
-use Rattle.std.proofs.Common.{◌≡◌, ℕ, ◌+◌, ◌≤◌, ◌⊎◌, inl, inr, min, List, [], ◌∷◌, ◌++◌, length, length-append, take, append-nil, Ok, Err, subst, sym, ap, append_assoc, arith, refl, ◌∙◌}
+use Rattle.std.proofs.Common.{◌≡◌, ℕ, ◌+◌, inl, inr, min, List, [], ◌++◌, length, length-append, take, append-nil, Ok, Err, subst, sym, ap, append_assoc, arith, ◌∙◌}
 use Rattle.std.proofs.Math.Seq.{take-append-add}
 use Rattle.std.proofs.lemmas.List.{take-append-le, take_min}
 use Rattle.yasir_io.specs.Disks.{Slots, LeavesOnly}

@@ -9,7 +9,6 @@ use Rattle.yasir_ticks.specs.TickText.{IsTickText, BeginsTickText, IsRefusedAfte
 use Rattle.yasir_ticks.specs.declared.fault.BadTicks.{BadTicks}
 use Rattle.tick_drive.specs.declared.end.End.{End}
 use Rattle.tick_drive.specs.declared.end.End.TheVariants.{Whole, Refused, TooLong, ReadFault, Stopped}
-use Rattle.tick_drive.specs.declared.end.TooMuch.{TooMuch}
 use Rattle.tick_drive.specs.declared.end.TooMuch.TheVariants.{Ticks, Bytes}
 
 abbrev pub max_ticks : ℕ
@@ -39,12 +38,24 @@ pub record IsRefusedEnd (marks : ℕ) (before now : Option (List ℕ)) (text : L
   pub line : bad.line ≡ line_after text
   pub why : bad.why ≡ fault_at_end text
 
+-- The next byte, an LF, ends a line of these items.
+pub record EndsLine (before : Option (List ℕ)) (text : List ℕ) (items line : List Item) : Type 0 where
+  pub byte : ℕ
+  pub met : IsMetOf before (text ++ byte ∷ [])
+  pub ended : ended_items (text ++ byte ∷ []) ≡ items ++ line
+
+-- The input's end ends a line of these items.
+pub record EndsLast (marks : ℕ) (before now : Option (List ℕ)) (text : List ℕ) (items line : List Item) : Type 0 where
+  pub met : before ≡ prepend_known text now
+  pub at_end : IsAtEnd now
+  pub ended : IsTickText marks text (items ++ line)
+
 -- A line ended, at an LF or at the input's end, whose ticks with those before are more than may be taken.
 pub record HasTooManyTicks (marks : ℕ) (before now : Option (List ℕ)) (text : List ℕ) (items : List Item) (count : ℕ) : Type 0 where
-  pub line : List Item
-  pub met : IsMetOf before text
-  pub ended : (ended_items text ≡ items ++ line) ⊎ IsTickText marks text (items ++ line)
+  pub taken : items ≡ ended_items text
   pub within : length (ticks_in items) ≤ max_ticks
+  pub line : List Item
+  pub ended : EndsLine before text items line ⊎ EndsLast marks before now text items line
   pub sum : count ≡ length (ticks_in (items ++ line))
   pub above : max_ticks < count
 

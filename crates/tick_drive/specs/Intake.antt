@@ -1,5 +1,5 @@
 -- The bytes of an input on their way to the reader.
-use Rattle.std.specs.Prelude.{◌≡◌, ℕ, ◌+◌, ◌<◌, ◌≤◌, ◌⊎◌, List, [], ◌∷◌, ◌++◌, length, Option, Some, None, Result, Ok, Err, Bool, true, false}
+use Rattle.std.specs.Prelude.{◌≡◌, ℕ, List, [], ◌∷◌, ◌++◌, length, Option, Some, None, Result, Ok, Err, false}
 use Rattle.std.specs.Io.KnownBytes.{prepend_known, IsAtEnd}
 use Rattle.yasir_io.specs.Pieces.{to_come, has_ended}
 use Rattle.yasir_ticks.specs.Ticks.{Item, items_of_run}

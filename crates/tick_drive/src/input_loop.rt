@@ -126,8 +126,8 @@ pub fn drive_to_rest<S: Source, O: Sink, L: Sink, D: SlotDisk, C: Consumer<O, L,
     requires able { C.able consumer.old disk.old }
     ensures end { (items : List Item) × Takes marks (S.left input.old) (S.left input.new) items result
         × EndsWith C.stands C.stopped rest
-            consumer.old (held_by (O.held out.old) (L.held log.old) (D.told disk.old))
-            consumer.new (held_by (O.held out.new) (L.held log.new) (D.told disk.new)) items result }
+        consumer.old (held_by (O.held out.old) (L.held log.old) (D.told disk.old))
+        consumer.new (held_by (O.held out.new) (L.held log.new) (D.told disk.new)) items result }
     ensures kept { C.kept consumer.old disk.old → C.kept consumer.new disk.new }
     ensures any_moment { C.kept consumer.old disk.old → LeavesOnly D.moment D.left_since disk.old disk.new (C.safe consumer.old) }
     ensures safer { (c : Slots) → C.safe consumer.new c → C.safe consumer.old c }

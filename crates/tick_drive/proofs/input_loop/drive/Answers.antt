@@ -1,4 +1,4 @@
-use Rattle.std.proofs.Common.{◌≡◌, ◌∙◌, inl, inr, refl, sym, arith}
+use Rattle.std.proofs.Common.{◌∙◌, inl, inr, refl}
 use Rattle.yasir_ticks.specs.TickText.{ended_items}
 use Rattle.yasir_ticks.specs.Ticks.{items_of_run}
 use Rattle.tick_drive.proofs.Moving.{moves_then, leaves_now, leaves_then}
@@ -63,7 +63,8 @@ returns-in-Err-hand_over g c =
     let answer = (rw c.in-Ok-Some.field-0-is at c.in-Ok-Some.ensures.answer) _ _ progress.text progress.met in
     let cases = line_reads_no_fault g.C.Consumer.stands g.C.Consumer.stopped c.args.marks (g.S.Source.left c.args.input.now) (items_of_run c.in-Ok-Some.run') _ _ _ _ _ _ call.handed in
     record {
-      end = line_ends g.C.Consumer.stands g.C.Consumer.stopped _ _ _ _ _ _ _ _ _ _ _ _ _ _ (_, answer.1.source) (inl answer.2) progress.moved progress.sum progress.within call.handed;
+      end = line_ends g.C.Consumer.stands g.C.Consumer.stopped _ _ _ progress.text _ _ _ _ _ _ _ _ _
+          (inl (record { byte = answer.0; met = (_, answer.1.source); ended = answer.2 })) progress.moved progress.sum progress.within call.handed;
       goes_on = λ whole. absurd (cases.1 whole);
       kept = λ k. call.kept (calm.is_kept k);
       any_moment = λ k. leaves_then g.D.SlotDisk.moment g.D.SlotDisk.left_since _ _ _ _ _ (calm.any_moment k) (call.any_moment (calm.is_kept k)) calm.safer;
@@ -129,4 +130,5 @@ returns-in-Err-hand_over-2-clause-end g c =
     let progress = c.loop-run.invariant.0 in
     let ended = (rw c.in-Ok-None.field-0-is at c.in-Ok-None.ensures.answer) _ _ progress.text progress.met in
     let right = c.in-Ok-finish.ensures _ progress.text ended.0 in
-    line_ends g.C.Consumer.stands g.C.Consumer.stopped _ _ _ _ _ _ _ _ _ _ _ _ _ _ (_, ended.2) (inr right) progress.moved progress.sum progress.within c.in-Err-hand_over-2.ensures.handed
+    line_ends g.C.Consumer.stands g.C.Consumer.stopped _ _ _ progress.text _ _ _ _ _ _ _ _ _
+    (inr (record { met = ended.2; at_end = ended.3; ended = right })) progress.moved progress.sum progress.within c.in-Err-hand_over-2.ensures.handed

@@ -1,5 +1,4 @@
-use Rattle.std.proofs.Common.{◌≡◌, length, sym, ◌∙◌, ap}
-use Rattle.yasir_ticks.specs.Ticks.{ticks_in, items_of_run}
+use Rattle.std.proofs.Common.{sym, ◌∙◌}
 use Rattle.tick_drive.proofs.ItemLaws.{length-ticks_in-bytes, length-ticks_in-silence}
 use Rattle.tick_drive.proofs.input_loop.ticks_of.Goals as goal
 
