@@ -3,6 +3,8 @@ pub mod Causes
 pub mod Disks
 pub mod Edge
 pub mod MemSink
+pub mod MemSlots
+pub mod MemSlotsLaws
 pub mod MemSource
 pub mod Output
 pub mod Pieces
