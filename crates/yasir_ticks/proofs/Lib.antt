@@ -6,3 +6,4 @@ pub mod Steps
 pub mod Readers
 pub mod Completions
 pub mod Feeding
+pub mod HexValues

@@ -1,6 +1,7 @@
 //! Ticks of a serial line, and tick text: the recorded line that a program reads.
 #![tactic(auto)]
 
+mod digit;
 mod fault;
 mod place;
 mod reader;

@@ -2,6 +2,7 @@ ghost use Rattle.std.specs.Prelude.{◌≡◌, ℕ, ◌+◌, ◌-◌, ◌*◌, �
 ghost use Rattle.hex.specs.Hex.{hex_digit_value, is_hex_digit};
 ghost use Rattle.yasir_ticks.specs.Place.{has_room, is_foreign};
 
+use crate::digit::hex_value;
 use crate::place::{Content, Place};
 use crate::{BadTicks, LineBytes, Run, TickFault};
 
@@ -18,19 +19,6 @@ pub struct TickReader {
     place: Place,
     bytes: LineBytes,
     ghost room: { has_room place bytes.items ≡ true },
-}
-
-/// The value of a hex digit of either case.
-#[inline]
-fn hex_value(b: u8) -> Option<u8>
-    ensures value { result ≡ hex_digit_value b }
-{
-    match b {
-        b'0'..=b'9' => Some(b - b'0'),
-        b'a'..=b'f' => Some(b - b'a' + 10),
-        b'A'..=b'F' => Some(b - b'A' + 10),
-        _ => None,
-    }
 }
 
 impl TickReader {
