@@ -22,7 +22,7 @@ use Rattle.yasir_ticks.proofs.Completions.{marks_in-run, begins_at}
 
 module _ (text : List ℕ) where
   -- the last line goes on, or ends
-  items_more : (b : ℕ) (run : Run) → b ≢ 10 → run ≡ Nothing → ended_items (text ++ b ∷ []) ≡ ended_items text ++ items_of_run run
+  items_more : (b : ℕ) (run : Run) → b ≢ 10 → items_of_run run ≡ [] → ended_items (text ++ b ∷ []) ≡ ended_items text ++ items_of_run run
   items_more b run n e = rw (lines_of-more text b n, e) (sym (append-nil (ended_items text)))
 
   items_lf : (run : Run) → line_items (lines_of text).last ≡ Some (items_of_run run)
@@ -45,7 +45,7 @@ module _ (text : List ℕ) where
 
 module _ (place new_place : Place) (bytes new_bytes : List ℕ) (line left marks : ℕ) (text : List ℕ) (at : IsAt place bytes line left marks text) where
   -- a byte within a line
-  at_more : (b : ℕ) (run : Run) → b ≢ 10 → Accepts place bytes b run new_place new_bytes → IsAt new_place new_bytes line left marks (text ++ b ∷ [])
+  at_more : (b : ℕ) (run : Run) → b ≢ 10 → Accepts place bytes b (items_of_run run) new_place new_bytes → IsAt new_place new_bytes line left marks (text ++ b ∷ [])
   at_more b run n a = record {
     ended = rw (lines_of-more text b n) at.ended;
     marked = rw (lines_of-more text b n) at.marked;
@@ -54,7 +54,7 @@ module _ (place new_place : Place) (bytes new_bytes : List ℕ) (line left marks
   }
 
   -- the LF of a line
-  at_lf : (run : Run) → Accepts place bytes 10 run new_place new_bytes → IsAt new_place new_bytes (line + 1) left marks (text ++ 10 ∷ [])
+  at_lf : (run : Run) → Accepts place bytes 10 (items_of_run run) new_place new_bytes → IsAt new_place new_bytes (line + 1) left marks (text ++ 10 ∷ [])
   at_lf run a =
       let stands = a.stands refl (lines_of text).last at.last in
       let same = items_lf text run stands in
