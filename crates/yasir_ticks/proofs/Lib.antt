@@ -7,3 +7,4 @@ pub mod Readers
 pub mod Completions
 pub mod Feeding
 pub mod HexValues
+pub mod Worked

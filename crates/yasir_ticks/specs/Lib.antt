@@ -1,6 +1,7 @@
 pub mod Ticks
 pub mod Bursts
 pub mod TickText
+pub mod CanonicalText
 pub mod Place
 pub mod Reader
 pub mod ReaderStep
