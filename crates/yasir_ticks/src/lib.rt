@@ -6,6 +6,8 @@ mod fault;
 mod place;
 mod reader;
 mod run;
+#[cfg(test)]
+mod tests;
 mod tick;
 
 pub use fault::{BadTicks, TickFault};
