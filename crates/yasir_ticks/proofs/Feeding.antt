@@ -1,22 +1,21 @@
 -- One byte more at a place of a text, and its end.
-use Rattle.std.proofs.Common.{◌≡◌, ◌≢◌, ◌⊎◌, inl, inr, ◌∙◌, ◌==◌, ℕ, ◌+◌, ◌≤◌, ◌<◌, zero, suc, Bool, true, false, List, [], ◌∷◌, ◌++◌, length, Option, Some, None, Result, Ok, Err, IsTrue, refl, ap, sym, cond, arith, append_assoc, append-nil, unwrap_or, length-append}
+use Rattle.std.proofs.Common.{◌≡◌, ◌≢◌, inl, inr, ◌∙◌, ◌==◌, ℕ, ◌+◌, List, [], ◌∷◌, ◌++◌, Some, None, Result, Ok, Err, refl, ap, sym, arith, append_assoc, append-nil, unwrap_or, length-append}
 use Rattle.std.specs.Prelude.{OnOk, IfOk, IfErr}
 use Rattle.std.specs.List.{flat_map}
 use Rattle.std.proofs.lemmas.Bool.{cases_eq}
 use Rattle.std.proofs.lemmas.Grind.{flat_map-append}
 use Rattle.yasir_ticks.specs.Ticks.{Item, items_of_run, marks_in}
-use Rattle.yasir_ticks.specs.TickText.{Lines, lines_of, line_items, all_items, ended_items, line_after, fault_after, fault_at_end, fault_in_line, IsTickText, BeginsTickText, IsRefusedAfter}
-use Rattle.yasir_ticks.specs.Reader.{Reads, IsAt, StandsFor}
-use Rattle.yasir_ticks.specs.ReaderStep.{Accepts, Refuses, Steps, Stops, IsOpen}
+use Rattle.yasir_ticks.specs.TickText.{Lines, lines_of, line_items, all_items, ended_items, line_after, fault_after, fault_at_end, IsTickText, BeginsTickText, IsRefusedAfter}
+use Rattle.yasir_ticks.specs.Reader.{IsAt, StandsFor}
+use Rattle.yasir_ticks.specs.ReaderStep.{Accepts, Refuses, Steps, Stops}
 use Rattle.yasir_ticks.specs.declared.fault.BadTicks.{BadTicks}
 use Rattle.yasir_ticks.specs.declared.fault.TickFault.{TickFault}
 use Rattle.yasir_ticks.specs.declared.run.Run.{Run}
-use Rattle.yasir_ticks.specs.declared.run.Run.TheVariants.{Nothing}
 use Rattle.yasir_ticks.specs.declared.place.Place.{Place}
 use Rattle.yasir_ticks.specs.declared.place.Place.TheVariants.{Start}
 use Rattle.yasir_ticks.specs.declared.reader.TickReader.{TickReader}
 use Rattle.yasir_ticks.proofs.Lines.{all_lines, joined, lines_of-lf, lines_of-more, all_lines-append, all_lines-lf, all_lines-byte, all_lines-first}
-use Rattle.yasir_ticks.proofs.Items.{Parts, marks_in-append, all_items_parts, line_items_parts, all_items_both, all_items_cons}
+use Rattle.yasir_ticks.proofs.Items.{marks_in-append, all_items_parts, line_items_parts, all_items_both, all_items_cons}
 use Rattle.yasir_ticks.proofs.Contents.{test_of}
 use Rattle.yasir_ticks.proofs.Completions.{marks_in-run, begins_at}
 

@@ -1,5 +1,5 @@
 -- The table of hex digits' values.
-use Rattle.std.proofs.Common.{◌≡◌, ◌∙◌, ◌==◌, ◌&&◌, ℕ, ◌+◌, ◌≤◌, ◌<◌, zero, suc, Bool, true, false, List, [], ◌∷◌, length, get_or, Option, Some, None, unwrap_or, refl, ap, sym, arith}
+use Rattle.std.proofs.Common.{◌≡◌, ◌∙◌, ◌==◌, ◌&&◌, ℕ, ◌+◌, ◌≤◌, ◌<◌, zero, suc, Bool, true, List, [], ◌∷◌, length, get_or, Option, Some, None, unwrap_or, refl, ap, arith}
 use Rattle.std.proofs.lemmas.Bool.{and_parts}
 use Rattle.hex.specs.Hex.{hex_digit_value}
 use Rattle.yasir_ticks.specs.declared.digit.TheConstants.{HEX_VALUES}

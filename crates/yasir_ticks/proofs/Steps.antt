@@ -1,15 +1,15 @@
 -- What each byte does at each place of a line.
-use Rattle.std.proofs.Common.{◌≡◌, ◌≢◌, ◌⊎◌, inl, inr, ◌∙◌, ◌==◌, ◌&&◌, ◌||◌, ℕ, ◌+◌, ◌*◌, ◌-◌, ◌%◌, ◌≤◌, ◌<◌, suc, zero, Bool, true, false, not, List, [], ◌∷◌, ◌++◌, length, map, replicate, Option, Some, None, Result, Ok, Err, is_some, refl, ap, sym, cond, arith, append_assoc, option_map, leb, subst}
+use Rattle.std.proofs.Common.{◌≡◌, ◌≢◌, ◌∙◌, ◌==◌, ◌&&◌, ◌||◌, ℕ, ◌+◌, ◌*◌, ◌-◌, ◌%◌, ◌≤◌, ◌<◌, suc, Bool, true, false, not, List, [], ◌∷◌, ◌++◌, length, Option, Some, None, Ok, is_some, refl, ap, sym, cond, arith, append_assoc, leb}
 use Rattle.std.specs.List.{list_all}
 use Rattle.std.specs.Option.{option_map_or}
-use Rattle.std.proofs.lemmas.Bool.{cases_eq, both_ways, and_parts}
+use Rattle.std.proofs.lemmas.Bool.{both_ways, and_parts}
 use Rattle.std.proofs.lemmas.List.{length-append}
 use Rattle.hex.specs.Hex.{decode_of, decode_pairs, is_hex_digit, hex_digit_value}
 use Rattle.yasir_ticks.specs.Ticks.{Item, marks_in}
 use Rattle.yasir_ticks.specs.Ticks.Item.{mark}
-use Rattle.yasir_ticks.specs.TickText.{line_items, content_items, without_return, ends_in_return, byte_items, silence_items, is_plain_decimal, is_decimal_digit, number_after, fault_in_line, fault_in_bytes, fault_in_silence, ends_content}
+use Rattle.yasir_ticks.specs.TickText.{line_items, content_items, without_return, ends_in_return, byte_items, is_plain_decimal, is_decimal_digit, number_after, fault_in_line, ends_content}
 use Rattle.yasir_ticks.specs.Place.{is_foreign}
-use Rattle.yasir_ticks.specs.Reader.{Reads, starts_comment, items_of_content, IsComment, HasPairs, HasHalfPair, HasNumber, IsReturned}
+use Rattle.yasir_ticks.specs.Reader.{Reads, starts_comment, items_of_content}
 use Rattle.yasir_ticks.specs.ReaderStep.{Accepts, Refuses, Closes, IsOpen}
 use Rattle.yasir_ticks.specs.declared.fault.TickFault.{TickFault}
 use Rattle.yasir_ticks.specs.declared.fault.TickFault.TheVariants.{Char, Odd, Long, Count, Empty}
@@ -17,8 +17,8 @@ use Rattle.yasir_ticks.specs.declared.place.Content.{Content}
 use Rattle.yasir_ticks.specs.declared.place.Content.TheVariants.{NoTick, KeptBytes, SilentTicks}
 use Rattle.yasir_ticks.specs.declared.place.Place.{Place}
 use Rattle.yasir_ticks.specs.declared.place.Place.TheVariants.{Start, Comment, Pairs, HalfPair, Minus, Number, Returned, Refused}
-use Rattle.yasir_ticks.proofs.Contents.{test_of, line_items-plain, without_return-same, line_items-byte, line_items-return, line_items-return_open, line_items-return_inside, content_items-return}
-use Rattle.yasir_ticks.proofs.Digits.{list_all-bad, hex_digits, hex_length, byte_items-bad, byte_items-odd, byte_items-long, byte_items-right, decode_of-more, silence_items-bad, silence_items-right, silence_items-big, silence_items-zero, number_after-append, number_after-grows, is_plain_decimal-more}
+use Rattle.yasir_ticks.proofs.Contents.{test_of, line_items-plain, without_return-same, line_items-byte, line_items-return, line_items-return_open, line_items-return_inside}
+use Rattle.yasir_ticks.proofs.Digits.{hex_digits, hex_length, byte_items-bad, byte_items-odd, byte_items-long, byte_items-right, decode_of-more, silence_items-bad, silence_items-right, silence_items-big, silence_items-zero, number_after-append, number_after-grows, is_plain_decimal-more}
 
 -- ---- bytes that aren't LF or CR
 
@@ -189,15 +189,6 @@ unfolding decode_pairs
 accepts_plus bytes =
     accepts (λ e. absurd (omega arith)) (λ line r. rw r (record { digits = []; is = refl; decoded = refl; fits = omega arith }))
 
-pub accepts_comment : (n : ℕ) (bytes : List ℕ) (b : ℕ) → n < 120 → b ≢ 10 → Accepts (Comment n) bytes b [] (Comment (n + 1)) bytes
-accepts_comment n bytes b h l =
-    accepts l (λ line r. record {
-      after = r.after ++ b ∷ [];
-      is = rw r.is refl;
-      long = omega (arith, length-append r.after (b ∷ []), r.long);
-      fits = omega arith;
-    })
-
 pub accepts_high : (bytes : List ℕ) (b high : ℕ) → hex_digit_value b ≡ Some high → length bytes < 32 → Accepts Pairs bytes b [] (HalfPair high) bytes
 accepts_high bytes b high v h =
     accepts (hex_not_lf b (ap is_some v)) (λ line r. record {
@@ -260,13 +251,6 @@ refuses n f c = record {
   wrong = λ _ line r more items e. cc (f line r more, e);
   ended = λ e. absurd (n e);
   cause = c;
-}
-
-pub refuses_open_lf : (place : Place) (bytes : List ℕ) (why : TickFault) → IsOpen place bytes why → Refuses place bytes 10 why
-refuses_open_lf place bytes why o = record {
-  wrong = λ n. absurd (n refl);
-  ended = λ _ line r. o.wrong line r;
-  cause = λ line r. o.cause line (Some 10) refl r;
 }
 
 pub refuses_open_return : (place : Place) (bytes : List ℕ) (why : TickFault) → is_foreign place 13 ≡ true → IsOpen place bytes why → Refuses place bytes 13 why

@@ -1,8 +1,7 @@
 -- The definitions of tick text at small texts.
-use Rattle.std.proofs.Common.{◌≡◌, ℕ, List, [], ◌∷◌, ◌++◌, replicate, codes, Some, None, refl, arith}
+use Rattle.std.proofs.Common.{◌≡◌, [], ◌∷◌, ◌++◌, replicate, codes, Some, None, refl, arith}
 use Rattle.std.specs.Fmt.{digits}
 use Rattle.hex.specs.Hex.{decode_pairs, encode_with}
-use Rattle.yasir_ticks.specs.Ticks.{Item, silent}
 use Rattle.yasir_ticks.specs.Ticks.Item.{tick, mark}
 use Rattle.yasir_ticks.specs.TickText.{lines_of, line_items, silence_items, IsTickText, fault_after, fault_at_end, line_after}
 use Rattle.yasir_ticks.specs.CanonicalText.{canonical_text, stretch_lines}

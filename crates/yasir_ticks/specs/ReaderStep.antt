@@ -1,5 +1,5 @@
 -- What one byte of a tick text, or its end, does at a place of its line.
-use Rattle.std.specs.Prelude.{◌≡◌, ℕ, ◌+◌, ◌<◌, ◌==◌, ◌≢◌, ◌⊎◌, Bool, true, false, List, [], ◌∷◌, ◌++◌, Option, Some, None, Result, Ok, Err, if◌then◌else◌}
+use Rattle.std.specs.Prelude.{◌≡◌, ℕ, ◌+◌, ◌<◌, ◌==◌, ◌≢◌, true, List, [], ◌∷◌, ◌++◌, Option, Some, None, Result, Ok, Err, if◌then◌else◌}
 use Rattle.yasir_ticks.specs.Ticks.{Item, items_of_run, marks_in}
 use Rattle.yasir_ticks.specs.TickText.{line_items, fault_in_line, ends_content}
 use Rattle.yasir_ticks.specs.Reader.{Reads, items_of_content, HasRefused}

@@ -208,9 +208,9 @@ impl TickReader {
     {
         match hex_value(b) {
             Some(low) => {
-                let nothing = self.go(Place::Pairs);
+                self.place = Place::Pairs;
                 self.bytes.push(high * 16 + low);
-                nothing
+                Ok(None)
             }
             None => self.after_content(b),
         }
@@ -312,14 +312,14 @@ impl TickReader {
             × (bad.line ≡ line_after text) × (bad.why ≡ fault_after text b)) }
         ensures line { OnOk result (reader_line self.new ≡ (if b == 10 then reader_line self.old + 1 else reader_line self.old)) }
         ensures line_by_one { reader_line self.new ≤ reader_line self.old + 1 }
-        ensures again { IfErr result (λ bad. HasRefused self.new bad) }
+        ensures remembered { IfErr result (λ bad. HasRefused self.new bad) }
         ensures for_good { (bad : BadTicks) → HasRefused self.old bad → (result ≡ Err bad) × (self.new ≡ self.old) }
     {
         self.step(b)
     }
 
     /// Takes the end of the text, and answers the run of a last line without LF, or `Nothing`.
-    pub fn finish(self) -> Result<Run, BadTicks>
+    pub fn finish(mut self) -> Result<Run, BadTicks>
         ensures right { (marks : ℕ) (text : List ℕ) → StandsFor self marks text
             → IfOk result (λ run. IsTickText marks text (ended_items text ++ items_of_run run)) }
         ensures refused { (marks : ℕ) (text : List ℕ) → StandsFor self marks text
@@ -327,8 +327,7 @@ impl TickReader {
             × (bad.line ≡ line_after text) × (bad.why ≡ fault_at_end text)) }
         ensures again { (bad : BadTicks) → HasRefused self bad → result ≡ Err bad }
     {
-        let mut reader = self;
-        reader.stop()
+        self.stop()
     }
 
     /// The end of the text.
