@@ -1,5 +1,5 @@
 -- What the parts of a reader keep to at each place of a line.
-use Rattle.std.specs.Prelude.{ℕ, ◌&&◌, nat_lt, nat_le, Bool, true, false, not, List, length, ◌==◌, ◌||◌}
+use Rattle.std.specs.Prelude.{ℕ, ◌&&◌, nat_lt, Bool, true, false, not, List, length, ◌==◌, ◌||◌}
 use Rattle.hex.specs.Hex.{is_hex_digit}
 use Rattle.yasir_ticks.specs.TickText.{is_decimal_digit}
 use Rattle.yasir_ticks.specs.declared.place.Place.{Place}
