@@ -3,3 +3,4 @@ pub mod Rooms
 pub mod LastBurst
 pub mod BurstSteps
 pub mod Cutting
+pub mod Rows

@@ -6,3 +6,6 @@ mod cut;
 
 pub use burst_cut::BurstCut;
 pub use cut::Cut;
+
+#[cfg(test)]
+mod tests;
