@@ -10,6 +10,11 @@ pub record IsFrame (frame : List ℕ) : Type 0 where
   pub body : List ℕ
   pub ends_in_crc : frame ≡ body ++ low_first (crc_rtu body)
 
+-- The last two of at least two bytes are the CRC of those before, its low byte first.
+pub record HasRightEnding (bytes : List ℕ) : Type 0 where
+  pub body : List ℕ
+  pub ends_in_crc : bytes ≡ body ++ low_first (crc_rtu body)
+
 -- all bytes but the last two
 abbrev pub body_of : List ℕ → List ℕ
 body_of frame = take (length frame - 2) frame

@@ -8,12 +8,12 @@ mod rtu;
 
 pub use closing::{NoRoom, RtuBytes, close};
 pub use crc::crc16;
-pub use frame::is_frame;
+pub use frame::{has_right_ending, is_frame};
 pub use rtu::Rtu;
 
 #[cfg(test)]
 mod tests {
-    use super::{NoRoom, Rtu, RtuBytes, close, crc16, is_frame};
+    use super::{NoRoom, Rtu, RtuBytes, close, crc16, has_right_ending, is_frame};
     use line_rules::{Head, LineRules};
     use std::test::Fail;
 
@@ -25,6 +25,11 @@ mod tests {
         assert!(rt; is_frame(b"\x11\x03\x00\x6B\x00\x03\x76\x87"));
         assert!(rt; is_frame(b"\x01\x03\x40\x21"));
         assert!(rt; !is_frame(b"\x01\x03\x00\x00\x00\x0A\xC5\xCC"));
+
+        // right endings of bytes too few for a frame
+        assert!(rt; has_right_ending(b"\x01\x7E\x80") && !is_frame(b"\x01\x7E\x80"));
+        assert!(rt; has_right_ending(b"\xFF\xFF"));
+        assert!(rt; !has_right_ending(b"\xFF") && !has_right_ending(b""));
     }
 
     #[test]
