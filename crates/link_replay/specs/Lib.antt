@@ -1,0 +1,6 @@
+pub mod Words
+pub mod Statuses
+pub mod Lines
+pub mod FrameLines
+pub mod ReadCommand
+pub mod Causes

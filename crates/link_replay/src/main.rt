@@ -1,0 +1,13 @@
+//! `link_replay`: replays a recorded serial line.
+#![tactic(auto)]
+
+mod fault_log;
+mod frame_lines;
+mod lines;
+mod status;
+mod words;
+
+pub use status::Status;
+pub use words::{Command, Proto, Usage, read_words};
+
+fn main() {}
