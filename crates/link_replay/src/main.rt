@@ -4,6 +4,7 @@
 mod fault_log;
 mod frame_lines;
 mod lines;
+mod read_command;
 mod status;
 mod words;
 
