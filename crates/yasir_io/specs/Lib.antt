@@ -1,2 +1,12 @@
+pub mod Calls
 pub mod Causes
 pub mod Disks
+pub mod Edge
+pub mod MemSink
+pub mod MemSlots
+pub mod MemSlotsLaws
+pub mod MemSource
+pub mod Output
+pub mod Pieces
+pub mod Steady
+pub mod TextBuffer

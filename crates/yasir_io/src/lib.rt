@@ -1,13 +1,34 @@
 //! Where bytes come from and go to, and a disk of two slots: each tells its own faults.
 #![tactic(auto)]
 
+mod calls;
 mod disk;
+mod edge;
+mod faults;
+mod files;
+mod mem_sink;
+mod mem_slots;
+mod mem_source;
+mod pieces;
 mod sink;
 mod source;
+mod steady;
+#[cfg(test)]
+mod tests;
+mod text_buffer;
 
+pub use calls::{NoMemory, Plan};
 pub use disk::{Slot, SlotDisk};
-pub use sink::Sink;
+pub use edge::{StderrSink, StdinSource, StdoutSink, WriterSink};
+pub use files::{FileSlots, FileSource};
+pub use mem_sink::MemSink;
+pub use mem_slots::MemSlots;
+pub use mem_source::MemSource;
+pub use pieces::Pieces;
+pub use sink::{Sink, write_all};
 pub use source::Source;
+pub use steady::{SteadySlots, SteadySource};
+pub use text_buffer::TextBuffer;
 
 /// A read, a write, a flush or a call on a disk failed; the object's count of faults says so too.
 #[derive(Clone, Copy, Debug, PartialEq, Eq)]

@@ -1,6 +1,7 @@
-ghost use Rattle.std.specs.Prelude.{◌≡◌, ℕ, ◌≤◌, ◌<◌, Option, List, take, length, IfOk, OnErr};
+ghost use Rattle.std.specs.Prelude.{◌≡◌, ℕ, ◌≤◌, ◌<◌, Option, List, take, length, IfOk, OnOk, OnErr};
 ghost use Rattle.std.specs.Io.KnownBytes.{append_known};
 ghost use Rattle.yasir_io.specs.Causes.{HasCause};
+ghost use Rattle.yasir_io.specs.Output.{GotPrefix};
 
 use crate::Failed;
 
@@ -24,4 +25,18 @@ pub trait Sink {
     fn flush(&mut self) -> Result<(), Failed>
         ensures same { held self.new ≡ held self.old }
         ensures cause { HasCause (faults self.old) (faults self.new) result };
+}
+
+/// Appends the whole piece. After an error a front of it was appended.
+pub fn write_all<S: Sink>(sink: &mut S, piece: &[u8]) -> Result<(), Failed>
+    ensures ok { OnOk result (S.held sink.new ≡ append_known (S.held sink.old) piece.now) }
+    ensures err { OnErr result (GotPrefix (S.held sink.old) (S.held sink.new) piece.now) }
+    ensures cause { HasCause (S.faults sink.old) (S.faults sink.new) result }
+{
+    let mut rest = piece;
+    while !rest.is_empty() {
+        let n = sink.write(rest)?;
+        rest = &rest[n..];
+    }
+    Ok(())
 }

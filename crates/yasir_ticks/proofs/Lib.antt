@@ -1,3 +1,4 @@
+pub mod BurstLaws
 pub mod Lines
 pub mod Items
 pub mod Contents
@@ -6,5 +7,6 @@ pub mod Steps
 pub mod Readers
 pub mod Completions
 pub mod Feeding
+pub mod BurstsOfLaws
 pub mod HexValues
 pub mod Worked

@@ -1,5 +1,5 @@
 -- Bursts of a line: the line is cut wherever `cut` or more silent ticks stand together. The start of the line counts as quiet.
-use Rattle.std.specs.Prelude.{ℕ, suc, ◌+◌, ◌-◌, nat_lt, List, [], ◌∷◌, ◌++◌, if◌then◌else◌}
+use Rattle.std.specs.Prelude.{ℕ, suc, ◌+◌, ◌-◌, ◌≤◌, nat_lt, List, [], ◌∷◌, ◌++◌, length, if◌then◌else◌}
 use Rattle.yasir_ticks.specs.Ticks.{silent}
 use Rattle.yasir_ticks.specs.declared.tick.Tick.{Tick}
 use Rattle.yasir_ticks.specs.declared.tick.Tick.TheVariants.{Silent, Byte}
@@ -26,3 +26,12 @@ bursts_from cut n (Byte b ∷ l) = with_byte cut n b (bursts_from cut (suc n) l)
 -- the bursts of a line, which four silent ticks cut
 abbrev pub bursts : List Tick → List Burst
 bursts l = bursts_from 4 0 l
+
+-- the tick after its last byte
+abbrev pub end_of : Burst → ℕ
+end_of d = d.start + length d.body
+
+-- `cut` silent ticks follow each of these bursts before tick m.
+abbrev pub AreClosed : ℕ → ℕ → List Burst → Type 0
+AreClosed cut m [] = Unit {0}
+AreClosed cut m (d ∷ ds) = (end_of d + cut ≤ m) × AreClosed cut m ds

@@ -1,5 +1,6 @@
 pub mod Ticks
 pub mod Bursts
+pub mod BurstsOf
 pub mod TickText
 pub mod CanonicalText
 pub mod Place

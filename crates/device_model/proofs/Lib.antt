@@ -1,0 +1,4 @@
+pub mod ReadLaws
+pub mod OpenBurstLaws
+pub mod RtuLaws
+pub mod Rows

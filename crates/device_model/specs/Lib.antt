@@ -1,0 +1,4 @@
+pub mod Frames
+pub mod RtuReads
+pub mod OpenBurst
+pub mod RtuDevice

@@ -1,0 +1,2 @@
+pub mod Xoring
+pub mod StandardFacts

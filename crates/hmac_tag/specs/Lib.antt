@@ -1,0 +1,4 @@
+pub mod Hmac
+pub mod Tag
+pub mod Stands
+pub mod Digests

@@ -1,0 +1,29 @@
+-- Tags: the first bytes of a code of a text, and the text that is coded for a numbered frame.
+use Rattle.std.specs.Prelude.{◌≡◌, ℕ, List, ◌∷◌, ◌++◌, take}
+use Rattle.std.specs.Int.{w64, to_be_bytes}
+use Rattle.sha1.specs.Sha1.{sha1}
+use Rattle.hmac_tag.specs.Hmac.{hmac}
+
+-- how many bytes a tag may have
+abbrev pub IsTagSize : ℕ → Type 0
+IsTagSize size = size ≡ 12
+
+-- a code cut to its first bytes
+abbrev pub hmac_cut : (List ℕ → List ℕ) → ℕ → List ℕ → List ℕ → List ℕ
+hmac_cut hash size key text = take size (hmac hash key text)
+
+-- HMAC over SHA-1, and its first 12 bytes (RFC 2404)
+abbrev pub hmac_sha1 : List ℕ → List ℕ → List ℕ
+hmac_sha1 = hmac sha1
+
+abbrev pub hmac_sha1_96 : List ℕ → List ℕ → List ℕ
+hmac_sha1_96 = hmac_cut sha1 12
+
+-- what a numbered frame is coded as: a byte for the protocol, a byte for the direction, the frame's bytes and its whole
+-- number as 8 bytes, high byte first
+abbrev pub tag_text : ℕ → ℕ → List ℕ → ℕ → List ℕ
+tag_text label direction frame number = label ∷ direction ∷ frame ++ to_be_bytes w64 number
+
+-- the tag of a numbered frame, by a tag of keys and texts
+abbrev pub tag : (List ℕ → List ℕ → List ℕ) → List ℕ → ℕ → ℕ → List ℕ → ℕ → List ℕ
+tag tag_of key label direction frame number = tag_of key (tag_text label direction frame number)

@@ -1,0 +1,150 @@
+ghost use Rattle.std.specs.Prelude.{◌≡◌, ℕ, List, [], ◌++◌, ◌≤◌, ◌<◌, length, take};
+ghost use Rattle.arrayvec.specs.ArrayVec.{array_vec_len};
+ghost use Rattle.hmac_tag.specs.Digests.{length-hmac_cut, All-hmac_cut};
+ghost use Rattle.hmac_tag.specs.Hmac.{xored, filled, key_block, hmac};
+ghost use Rattle.hmac_tag.specs.Stands.{StandsFor};
+ghost use Rattle.hmac_tag.specs.Tag.{hmac_cut};
+
+use crate::{Digest, Mac, TagBytes};
+use arrayvec::ArrayVec;
+use sha1::Sha1;
+use std::mem;
+
+const BLOCK_LEN: usize = 64;
+
+const INNER_PAD: u8 = 0x36;
+
+const OUTER_PAD: u8 = 0x5C;
+
+/// HMAC (RFC 2104) of a text that comes in pieces: hashers that have taken the key's inner and outer block, and one that
+/// has taken the inner block and the text so far.
+#[derive(Drop)]
+pub struct Hmac<D, const N: usize> {
+    inner: D,
+    outer: D,
+    running: D,
+}
+
+/// HMAC over SHA-1, whose tags are its first 12 bytes (RFC 2404).
+pub type HmacSha1 = Hmac<Sha1, 20>;
+
+// A key of at most a block, filled with zeros.
+fn filled(key: &[u8]) -> [u8; BLOCK_LEN]
+    requires { length key.now ≤ 64 }
+    ensures { result ≡ filled key.now }
+{
+    let mut block = [0; BLOCK_LEN];
+    block[..key.len()].copy_from_slice(key);
+    block
+}
+
+fn digest_of<D: Digest<N>, const N: usize>(message: &[u8]) -> [u8; N]
+    ensures { result ≡ D.digest_of message.now }
+{
+    hasher_of::<D, N>(message).finalize()
+}
+
+fn hasher_of<D: Digest<N>, const N: usize>(message: &[u8]) -> D
+    ensures { D.holds result message.now }
+{
+    let mut hasher = D::new();
+    hasher.update(message);
+    hasher
+}
+
+// The block of a key, which is hashed first where it is longer than a block.
+#[tactic(auto, unfolding(crate::specs::Hmac::key_block))]
+fn key_block<D: Digest<N>, const N: usize>(key: &[u8]) -> [u8; BLOCK_LEN]
+    ensures { result ≡ key_block D.digest_of key.now }
+{
+    if BLOCK_LEN < key.len() {
+        filled(&digest_of::<D, N>(key))
+    } else {
+        filled(key)
+    }
+}
+
+fn xored(pad: u8, mut block: [u8; BLOCK_LEN]) -> [u8; BLOCK_LEN]
+    ensures { result ≡ xored pad block }
+{
+    for byte in block.iter_mut() {
+        *byte ^= pad;
+    }
+    block
+}
+
+// The digest of what the outer hasher has taken, followed by the digest of what the inner one has.
+fn nested<D: Digest<N>, const N: usize>(mut outer: D, inner: D) -> [u8; N]
+    ensures { (before message : List ℕ) → D.holds outer before → D.holds inner message
+        → result ≡ D.digest_of (before ++ D.digest_of message) }
+{
+    outer.update(&inner.finalize());
+    outer.finalize()
+}
+
+impl<D: Digest<N>, const N: usize> Hmac<D, N> {
+    /// The whole code of a text under a key of any length.
+    #[tactic(auto, unfolding(crate::specs::Hmac::hmac))]
+    pub fn digest(key: &[u8], text: &[u8]) -> [u8; N]
+        ensures { result ≡ hmac D.digest_of key.now text.now }
+    {
+        let block = key_block::<D, N>(key);
+        let mut inner = hasher_of::<D, N>(&xored(INNER_PAD, block));
+        inner.update(text);
+        nested(hasher_of::<D, N>(&xored(OUTER_PAD, block)), inner)
+    }
+}
+
+// The first bytes of a code.
+fn cut<const N: usize>(code: &[u8; N], size: usize) -> TagBytes
+    requires within { size ≤ N }
+    requires short { size ≤ 16 }
+    ensures items { result.items ≡ take size code.now }
+    ensures len { array_vec_len result ≡ size }
+{
+    let mut tag = ArrayVec::new();
+    let _ = tag.try_extend_from_slice(&code[..size]);
+    tag
+}
+
+impl<D: Digest<N>, const N: usize> Mac for Hmac<D, N> {
+    ghost tag_of = { hmac_cut D.digest_of D.TAG };
+
+    ghost stands = { StandsFor D.digest_of D.holds };
+
+    ghost TAG = { D.TAG };
+
+    const TAG: usize = D::TAG;
+
+    ghost tag_size = { D.tag_size };
+
+    ghost tag_len = { length-hmac_cut D.digest_of N D.TAG D.digest_len D.tag_within };
+
+    ghost tag_bytes = { All-hmac_cut D.digest_of D.TAG D.digest_bytes };
+
+    fn with_key(key: &[u8]) -> Self {
+        let block = key_block::<D, N>(key);
+        let inner = hasher_of::<D, N>(&xored(INNER_PAD, block));
+        let outer = hasher_of::<D, N>(&xored(OUTER_PAD, block));
+        let running = inner.fork();
+        Hmac {
+            inner,
+            outer,
+            running,
+        }
+    }
+
+    fn begin(&mut self) {
+        self.running = self.inner.fork();
+    }
+
+    fn update(&mut self, part: &[u8]) {
+        self.running.update(part);
+    }
+
+    #[tactic(auto, unfolding(crate::specs::Hmac::hmac))]
+    fn finish(&mut self) -> TagBytes {
+        let inner = mem::replace(&mut self.running, self.inner.fork());
+        cut(&nested(self.outer.fork(), inner), D::TAG)
+    }
+}

@@ -1,0 +1,66 @@
+-- The register, one step at a time.
+use Rattle.std.proofs.Common.{◌≡◌, ℕ, zero, suc, ◌+◌, ◌-◌, ◌/◌, ◌%◌, ◌^◌, ◌<◌, ◌≤◌, ◌∷◌, List, [], length, get_or, drop, refl, arith, sym, ◌∙◌, ap, bit_and, nat_eq, add-one}
+use Rattle.std.specs.Prelude.{bit_xor}
+use Rattle.std.specs.Int.Bits.{and_zero_r, xor_zero_r}
+use Rattle.std.proofs.Math.Nat.{mod-eq_of_lt}
+use Rattle.std.proofs.Math.Seq.{drop-cons}
+use Rattle.std.proofs.lemmas.Nat.{and_mask}
+use Rattle.std.proofs.lemmas.Bool.{cond_both, eqb-true, eqb-false}
+use Rattle.rtu_frame.specs.Crc.{bit_step, bit_steps, byte_step, crc}
+
+-- A bit step without a branch: the mask is all ones where the lowest bit is 1, and else 0.
+pub bit_step-masked : (p r mask : ℕ) → p < 2 ^ 16 → mask < 2 ^ 16 → (mask + bit_and r 1) % 2 ^ 16 ≡ 0
+    → bit_xor (r / 2) (bit_and p mask) ≡ bit_step p r
+unfolding bit_step
+bit_step-masked p r mask p_fits mask_fits zero_sum =
+    let lowest : bit_and r 1 ≡ r % 2 = and_mask r 1 in
+    cond_both (nat_eq (r % 2) 1) (bit_xor (r / 2) p) (r / 2) (λ x. bit_xor (r / 2) (bit_and p mask) ≡ x)
+    (λ one. let odd : r % 2 ≡ 1 = eqb-true (r % 2) 1 one in
+    let all_ones : mask ≡ 2 ^ 16 - 1 = omega arith in
+    ap (λ m. bit_xor (r / 2) (bit_and p m)) all_ones
+    ∙ ap (λ m. bit_xor (r / 2) m) (and_mask p 16 ∙ mod-eq_of_lt p_fits))
+    (λ none. let even : (r % 2 ≡ 1) → ⊥ = eqb-false (r % 2) 1 none in
+    let no_ones : mask ≡ 0 = omega arith in
+    ap (λ m. bit_xor (r / 2) (bit_and p m)) no_ones
+    ∙ (ap (λ m. bit_xor (r / 2) m) (and_zero_r p) ∙ xor_zero_r (r / 2)))
+
+pub bit_steps-zero : (p r : ℕ) → bit_steps p 0 r ≡ r
+unfolding bit_steps
+bit_steps-zero p r = refl
+
+pub bit_steps-first : (p n r : ℕ) → 0 < n → bit_steps p n r ≡ bit_steps p (n - 1) (bit_step p r)
+unfolding bit_steps
+bit_steps-first p zero r some = absurd (omega arith)
+bit_steps-first p (suc n) r some = let e : suc n - 1 ≡ n = omega arith in rw e refl
+
+pub byte_step_lem : (p r b : ℕ) → byte_step p r b ≡ bit_steps p 8 (bit_xor r b)
+unfolding byte_step
+byte_step_lem p r b = refl
+
+pub crc-nil : (p r : ℕ) → crc p r [] ≡ r
+unfolding crc
+crc-nil p r = refl
+
+pub crc-cons : (p r b : ℕ) (x : List ℕ) → crc p r (b ∷ x) ≡ crc p (byte_step p r b) x
+unfolding crc
+crc-cons p r b x = refl
+
+-- the byte at place i, taken
+pub crc-drop : (p r : ℕ) (x : List ℕ) (i : ℕ) → i < length x
+    → crc p r (drop i x) ≡ crc p (byte_step p r (get_or x i 0)) (drop (i + 1) x)
+crc-drop p r x i within =
+    rw add-one (rw (drop-cons x i 0) (crc-cons p r (get_or x i 0) (drop (suc i) x)))
+
+-- one more of k steps is done
+pub bit_steps-next : (p k n r next : ℕ) → n < k → next ≡ bit_step p r
+    → bit_steps p (k - (n + 1)) next ≡ bit_steps p (k - n) r
+bit_steps-next p k n r next left e =
+    let fewer : k - n - 1 ≡ k - (n + 1) = omega arith in
+    let some : 0 < k - n = omega arith in
+    rw e (ap (λ i. bit_steps p i (bit_step p r)) (sym fewer) ∙ sym (bit_steps-first p (k - n) r some))
+
+-- all of k steps are done
+pub bit_steps-done : (p k n r : ℕ) → k ≤ n → bit_steps p (k - n) r ≡ r
+bit_steps-done p k n r done =
+    let none : k - n ≡ 0 = omega arith in
+    ap (λ i. bit_steps p i r) none ∙ bit_steps-zero p r

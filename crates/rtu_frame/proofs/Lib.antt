@@ -1,0 +1,3 @@
+pub mod CrcLaws
+pub mod FrameLaws
+pub mod Rows

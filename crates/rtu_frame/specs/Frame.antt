@@ -1,0 +1,25 @@
+-- Modbus RTU frames (Modbus over Serial Line V1.02): address, function, up to 252 bytes of data, and their CRC.
+use Rattle.std.specs.Prelude.{◌≡◌, ℕ, ◌-◌, ◌/◌, ◌%◌, ◌≤◌, ◌==◌, ◌&&◌, nat_le, Bool, List, [], ◌∷◌, ◌++◌, length, take, slice_index}
+use Rattle.rtu_frame.specs.Crc.{crc_rtu}
+
+-- the two bytes of a number below 65536, the low one first
+abbrev pub low_first : ℕ → List ℕ
+low_first n = n % 256 ∷ n / 256 ∷ []
+
+-- A frame has 4 to 256 bytes: a body, and then the CRC of the body, its low byte first.
+pub record IsFrame (frame : List ℕ) : Type 0 where
+  pub at_least : 4 ≤ length frame
+  pub at_most : length frame ≤ 256
+  pub body : List ℕ
+  pub ends_in_crc : frame ≡ body ++ low_first (crc_rtu body)
+
+-- all bytes but the last two
+abbrev pub body_of : List ℕ → List ℕ
+body_of frame = take (length frame - 2) frame
+
+-- the decision of `IsFrame`
+unfoldable pub is_frame : List ℕ → Bool
+is_frame frame =
+    nat_le 4 (length frame) && nat_le (length frame) 256
+    && slice_index frame (length frame - 2) == crc_rtu (body_of frame) % 256
+    && slice_index frame (length frame - 1) == crc_rtu (body_of frame) / 256

@@ -1,0 +1,20 @@
+ghost use Rattle.std.specs.Prelude.{◌↔◌, IsTrue};
+ghost use Rattle.rtu_frame.specs.Frame.{IsFrame};
+
+use crate::crc::crc16;
+
+const SHORTEST: usize = 4;
+
+const LONGEST: usize = 256;
+
+/// Whether these bytes are a Modbus RTU frame: 4 to 256 bytes, the last two being the CRC of those before, low byte first.
+pub fn is_frame(bytes: &[u8]) -> bool
+    ensures { IsTrue result ↔ IsFrame bytes.now }
+{
+    let length = bytes.len();
+    if length < SHORTEST || length > LONGEST {
+        return false;
+    }
+    let [low, high] = crc16(&bytes[..length - 2]).to_le_bytes();
+    bytes[length - 2] == low && bytes[length - 1] == high
+}

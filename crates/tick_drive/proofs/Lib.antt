@@ -1,0 +1,4 @@
+pub mod Known
+pub mod ItemLaws
+pub mod Moving
+pub mod Driving

@@ -1,0 +1,45 @@
+-- The bytes of an input on their way to the reader.
+use Rattle.std.specs.Prelude.{◌≡◌, ℕ, List, [], ◌∷◌, ◌++◌, length, Option, Some, None, Result, Ok, Err, false}
+use Rattle.std.specs.Io.KnownBytes.{prepend_known, IsAtEnd}
+use Rattle.yasir_io.specs.Pieces.{to_come, has_ended}
+use Rattle.yasir_ticks.specs.Ticks.{Item, items_of_run}
+use Rattle.yasir_ticks.specs.Reader.{StandsFor}
+use Rattle.yasir_ticks.specs.TickText.{IsTickText, BeginsTickText, ended_items, line_after, fault_at_end}
+use Rattle.yasir_ticks.specs.declared.run.Run.{Run}
+use Rattle.tick_drive.specs.Input.{IsRefusedByte, HasTooManyBytes}
+use Rattle.tick_drive.specs.declared.intake.Intake.{Intake}
+use Rattle.tick_drive.specs.declared.end.End.{End}
+use Rattle.tick_drive.specs.declared.end.End.TheVariants.{Whole, Refused, TooLong, ReadFault, Stopped}
+use Rattle.tick_drive.specs.declared.end.TooMuch.TheVariants.{Ticks, Bytes}
+
+-- The reader has been fed this text.
+abbrev pub HasFed : Intake → ℕ → List ℕ → Type 0
+HasFed intake marks text = StandsFor intake.reader marks text
+
+-- This text was met of an input that had `before` left at first and has `now` left, and begins a right text.
+pub record IsMet (intake : Intake) (marks : ℕ) (before now : Option (List ℕ)) (text : List ℕ) : Type 0 where
+  pub stands : StandsFor intake.reader marks text
+  pub begins : BeginsTickText marks text
+  pub source : before ≡ prepend_known text (to_come intake.pieces now)
+  pub open_end : has_ended intake.pieces ≡ false
+  pub count : intake.bytes ≡ length text
+
+-- what the answer to one step says, after a text was met
+abbrev pub StepAnswer : Intake → ℕ → Option (List ℕ) → Option (List ℕ) → List ℕ → Result (Option Run) End → Type 0
+StepAnswer intake marks before now text (Ok (Some run)) = (byte : ℕ) × IsMet intake marks before now (text ++ byte ∷ []) × (ended_items (text ++ byte ∷ []) ≡ ended_items text ++ items_of_run run)
+StepAnswer intake marks before now text (Ok None) = HasFed intake marks text × BeginsTickText marks text × (before ≡ prepend_known text now) × IsAtEnd now
+StepAnswer intake marks before now text (Err (Refused bad)) = IsRefusedByte marks before text bad
+StepAnswer intake marks before now text (Err (TooLong Bytes count)) = HasTooManyBytes marks before text count
+StepAnswer intake marks before now text (Err ReadFault) = before ≡ prepend_known text now
+StepAnswer intake marks before now text (Err (TooLong Ticks count)) = ⊥
+StepAnswer intake marks before now text (Err Whole) = ⊥
+StepAnswer intake marks before now text (Err (Stopped stop)) = ⊥
+
+-- what the answer at the input's end says
+abbrev pub FinishAnswer : ℕ → List ℕ → Result Run End → Type 0
+FinishAnswer marks text (Ok run) = IsTickText marks text (ended_items text ++ items_of_run run)
+FinishAnswer marks text (Err (Refused bad)) = (¬ ((items : List Item) × IsTickText marks text items)) × (bad.line ≡ line_after text) × (bad.why ≡ fault_at_end text)
+FinishAnswer marks text (Err (TooLong what count)) = ⊥
+FinishAnswer marks text (Err ReadFault) = ⊥
+FinishAnswer marks text (Err Whole) = ⊥
+FinishAnswer marks text (Err (Stopped stop)) = ⊥

@@ -1,0 +1,5 @@
+pub mod Items
+pub mod Consumers
+pub mod Input
+pub mod Intake
+pub mod Drive

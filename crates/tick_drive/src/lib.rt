@@ -1,0 +1,12 @@
+//! The loop that drives a recorded input into whatever takes its ticks, proved once for every consumer.
+#![tactic(auto)]
+
+mod consumer;
+mod end;
+mod input_loop;
+mod intake;
+
+pub use consumer::{Consumer, Stop};
+pub use end::{End, TooMuch};
+pub use input_loop::{MAX_INPUT_TICKS, drive, drive_to_rest};
+pub use intake::MAX_INPUT_BYTES;

@@ -1,0 +1,20 @@
+-- The definitions, computed at the tables: every case is right.
+use Rattle.std.proofs.Common.{◌≡◌, Ok, length, refl}
+use Rattle.rtu_frame.specs.Crc.{bit_step, bit_steps, byte_step, crc}
+use Rattle.rtu_frame.specs.Frame.{is_frame}
+use Rattle.hmac_tag.proofs.StandardFacts.{hmac_of_hi_there, hmac_of_jefe, hmac_of_fifty_bytes, tag_of_test_with_truncation, hmac_under_a_long_key}
+use Rattle.vectors.specs.Cases.{answer}
+use Rattle.vectors.specs.Tables.{crc_cases, hmac_cases, frames_cases}
+
+pub crc_rows : (length crc_cases ≡ 2) × (answer crc_cases ≡ Ok tt)
+unfolding bit_step bit_steps byte_step crc answer crc_cases
+crc_rows = (refl, refl)
+
+pub hmac_rows : (length hmac_cases ≡ 5) × (answer hmac_cases ≡ Ok tt)
+unfolding answer hmac_cases
+hmac_rows =
+    (refl, rw (hmac_of_hi_there, hmac_of_jefe, hmac_of_fifty_bytes, tag_of_test_with_truncation, hmac_under_a_long_key))
+
+pub frames_rows : (length frames_cases ≡ 5) × (answer frames_cases ≡ Ok tt)
+unfolding bit_step bit_steps byte_step crc is_frame answer frames_cases
+frames_rows = (refl, refl)

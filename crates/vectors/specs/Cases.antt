@@ -1,0 +1,56 @@
+-- Known answers: what the definitions give for a case, and what a table of cases is answered.
+use Rattle.std.specs.Prelude.{◌≡◌, ℕ, ◌+◌, List, [], ◌∷◌, ◌++◌, length, Bool, not, Option, Some, None, Result, Ok, Err, MatchResult, All, position, if◌then◌else◌}
+use Rattle.std.specs.Int.{w16, to_be_bytes}
+use Rattle.std.specs.Str.{bytes_eq}
+use Rattle.rtu_frame.specs.Crc.{crc_rtu}
+use Rattle.rtu_frame.specs.Frame.{is_frame}
+use Rattle.hmac_tag.specs.Tag.{hmac_sha1, hmac_sha1_96}
+use Rattle.vectors.specs.declared.case.Case.{Case}
+use Rattle.vectors.specs.declared.case.CaseKind.{CaseKind}
+use Rattle.vectors.specs.declared.case.CaseKind.TheVariants.{Crc16, HmacSha1, HmacSha196, RtuFrame}
+use Rattle.vectors.specs.declared.table.Miss.{Miss}
+
+-- the case of this kind with this key, text and wanted bytes
+abbrev pub case_of : CaseKind → List ℕ → List ℕ → List ℕ → Case
+case_of kind key text want =
+    record { kind = kind; key = record { items = key }; text = record { items = text }; want = record { items = want } }
+
+-- what the definitions give: a CRC high byte first, a code, a code cut to 12 bytes, and 1 or 0 for a frame or none
+abbrev pub value_by : CaseKind → List ℕ → List ℕ → List ℕ
+value_by Crc16 key text = to_be_bytes w16 (crc_rtu text)
+value_by HmacSha1 key text = hmac_sha1 key text
+value_by HmacSha196 key text = hmac_sha1_96 key text
+value_by RtuFrame key text = (if is_frame text then 1 else 0) ∷ []
+
+abbrev pub value_of : Case → List ℕ
+value_of case = value_by case.kind case.key.items case.text.items
+
+-- the definitions give what is wanted
+abbrev pub IsRight : Case → Type 0
+IsRight case = value_of case ≡ case.want.items
+
+-- the decision of `IsRight`
+abbrev pub is_right : Case → Bool
+is_right case = bytes_eq (value_of case) case.want.items
+
+-- this many cases are right, and the next one isn't
+pub record IsFirstMiss (cases : List Case) (row : ℕ) : Type 0 where
+  pub before : List Case
+  pub miss : Case
+  pub after : List Case
+  pub whole : cases ≡ before ++ miss ∷ after
+  pub right : All IsRight before
+  pub wrong : ¬ IsRight miss
+  pub counted : row ≡ length before + 1
+
+-- the answer to a table: every case is right, or this row, counted from 1, is the first that isn't
+abbrev pub IsAnswer : List Case → Result (Unit {0}) Miss → Type 0
+IsAnswer cases result = MatchResult result (λ _. All IsRight cases) (λ miss. IsFirstMiss cases miss.row)
+
+abbrev pub answer_at : Option ℕ → Result (Unit {0}) Miss
+answer_at None = Ok tt
+answer_at (Some before) = Err (record { row = before + 1 })
+
+-- the answer to a table as a function: it is `IsAnswer`, and nothing else is
+unfoldable pub answer : List Case → Result (Unit {0}) Miss
+answer cases = answer_at (position (λ case. not (is_right case)) cases)

@@ -1,0 +1,8 @@
+//! Tables of known answers: what the definitions of this repository give, beside the numbers of the public standards.
+#![tactic(auto)]
+
+mod case;
+mod table;
+
+pub use case::{Case, CaseBytes, CaseKind};
+pub use table::{Miss, crc_table, frames_table, hmac_table, run_table};

@@ -1,0 +1,106 @@
+ghost use Rattle.std.specs.Prelude.{◌≡◌, ◌<◌, ◌^◌, length, not, position, IfSome};
+ghost use Rattle.vectors.specs.Cases.{is_right, answer, IsAnswer};
+ghost use Rattle.vectors.specs.Tables.{crc_cases, hmac_cases, frames_cases};
+
+use crate::{Case, CaseKind};
+
+/// The first row whose value isn't what is wanted, counted from 1.
+#[derive(Clone, Copy, Debug, PartialEq, Eq)]
+pub struct Miss {
+    pub row: u32,
+}
+
+// How many cases come before the first that isn't right.
+fn before_miss(cases: &[Case]) -> Option<usize>
+    ensures value { result ≡ position (λ case. not (is_right case)) cases.now }
+    ensures within { IfSome result (λ before. before < length cases.now) }
+{
+    cases.iter().position(|case| !case.is_right())
+}
+
+/// Compares every case with what the definitions give.
+#[tactic(auto, unfolding(crate::specs::Cases::answer))]
+pub fn run_table(cases: &[Case]) -> Result<(), Miss>
+    requires { length cases.now < 2 ^ 32 }
+    ensures value { result ≡ answer cases.now }
+    ensures first { IsAnswer cases.now result }
+{
+    match before_miss(cases) {
+        None => Ok(()),
+        Some(before) => Err(Miss {
+            row: before as u32 + 1,
+        }),
+    }
+}
+
+fn answered(cases: &[Case]) -> (u32, Result<(), Miss>)
+    requires { length cases.now < 2 ^ 32 }
+    ensures rows { result.0 ≡ length cases.now }
+    ensures answer { result.1 ≡ answer cases.now }
+{
+    (cases.len() as u32, run_table(cases))
+}
+
+// How many cases these are, and the answer to the table of them.
+macro_rules! table {
+    ($($kind:ident: $key:expr, $text:expr => $want:expr;)*) => {
+        answered(&[$(Case::new(CaseKind::$kind, $key, $text, $want)),*])
+    };
+}
+
+/// The number of rows of the table of CRCs, and the answer to it.
+#[tactic(auto, unfolding(crate::specs::Tables::crc_cases))]
+pub fn crc_table() -> (u32, Result<(), Miss>)
+    ensures rows { result.0 ≡ length crc_cases }
+    ensures answer { result.1 ≡ answer crc_cases }
+{
+    table! {
+        Crc16: b"", b"123456789" => b"\x4B\x37";
+        Crc16: b"", b"\x01\x03" => b"\x21\x40";
+    }
+}
+
+/// The number of rows of the table of keyed codes, and the answer to it.
+#[tactic(auto, unfolding(crate::specs::Tables::hmac_cases))]
+pub fn hmac_table() -> (u32, Result<(), Miss>)
+    ensures rows { result.0 ≡ length hmac_cases }
+    ensures answer { result.1 ≡ answer hmac_cases }
+{
+    table! {
+        HmacSha1: &[0x0B; 20], b"Hi There" => b"\xB6\x17\x31\x86\x55\x05\x72\x64\xE2\x8B\xC0\xB6\xFB\x37\x8C\x8E\xF1\x46\xBE\x00";
+        HmacSha1: b"Jefe", b"what do ya want for nothing?" => b"\xEF\xFC\xDF\x6A\xE5\xEB\x2F\xA2\xD2\x74\x16\xD5\xF1\x84\xDF\x9C\x25\x9A\x7C\x79";
+        HmacSha1: &[0xAA; 20], &[0xDD; 50] => b"\x12\x5D\x73\x42\xB9\xAC\x11\xCD\x91\xA3\x9A\xF4\x8A\xA1\x7B\x4F\x63\xF1\x75\xD3";
+        HmacSha196: &[0x0C; 20], b"Test With Truncation" => b"\x4C\x1A\x03\x42\x4B\x55\xE0\x7F\xE7\xF2\x7B\xE1";
+        HmacSha1: &[0xAA; 80], b"Test Using Larger Than Block-Size Key - Hash Key First" => b"\xAA\x4A\xE5\xE1\x52\x72\xD0\x0E\x95\x70\x56\x37\xCE\x8A\x3B\x55\xED\x40\x21\x12";
+    }
+}
+
+/// The number of rows of the table of frames, and the answer to it.
+#[tactic(auto, unfolding(crate::specs::Tables::frames_cases))]
+pub fn frames_table() -> (u32, Result<(), Miss>)
+    ensures rows { result.0 ≡ length frames_cases }
+    ensures answer { result.1 ≡ answer frames_cases }
+{
+    table! {
+        RtuFrame: b"", b"\x01\x03\x00\x00\x00\x0A\xC5\xCD" => b"\x01";
+        RtuFrame: b"", b"\x01\x03\x00\x00\x00\x01\x84\x0A" => b"\x01";
+        RtuFrame: b"", b"\x11\x03\x00\x6B\x00\x03\x76\x87" => b"\x01";
+        RtuFrame: b"", b"\x01\x03\x40\x21" => b"\x01";
+        RtuFrame: b"", b"\x01\x03\x00\x00\x00\x0A\xC5\xCC" => b"\x00";
+    }
+}
+
+#[cfg(test)]
+mod tests {
+    use super::*;
+
+    #[test]
+    fn known_tables(rt: HostRuntime) {
+        assert_eq!(rt; crc_table(), (2, Ok(())));
+        assert_eq!(rt; hmac_table(), (5, Ok(())));
+        assert_eq!(rt; frames_table(), (5, Ok(())));
+        let right = Case::new(CaseKind::Crc16, b"", b"\x01\x03", b"\x21\x40");
+        let wrong = Case::new(CaseKind::Crc16, b"", b"\x01\x03", b"\x21\x41");
+        assert_eq!(rt; run_table(&[right, wrong]), Err(Miss { row: 2 }));
+    }
+}

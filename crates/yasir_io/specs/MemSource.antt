@@ -1,0 +1,24 @@
+-- What a source in memory is.
+use Rattle.std.specs.Prelude.{ℕ, List}
+use Rattle.yasir_io.specs.declared.mem_source.MemSource.{MemSource}
+use Rattle.yasir_io.specs.Calls.{IsPlanned}
+
+-- the bytes that are left
+abbrev pub source_bytes : MemSource → List ℕ
+source_bytes source = source.bytes.now
+
+-- the calls that fail
+abbrev pub source_plan : MemSource → List ℕ
+source_plan source = source.calls.plan.items
+
+-- the calls made
+abbrev pub source_calls : MemSource → ℕ
+source_calls source = source.calls.made
+
+-- the most bytes that a call moves
+abbrev pub source_piece : MemSource → ℕ
+source_piece source = source.piece
+
+-- the next call fails
+abbrev pub SourceFails : MemSource → Type 0
+SourceFails source = IsPlanned (source_plan source) (source_calls source)

@@ -1,0 +1,87 @@
+//! The edge of the program: the runtime's readers and writers. What they move isn't told; their faults are counted.
+ghost use Rattle.std.specs.Prelude.{◌≡◌, None};
+ghost use Rattle.yasir_io.specs.Edge.{reader_faults, writer_faults};
+
+use crate::faults::Faults;
+use crate::{Failed, Sink, Source};
+use std::io::{Read, Write};
+
+/// A reader, as standard input, as a source.
+#[derive(Drop)]
+pub struct StdinSource<I: Read + Drop> {
+    reader: I,
+    faults: Faults,
+}
+
+impl<I: Read + Drop> StdinSource<I> {
+    /// A source of what the reader gives.
+    pub fn new(reader: I) -> StdinSource<I>
+        ensures { reader_faults result ≡ 0 }
+    {
+        StdinSource {
+            reader,
+            faults: Faults::none(),
+        }
+    }
+}
+
+impl<I: Read + Drop> Source for StdinSource<I> {
+    ghost left = { λ _. None };
+
+    ghost faults = { λ source. reader_faults source };
+
+    fn read(&mut self, buf: &mut [u8; 512]) -> Result<usize, Failed> {
+        match self.reader.read(buf) {
+            Ok(n) => Ok(n),
+            Err(_) => Err(self.faults.add()),
+        }
+    }
+}
+
+/// A writer, as standard output or standard error, as a sink. It hands each piece on at once.
+#[derive(Drop)]
+pub struct WriterSink<W: Write + Drop> {
+    writer: W,
+    faults: Faults,
+}
+
+/// Standard output as a sink.
+pub type StdoutSink<W> = WriterSink<W>;
+
+/// Standard error as a sink.
+pub type StderrSink<W> = WriterSink<W>;
+
+impl<W: Write + Drop> WriterSink<W> {
+    /// A sink that hands pieces to the writer.
+    pub fn new(writer: W) -> WriterSink<W>
+        ensures { writer_faults result ≡ 0 }
+    {
+        WriterSink {
+            writer,
+            faults: Faults::none(),
+        }
+    }
+}
+
+impl<W: Write + Drop> Sink for WriterSink<W> {
+    ghost held = { λ _. None };
+
+    ghost faults = { λ sink. writer_faults sink };
+
+    fn write(&mut self, piece: &[u8]) -> Result<usize, Failed> {
+        if piece.is_empty() {
+            return Ok(0);
+        }
+        match self.writer.write(piece) {
+            Ok(0) | Err(_) => Err(self.faults.add()),
+            Ok(n) => Ok(n),
+        }
+    }
+
+    fn flush(&mut self) -> Result<(), Failed> {
+        match self.writer.flush() {
+            Ok(()) => Ok(()),
+            Err(_) => Err(self.faults.add()),
+        }
+    }
+}

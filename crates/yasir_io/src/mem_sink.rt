@@ -1,0 +1,106 @@
+ghost use Rattle.std.specs.Prelude.{◌≤◌, vec_len, vec_capacity};
+
+use crate::calls::{Calls, NoMemory, Plan};
+use crate::{Failed, Sink};
+use std::alloc::Global;
+
+/// A sink in memory, of a fixed room, which fails at chosen calls.
+#[derive(Drop)]
+pub struct MemSink {
+    bytes: Vec<u8>,
+    room: usize,
+    piece: usize,
+    calls: Calls,
+    ghost some: { 1 ≤ piece },
+    ghost held: { vec_len bytes ≤ room },
+    ghost reserved: { room ≤ vec_capacity bytes },
+}
+
+impl MemSink {
+    ghost use Rattle.std.specs.Prelude.{◌≡◌, ◌≤◌, [], IfOk};
+    ghost use Rattle.yasir_io.specs.MemSink.{sink_bytes, sink_room, sink_plan, sink_calls, sink_piece};
+
+    /// An empty sink with room for so many bytes, which is taken at once. A call moves at most `piece` bytes;
+    /// those in `fail`, counted from 1, fail.
+    pub fn with_room(
+        alloc: Global,
+        room: usize,
+        piece: u16,
+        fail: Plan,
+    ) -> Result<MemSink, NoMemory>
+        requires some { 1 ≤ piece }
+        requires within { piece ≤ 512 }
+        ensures bytes { IfOk result (λ sink. sink_bytes sink ≡ []) }
+        ensures room { IfOk result (λ sink. sink_room sink ≡ room) }
+        ensures piece { IfOk result (λ sink. sink_piece sink ≡ piece) }
+        ensures plan { IfOk result (λ sink. sink_plan sink ≡ fail.items) }
+        ensures calls { IfOk result (λ sink. sink_calls sink ≡ 0) }
+    {
+        let Ok(bytes) = Vec::with_capacity(alloc, room) else {
+            return Err(NoMemory);
+        };
+        Ok(MemSink {
+            bytes,
+            room,
+            piece: usize::from(piece),
+            calls: Calls::new(fail),
+        })
+    }
+
+    /// The bytes held. It doesn't count as a call.
+    pub fn held(&self) -> &[u8]
+        ensures { result.now ≡ sink_bytes self.now }
+    {
+        self.bytes.as_slice()
+    }
+}
+
+impl Sink for MemSink {
+    ghost use Rattle.std.specs.Prelude.{◌≡◌, ◌+◌, ◌-◌, ◌^◌, ◌<◌, ◌≤◌, ◌↔◌, min, take, length, Some, IsErr, IfOk, OnErr};
+    ghost use Rattle.std.specs.Io.KnownBytes.{append_known};
+    ghost use Rattle.yasir_io.specs.Causes.{HasCause};
+    ghost use Rattle.yasir_io.specs.MemSink.{sink_bytes, sink_room, sink_plan, sink_calls, sink_piece, SinkFails, WriteFails};
+
+    ghost held = { λ sink. Some (sink_bytes sink) };
+
+    ghost faults = { λ sink. sink.calls.faults.count };
+
+    fn write(&mut self, piece: &[u8]) -> Result<usize, Failed>
+        ensures within { IfOk result (λ n. n ≤ length piece.now) }
+        ensures some { IfOk result (λ n. 0 < length piece.now → 0 < n) }
+        ensures bytes { IfOk result (λ n. Some (sink_bytes self.new) ≡ append_known (Some (sink_bytes self.old)) (take n piece.now)) }
+        ensures err { OnErr result (Some (sink_bytes self.new) ≡ Some (sink_bytes self.old)) }
+        ensures cause { HasCause self.old.calls.faults.count self.new.calls.faults.count result }
+
+        // Exactly a planned call fails, and one that finds no room; any other moves as much as it may.
+        ensures fails { IsErr result ↔ WriteFails self.old piece.now }
+        ensures size { IfOk result (λ n. n ≡ min (min (length piece.now) (sink_piece self.old)) (sink_room self.old - length (sink_bytes self.old))) }
+        ensures calls { sink_calls self.new ≡ min (sink_calls self.old + 1) (2 ^ 64 - 1) }
+        ensures plan { sink_plan self.new ≡ sink_plan self.old }
+        ensures piece { sink_piece self.new ≡ sink_piece self.old }
+        ensures room { sink_room self.new ≡ sink_room self.old }
+    {
+        self.calls.begin()?;
+        let n = piece
+            .len()
+            .min(self.piece)
+            .min(self.room - self.bytes.len());
+        if n == 0 && !piece.is_empty() {
+            return Err(self.calls.faults.add());
+        }
+        self.bytes.extend_from_slice(&piece[..n]).unwrap();
+        Ok(n)
+    }
+
+    fn flush(&mut self) -> Result<(), Failed>
+        ensures same { Some (sink_bytes self.new) ≡ Some (sink_bytes self.old) }
+        ensures cause { HasCause self.old.calls.faults.count self.new.calls.faults.count result }
+        ensures fails { IsErr result ↔ SinkFails self.old }
+        ensures calls { sink_calls self.new ≡ min (sink_calls self.old + 1) (2 ^ 64 - 1) }
+        ensures plan { sink_plan self.new ≡ sink_plan self.old }
+        ensures piece { sink_piece self.new ≡ sink_piece self.old }
+        ensures room { sink_room self.new ≡ sink_room self.old }
+    {
+        self.calls.begin()
+    }
+}

@@ -1,0 +1,98 @@
+ghost use Rattle.std.specs.Prelude.{◌≤◌};
+
+use crate::{Failed, Source};
+
+/// The bytes of one source, one after the other; it reads them in pieces.
+#[derive(Drop)]
+pub struct Pieces {
+    bytes: [u8; 512],
+    place: usize,
+    end: usize,
+    ended: bool,
+    ghost ordered: { place ≤ end },
+    ghost within: { end ≤ 512 },
+}
+
+impl Pieces {
+    ghost use Rattle.std.specs.Prelude.{◌≡◌, List, ℕ, [], ◌∷◌, true, false, Ok, None, Some, OnErr, OnSome, IfOk};
+    ghost use Rattle.std.specs.Option.{option_to_list};
+    ghost use Rattle.std.specs.Io.KnownBytes.{prepend_known, IsAtEnd};
+    ghost use Rattle.yasir_io.specs.Causes.{HasCause};
+    ghost use Rattle.yasir_io.specs.Pieces.{kept_bytes, has_ended, to_come};
+
+    /// Nothing read yet.
+    pub fn new() -> Pieces
+        ensures kept { kept_bytes result ≡ [] }
+        ensures ended { has_ended result ≡ false }
+    {
+        Pieces {
+            bytes: [0; 512],
+            place: 0,
+            end: 0,
+            ended: false,
+        }
+    }
+
+    /// The next byte. None comes once nothing is kept and a read has answered 0, and from then on always.
+    #[inline]
+    pub fn next<S: Source>(&mut self, source: &mut S) -> Result<Option<u8>, Failed>
+        // Each byte comes once, in its order, and none is lost.
+        ensures next { IfOk result (λ next. to_come self.old (S.left source.old)
+            ≡ prepend_known (option_to_list next) (to_come self.new (S.left source.new))) }
+        ensures err { OnErr result (to_come self.new (S.left source.new) ≡ to_come self.old (S.left source.old)) }
+
+        // A byte that is kept is answered without a read.
+        ensures kept { (b : ℕ) (rest : List ℕ) → kept_bytes self.old ≡ b ∷ rest
+            → (result ≡ Ok (Some b)) × (kept_bytes self.new ≡ rest) × (source.new ≡ source.old) }
+
+        // Only the end ends it.
+        ensures still_open { IfOk result (λ next. OnSome next (has_ended self.new ≡ has_ended self.old)) }
+        ensures err_open { OnErr result (has_ended self.new ≡ has_ended self.old) }
+
+        // A read fails only where nothing is kept.
+        ensures err_kept { OnErr result ((kept_bytes self.old ≡ []) × (kept_bytes self.new ≡ [])) }
+
+        // The end, and after it.
+        ensures end { result ≡ Ok None → (has_ended self.new ≡ true) × (kept_bytes self.new ≡ []) }
+        ensures nothing_left { result ≡ Ok None → has_ended self.old ≡ false → IsAtEnd (S.left source.new) }
+        ensures for_good { has_ended self.old ≡ true → kept_bytes self.old ≡ []
+            → (result ≡ Ok None) × (self.new ≡ self.old) × (source.new ≡ source.old) }
+
+        ensures cause { HasCause (S.faults source.old) (S.faults source.new) result }
+    {
+        if self.place == self.end {
+            return self.next_of_read(source);
+        }
+        let byte = self.bytes[self.place];
+        self.place += 1;
+        Ok(Some(byte))
+    }
+
+    // The next byte where none is kept: that of a read, unless the end was met before.
+    #[inline(never)]
+    fn next_of_read<S: Source>(&mut self, source: &mut S) -> Result<Option<u8>, Failed>
+        requires { self.old.place ≡ self.old.end }
+        ensures next { IfOk result (λ next. S.left source.old
+            ≡ prepend_known (option_to_list next) (to_come self.new (S.left source.new))) }
+        ensures err { OnErr result (to_come self.new (S.left source.new) ≡ S.left source.old) }
+        ensures still_open { IfOk result (λ next. OnSome next (has_ended self.new ≡ has_ended self.old)) }
+        ensures err_open { OnErr result (has_ended self.new ≡ has_ended self.old) }
+        ensures err_kept { OnErr result (kept_bytes self.new ≡ []) }
+        ensures end { result ≡ Ok None → (has_ended self.new ≡ true) × (kept_bytes self.new ≡ []) }
+        ensures nothing_left { result ≡ Ok None → has_ended self.old ≡ false → IsAtEnd (S.left source.new) }
+        ensures for_good { has_ended self.old ≡ true → (result ≡ Ok None) × (self.new ≡ self.old) × (source.new ≡ source.old) }
+        ensures cause { HasCause (S.faults source.old) (S.faults source.new) result }
+    {
+        if self.ended {
+            return Ok(None);
+        }
+        let n = source.read(&mut self.bytes)?;
+        if n == 0 {
+            self.ended = true;
+            return Ok(None);
+        }
+        self.place = 1;
+        self.end = n;
+        Ok(Some(self.bytes[0]))
+    }
+}

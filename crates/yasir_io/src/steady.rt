@@ -1,0 +1,94 @@
+ghost use Rattle.std.specs.Prelude.{◌≡◌, Some};
+ghost use Rattle.yasir_io.specs.Disks.{slot_in};
+ghost use Rattle.yasir_io.specs.Steady.{steady_bytes, steady_slots};
+
+use crate::{Failed, Slot, SlotDisk, Source};
+
+/// Bytes in memory as a source that never fails.
+#[derive(Drop)]
+pub struct SteadySource<'a> {
+    bytes: &'a [u8],
+}
+
+impl<'a> SteadySource<'a> {
+    /// A source of these bytes.
+    pub fn new(bytes: &'a [u8]) -> SteadySource<'a>
+        ensures { steady_bytes result ≡ bytes.now }
+    {
+        SteadySource { bytes }
+    }
+}
+
+impl<'a> Source for SteadySource<'a> {
+    ghost left = { λ source. Some (steady_bytes source) };
+
+    ghost faults = { λ _. 0 };
+
+    fn read(&mut self, buf: &mut [u8; 512]) -> Result<usize, Failed> {
+        let n = self.bytes.len().min(512);
+        let (front, rest) = self.bytes.split_at(n);
+        buf[..n].copy_from_slice(front);
+        self.bytes = rest;
+        Ok(n)
+    }
+}
+
+/// Two slots in memory. No call fails, and of a crash nothing is told.
+#[derive(Drop)]
+pub struct SteadySlots {
+    a: [u8; 16],
+    b: [u8; 16],
+}
+
+impl SteadySlots {
+    /// A disk with these slots.
+    pub fn new(a: [u8; 16], b: [u8; 16]) -> SteadySlots
+        ensures { steady_slots result ≡ record { a = a; b = b } }
+    {
+        SteadySlots { a, b }
+    }
+
+    /// The slot as a read gives it. It doesn't count as a call.
+    pub fn slot(&self, which: Slot) -> [u8; 16]
+        ensures { result ≡ slot_in (steady_slots self.now) which }
+    {
+        match which {
+            Slot::A => self.a,
+            Slot::B => self.b,
+        }
+    }
+}
+
+impl SlotDisk for SteadySlots {
+    ghost told = { λ disk. Some (steady_slots disk) };
+
+    ghost may_leave = { λ _ _. ⊥ };
+
+    ghost moment = { λ _. 0 };
+
+    ghost left_since = { λ _ _ _. ⊥ };
+
+    ghost faults = { λ _. 0 };
+
+    ghost reads_an_image = { λ disk s c told image. absurd image };
+
+    ghost counts_now = { λ disk t c le image. image };
+
+    ghost only_now = { λ disk c image. image };
+
+    fn read_slot(&mut self, slot: Slot) -> Result<[u8; 16], Failed> {
+        Ok(self.slot(slot))
+    }
+
+    fn write_slot(&mut self, slot: Slot, bytes: &[u8; 16]) -> Result<(), Failed> {
+        match slot {
+            Slot::A => self.a = *bytes,
+            Slot::B => self.b = *bytes,
+        }
+        Ok(())
+    }
+
+    fn sync(&mut self) -> Result<(), Failed> {
+        Ok(())
+    }
+}

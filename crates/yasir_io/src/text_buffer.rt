@@ -1,0 +1,78 @@
+use crate::{Failed, Sink, write_all};
+use arrayvec::ArrayVec;
+
+/// A text on its way to a sink: up to 4,096 bytes wait here, so that a short piece costs no call of the sink.
+///
+/// After an error the sink has got a front of the text, and the buffer isn't to be used again.
+#[derive(Drop)]
+pub struct TextBuffer {
+    text: ArrayVec<u8, 4096>,
+}
+
+impl TextBuffer {
+    ghost use Rattle.std.specs.Prelude.{◌≡◌, ℕ, List, [], ◌++◌, Option, OnOk, OnErr};
+    ghost use Rattle.yasir_io.specs.Causes.{HasCause};
+    ghost use Rattle.yasir_io.specs.Output.{Buffered, GotPrefix};
+    ghost use Rattle.yasir_io.specs.TextBuffer.{waiting_bytes};
+
+    /// No text yet.
+    pub fn new() -> TextBuffer
+        ensures waits { waiting_bytes result ≡ [] }
+        ensures stands { (start : Option (List ℕ)) → Buffered start start (waiting_bytes result) [] }
+    {
+        TextBuffer {
+            text: ArrayVec::new(),
+        }
+    }
+
+    /// Adds a piece to the text, of any length.
+    #[inline]
+    pub fn push<S: Sink>(&mut self, sink: &mut S, piece: &[u8]) -> Result<(), Failed>
+        ensures ok { OnOk result ((start : Option (List ℕ)) (text : List ℕ)
+            → Buffered start (S.held sink.old) (waiting_bytes self.old) text
+            → Buffered start (S.held sink.new) (waiting_bytes self.new) (text ++ piece.now)) }
+        ensures err { OnErr result ((start : Option (List ℕ)) (text : List ℕ)
+            → Buffered start (S.held sink.old) (waiting_bytes self.old) text
+            → GotPrefix start (S.held sink.new) (text ++ piece.now)) }
+        ensures cause { HasCause (S.faults sink.old) (S.faults sink.new) result }
+    {
+        match self.text.try_extend_from_slice(piece) {
+            Ok(()) => Ok(()),
+            Err(_) => self.push_full(sink, piece),
+        }
+    }
+
+    // A piece that the room left doesn't take: what waits goes to the sink first.
+    #[inline(never)]
+    fn push_full<S: Sink>(&mut self, sink: &mut S, piece: &[u8]) -> Result<(), Failed>
+        ensures ok { OnOk result ((start : Option (List ℕ)) (text : List ℕ)
+            → Buffered start (S.held sink.old) (waiting_bytes self.old) text
+            → Buffered start (S.held sink.new) (waiting_bytes self.new) (text ++ piece.now)) }
+        ensures err { OnErr result ((start : Option (List ℕ)) (text : List ℕ)
+            → Buffered start (S.held sink.old) (waiting_bytes self.old) text
+            → GotPrefix start (S.held sink.new) (text ++ piece.now)) }
+        ensures cause { HasCause (S.faults sink.old) (S.faults sink.new) result }
+    {
+        self.drain(sink)?;
+        match self.text.try_extend_from_slice(piece) {
+            Ok(()) => Ok(()),
+            Err(_) => write_all(sink, piece),
+        }
+    }
+
+    /// Writes what waits to the sink. A flush is the caller's.
+    pub fn drain<S: Sink>(&mut self, sink: &mut S) -> Result<(), Failed>
+        ensures ok { OnOk result ((start : Option (List ℕ)) (text : List ℕ)
+            → Buffered start (S.held sink.old) (waiting_bytes self.old) text
+            → Buffered start (S.held sink.new) [] text) }
+        ensures empty { OnOk result (waiting_bytes self.new ≡ []) }
+        ensures err { OnErr result ((start : Option (List ℕ)) (text : List ℕ)
+            → Buffered start (S.held sink.old) (waiting_bytes self.old) text
+            → GotPrefix start (S.held sink.new) text) }
+        ensures cause { HasCause (S.faults sink.old) (S.faults sink.new) result }
+    {
+        write_all(sink, self.text.as_slice())?;
+        self.text.clear();
+        Ok(())
+    }
+}

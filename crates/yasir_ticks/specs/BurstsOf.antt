@@ -1,0 +1,24 @@
+-- Bursts in the subject's own words, as a relation between a line and its bursts.
+use Rattle.std.specs.Prelude.{◌≡◌, ℕ, ◌+◌, ◌<◌, ◌≤◌, List, [], ◌∷◌, ◌++◌, length}
+use Rattle.yasir_ticks.specs.Ticks.{silent}
+use Rattle.yasir_ticks.specs.Bursts.{Burst, end_of}
+use Rattle.yasir_ticks.specs.declared.tick.Tick.{Tick}
+use Rattle.yasir_ticks.specs.declared.tick.Tick.TheVariants.{Byte}
+
+-- Ticks that begin and end with a byte, fewer than `cut` silent ones standing between one byte and the next.
+pub data IsKnit (cut : ℕ) : List Tick → Type 0 where
+  one : (b : ℕ) → IsKnit cut (Byte b ∷ [])
+  more : (b gap : ℕ) (rest : List Tick) → gap < cut → IsKnit cut rest → IsKnit cut (Byte b ∷ (silent gap ++ rest))
+
+-- the first of these bursts, if there is one, doesn't start before tick n
+abbrev pub StartsFrom : ℕ → List Burst → Type 0
+StartsFrom n [] = Unit {0}
+StartsFrom n (d ∷ ds) = n ≤ d.start
+
+-- These are the bursts of ticks whose first one is tick n of the line: silence up to the first burst, its ticks, `cut` or more
+-- silent ticks up to the next one, and so on, and after the last one nothing but silence.
+abbrev pub AreBursts : ℕ → ℕ → List Tick → List Burst → Type 0
+AreBursts cut n line [] = line ≡ silent (length line)
+AreBursts cut n line (d ∷ ds) =
+    (gap : ℕ) × (rest : List Tick) × (line ≡ silent gap ++ (d.body ++ rest)) × (d.start ≡ n + gap)
+    × IsKnit cut d.body × StartsFrom (end_of d + cut) ds × AreBursts cut (end_of d) rest ds
