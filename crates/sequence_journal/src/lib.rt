@@ -1,0 +1,8 @@
+//! Numbers that outlive a crash: a box keeps the last number that it used in two slots of a disk.
+#![tactic(auto)]
+
+mod journal;
+mod numbers;
+
+pub use journal::{InitError, Journal, JournalFault, LoadError};
+pub use numbers::{LIMIT, full_number, number_in, slot_of};
