@@ -9,7 +9,8 @@ use Rattle.sequence_journal.specs.declared.journal.LoadError.{LoadError}
 use Rattle.sequence_journal.specs.declared.journal.LoadError.TheVariants as Load
 use Rattle.sequence_journal.specs.declared.journal.InitError.{InitError}
 use Rattle.sequence_journal.specs.declared.journal.InitError.TheVariants as Init
-use Rattle.sequence_journal.specs.Slots.{number_held, floor_of, floor_slot, slot_bytes}
+use Rattle.sequence_journal.specs.Slots.{number_held, greater, place_of_greater, floor_of, floor_slot, slot_bytes}
+use Rattle.sequence_journal.specs.declared.numbers.TheConstants.{LIMIT}
 
 -- the last number used
 abbrev pub journal_floor : Journal → ℕ
@@ -57,11 +58,21 @@ told_with told slot bytes = option_map (λ slots. with_slot slots slot bytes) to
 abbrev pub MaySet : Option Slots → Slot → List ℕ → Option Slots → Type 0
 MaySet old slot bytes new = (new ≡ old) ⊎ (new ≡ told_with old slot bytes)
 
+-- the greater number of two slots, and where it stands
+abbrev pub IsFloorOf : List ℕ → List ℕ → Option (ℕ × Slot) → Type 0
+IsFloorOf a b None = greater (number_held a) (number_held b) ≡ None
+IsFloorOf a b (Some found) =
+    (greater (number_held a) (number_held b) ≡ Some found.0) × (place_of_greater (number_held a) (number_held b) ≡ found.1) × (found.0 ≤ LIMIT)
+
+-- both slots, as they were read
+abbrev pub AreRead : Option Slots → List ℕ → List ℕ → Type 0
+AreRead told a b = IfSome told (λ slots. (slots.a ≡ a) × (slots.b ≡ b))
+
 -- Why a journal isn't loaded: a read failed, or neither slot, as read, holds a number.
 abbrev pub RefusesLoad : Option Slots → ℕ → ℕ → LoadError → Type 0
 RefusesLoad told before now Load.Fault = Rose before now
 RefusesLoad told before now (Load.Bad a b) =
-    (number_held a ≡ None) × (number_held b ≡ None) × IfSome told (λ slots. (slots.a ≡ a) × (slots.b ≡ b)) × (now ≡ before)
+    (number_held a ≡ None) × (number_held b ≡ None) × AreRead told a b × (now ≡ before)
 
 -- Why a journal isn't made: a call failed, and slot A may be set, or a slot holds a number already, and nothing is written.
 abbrev pub RefusesInit : Option Slots → Option Slots → ℕ → ℕ → InitError → Type 0

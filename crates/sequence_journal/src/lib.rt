@@ -3,6 +3,7 @@
 
 mod journal;
 mod numbers;
+mod slots;
 
 pub use journal::{InitError, Journal, JournalFault, LoadError};
 pub use numbers::{LIMIT, full_number, number_in, slot_of};
