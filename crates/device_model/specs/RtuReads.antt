@@ -1,5 +1,6 @@
--- What a Modbus RTU device reads of a line (Modbus over Serial Line V1.02): a burst that four silent ticks follow,
--- in which no two adjacent ticks are silent, and whose bytes are a frame.
+-- What a Modbus RTU device reads of a line: a burst that four silent ticks follow, in which no two adjacent ticks are silent,
+-- and whose bytes are a frame. Modbus over Serial Line V1.02 parts frames by 3.5 character times and lets at most 1.5 pass
+-- inside one; the rounding to whole ticks is this project's profile.
 use Rattle.std.specs.Prelude.{ℕ, zero, suc, ◌+◌, nat_le, ◌&&◌, ◌||◌, not, Bool, true, false, List, [], ◌∷◌, length, map, filter}
 use Rattle.rtu_frame.specs.Frame.{is_frame}
 use Rattle.yasir_ticks.specs.Ticks.{bytes_in}

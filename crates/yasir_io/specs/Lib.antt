@@ -3,7 +3,10 @@ pub mod Causes
 pub mod Disks
 pub mod Edge
 pub mod MemSink
+pub mod MemSlots
+pub mod MemSlotsLaws
 pub mod MemSource
+pub mod Moments
 pub mod Output
 pub mod Pieces
 pub mod Steady

@@ -10,6 +10,20 @@ pub enum Slot {
     B,
 }
 
+impl Slot {
+    ghost use Rattle.yasir_io.specs.Disks.{other_slot};
+
+    /// The other slot.
+    pub fn other(self) -> Slot
+        ensures { result ≡ other_slot self }
+    {
+        match self {
+            Slot::A => Slot::B,
+            Slot::B => Slot::A,
+        }
+    }
+}
+
 /// A disk of two slots of sixteen bytes.
 pub trait SlotDisk {
     ghost use Rattle.yasir_io.specs.Disks.{Slots, slot_in, with_slot, Torn, Follows, NoMore, OneImage, Elapses};

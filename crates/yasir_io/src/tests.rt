@@ -1,11 +1,13 @@
 ghost use Rattle.std.specs.Io.{ReadsAtMost, WritesAtMost};
 
 use crate::{
-    Failed, MemSink, MemSource, NoMemory, Pieces, Plan, Sink, Slot, SlotDisk, Source, StdinSource,
-    StdoutSink, SteadySlots, SteadySource, TextBuffer, write_all,
+    Failed, FileSlots, FileSource, MemSink, MemSlots, MemSource, NoMemory, Pieces, Plan, Sink,
+    Slot, SlotDisk, Source, StdinSource, StdoutSink, SteadySlots, SteadySource, TextBuffer,
+    write_all,
 };
 use std::io::{self, Read, Write};
 use std::test::Fail;
+use std::{env, fs};
 
 fn plan(calls: &[u32]) -> Plan {
     let mut plan = Plan::new();
@@ -206,5 +208,92 @@ fn a_writer_gets_each_piece_at_once(rt: HostRuntime) -> Result<(), Fail> {
     assert_eq!(rt; sink.flush(), Err(Failed));
     drop(sink);
     assert_eq!(rt; outside.bytes.as_slice(), b"abcdef".as_slice());
+    Ok(())
+}
+
+#[test]
+fn slots_in_memory_fail_where_they_are_told_to(rt: HostRuntime) -> Result<(), Fail> {
+    let (a, b) = ([1; 16], [2; 16]);
+    let mut disk = MemSlots::with_room(rt.alloc(), a, b, 8, Plan::new())?;
+    assert_eq!(rt; disk.read_slot(Slot::A), Ok(a));
+    assert_eq!(rt; disk.read_slot(Slot::B), Ok(b));
+    // The calls are a write, a sync and a read of slot B: which fail, and what the slot is then.
+    let rows: [(usize, &[u32], [bool; 3], [u8; 16]); 5] = [
+        (3, &[], [true, true, true], [3; 16]),
+        (3, &[1], [false, true, true], b),
+        (3, &[2], [true, false, true], [3; 16]),
+        (3, &[3], [true, true, false], [3; 16]),
+        (1, &[], [true, false, false], [3; 16]),
+    ];
+    for (calls, fail, done, want) in rows {
+        let mut disk = MemSlots::with_room(rt.alloc(), a, b, calls, plan(fail))?;
+        assert_eq!(rt; disk.write_slot(Slot::B, &[3; 16]).is_ok(), done[0]);
+        assert_eq!(rt; disk.sync().is_ok(), done[1]);
+        assert_eq!(rt; disk.read_slot(Slot::B).is_ok(), done[2]);
+        assert_eq!(rt; disk.slot(Slot::A), a);
+        assert_eq!(rt; disk.slot(Slot::B), want);
+    }
+    let refused = MemSlots::with_room(rt.alloc(), a, b, usize::MAX, Plan::new());
+    assert!(rt; matches!(refused, Err(NoMemory)));
+    Ok(())
+}
+
+// A path of this process's own, where no file stands.
+fn fresh_path(rt: &HostRuntime, name: &str) -> Result<String, Fail> {
+    let folder = env::temp_dir(rt)?;
+    let id = std::process::id(rt.process());
+    let path = format!(in rt.alloc(); "{}/yasir_io_{id}_{name}", folder.display())?;
+    let _ = fs::remove_file(rt, path.as_str());
+    Ok(path)
+}
+
+#[test]
+fn slots_stand_in_a_file(rt: HostRuntime) -> Result<(), Fail> {
+    let path = fresh_path(&rt, "slots")?;
+    let mut missing = FileSlots::new(&rt, Some(path.clone()?), false);
+    assert_eq!(rt; missing.read_slot(Slot::A), Err(Failed));
+    let mut made = FileSlots::new(&rt, Some(path.clone()?), true);
+    assert_eq!(rt; made.read_slot(Slot::B), Ok([0; 16]));
+    assert_eq!(rt; made.write_slot(Slot::B, &[b'b'; 16]), Ok(()));
+    assert_eq!(rt; made.read_slot(Slot::A), Ok([0; 16]));
+    assert_eq!(rt; made.write_slot(Slot::A, &[b'a'; 16]), Ok(()));
+    assert_eq!(rt; made.sync(), Ok(()));
+    assert_eq!(rt;
+        fs::read_to_string(&rt, path.as_str())?.as_str(),
+        "aaaaaaaaaaaaaaaabbbbbbbbbbbbbbbb"
+    );
+    let mut again = FileSlots::new(&rt, Some(path.clone()?), false);
+    assert_eq!(rt; again.read_slot(Slot::B), Ok([b'b'; 16]));
+    fs::remove_file(&rt, path.as_str())?;
+    // A folder, and no path.
+    let folder = String::from_str(rt.alloc(), ".")?;
+    for path in [Some(folder), None] {
+        let mut disk = FileSlots::new(&rt, path, true);
+        assert_eq!(rt; disk.read_slot(Slot::A), Err(Failed));
+        assert_eq!(rt; disk.write_slot(Slot::A, &[0; 16]), Err(Failed));
+        assert_eq!(rt; disk.sync(), Err(Failed));
+    }
+    Ok(())
+}
+
+#[test]
+fn a_file_is_read_to_its_end(rt: HostRuntime) -> Result<(), Fail> {
+    let path = fresh_path(&rt, "source")?;
+    fs::write(&rt, path.as_str(), "abc")?;
+    let folder = String::from_str(rt.alloc(), ".")?;
+    let missing = fresh_path(&rt, "missing")?;
+    let rows: [(Option<String>, u32, &[u8]); 4] = [
+        (Some(path.clone()?), 0, b"abc"),
+        (Some(missing), 40, b""),
+        (Some(folder), 40, b""),
+        (None, 40, b""),
+    ];
+    for (path, failed, want) in rows {
+        let mut out = Vec::new(rt.alloc());
+        let mut source = FileSource::new(&rt, path);
+        assert_eq!(rt; drained(&mut Pieces::new(), &mut source, &mut out)?, failed);
+        assert_eq!(rt; out.as_slice(), want);
+    }
+    fs::remove_file(&rt, path.as_str())?;
     Ok(())
 }

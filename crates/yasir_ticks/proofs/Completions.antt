@@ -1,7 +1,7 @@
 -- How a text goes on that no byte of is refused.
-use Rattle.std.proofs.Common.{◌≡◌, ◌≢◌, ◌∙◌, ◌==◌, ℕ, ◌+◌, ◌*◌, ◌≤◌, ◌<◌, zero, suc, Bool, true, false, List, [], ◌∷◌, ◌++◌, length, replicate, Option, Some, None, refl, ap, sym, cond, arith, append_assoc, append-nil}
+use Rattle.std.proofs.Common.{◌≡◌, ◌∙◌, ℕ, ◌+◌, ◌*◌, ◌<◌, List, [], ◌∷◌, ◌++◌, length, replicate, Some, refl, ap, sym, arith, append_assoc, append-nil}
 use Rattle.yasir_ticks.specs.Ticks.{Item, items_of_run, marks_in}
-use Rattle.yasir_ticks.specs.TickText.{lines_of, line_items, all_items, ended_items, IsTickText, BeginsTickText}
+use Rattle.yasir_ticks.specs.TickText.{lines_of, line_items, all_items, ended_items, BeginsTickText}
 use Rattle.yasir_ticks.specs.Reader.{Reads, items_of_content, IsAt}
 use Rattle.yasir_ticks.specs.ReaderStep.{Closes}
 use Rattle.yasir_ticks.specs.declared.run.Run.{Run}

@@ -1,12 +1,8 @@
 -- Lines apart from comments: a CR at the end, bytes that may not stand in a content.
-use Rattle.std.proofs.Common.{◌≡◌, ◌≢◌, ◌⊎◌, inl, inr, ◌∙◌, ◌==◌, ◌&&◌, ℕ, ◌+◌, ◌≤◌, ◌<◌, suc, zero, Bool, true, false, not, List, [], ◌∷◌, ◌++◌, length, map, Option, Some, None, is_some, refl, ap, sym, cond, arith, append_assoc, option_map}
-use Rattle.std.specs.List.{list_all, AllPass}
-use Rattle.std.specs.Result.{result_ok}
-use Rattle.std.proofs.lemmas.Bool.{cases_eq, both_ways, and_parts}
-use Rattle.hex.specs.Hex.{decode_of, is_hex_digit}
-use Rattle.yasir_ticks.specs.Ticks.{Item, marks_in}
-use Rattle.yasir_ticks.specs.Ticks.Item.{tick, mark}
-use Rattle.yasir_ticks.specs.TickText.{line_items, content_items, without_return, ends_in_return, byte_items, silence_items, is_plain_decimal, is_decimal_digit, number_after}
+use Rattle.std.proofs.Common.{◌≡◌, ◌≢◌, ◌∙◌, ◌==◌, ℕ, suc, Bool, true, false, List, [], ◌∷◌, ◌++◌, length, Option, Some, None, refl, ap, cond, arith}
+use Rattle.yasir_ticks.specs.Ticks.{Item}
+use Rattle.yasir_ticks.specs.Ticks.Item.{mark}
+use Rattle.yasir_ticks.specs.TickText.{line_items, content_items, without_return, ends_in_return}
 use Rattle.yasir_ticks.specs.Reader.{starts_comment}
 use Rattle.yasir_ticks.proofs.Digits.{byte_items-bad, silence_items-bad}
 

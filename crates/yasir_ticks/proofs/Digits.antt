@@ -1,8 +1,8 @@
 -- Digits of `+` and `-` lines: one digit more, and bytes that are no digits.
-use Rattle.std.proofs.Common.{◌≡◌, ◌≢◌, ◌⊎◌, inl, inr, ◌∙◌, ◌==◌, ◌&&◌, ℕ, ◌+◌, ◌*◌, ◌-◌, ◌%◌, ◌≤◌, ◌<◌, suc, zero, Bool, true, false, not, List, [], ◌∷◌, ◌++◌, length, map, replicate, Option, Some, None, Result, Ok, Err, is_some, refl, ap, sym, cond, arith, append_assoc, option_map, leb}
-use Rattle.std.specs.List.{list_all, AllPass}
+use Rattle.std.proofs.Common.{◌≡◌, ◌∙◌, ◌==◌, ◌&&◌, ℕ, ◌+◌, ◌*◌, ◌-◌, ◌%◌, ◌≤◌, ◌<◌, Bool, true, false, not, List, [], ◌∷◌, ◌++◌, length, map, replicate, Option, Some, None, Result, Ok, Err, refl, ap, sym, cond, arith, option_map, leb}
+use Rattle.std.specs.List.{list_all}
 use Rattle.std.specs.Result.{result_ok}
-use Rattle.std.proofs.lemmas.Bool.{cases_eq, both_ways, and_parts, cond_both}
+use Rattle.std.proofs.lemmas.Bool.{both_ways, and_parts}
 use Rattle.std.proofs.lemmas.List.{length-append}
 use Rattle.std.proofs.lemmas.List.Folds.{list_all-append}
 use Rattle.std.proofs.lemmas.List.Sums.{list_all-from_AllPass}

@@ -1,28 +1,27 @@
 -- One byte more at a place of a text, and its end.
-use Rattle.std.proofs.Common.{◌≡◌, ◌≢◌, ◌⊎◌, inl, inr, ◌∙◌, ◌==◌, ℕ, ◌+◌, ◌≤◌, ◌<◌, zero, suc, Bool, true, false, List, [], ◌∷◌, ◌++◌, length, Option, Some, None, Result, Ok, Err, IsTrue, refl, ap, sym, cond, arith, append_assoc, append-nil, unwrap_or, length-append}
+use Rattle.std.proofs.Common.{◌≡◌, ◌≢◌, inl, inr, ◌∙◌, ◌==◌, ℕ, ◌+◌, List, [], ◌∷◌, ◌++◌, Some, None, Result, Ok, Err, refl, ap, sym, arith, append_assoc, append-nil, unwrap_or, length-append}
 use Rattle.std.specs.Prelude.{OnOk, IfOk, IfErr}
 use Rattle.std.specs.List.{flat_map}
 use Rattle.std.proofs.lemmas.Bool.{cases_eq}
 use Rattle.std.proofs.lemmas.Grind.{flat_map-append}
 use Rattle.yasir_ticks.specs.Ticks.{Item, items_of_run, marks_in}
-use Rattle.yasir_ticks.specs.TickText.{Lines, lines_of, line_items, all_items, ended_items, line_after, fault_after, fault_at_end, fault_in_line, IsTickText, BeginsTickText, IsRefusedAfter}
-use Rattle.yasir_ticks.specs.Reader.{Reads, IsAt, StandsFor}
-use Rattle.yasir_ticks.specs.ReaderStep.{Accepts, Refuses, Steps, Stops, IsOpen}
+use Rattle.yasir_ticks.specs.TickText.{Lines, lines_of, line_items, all_items, ended_items, line_after, fault_after, fault_at_end, IsTickText, BeginsTickText, IsRefusedAfter}
+use Rattle.yasir_ticks.specs.Reader.{IsAt, StandsFor}
+use Rattle.yasir_ticks.specs.ReaderStep.{Accepts, Refuses, Steps, Stops}
 use Rattle.yasir_ticks.specs.declared.fault.BadTicks.{BadTicks}
 use Rattle.yasir_ticks.specs.declared.fault.TickFault.{TickFault}
 use Rattle.yasir_ticks.specs.declared.run.Run.{Run}
-use Rattle.yasir_ticks.specs.declared.run.Run.TheVariants.{Nothing}
 use Rattle.yasir_ticks.specs.declared.place.Place.{Place}
 use Rattle.yasir_ticks.specs.declared.place.Place.TheVariants.{Start}
 use Rattle.yasir_ticks.specs.declared.reader.TickReader.{TickReader}
 use Rattle.yasir_ticks.proofs.Lines.{all_lines, joined, lines_of-lf, lines_of-more, all_lines-append, all_lines-lf, all_lines-byte, all_lines-first}
-use Rattle.yasir_ticks.proofs.Items.{Parts, marks_in-append, all_items_parts, line_items_parts, all_items_both, all_items_cons}
+use Rattle.yasir_ticks.proofs.Items.{marks_in-append, all_items_parts, line_items_parts, all_items_both, all_items_cons}
 use Rattle.yasir_ticks.proofs.Contents.{test_of}
 use Rattle.yasir_ticks.proofs.Completions.{marks_in-run, begins_at}
 
 module _ (text : List ℕ) where
   -- the last line goes on, or ends
-  items_more : (b : ℕ) (run : Run) → b ≢ 10 → run ≡ Nothing → ended_items (text ++ b ∷ []) ≡ ended_items text ++ items_of_run run
+  items_more : (b : ℕ) (run : Run) → b ≢ 10 → items_of_run run ≡ [] → ended_items (text ++ b ∷ []) ≡ ended_items text ++ items_of_run run
   items_more b run n e = rw (lines_of-more text b n, e) (sym (append-nil (ended_items text)))
 
   items_lf : (run : Run) → line_items (lines_of text).last ≡ Some (items_of_run run)
@@ -45,7 +44,7 @@ module _ (text : List ℕ) where
 
 module _ (place new_place : Place) (bytes new_bytes : List ℕ) (line left marks : ℕ) (text : List ℕ) (at : IsAt place bytes line left marks text) where
   -- a byte within a line
-  at_more : (b : ℕ) (run : Run) → b ≢ 10 → Accepts place bytes b run new_place new_bytes → IsAt new_place new_bytes line left marks (text ++ b ∷ [])
+  at_more : (b : ℕ) (run : Run) → b ≢ 10 → Accepts place bytes b (items_of_run run) new_place new_bytes → IsAt new_place new_bytes line left marks (text ++ b ∷ [])
   at_more b run n a = record {
     ended = rw (lines_of-more text b n) at.ended;
     marked = rw (lines_of-more text b n) at.marked;
@@ -54,7 +53,7 @@ module _ (place new_place : Place) (bytes new_bytes : List ℕ) (line left marks
   }
 
   -- the LF of a line
-  at_lf : (run : Run) → Accepts place bytes 10 run new_place new_bytes → IsAt new_place new_bytes (line + 1) left marks (text ++ 10 ∷ [])
+  at_lf : (run : Run) → Accepts place bytes 10 (items_of_run run) new_place new_bytes → IsAt new_place new_bytes (line + 1) left marks (text ++ 10 ∷ [])
   at_lf run a =
       let stands = a.stands refl (lines_of text).last at.last in
       let same = items_lf text run stands in

@@ -8,3 +8,5 @@ pub mod Readers
 pub mod Completions
 pub mod Feeding
 pub mod BurstsOfLaws
+pub mod HexValues
+pub mod Worked

@@ -1,6 +1,5 @@
 -- The lines of a text, and of a text with more behind it.
 use Rattle.std.proofs.Common.{◌≡◌, ◌≢◌, ◌∙◌, ◌==◌, ℕ, zero, suc, Bool, true, false, List, [], ◌∷◌, ◌++◌, replicate, refl, ap, sym, cond, arith}
-use Rattle.std.proofs.lemmas.Bool.{cases_eq, both_ways}
 use Rattle.yasir_ticks.specs.TickText.{Lines, lines_of, with_front}
 
 -- all lines of a text, the last one too

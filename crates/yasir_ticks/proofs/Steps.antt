@@ -1,26 +1,24 @@
 -- What each byte does at each place of a line.
-use Rattle.std.proofs.Common.{◌≡◌, ◌≢◌, ◌⊎◌, inl, inr, ◌∙◌, ◌==◌, ◌&&◌, ◌||◌, ℕ, ◌+◌, ◌*◌, ◌-◌, ◌%◌, ◌≤◌, ◌<◌, suc, zero, Bool, true, false, not, List, [], ◌∷◌, ◌++◌, length, map, replicate, Option, Some, None, Result, Ok, Err, is_some, refl, ap, sym, cond, arith, append_assoc, option_map, leb, subst}
+use Rattle.std.proofs.Common.{◌≡◌, ◌≢◌, ◌∙◌, ◌==◌, ◌&&◌, ◌||◌, ℕ, ◌+◌, ◌*◌, ◌-◌, ◌%◌, ◌≤◌, ◌<◌, suc, Bool, true, false, not, List, [], ◌∷◌, ◌++◌, length, Option, Some, None, Ok, is_some, refl, ap, sym, cond, arith, append_assoc, leb}
 use Rattle.std.specs.List.{list_all}
 use Rattle.std.specs.Option.{option_map_or}
-use Rattle.std.proofs.lemmas.Bool.{cases_eq, both_ways, and_parts}
+use Rattle.std.proofs.lemmas.Bool.{both_ways, and_parts}
 use Rattle.std.proofs.lemmas.List.{length-append}
 use Rattle.hex.specs.Hex.{decode_of, decode_pairs, is_hex_digit, hex_digit_value}
-use Rattle.yasir_ticks.specs.Ticks.{Item, items_of_run, marks_in}
+use Rattle.yasir_ticks.specs.Ticks.{Item, marks_in}
 use Rattle.yasir_ticks.specs.Ticks.Item.{mark}
-use Rattle.yasir_ticks.specs.TickText.{line_items, content_items, without_return, ends_in_return, byte_items, silence_items, is_plain_decimal, is_decimal_digit, number_after, fault_in_line, fault_in_bytes, fault_in_silence, ends_content}
+use Rattle.yasir_ticks.specs.TickText.{line_items, content_items, without_return, ends_in_return, byte_items, is_plain_decimal, is_decimal_digit, number_after, fault_in_line, ends_content}
 use Rattle.yasir_ticks.specs.Place.{is_foreign}
-use Rattle.yasir_ticks.specs.Reader.{Reads, starts_comment, items_of_content, IsComment, HasPairs, HasHalfPair, HasNumber, IsReturned}
+use Rattle.yasir_ticks.specs.Reader.{Reads, starts_comment, items_of_content}
 use Rattle.yasir_ticks.specs.ReaderStep.{Accepts, Refuses, Closes, IsOpen}
 use Rattle.yasir_ticks.specs.declared.fault.TickFault.{TickFault}
 use Rattle.yasir_ticks.specs.declared.fault.TickFault.TheVariants.{Char, Odd, Long, Count, Empty}
-use Rattle.yasir_ticks.specs.declared.run.Run.{Run}
-use Rattle.yasir_ticks.specs.declared.run.Run.TheVariants.{Nothing}
 use Rattle.yasir_ticks.specs.declared.place.Content.{Content}
 use Rattle.yasir_ticks.specs.declared.place.Content.TheVariants.{NoTick, KeptBytes, SilentTicks}
 use Rattle.yasir_ticks.specs.declared.place.Place.{Place}
 use Rattle.yasir_ticks.specs.declared.place.Place.TheVariants.{Start, Comment, Pairs, HalfPair, Minus, Number, Returned, Refused}
-use Rattle.yasir_ticks.proofs.Contents.{test_of, line_items-plain, without_return-same, line_items-byte, line_items-return, line_items-return_open, line_items-return_inside, content_items-return}
-use Rattle.yasir_ticks.proofs.Digits.{list_all-bad, hex_digits, hex_length, byte_items-bad, byte_items-odd, byte_items-long, byte_items-right, decode_of-more, silence_items-bad, silence_items-right, silence_items-big, silence_items-zero, number_after-append, number_after-grows, is_plain_decimal-more}
+use Rattle.yasir_ticks.proofs.Contents.{test_of, line_items-plain, without_return-same, line_items-byte, line_items-return, line_items-return_open, line_items-return_inside}
+use Rattle.yasir_ticks.proofs.Digits.{hex_digits, hex_length, byte_items-bad, byte_items-odd, byte_items-long, byte_items-right, decode_of-more, silence_items-bad, silence_items-right, silence_items-big, silence_items-zero, number_after-append, number_after-grows, is_plain_decimal-more}
 
 -- ---- bytes that aren't LF or CR
 
@@ -183,24 +181,15 @@ open_refused why bytes = record {
 -- the form of such a step
 accepts : {place new_place : Place} {bytes new_bytes : List ℕ} {b : ℕ} → b ≢ 10
     → ((line : List ℕ) → Reads place bytes line → Reads new_place new_bytes (line ++ b ∷ []))
-    → Accepts place bytes b Nothing new_place new_bytes
+    → Accepts place bytes b [] new_place new_bytes
 accepts n f = record { nothing = λ _. refl; reads = λ _. f; start = λ e. absurd (n e); stands = λ e. absurd (n e) }
 
-pub accepts_plus : (bytes : List ℕ) → Accepts Start bytes 43 Nothing Pairs []
+pub accepts_plus : (bytes : List ℕ) → Accepts Start bytes 43 [] Pairs []
 unfolding decode_pairs
 accepts_plus bytes =
     accepts (λ e. absurd (omega arith)) (λ line r. rw r (record { digits = []; is = refl; decoded = refl; fits = omega arith }))
 
-pub accepts_comment : (n : ℕ) (bytes : List ℕ) (b : ℕ) → n < 120 → b ≢ 10 → Accepts (Comment n) bytes b Nothing (Comment (n + 1)) bytes
-accepts_comment n bytes b h l =
-    accepts l (λ line r. record {
-      after = r.after ++ b ∷ [];
-      is = rw r.is refl;
-      long = omega (arith, length-append r.after (b ∷ []), r.long);
-      fits = omega arith;
-    })
-
-pub accepts_high : (bytes : List ℕ) (b high : ℕ) → hex_digit_value b ≡ Some high → length bytes < 32 → Accepts Pairs bytes b Nothing (HalfPair high) bytes
+pub accepts_high : (bytes : List ℕ) (b high : ℕ) → hex_digit_value b ≡ Some high → length bytes < 32 → Accepts Pairs bytes b [] (HalfPair high) bytes
 accepts_high bytes b high v h =
     accepts (hex_not_lf b (ap is_some v)) (λ line r. record {
       digits = r.digits;
@@ -211,7 +200,7 @@ accepts_high bytes b high v h =
       fits = h;
     })
 
-pub accepts_low : (bytes : List ℕ) (b high low : ℕ) → hex_digit_value b ≡ Some low → Accepts (HalfPair high) bytes b Nothing Pairs (bytes ++ (high * 16 + low) ∷ [])
+pub accepts_low : (bytes : List ℕ) (b high low : ℕ) → hex_digit_value b ≡ Some low → Accepts (HalfPair high) bytes b [] Pairs (bytes ++ (high * 16 + low) ∷ [])
 accepts_low bytes b high low v =
     accepts (hex_not_lf b (ap is_some v)) (λ line r. record {
       digits = r.digits ++ r.digit ∷ b ∷ [];
@@ -221,7 +210,7 @@ accepts_low bytes b high low v =
     })
 
 pub accepts_digit : (n : ℕ) (bytes : List ℕ) (b : ℕ) → is_decimal_digit b ≡ true → n * 10 + (b - 48) ≤ 1000000
-    → Accepts (Number n) bytes b Nothing (Number (n * 10 + (b - 48))) bytes
+    → Accepts (Number n) bytes b [] (Number (n * 10 + (b - 48))) bytes
 accepts_digit n bytes b d h =
     accepts (digit_not_lf b d) (λ line r. record {
       digits = r.digits ++ b ∷ [];
@@ -233,7 +222,7 @@ accepts_digit n bytes b d h =
 
 -- the CR behind a content
 pub accepts_return : (place : Place) (bytes : List ℕ) (content : Content) → is_foreign place 13 ≡ true → Closes place bytes content
-    → Accepts place bytes 13 Nothing (Returned content) bytes
+    → Accepts place bytes 13 [] (Returned content) bytes
 accepts_return place bytes content f c =
     accepts (λ e. absurd (omega arith)) (λ line r. record {
       before = line;
@@ -243,13 +232,13 @@ accepts_return place bytes content f c =
     })
 
 -- the LF of a line
-pub accepts_lf : (place : Place) (bytes new_bytes : List ℕ) (content : Content) (run : Run) → Closes place bytes content
-    → items_of_run run ≡ items_of_content content bytes → Accepts place bytes 10 run Start new_bytes
-accepts_lf place bytes new_bytes content run c e = record {
+pub accepts_lf : (place : Place) (bytes new_bytes : List ℕ) (content : Content) → Closes place bytes content
+    → Accepts place bytes 10 (items_of_content content bytes) Start new_bytes
+accepts_lf place bytes new_bytes content c = record {
   nothing = λ n. absurd (n refl);
   reads = λ n. absurd (n refl);
   start = λ _. refl;
-  stands = λ _ line r. c.stands line r ∙ ap Some (sym e);
+  stands = λ _ line r. c.stands line r;
 }
 
 -- ---- a byte that may not stand where it stands
@@ -262,13 +251,6 @@ refuses n f c = record {
   wrong = λ _ line r more items e. cc (f line r more, e);
   ended = λ e. absurd (n e);
   cause = c;
-}
-
-pub refuses_open_lf : (place : Place) (bytes : List ℕ) (why : TickFault) → IsOpen place bytes why → Refuses place bytes 10 why
-refuses_open_lf place bytes why o = record {
-  wrong = λ n. absurd (n refl);
-  ended = λ _ line r. o.wrong line r;
-  cause = λ line r. o.cause line (Some 10) refl r;
 }
 
 pub refuses_open_return : (place : Place) (bytes : List ℕ) (why : TickFault) → is_foreign place 13 ≡ true → IsOpen place bytes why → Refuses place bytes 13 why

@@ -1,5 +1,5 @@
 -- What the parts of a reader keep to at each place of a line.
-use Rattle.std.specs.Prelude.{ℕ, ◌&&◌, nat_lt, nat_le, Bool, true, false, not, List, length, ◌==◌, ◌||◌}
+use Rattle.std.specs.Prelude.{ℕ, ◌&&◌, nat_lt, Bool, true, false, not, List, length, ◌==◌, ◌||◌}
 use Rattle.hex.specs.Hex.{is_hex_digit}
 use Rattle.yasir_ticks.specs.TickText.{is_decimal_digit}
 use Rattle.yasir_ticks.specs.declared.place.Place.{Place}
@@ -16,7 +16,7 @@ has_room (Number n) bytes = true
 has_room (Returned content) bytes = true
 has_room (Refused why) bytes = true
 
--- whether a byte at this place, which is neither in a comment nor past the content, is no part of the content
+-- whether a byte is no part of a content that goes on here; in a comment and behind a content nothing is asked
 abbrev pub is_foreign : Place → ℕ → Bool
 is_foreign Start b = not (b == 35 || b == 43 || b == 45)
 is_foreign Pairs b = not (is_hex_digit b)

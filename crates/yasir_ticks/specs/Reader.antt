@@ -1,5 +1,5 @@
 -- What a reader of tick text stands for: a text with a number of marks, up to some place of its last line.
-use Rattle.std.specs.Prelude.{◌≡◌, ℕ, ◌+◌, ◌≤◌, ◌<◌, ◌==◌, Bool, true, false, List, [], ◌∷◌, ◌++◌, length, map, replicate, Option, Some, None, Ok}
+use Rattle.std.specs.Prelude.{◌≡◌, ℕ, ◌+◌, ◌≤◌, ◌<◌, ◌==◌, Bool, true, false, List, [], ◌∷◌, ◌++◌, length, map, replicate, Some, Ok}
 use Rattle.hex.specs.Hex.{decode_of, hex_digit_value}
 use Rattle.yasir_ticks.specs.Ticks.{Item, marks_in}
 use Rattle.yasir_ticks.specs.Ticks.Item.{tick}

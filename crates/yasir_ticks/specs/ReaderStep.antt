@@ -1,25 +1,29 @@
 -- What one byte of a tick text, or its end, does at a place of its line.
-use Rattle.std.specs.Prelude.{◌≡◌, ℕ, ◌+◌, ◌<◌, ◌==◌, ◌≢◌, ◌⊎◌, Bool, true, false, List, [], ◌∷◌, ◌++◌, Option, Some, None, Result, Ok, Err, if◌then◌else◌}
+use Rattle.std.specs.Prelude.{◌≡◌, ℕ, ◌+◌, ◌<◌, ◌==◌, ◌≢◌, true, List, [], ◌∷◌, ◌++◌, Option, Some, None, Result, Ok, Err, if◌then◌else◌}
 use Rattle.yasir_ticks.specs.Ticks.{Item, items_of_run, marks_in}
 use Rattle.yasir_ticks.specs.TickText.{line_items, fault_in_line, ends_content}
 use Rattle.yasir_ticks.specs.Reader.{Reads, items_of_content, HasRefused}
 use Rattle.yasir_ticks.specs.declared.fault.BadTicks.{BadTicks}
 use Rattle.yasir_ticks.specs.declared.fault.TickFault.{TickFault}
 use Rattle.yasir_ticks.specs.declared.run.Run.{Run}
-use Rattle.yasir_ticks.specs.declared.run.Run.TheVariants.{Nothing}
 use Rattle.yasir_ticks.specs.declared.place.Content.{Content}
 use Rattle.yasir_ticks.specs.declared.place.Place.{Place}
 use Rattle.yasir_ticks.specs.declared.place.Place.TheVariants.{Start, Refused}
 use Rattle.yasir_ticks.specs.declared.reader.TickReader.{TickReader}
 
--- A byte that goes on with the line brings its reader to the new place; an LF ends the line, which stands for the run.
-pub record Accepts (place : Place) (bytes : List ℕ) (b : ℕ) (run : Run) (new_place : Place) (new_bytes : List ℕ) : Type 0 where
-  pub nothing : b ≢ 10 → run ≡ Nothing
+-- what a byte ends: the items of the line's content, or nothing
+abbrev pub items_of_ended : Option Content → List ℕ → List Item
+items_of_ended None bytes = []
+items_of_ended (Some content) bytes = items_of_content content bytes
+
+-- A byte that goes on with the line brings its reader to the new place; an LF ends the line, which stands for the items.
+pub record Accepts (place : Place) (bytes : List ℕ) (b : ℕ) (items : List Item) (new_place : Place) (new_bytes : List ℕ) : Type 0 where
+  pub nothing : b ≢ 10 → items ≡ []
   pub reads : b ≢ 10 → (line : List ℕ) → Reads place bytes line → Reads new_place new_bytes (line ++ b ∷ [])
   pub start : b ≡ 10 → new_place ≡ Start
-  pub stands : b ≡ 10 → (line : List ℕ) → Reads place bytes line → line_items line ≡ Some (items_of_run run)
+  pub stands : b ≡ 10 → (line : List ℕ) → Reads place bytes line → line_items line ≡ Some items
 
--- No line goes on with this byte, but one with more marks than are left (and none is left); an LF ends a line of no right form.
+-- No line of a right form goes on with this byte, unless it is a mark, and none is left; an LF ends a line of no right form.
 pub record Refuses (place : Place) (bytes : List ℕ) (b : ℕ) (why : TickFault) : Type 0 where
   pub wrong : b ≢ 10 → (line : List ℕ) → Reads place bytes line
       → (more : List ℕ) (items : List Item) → line_items (line ++ b ∷ more) ≡ Some items → 0 < marks_in items
@@ -35,10 +39,23 @@ pub record IsOpen (place : Place) (bytes : List ℕ) (why : TickFault) : Type 0 
   pub wrong : (line : List ℕ) → Reads place bytes line → line_items line ≡ None
   pub cause : (line : List ℕ) (next : Option ℕ) → ends_content next ≡ true → Reads place bytes line → fault_in_line line next ≡ why
 
+abbrev pub line_with : ℕ → ℕ → ℕ
+line_with line b = if b == 10 then line + 1 else line
+
+abbrev pub AdvanceCase : TickReader → ℕ → Result (Option Content) TickFault → TickReader → Type 0
+AdvanceCase old b (Ok ended) new =
+    Accepts old.place old.bytes.items b (items_of_ended ended new.bytes.items) new.place new.bytes.items
+    × (new.line ≡ line_with old.line b) × (b ≢ 10 → ended ≡ None)
+AdvanceCase old b (Err why) new =
+    Refuses old.place old.bytes.items b why × (new.line ≡ old.line) × (new.place ≡ Refused why)
+
+-- one byte at a reader, up to the run of a line that it ends
+pub record Advances (old : TickReader) (b : ℕ) (result : Result (Option Content) TickFault) (new : TickReader) : Type 0 where
+  pub case : AdvanceCase old b result new
+
 abbrev pub StepCase : TickReader → ℕ → Result Run BadTicks → TickReader → Type 0
 StepCase old b (Ok run) new =
-    Accepts old.place old.bytes.items b run new.place new.bytes.items
-    × (new.line ≡ (if b == 10 then old.line + 1 else old.line))
+    Accepts old.place old.bytes.items b (items_of_run run) new.place new.bytes.items × (new.line ≡ line_with old.line b)
 StepCase old b (Err bad) new =
     Refuses old.place old.bytes.items b bad.why × (bad.line ≡ old.line) × HasRefused new bad
 

@@ -1,10 +1,13 @@
 //! Ticks of a serial line, and tick text: the recorded line that a program reads.
 #![tactic(auto)]
 
+mod digit;
 mod fault;
 mod place;
 mod reader;
 mod run;
+#[cfg(test)]
+mod tests;
 mod tick;
 
 pub use fault::{BadTicks, TickFault};

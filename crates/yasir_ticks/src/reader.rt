@@ -2,6 +2,7 @@ ghost use Rattle.std.specs.Prelude.{◌≡◌, ℕ, ◌+◌, ◌-◌, ◌*◌, �
 ghost use Rattle.hex.specs.Hex.{hex_digit_value, is_hex_digit};
 ghost use Rattle.yasir_ticks.specs.Place.{has_room, is_foreign};
 
+use crate::digit::hex_value;
 use crate::place::{Content, Place};
 use crate::{BadTicks, LineBytes, Run, TickFault};
 
@@ -10,6 +11,9 @@ const MAX_COMMENT: u8 = 120;
 
 /// The most silent ticks that one line stands for.
 const MAX_SILENCE: u64 = 1_000_000;
+
+/// What a byte of a line comes to: the content of the line that it ends, or why it is refused.
+type Advance = Result<Option<Content>, TickFault>;
 
 /// A reader of tick text, byte by byte. Each line that ends is answered as a run.
 #[derive(Drop)]
@@ -20,27 +24,14 @@ pub struct TickReader {
     ghost room: { has_room place bytes.items ≡ true },
 }
 
-/// The value of a hex digit of either case.
-#[inline]
-fn hex_value(b: u8) -> Option<u8>
-    ensures value { result ≡ hex_digit_value b }
-{
-    match b {
-        b'0'..=b'9' => Some(b - b'0'),
-        b'a'..=b'f' => Some(b - b'a' + 10),
-        b'A'..=b'F' => Some(b - b'A' + 10),
-        _ => None,
-    }
-}
-
 impl TickReader {
-    ghost use Rattle.std.specs.Prelude.{◌≢◌, ◌⊎◌, OnOk, IfOk, IfErr, ◌%◌, Err};
+    ghost use Rattle.std.specs.Prelude.{◌≢◌, ◌⊎◌, OnOk, IfOk, IfErr, ◌%◌, None, Err};
     ghost use Rattle.yasir_ticks.specs.declared.fault.TickFault.{TickFault};
     ghost use Rattle.yasir_ticks.specs.declared.fault.BadTicks.{BadTicks};
     ghost use Rattle.yasir_ticks.specs.Ticks.{Item, items_of_run};
     ghost use Rattle.yasir_ticks.specs.TickText.{IsTickText, BeginsTickText, IsRefusedAfter, ended_items, line_after, fault_after, fault_at_end};
     ghost use Rattle.yasir_ticks.specs.Reader.{StandsFor, HasRefused, reader_line, items_of_content};
-    ghost use Rattle.yasir_ticks.specs.ReaderStep.{Steps, Stops, Closes, IsOpen};
+    ghost use Rattle.yasir_ticks.specs.ReaderStep.{Advances, Steps, Stops, Closes, IsOpen};
 
     /// A reader of a text with exactly so many marks.
     pub fn new(marks: u8) -> TickReader
@@ -101,50 +92,46 @@ impl TickReader {
 
     /// Goes to a place of the same line.
     #[inline]
-    fn go(&mut self, place: Place) -> Result<Run, BadTicks>
+    fn go(&mut self, place: Place) -> Advance
         requires { has_room place self.old.bytes.items ≡ true }
-        ensures ok { result ≡ Ok Run.Nothing }
+        ensures ok { result ≡ Ok None }
         ensures place { self.new.place ≡ place }
         ensures bytes { self.new.bytes.items ≡ self.old.bytes.items }
         ensures line { self.new.line ≡ self.old.line }
     {
         self.place = place;
-        Ok(Run::Nothing)
+        Ok(None)
     }
 
     /// Refuses the text here, for good.
-    #[cold]
-    fn refuse(&mut self, why: TickFault) -> Result<Run, BadTicks>
-        ensures err { result ≡ Err (record { line = self.old.line; why = why }) }
+    fn refuse(&mut self, why: TickFault) -> Advance
+        ensures err { result ≡ Err why }
         ensures place { self.new.place ≡ Place.Refused why }
         ensures line { self.new.line ≡ self.old.line }
     {
         self.place = Place::Refused(why);
-        Err(BadTicks {
-            line: self.line,
-            why,
-        })
+        Err(why)
     }
 
     /// Ends the line at its LF.
-    fn end_line(&mut self) -> Result<Run, BadTicks>
+    fn end_line(&mut self) -> Advance
         requires { reader_line self.old < 2 ^ 32 - 1 }
-        ensures { Steps self.old 10 result self.new }
+        ensures { Advances self.old 10 result self.new }
     {
         match self.content() {
             Ok(content) => {
                 self.line += 1;
                 self.place = Place::Start;
-                Ok(self.run_of(content))
+                Ok(Some(content))
             }
             Err(why) => self.refuse(why),
         }
     }
 
     /// Ends the content at the CR behind it.
-    fn end_content(&mut self) -> Result<Run, BadTicks>
+    fn end_content(&mut self) -> Advance
         requires { is_foreign self.old.place 13 ≡ true }
-        ensures { Steps self.old 13 result self.new }
+        ensures { Advances self.old 13 result self.new }
     {
         match self.content() {
             Ok(content) => self.go(Place::Returned(content)),
@@ -153,10 +140,10 @@ impl TickReader {
     }
 
     /// A byte that is no part of a content: an LF, a CR, or one that may not stand here.
-    fn after_content(&mut self, b: u8) -> Result<Run, BadTicks>
+    fn after_content(&mut self, b: u8) -> Advance
         requires foreign { is_foreign self.old.place b ≡ true }
         requires line { reader_line self.old < 2 ^ 32 - 1 }
-        ensures { Steps self.old b result self.new }
+        ensures { Advances self.old b result self.new }
     {
         match b {
             b'\n' => self.end_line(),
@@ -165,10 +152,10 @@ impl TickReader {
         }
     }
 
-    fn at_start(&mut self, b: u8) -> Result<Run, BadTicks>
+    fn at_start(&mut self, b: u8) -> Advance
         requires place { self.old.place ≡ Place.Start }
         requires line { reader_line self.old < 2 ^ 32 - 1 }
-        ensures { Steps self.old b result self.new }
+        ensures { Advances self.old b result self.new }
     {
         match b {
             b'+' => {
@@ -181,10 +168,10 @@ impl TickReader {
         }
     }
 
-    fn in_comment(&mut self, length: u8, b: u8) -> Result<Run, BadTicks>
+    fn in_comment(&mut self, length: u8, b: u8) -> Advance
         requires place { self.old.place ≡ Place.Comment length }
         requires line { reader_line self.old < 2 ^ 32 - 1 }
-        ensures { Steps self.old b result self.new }
+        ensures { Advances self.old b result self.new }
     {
         if b == b'\n' {
             self.end_line()
@@ -196,10 +183,10 @@ impl TickReader {
     }
 
     #[inline]
-    fn in_pairs(&mut self, b: u8) -> Result<Run, BadTicks>
+    fn in_pairs(&mut self, b: u8) -> Advance
         requires place { self.old.place ≡ Place.Pairs }
         requires line { reader_line self.old < 2 ^ 32 - 1 }
-        ensures { Steps self.old b result self.new }
+        ensures { Advances self.old b result self.new }
     {
         match hex_value(b) {
             Some(high) => {
@@ -214,25 +201,25 @@ impl TickReader {
     }
 
     #[inline]
-    fn in_half_pair(&mut self, high: u8, b: u8) -> Result<Run, BadTicks>
+    fn in_half_pair(&mut self, high: u8, b: u8) -> Advance
         requires place { self.old.place ≡ Place.HalfPair high }
         requires line { reader_line self.old < 2 ^ 32 - 1 }
-        ensures { Steps self.old b result self.new }
+        ensures { Advances self.old b result self.new }
     {
         match hex_value(b) {
             Some(low) => {
-                let nothing = self.go(Place::Pairs);
+                self.place = Place::Pairs;
                 self.bytes.push(high * 16 + low);
-                nothing
+                Ok(None)
             }
             None => self.after_content(b),
         }
     }
 
-    fn after_minus(&mut self, b: u8) -> Result<Run, BadTicks>
+    fn after_minus(&mut self, b: u8) -> Advance
         requires place { self.old.place ≡ Place.Minus }
         requires line { reader_line self.old < 2 ^ 32 - 1 }
-        ensures { Steps self.old b result self.new }
+        ensures { Advances self.old b result self.new }
     {
         match b {
             b'1'..=b'9' => self.go(Place::Number(u32::from(b - b'0'))),
@@ -241,10 +228,10 @@ impl TickReader {
         }
     }
 
-    fn in_number(&mut self, number: u32, b: u8) -> Result<Run, BadTicks>
+    fn in_number(&mut self, number: u32, b: u8) -> Advance
         requires place { self.old.place ≡ Place.Number number }
         requires line { reader_line self.old < 2 ^ 32 - 1 }
-        ensures { Steps self.old b result self.new }
+        ensures { Advances self.old b result self.new }
     {
         match b {
             b'0'..=b'9' => {
@@ -259,10 +246,10 @@ impl TickReader {
         }
     }
 
-    fn after_return(&mut self, content: Content, b: u8) -> Result<Run, BadTicks>
+    fn after_return(&mut self, content: Content, b: u8) -> Advance
         requires place { self.old.place ≡ Place.Returned content }
         requires line { reader_line self.old < 2 ^ 32 - 1 }
-        ensures { Steps self.old b result self.new }
+        ensures { Advances self.old b result self.new }
     {
         if b == b'\n' {
             self.end_line()
@@ -271,12 +258,12 @@ impl TickReader {
         }
     }
 
-    /// One byte, or the refusal that stands.
+    /// Moves past one byte, unless the text is refused.
     #[inline]
-    fn step(&mut self, b: u8) -> Result<Run, BadTicks>
+    fn advance(&mut self, b: u8) -> Advance
         requires { reader_line self.old < 2 ^ 32 - 1 }
-        ensures step { Steps self.old b result self.new }
-        ensures for_good { (bad : BadTicks) → HasRefused self.old bad → (result ≡ Err bad) × (self.new ≡ self.old) }
+        ensures step { Advances self.old b result self.new }
+        ensures for_good { (why : TickFault) → self.old.place ≡ Place.Refused why → (result ≡ Err why) × (self.new ≡ self.old) }
     {
         match self.place {
             Place::Pairs => self.in_pairs(b),
@@ -286,7 +273,21 @@ impl TickReader {
             Place::Number(number) => self.in_number(number, b),
             Place::Comment(length) => self.in_comment(length, b),
             Place::Returned(content) => self.after_return(content, b),
-            Place::Refused(why) => Err(BadTicks {
+            Place::Refused(why) => Err(why),
+        }
+    }
+
+    /// One byte, and the run of the line that it ends.
+    #[inline]
+    fn step(&mut self, b: u8) -> Result<Run, BadTicks>
+        requires { reader_line self.old < 2 ^ 32 - 1 }
+        ensures step { Steps self.old b result self.new }
+        ensures for_good { (bad : BadTicks) → HasRefused self.old bad → (result ≡ Err bad) × (self.new ≡ self.old) }
+    {
+        match self.advance(b) {
+            Ok(None) => Ok(Run::Nothing),
+            Ok(Some(content)) => Ok(self.run_of(content)),
+            Err(why) => Err(BadTicks {
                 line: self.line,
                 why,
             }),
@@ -311,14 +312,14 @@ impl TickReader {
             × (bad.line ≡ line_after text) × (bad.why ≡ fault_after text b)) }
         ensures line { OnOk result (reader_line self.new ≡ (if b == 10 then reader_line self.old + 1 else reader_line self.old)) }
         ensures line_by_one { reader_line self.new ≤ reader_line self.old + 1 }
-        ensures again { IfErr result (λ bad. HasRefused self.new bad) }
+        ensures remembered { IfErr result (λ bad. HasRefused self.new bad) }
         ensures for_good { (bad : BadTicks) → HasRefused self.old bad → (result ≡ Err bad) × (self.new ≡ self.old) }
     {
         self.step(b)
     }
 
     /// Takes the end of the text, and answers the run of a last line without LF, or `Nothing`.
-    pub fn finish(self) -> Result<Run, BadTicks>
+    pub fn finish(mut self) -> Result<Run, BadTicks>
         ensures right { (marks : ℕ) (text : List ℕ) → StandsFor self marks text
             → IfOk result (λ run. IsTickText marks text (ended_items text ++ items_of_run run)) }
         ensures refused { (marks : ℕ) (text : List ℕ) → StandsFor self marks text
@@ -326,8 +327,7 @@ impl TickReader {
             × (bad.line ≡ line_after text) × (bad.why ≡ fault_at_end text)) }
         ensures again { (bad : BadTicks) → HasRefused self bad → result ≡ Err bad }
     {
-        let mut reader = self;
-        reader.stop()
+        self.stop()
     }
 
     /// The end of the text.

@@ -1,4 +1,4 @@
-use Rattle.std.proofs.Common.{◌≡◌, ◌≢◌, ◌⊎◌, inl, inr, ◌∙◌, ◌==◌, ℕ, ◌+◌, ◌*◌, ◌-◌, ◌≤◌, ◌<◌, Bool, true, false, List, [], ◌∷◌, ◌++◌, length, Option, Some, None, Result, Ok, Err, is_some, refl, ap, sym, arith, rules}
+use Rattle.std.proofs.Common.{refl, arith}
 use Rattle.yasir_ticks.proofs.Readers.{step_refused}
 use Rattle.yasir_ticks.proofs.Steps.{refuses_foreign}
 use Rattle.yasir_ticks.proofs.reader.TickReader.after_content.Goals as goal

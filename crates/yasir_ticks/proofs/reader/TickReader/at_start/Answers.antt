@@ -1,4 +1,4 @@
-use Rattle.std.proofs.Common.{◌≡◌, ◌≢◌, ◌⊎◌, inl, inr, ◌∙◌, ◌==◌, ℕ, ◌+◌, ◌*◌, ◌-◌, ◌≤◌, ◌<◌, Bool, true, false, List, [], ◌∷◌, ◌++◌, length, Option, Some, None, Result, Ok, Err, is_some, refl, ap, sym, arith, rules}
+use Rattle.std.proofs.Common.{◌∙◌, arith}
 use Rattle.yasir_ticks.proofs.Readers.{step_on}
 use Rattle.yasir_ticks.proofs.Steps.{accepts_plus}
 use Rattle.yasir_ticks.proofs.reader.TickReader.at_start.Goals as goal

@@ -1,4 +1,4 @@
-use Rattle.std.proofs.Common.{◌≡◌, ◌≢◌, ◌⊎◌, inl, inr, ◌∙◌, ◌==◌, ℕ, ◌+◌, ◌*◌, ◌-◌, ◌≤◌, ◌<◌, Bool, true, false, List, [], ◌∷◌, ◌++◌, length, Option, Some, None, Result, Ok, Err, is_some, refl, ap, sym, arith, rules}
+use Rattle.std.proofs.Common.{refl, arith}
 use Rattle.yasir_ticks.proofs.Readers.{step_on, step_refused}
 use Rattle.yasir_ticks.proofs.Steps.{accepts_return, refuses_open_return}
 use Rattle.yasir_ticks.proofs.reader.TickReader.end_content.Goals as goal

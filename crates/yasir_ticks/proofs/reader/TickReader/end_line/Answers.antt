@@ -1,7 +1,6 @@
-use Rattle.std.proofs.Common.{◌≡◌, ◌≢◌, ◌⊎◌, inl, inr, ◌∙◌, ◌==◌, ℕ, ◌+◌, ◌*◌, ◌-◌, ◌≤◌, ◌<◌, Bool, true, false, List, [], ◌∷◌, ◌++◌, length, Option, Some, None, Result, Ok, Err, is_some, refl, ap, sym, arith, rules}
+use Rattle.std.proofs.Common.{refl}
 use Rattle.yasir_ticks.proofs.Steps.{accepts_lf}
 use Rattle.yasir_ticks.proofs.reader.TickReader.end_line.Goals as goal
 
 pub returns-in-Ok : goal.returns-in-Ok
-returns-in-Ok c =
-    record { case = (rw c.run_of.ensures.place (accepts_lf _ _ _ _ _ c.in-Ok.ensures.content c.run_of.ensures.items), c.run_of.ensures.line) }
+returns-in-Ok c = record { case = (accepts_lf _ _ _ _ c.in-Ok.ensures.content, refl, λ n. absurd (n refl)) }

@@ -1,4 +1,3 @@
-use Rattle.std.proofs.Common.{◌≡◌, ◌≢◌, ◌⊎◌, inl, inr, ◌∙◌, ◌==◌, ℕ, ◌+◌, ◌*◌, ◌-◌, ◌≤◌, ◌<◌, Bool, true, false, List, [], ◌∷◌, ◌++◌, length, Option, Some, None, Result, Ok, Err, is_some, refl, ap, sym, arith, rules}
 use Rattle.yasir_ticks.proofs.Readers.{step_refused}
 use Rattle.yasir_ticks.proofs.Steps.{refuses_comment}
 use Rattle.yasir_ticks.proofs.reader.TickReader.in_comment.Goals as goal

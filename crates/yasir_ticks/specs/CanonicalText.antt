@@ -1,0 +1,41 @@
+-- The canonical tick text of a list of ticks: maximal runs of bytes and of silence, cut into lines as long as may be.
+use Rattle.std.specs.Prelude.{ℕ, suc, ◌+◌, ◌*◌, ◌/◌, ◌%◌, ◌==◌, if◌then◌else◌, List, [], ◌∷◌, ◌++◌, length, take, drop, replicate}
+use Rattle.std.specs.List.{flat_map, range_with_len}
+use Rattle.std.specs.Fmt.{decimal}
+use Rattle.hex.specs.Hex.{encode_lower}
+use Rattle.yasir_ticks.specs.declared.tick.Tick.{Tick}
+use Rattle.yasir_ticks.specs.declared.tick.Tick.TheVariants.{Silent, Byte}
+
+-- a maximal run of bytes, or of silent ticks
+pub data Stretch : Type 0 where
+  bytes : List ℕ → Stretch
+  silence : ℕ → Stretch
+
+-- the maximal runs of ticks, from those of the ticks after the first one
+abbrev pub with_tick : Tick → List Stretch → List Stretch
+with_tick (Byte b) [] = bytes (b ∷ []) ∷ []
+with_tick (Byte b) (bytes l ∷ more) = bytes (b ∷ l) ∷ more
+with_tick (Byte b) (silence n ∷ more) = bytes (b ∷ []) ∷ silence n ∷ more
+with_tick Silent [] = silence 1 ∷ []
+with_tick Silent (bytes l ∷ more) = silence 1 ∷ bytes l ∷ more
+with_tick Silent (silence n ∷ more) = silence (suc n) ∷ more
+
+abbrev pub stretches : List Tick → List Stretch
+stretches [] = []
+stretches (t ∷ ticks) = with_tick t (stretches ticks)
+
+abbrev pub byte_line : List ℕ → List ℕ
+byte_line l = 43 ∷ (encode_lower l ++ 10 ∷ [])
+
+abbrev pub silence_line : ℕ → List ℕ
+silence_line n = 45 ∷ (decimal n ++ 10 ∷ [])
+
+-- lines of 32 bytes, the last one shorter where need be; lines of 1000000 silent ticks, the last one smaller where need be
+abbrev pub stretch_lines : Stretch → List ℕ
+stretch_lines (bytes l) = flat_map (λ i. byte_line (take 32 (drop (32 * i) l))) (range_with_len 0 ((length l + 31) / 32))
+stretch_lines (silence n) =
+    flat_map silence_line (replicate (n / 1000000) 1000000)
+    ++ (if n % 1000000 == 0 then [] else silence_line (n % 1000000))
+
+abbrev pub canonical_text : List Tick → List ℕ
+canonical_text ticks = flat_map stretch_lines (stretches ticks)

@@ -1,0 +1,125 @@
+use crate::{BadTicks, Run, TickFault, TickReader};
+use std::alloc::Global;
+use std::process::Abort;
+use std::test::Fail;
+
+/// Texts, the bytes that they stand for, and how many silent ticks stand among them.
+const ACCEPTED: [(&[u8], &[u8], u32); 10] = [
+    (b"", b"", 0),
+    (b"+01", b"\x01", 0),
+    (b"+01\n", b"\x01", 0),
+    (b"+0aF5\r\n", b"\n\xf5", 0),
+    (b"+AB\r", b"\xab", 0),
+    (b"\n\r\n#\n# a\rb\n\r", b"", 0),
+    (b"-1000000", b"", 1000000),
+    (b"-4\n+7e\n-20\r\n", b"~", 24),
+    (
+        b"#cccccccccccccccccccccccccccccccccccccccccccccccccccccccccccccccccccccccccccccccccccccccccccccccccccccccccccccccccccccccc\n",
+        b"",
+        0,
+    ),
+    (
+        b"+0000000000000000000000000000000000000000000000000000000000000000\n",
+        &[0; 32],
+        0,
+    ),
+];
+
+/// Texts, and the line and the cause of their refusal.
+const REFUSED: [(&[u8], u32, TickFault); 21] = [
+    (b"-0", 1, TickFault::Count),
+    (b"-07", 1, TickFault::Count),
+    (b"-1000001", 1, TickFault::Count),
+    (b"-10000000", 1, TickFault::Count),
+    (b"+1", 1, TickFault::Odd),
+    (b"+01\n+1\n", 2, TickFault::Odd),
+    (b"+1\r\n", 1, TickFault::Odd),
+    (b"+", 1, TickFault::Empty),
+    (b"-\n", 1, TickFault::Empty),
+    (b"\n\n-\r", 3, TickFault::Empty),
+    (b"+0g", 1, TickFault::Char),
+    (b"x", 1, TickFault::Char),
+    (b"%", 1, TickFault::Char),
+    (b"-1a", 1, TickFault::Char),
+    (b"-+", 1, TickFault::Char),
+    (b"\r\r", 1, TickFault::Char),
+    (b"+0a\rx", 1, TickFault::Char),
+    (b"+0a\r\r\n", 1, TickFault::Char),
+    (
+        b"+000000000000000000000000000000000000000000000000000000000000000000",
+        1,
+        TickFault::Long,
+    ),
+    (
+        b"+0000000000000000000000000000000000000000000000000000000000000000g",
+        1,
+        TickFault::Char,
+    ),
+    (
+        b"\n#ccccccccccccccccccccccccccccccccccccccccccccccccccccccccccccccccccccccccccccccccccccccccccccccccccccccccccccccccccccccccc",
+        2,
+        TickFault::Long,
+    ),
+];
+
+/// What the lines of a text stand for.
+#[derive(Drop)]
+struct Seen {
+    bytes: Vec<u8>,
+    silent: u32,
+}
+
+impl Seen {
+    fn take(&mut self, run: Run) -> Result<(), Fail> {
+        match run {
+            Run::Nothing => {}
+            Run::Bytes(bytes) => self.bytes.extend_from_slice(bytes.as_slice())?,
+            Run::Silence(n) => self.silent = self.silent.wrapping_add(n),
+        }
+        Ok(())
+    }
+}
+
+/// The refusal of a reader after this byte, which two more calls answer again.
+fn refused_for_good(rt: &impl Abort, mut reader: TickReader, bad: BadTicks) -> BadTicks {
+    assert_eq!(rt; reader.line(), bad.line);
+    assert!(rt; reader.line() < 9);
+    assert_eq!(rt; reader.feed(b'\n').err(), Some(bad));
+    assert_eq!(rt; reader.finish().err(), Some(bad));
+    bad
+}
+
+/// Feeds a text to a reader and ends it.
+fn read(rt: &impl Abort, alloc: Global, text: &[u8]) -> Result<Result<Seen, BadTicks>, Fail> {
+    let mut reader = TickReader::new(0);
+    let mut seen = Seen {
+        bytes: Vec::new(alloc),
+        silent: 0,
+    };
+    for b in text {
+        assert!(rt; reader.line() < 9);
+        match reader.feed(*b) {
+            Ok(run) => seen.take(run)?,
+            Err(bad) => return Ok(Err(refused_for_good(rt, reader, bad))),
+        }
+    }
+    match reader.finish() {
+        Ok(run) => seen.take(run)?,
+        Err(bad) => return Ok(Err(bad)),
+    }
+    Ok(Ok(seen))
+}
+
+#[test]
+fn reads_each_kind_of_text(rt: HostRuntime) -> Result<(), Fail> {
+    for (text, bytes, silent) in ACCEPTED {
+        let seen = read(&rt, rt.alloc(), text)?.ok().ok_or("refused")?;
+        assert_eq!(rt; seen.bytes.as_slice(), bytes);
+        assert_eq!(rt; seen.silent, silent);
+    }
+    for (text, line, why) in REFUSED {
+        let bad = read(&rt, rt.alloc(), text)?.err().ok_or("accepted")?;
+        assert_eq!(rt; bad, BadTicks { line, why });
+    }
+    Ok(())
+}
