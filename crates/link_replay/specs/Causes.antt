@@ -38,3 +38,9 @@ LogsFault before now faults_before faults_now ReadFault = GotLine before now fau
 LogsFault before now faults_before faults_now Usage = GotLine before now faults_before faults_now (fault_line Usage)
 LogsFault before now faults_before faults_now (BadTicks bad) = GotLine before now faults_before faults_now (fault_line (BadTicks bad))
 LogsFault before now faults_before faults_now (TooLong what count) = GotLine before now faults_before faults_now (fault_line (TooLong what count))
+
+-- No count of the outside rose, nor stands at its last value.
+pub record NoneRose (input_before input_now out_before out_now log_before log_now : ℕ) : Type 0 where
+  pub input : ¬ Rose input_before input_now
+  pub out : ¬ Rose out_before out_now
+  pub log : ¬ Rose log_before log_now

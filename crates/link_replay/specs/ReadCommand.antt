@@ -1,12 +1,13 @@
 -- The command `read`: what is printed of an input, and when each status comes.
-use Rattle.std.specs.Prelude.{◌≡◌, ℕ, List, ◌++◌, take, Option}
+use Rattle.std.specs.Prelude.{◌≡◌, ℕ, ◌≤◌, List, ◌++◌, length, take, Option, Some}
 use Rattle.std.specs.Io.KnownBytes.{append_known}
 use Rattle.yasir_io.specs.Output.{Buffered, GotPrefix}
 use Rattle.yasir_ticks.specs.Ticks.{Item, ticks_in, silent}
 use Rattle.yasir_ticks.specs.declared.tick.Tick.{Tick}
 use Rattle.device_model.specs.Frames.{FrameRead}
 use Rattle.device_model.specs.RtuReads.{rtu_reads}
-use Rattle.tick_drive.specs.Input.{Takes}
+use Rattle.yasir_ticks.specs.TickText.{IsTickText}
+use Rattle.tick_drive.specs.Input.{Takes, max_ticks, max_bytes}
 use Rattle.tick_drive.specs.declared.end.End.{End}
 use Rattle.tick_drive.specs.declared.end.End.TheVariants.{Whole, Refused, Stopped}
 use Rattle.tick_drive.specs.declared.end.End.TheVariants as ends
@@ -66,3 +67,12 @@ PrintsFrames reads before now out_before out_now WriteFault =
     (items : List Item) × (end : End) × Takes 0 before now items end
     × (n : ℕ) × GotPrefix out_before out_now (frame_lines (reads (take n (ticks_in items ++ silent 4))))
 PrintsFrames reads before now out_before out_now Usage = ⊥
+
+-- The input tells a right text within the limits.
+pub record IsReadable (input : Option (List ℕ)) : Type 0 where
+  pub text : List ℕ
+  pub items : List Item
+  pub told : input ≡ Some text
+  pub right : IsTickText 0 text items
+  pub few_ticks : length (ticks_in items) ≤ max_ticks
+  pub few_bytes : length text ≤ max_bytes

@@ -4,10 +4,12 @@
 mod fault_log;
 mod frame_lines;
 mod lines;
+mod program;
 mod read_command;
 mod status;
 mod words;
 
+pub use program::run;
 pub use status::Status;
 pub use words::{Command, Proto, Usage, read_words};
 
