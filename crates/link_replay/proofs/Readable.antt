@@ -14,6 +14,7 @@ use Rattle.tick_drive.specs.declared.end.TooMuch.TheVariants.{Ticks, Bytes}
 use Rattle.tick_drive.proofs.ItemLaws.{ticks_in-append}
 use Rattle.link_replay.specs.ReadCommand.{PrintsFrames, IsReadable}
 use Rattle.link_replay.specs.Causes.{InputCause, SinkCause, NoneRose}
+use Rattle.link_replay.specs.Statuses.{fault_line}
 use Rattle.link_replay.specs.declared.status.Status.{Status}
 use Rattle.link_replay.specs.declared.status.Status.TheVariants.{Done, Usage, BadTicks as Refused, ReadFault, WriteFault, TooLong}
 
@@ -89,3 +90,14 @@ pub readable_done : (reads : List Tick → List FrameRead) (before now out_befor
 readable_done reads before now out_before out_now in0 in1 out0 out1 log0 log1 status readable calm h input sinks =
     done_by readable.text readable.items readable.right reads now out_before out_now in0 in1 out0 out1 log0 log1 status
         readable.few_ticks readable.few_bytes calm (subst (λ left. PrintsFrames reads left now out_before out_now status) readable.told h) input sinks
+
+-- the sinks' causes with a fault line that was written, or failed
+pub sinks_after : (out_before out_now log_before log_mid log_now : ℕ) (status : Status) → SinkCause out_before out_now log_before log_mid status
+    → log_mid ≤ log_now → (fault_line status ≡ [] → log_now ≡ log_mid) → SinkCause out_before out_now log_before log_now status
+sinks_after out_before out_now log_before log_mid log_now Done h rises same = (h.0, same refl ∙ h.1)
+sinks_after out_before out_now log_before log_mid log_now WriteFault h rises same = elim h [
+    inl out ↦ inl out | inr log ↦ inr (subst (Rose log_before) (sym (same refl)) log) ]
+sinks_after out_before out_now log_before log_mid log_now ReadFault h rises same = (h.0, omega (arith, h.1, rises))
+sinks_after out_before out_now log_before log_mid log_now Usage h rises same = (h.0, omega (arith, h.1, rises))
+sinks_after out_before out_now log_before log_mid log_now (Refused bad) h rises same = (h.0, omega (arith, h.1, rises))
+sinks_after out_before out_now log_before log_mid log_now (TooLong what count) h rises same = (h.0, omega (arith, h.1, rises))
