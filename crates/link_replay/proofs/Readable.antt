@@ -16,7 +16,7 @@ use Rattle.link_replay.specs.ReadCommand.{PrintsFrames, IsReadable}
 use Rattle.link_replay.specs.Causes.{InputCause, SinkCause, NoneRose}
 use Rattle.link_replay.specs.Statuses.{fault_line}
 use Rattle.link_replay.specs.declared.status.Status.{Status}
-use Rattle.link_replay.specs.declared.status.Status.TheVariants.{Done, Usage, BadTicks as Refused, ReadFault, WriteFault, TooLong}
+use Rattle.link_replay.specs.declared.status.Status.TheVariants.{Done, Usage, BadTicks as Refused, ReadFault, WriteFault, JournalFault, TooLong, HasJournal}
 
 -- what was met of a told text begins it
 met_of_told : (text met : List ℕ) (later : Option (List ℕ)) → Some text ≡ prepend_known met later → (rest : List ℕ) × (text ≡ met ++ rest)
@@ -68,27 +68,29 @@ module _ (text : List ℕ) (items : List Item) (right : IsTickText 0 text items)
       let more : length (met ++ h.byte ∷ []) ≡ length met + 1 = length-append met (h.byte ∷ []) in
       omega (arith, long, more, h.full)
 
-  done_by : (reads : List Tick → List FrameRead) (now out_before out_now : Option (List ℕ)) (in0 in1 out0 out1 log0 log1 : ℕ) (status : Status)
-      → length (ticks_in items) ≤ max_ticks → length text ≤ max_bytes → NoneRose in0 in1 out0 out1 log0 log1
+  done_by : (reads : List Tick → List FrameRead) (now out_before out_now : Option (List ℕ)) (in0 in1 out0 out1 log0 log1 disk0 disk1 : ℕ) (status : Status)
+      → length (ticks_in items) ≤ max_ticks → length text ≤ max_bytes → NoneRose in0 in1 out0 out1 log0 log1 disk0 disk1
       → PrintsFrames reads (Some text) now out_before out_now status → InputCause in0 in1 status → SinkCause out0 out1 log0 log1 status → status ≡ Done
-  done_by reads now out_before out_now in0 in1 out0 out1 log0 log1 Done few short calm h input sinks = refl
-  done_by reads now out_before out_now in0 in1 out0 out1 log0 log1 Usage few short calm h input sinks = absurd h
-  done_by reads now out_before out_now in0 in1 out0 out1 log0 log1 (Refused bad) few short calm h input sinks =
+  done_by reads now out_before out_now in0 in1 out0 out1 log0 log1 disk0 disk1 Done few short calm h input sinks = refl
+  done_by reads now out_before out_now in0 in1 out0 out1 log0 log1 disk0 disk1 Usage few short calm h input sinks = absurd h
+  done_by reads now out_before out_now in0 in1 out0 out1 log0 log1 disk0 disk1 (Refused bad) few short calm h input sinks =
       elim h.1.1 [ inl byte ↦ absurd (no_byte_refused h.1.0 bad byte) | inr end ↦ absurd (no_end_refused h.1.0 now bad end) ]
-  done_by reads now out_before out_now in0 in1 out0 out1 log0 log1 ReadFault few short calm h input sinks = absurd (calm.input input)
-  done_by reads now out_before out_now in0 in1 out0 out1 log0 log1 WriteFault few short calm h input sinks =
+  done_by reads now out_before out_now in0 in1 out0 out1 log0 log1 disk0 disk1 ReadFault few short calm h input sinks = absurd (calm.input input)
+  done_by reads now out_before out_now in0 in1 out0 out1 log0 log1 disk0 disk1 WriteFault few short calm h input sinks =
       elim sinks [ inl out ↦ absurd (calm.out out) | inr log ↦ absurd (calm.log log) ]
-  done_by reads now out_before out_now in0 in1 out0 out1 log0 log1 (TooLong Ticks count) few short calm h input sinks =
+  done_by reads now out_before out_now in0 in1 out0 out1 log0 log1 disk0 disk1 JournalFault few short calm h input sinks = absurd h
+  done_by reads now out_before out_now in0 in1 out0 out1 log0 log1 disk0 disk1 (HasJournal floor) few short calm h input sinks = absurd h
+  done_by reads now out_before out_now in0 in1 out0 out1 log0 log1 disk0 disk1 (TooLong Ticks count) few short calm h input sinks =
       absurd (no_line_too_long h.1.0 now h.0 count few h.1.1)
-  done_by reads now out_before out_now in0 in1 out0 out1 log0 log1 (TooLong Bytes count) few short calm h input sinks =
+  done_by reads now out_before out_now in0 in1 out0 out1 log0 log1 disk0 disk1 (TooLong Bytes count) few short calm h input sinks =
       absurd (no_byte_too_many h.1.0 count short h.1.1)
 
 -- A right text within the limits, and no fault outside, give `Done`.
-pub readable_done : (reads : List Tick → List FrameRead) (before now out_before out_now : Option (List ℕ)) (in0 in1 out0 out1 log0 log1 : ℕ) (status : Status)
-    → IsReadable before → NoneRose in0 in1 out0 out1 log0 log1
+pub readable_done : (reads : List Tick → List FrameRead) (before now out_before out_now : Option (List ℕ)) (in0 in1 out0 out1 log0 log1 disk0 disk1 : ℕ) (status : Status)
+    → IsReadable before → NoneRose in0 in1 out0 out1 log0 log1 disk0 disk1
     → PrintsFrames reads before now out_before out_now status → InputCause in0 in1 status → SinkCause out0 out1 log0 log1 status → status ≡ Done
-readable_done reads before now out_before out_now in0 in1 out0 out1 log0 log1 status readable calm h input sinks =
-    done_by readable.text readable.items readable.right reads now out_before out_now in0 in1 out0 out1 log0 log1 status
+readable_done reads before now out_before out_now in0 in1 out0 out1 log0 log1 disk0 disk1 status readable calm h input sinks =
+    done_by readable.text readable.items readable.right reads now out_before out_now in0 in1 out0 out1 log0 log1 disk0 disk1 status
         readable.few_ticks readable.few_bytes calm (subst (λ left. PrintsFrames reads left now out_before out_now status) readable.told h) input sinks
 
 -- the sinks' causes with a fault line that was written, or failed
@@ -101,3 +103,5 @@ sinks_after out_before out_now log_before log_mid log_now ReadFault h rises same
 sinks_after out_before out_now log_before log_mid log_now Usage h rises same = (h.0, omega (arith, h.1, rises))
 sinks_after out_before out_now log_before log_mid log_now (Refused bad) h rises same = (h.0, omega (arith, h.1, rises))
 sinks_after out_before out_now log_before log_mid log_now (TooLong what count) h rises same = (h.0, omega (arith, h.1, rises))
+sinks_after out_before out_now log_before log_mid log_now JournalFault h rises same = (h.0, omega (arith, h.1, rises))
+sinks_after out_before out_now log_before log_mid log_now (HasJournal floor) h rises same = (h.0, omega (arith, h.1, rises))
