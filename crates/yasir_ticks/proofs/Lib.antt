@@ -10,3 +10,4 @@ pub mod Feeding
 pub mod BurstsOfLaws
 pub mod HexValues
 pub mod Worked
+pub mod TextLaws

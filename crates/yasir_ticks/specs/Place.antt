@@ -16,7 +16,7 @@ has_room (Number n) bytes = true
 has_room (Returned content) bytes = true
 has_room (Refused why) bytes = true
 
--- whether a byte at this place, which is neither in a comment nor past the content, is no part of the content
+-- whether a byte is no part of a content that goes on here; in a comment and behind a content nothing is asked
 abbrev pub is_foreign : Place → ℕ → Bool
 is_foreign Start b = not (b == 35 || b == 43 || b == 45)
 is_foreign Pairs b = not (is_hex_digit b)

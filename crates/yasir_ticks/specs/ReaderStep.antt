@@ -23,7 +23,7 @@ pub record Accepts (place : Place) (bytes : List ℕ) (b : ℕ) (items : List It
   pub start : b ≡ 10 → new_place ≡ Start
   pub stands : b ≡ 10 → (line : List ℕ) → Reads place bytes line → line_items line ≡ Some items
 
--- No line goes on with this byte, but one with more marks than are left (and none is left); an LF ends a line of no right form.
+-- No line of a right form goes on with this byte, unless it is a mark, and none is left; an LF ends a line of no right form.
 pub record Refuses (place : Place) (bytes : List ℕ) (b : ℕ) (why : TickFault) : Type 0 where
   pub wrong : b ≢ 10 → (line : List ℕ) → Reads place bytes line
       → (more : List ℕ) (items : List Item) → line_items (line ++ b ∷ more) ≡ Some items → 0 < marks_in items

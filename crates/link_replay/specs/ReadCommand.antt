@@ -1,0 +1,80 @@
+-- The command `read`: what is printed of an input, and when each status comes.
+use Rattle.std.specs.Prelude.{◌≡◌, ℕ, ◌≤◌, List, ◌++◌, length, take, Option, Some}
+use Rattle.std.specs.Io.KnownBytes.{append_known}
+use Rattle.yasir_io.specs.Output.{Buffered, GotPrefix}
+use Rattle.yasir_ticks.specs.Ticks.{Item, ticks_in, silent}
+use Rattle.yasir_ticks.specs.declared.tick.Tick.{Tick}
+use Rattle.device_model.specs.Frames.{FrameRead}
+use Rattle.device_model.specs.RtuReads.{rtu_reads}
+use Rattle.yasir_ticks.specs.TickText.{IsTickText}
+use Rattle.tick_drive.specs.Input.{Takes, max_ticks, max_bytes}
+use Rattle.tick_drive.specs.declared.end.End.{End}
+use Rattle.tick_drive.specs.declared.end.End.TheVariants.{Whole, Refused, Stopped}
+use Rattle.tick_drive.specs.declared.end.End.TheVariants as ends
+use Rattle.tick_drive.specs.declared.consumer.Stop.TheVariants as stops
+use Rattle.link_replay.specs.Lines.{frame_lines}
+use Rattle.link_replay.specs.declared.words.Proto.{Proto}
+use Rattle.link_replay.specs.declared.words.Proto.TheVariants.{Rtu}
+use Rattle.link_replay.specs.declared.status.Status.{Status}
+use Rattle.link_replay.specs.declared.status.Status.TheVariants.{Done, Usage, BadTicks, ReadFault, WriteFault, JournalFault, TooLong, HasJournal}
+
+-- what the device of a protocol reads of a line
+abbrev pub device_reads : Proto → List Tick → List FrameRead
+device_reads Rtu line = rtu_reads line
+
+-- `out` has got exactly the lines of what the device reads of these ticks.
+abbrev pub HasPrinted : (List Tick → List FrameRead) → Option (List ℕ) → Option (List ℕ) → List Tick → Type 0
+HasPrinted reads out_before out_now line = out_now ≡ append_known out_before (frame_lines (reads line))
+
+-- The lines of what the device reads of these ticks are on their way to `out`.
+abbrev pub IsPrinting : (List Tick → List FrameRead) → Option (List ℕ) → Option (List ℕ) → List ℕ → List Tick → Type 0
+IsPrinting reads out_before out_now waits line = Buffered out_before out_now waits (frame_lines (reads line))
+
+-- As the run over the input ended, with the lines that still wait.
+abbrev pub DrivesFrames : (List Tick → List FrameRead) → Option (List ℕ) → Option (List ℕ) → Option (List ℕ) → Option (List ℕ) → List ℕ → End → Type 0
+DrivesFrames reads before now out_before out_now waits Whole =
+    (items : List Item) × Takes 0 before now items Whole × IsPrinting reads out_before out_now waits (ticks_in items ++ silent 4)
+DrivesFrames reads before now out_before out_now waits (Refused bad) =
+    (items : List Item) × Takes 0 before now items (Refused bad) × IsPrinting reads out_before out_now waits (ticks_in items)
+DrivesFrames reads before now out_before out_now waits (ends.TooLong what count) =
+    (items : List Item) × Takes 0 before now items (ends.TooLong what count) × IsPrinting reads out_before out_now waits (ticks_in items)
+DrivesFrames reads before now out_before out_now waits ends.ReadFault =
+    (items : List Item) × Takes 0 before now items ends.ReadFault × IsPrinting reads out_before out_now waits (ticks_in items)
+DrivesFrames reads before now out_before out_now waits (Stopped stop) =
+    (stop ≡ stops.WriteFault) × ((items : List Item) × Takes 0 before now items (Stopped stop)
+    × ((n : ℕ) × GotPrefix out_before out_now (frame_lines (reads (take n (ticks_in items ++ silent 4))))))
+
+-- the status of an end that no write caused
+abbrev pub status_of : End → Status
+status_of Whole = Done
+status_of (Refused bad) = BadTicks bad
+status_of (ends.TooLong what count) = TooLong what count
+status_of ends.ReadFault = ReadFault
+status_of (Stopped stop) = WriteFault
+
+-- What the run took of its input, and what `out` has got of it. Behind a whole input stand four silent ticks.
+abbrev pub PrintsFrames : (List Tick → List FrameRead) → Option (List ℕ) → Option (List ℕ) → Option (List ℕ) → Option (List ℕ) → Status → Type 0
+PrintsFrames reads before now out_before out_now Done =
+    (items : List Item) × Takes 0 before now items Whole × HasPrinted reads out_before out_now (ticks_in items ++ silent 4)
+PrintsFrames reads before now out_before out_now (BadTicks bad) =
+    (items : List Item) × Takes 0 before now items (Refused bad) × HasPrinted reads out_before out_now (ticks_in items)
+PrintsFrames reads before now out_before out_now (TooLong what count) =
+    (items : List Item) × Takes 0 before now items (ends.TooLong what count) × HasPrinted reads out_before out_now (ticks_in items)
+PrintsFrames reads before now out_before out_now ReadFault =
+    (items : List Item) × Takes 0 before now items ends.ReadFault × HasPrinted reads out_before out_now (ticks_in items)
+-- a front of the lines of the ticks that were decided so far
+PrintsFrames reads before now out_before out_now WriteFault =
+    (items : List Item) × (end : End) × Takes 0 before now items end
+    × (n : ℕ) × GotPrefix out_before out_now (frame_lines (reads (take n (ticks_in items ++ silent 4))))
+PrintsFrames reads before now out_before out_now Usage = ⊥
+PrintsFrames reads before now out_before out_now JournalFault = ⊥
+PrintsFrames reads before now out_before out_now (HasJournal floor) = ⊥
+
+-- The input tells a right text within the limits.
+pub record IsReadable (input : Option (List ℕ)) : Type 0 where
+  pub text : List ℕ
+  pub items : List Item
+  pub told : input ≡ Some text
+  pub right : IsTickText 0 text items
+  pub few_ticks : length (ticks_in items) ≤ max_ticks
+  pub few_bytes : length text ≤ max_bytes

@@ -1,0 +1,72 @@
+//! `link_replay`: replays a recorded serial line.
+#![tactic(auto)]
+
+mod ending;
+mod fault_log;
+mod frame_lines;
+mod init_command;
+mod lines;
+mod program;
+mod read_command;
+mod status;
+mod vectors_command;
+mod words;
+
+pub use program::run;
+pub use status::Status;
+pub use words::{Command, Proto, Usage, journal_word, key_word, read_words};
+
+use std::alloc::{AllocError, Global};
+use std::env::Args;
+use std::process::ExitCode;
+use yasir_io::{FileSlots, FileSource, StderrSink, StdinSource, StdoutSink};
+
+/// The exit status where no memory is found for a path.
+const NO_MEMORY: u8 = 9;
+
+/// The exit status where the runtime refuses to give the words.
+const NO_WORDS: u8 = 13;
+
+// The words after the program's name.
+fn words_after_name(alloc: Global, args: Args) -> Result<Vec<String>, AllocError> {
+    let mut words = Vec::new(alloc);
+    for word in args.skip(1) {
+        words.push(word)?;
+    }
+    Ok(words)
+}
+
+// A copy of the word at this place, where there is one.
+fn path_at(words: &[String], place: Option<usize>) -> Result<Option<String>, AllocError> {
+    match place.and_then(|place| words.get(place)) {
+        Some(word) => Ok(Some(word.clone()?)),
+        None => Ok(None),
+    }
+}
+
+fn main(rt: HostRuntime) -> ExitCode {
+    let Ok(args) = std::env::args(&rt) else {
+        return ExitCode::from(NO_WORDS);
+    };
+    let Ok(words) = words_after_name(rt.alloc(), args) else {
+        return ExitCode::from(NO_WORDS);
+    };
+    let words = words.as_slice();
+    let Ok(key_path) = path_at(words, key_word(words)) else {
+        return ExitCode::from(NO_MEMORY);
+    };
+    let Ok(journal_path) = path_at(words, journal_word(words)) else {
+        return ExitCode::from(NO_MEMORY);
+    };
+    let makes_journal = matches!(read_words(words), Ok(Command::Init));
+    let status = run(
+        rt.alloc(),
+        words,
+        &mut FileSource::new(&rt, key_path),
+        &mut StdinSource::new(rt.stdin()),
+        &mut StdoutSink::new(rt.stdout()),
+        &mut StderrSink::new(rt.stderr()),
+        &mut FileSlots::new(&rt, journal_path, makes_journal),
+    );
+    ExitCode::from(status.code())
+}

@@ -1,0 +1,12 @@
+//! Numbers that outlive a crash: a box keeps the last number that it used in two slots of a disk.
+#![tactic(auto)]
+
+mod journal;
+mod numbers;
+mod slots;
+
+pub use journal::{InitError, Journal, JournalFault, LoadError};
+pub use numbers::{LIMIT, full_number, number_in, slot_of};
+
+#[cfg(test)]
+mod tests;

@@ -1,0 +1,63 @@
+ghost use Rattle.std.specs.Prelude.{◌≡◌, ◌≤◌, ◌<◌, ◌-◌, ◌++◌, ℕ, map, Some, IfSome, IfNone};
+ghost use Rattle.sequence_journal.specs.Numbers.{IsLeastWith, full_of};
+ghost use Rattle.sequence_journal.specs.Slots.{slot_bytes, number_held, with_complement};
+
+use byteorder::{BigEndian, ByteOrder};
+use yasir_io::{SLOT_LEN, SlotBytes};
+
+/// How many bytes of a slot hold its number; their complement fills the rest.
+const HALF: usize = SLOT_LEN / 2;
+
+/// The greatest number, 2^48 - 1.
+pub const LIMIT: u64 = 281_474_976_710_655;
+
+/// The slot that holds a number: its eight bytes, the highest first, and then their complement.
+#[tactic(auto, unfolding(crate::specs::Slots::slot_bytes))]
+pub fn slot_of(n: u64) -> SlotBytes
+    requires { n ≤ LIMIT }
+    ensures { result ≡ slot_bytes n }
+{
+    let mut half = [0; HALF];
+    BigEndian::write_u64(&mut half, n);
+    completed(half)
+}
+
+fn completed(half: [u8; HALF]) -> SlotBytes
+    ensures { result ≡ with_complement half }
+{
+    let mut slot = [0; SLOT_LEN];
+    let complement = half.map(|b| u8::MAX - b);
+    slot[..HALF].copy_from_slice(&half);
+    slot[HALF..].copy_from_slice(&complement);
+    slot
+}
+
+/// The number that a slot holds. There is none where the slot isn't that of a number up to the limit.
+#[tactic(auto, unfolding(crate::specs::Slots::number_held))]
+pub fn number_in(slot: &SlotBytes) -> Option<u64>
+    ensures value { result ≡ number_held slot.now }
+    ensures within { IfSome result (λ n. n ≤ LIMIT) }
+    ensures found { IfSome result (λ n. slot.now ≡ slot_bytes n) }
+    ensures only { (n : ℕ) → n ≤ LIMIT → slot.now ≡ slot_bytes n → result ≡ Some n }
+{
+    let n = BigEndian::read_u64(slot);
+    if n <= LIMIT && slot_of(n) == *slot {
+        Some(n)
+    } else {
+        None
+    }
+}
+
+/// The number that a word on the link stands for: the least above the floor that equals it modulo 65,536.
+/// There is none where that is above the limit.
+pub fn full_number(floor: u64, word: u16) -> Option<u64>
+    requires { floor ≤ LIMIT }
+    ensures value { result ≡ full_of 65536 floor word }
+    ensures found { IfSome result (λ n. IsLeastWith 65536 floor word n) }
+    ensures within { IfSome result (λ n. n ≤ LIMIT) }
+    ensures none { IfNone result ((n : ℕ) → IsLeastWith 65536 floor word n → LIMIT < n) }
+{
+    let next = floor + 1;
+    let n = next + (u64::from(word) + 65_536 - next % 65_536) % 65_536;
+    if n <= LIMIT { Some(n) } else { None }
+}

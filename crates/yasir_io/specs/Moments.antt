@@ -1,0 +1,52 @@
+-- Laws on what a crash at any moment of some calls may leave.
+use Rattle.std.specs.Prelude.{ℕ, ◌≤◌, ◌⊎◌}
+use Rattle.std.proofs.Common.{inl, inr, arith}
+use Rattle.yasir_io.specs.Disks.{Slots, Elapses, LeavesOnly}
+
+module _ {D : Type 0} (moment : D → ℕ) (left_since : D → ℕ → Slots → Type 0) where
+  -- one call: each image from before it and from after it has P
+  pub leaves_of_call : (old new : D) (before after P : Slots → Type 0)
+      → Elapses (moment old) (moment new) (left_since old) (left_since new) after
+      → ((c : Slots) → left_since old (moment old) c → before c)
+      → ((c : Slots) → before c → P c) → ((c : Slots) → after c → P c)
+      → LeavesOnly moment left_since old new P
+  leaves_of_call old new before after P time only_now from_before from_after = record {
+    later = time.later;
+    each = λ c left. elim (time.nothing_else (moment old) c (omega arith) left) as (λ _. P c) [
+      | inl past ↦ from_before c (only_now c past)
+      | inr now ↦ from_after c now
+    ];
+    before = λ t c le left. elim (time.nothing_else t c le left) as (λ _. left_since old t c ⊎ P c) [
+      | inl past ↦ inl past
+      | inr now ↦ inr (from_after c now)
+    ];
+  }
+
+  -- some calls, and then some more
+  pub leaves_then : (old mid new : D) (P : Slots → Type 0)
+      → LeavesOnly moment left_since old mid P → LeavesOnly moment left_since mid new P → LeavesOnly moment left_since old new P
+  leaves_then old mid new P first second =
+      let later : moment old ≤ moment mid = first.later in
+      record {
+        later = omega (arith, first.later, second.later);
+        each = λ c left. elim (second.before (moment old) c later left) as (λ _. P c) [
+          | inl past ↦ first.each c past
+          | inr now ↦ now
+        ];
+        before = λ t c le left. elim (second.before t c (omega (arith, le, later)) left) as (λ _. left_since old t c ⊎ P c) [
+          | inl past ↦ first.before t c le past
+          | inr now ↦ inr now
+        ];
+      }
+
+  -- the same, of a weaker fact
+  pub leaves_weaker : (old new : D) (P Q : Slots → Type 0) → ((c : Slots) → P c → Q c)
+      → LeavesOnly moment left_since old new P → LeavesOnly moment left_since old new Q
+  leaves_weaker old new P Q weaker leaves = record {
+    later = leaves.later;
+    each = λ c left. weaker c (leaves.each c left);
+    before = λ t c le left. elim (leaves.before t c le left) as (λ _. left_since old t c ⊎ Q c) [
+      | inl past ↦ inl past
+      | inr now ↦ inr (weaker c now)
+    ];
+  }
