@@ -7,6 +7,8 @@ mod lines;
 mod program;
 mod read_command;
 mod status;
+#[cfg(test)]
+mod tests;
 mod words;
 
 pub use program::run;
