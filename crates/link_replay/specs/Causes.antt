@@ -5,7 +5,7 @@ use Rattle.yasir_io.specs.Causes.{Rose}
 use Rattle.yasir_io.specs.Output.{GotPrefix}
 use Rattle.link_replay.specs.Statuses.{fault_line}
 use Rattle.link_replay.specs.declared.status.Status.{Status}
-use Rattle.link_replay.specs.declared.status.Status.TheVariants.{Done, Usage, BadTicks, ReadFault, WriteFault, TooLong}
+use Rattle.link_replay.specs.declared.status.Status.TheVariants.{Done, Usage, BadTicks, ReadFault, WriteFault, JournalFault, TooLong, HasJournal}
 
 -- The input's count rose where a read failed. A write may fail after it.
 abbrev pub InputCause : ℕ → ℕ → Status → Type 0
@@ -15,6 +15,19 @@ InputCause before now Done = now ≡ before
 InputCause before now Usage = now ≡ before
 InputCause before now (BadTicks bad) = now ≡ before
 InputCause before now (TooLong what count) = now ≡ before
+InputCause before now JournalFault = now ≡ before
+InputCause before now (HasJournal floor) = now ≡ before
+
+-- The disk's count rose where a call on it failed.
+abbrev pub DiskCause : ℕ → ℕ → Status → Type 0
+DiskCause before now JournalFault = Rose before now
+DiskCause before now Done = now ≡ before
+DiskCause before now Usage = now ≡ before
+DiskCause before now (BadTicks bad) = now ≡ before
+DiskCause before now ReadFault = now ≡ before
+DiskCause before now WriteFault = now ≡ before
+DiskCause before now (TooLong what count) = now ≡ before
+DiskCause before now (HasJournal floor) = now ≡ before
 
 -- A count of the two sinks rose where a write or a flush failed. The fault line may fail after any other refusal.
 abbrev pub SinkCause : ℕ → ℕ → ℕ → ℕ → Status → Type 0
@@ -24,6 +37,8 @@ SinkCause out_before out_now log_before log_now ReadFault = (out_now ≡ out_bef
 SinkCause out_before out_now log_before log_now Usage = (out_now ≡ out_before) × (log_before ≤ log_now)
 SinkCause out_before out_now log_before log_now (BadTicks bad) = (out_now ≡ out_before) × (log_before ≤ log_now)
 SinkCause out_before out_now log_before log_now (TooLong what count) = (out_now ≡ out_before) × (log_before ≤ log_now)
+SinkCause out_before out_now log_before log_now JournalFault = (out_now ≡ out_before) × (log_before ≤ log_now)
+SinkCause out_before out_now log_before log_now (HasJournal floor) = (out_now ≡ out_before) × (log_before ≤ log_now)
 
 -- The log has got the line, or a front of it where this write failed.
 abbrev pub GotLine : Option (List ℕ) → Option (List ℕ) → ℕ → ℕ → List ℕ → Type 0
@@ -38,9 +53,12 @@ LogsFault before now faults_before faults_now ReadFault = GotLine before now fau
 LogsFault before now faults_before faults_now Usage = GotLine before now faults_before faults_now (fault_line Usage)
 LogsFault before now faults_before faults_now (BadTicks bad) = GotLine before now faults_before faults_now (fault_line (BadTicks bad))
 LogsFault before now faults_before faults_now (TooLong what count) = GotLine before now faults_before faults_now (fault_line (TooLong what count))
+LogsFault before now faults_before faults_now JournalFault = GotLine before now faults_before faults_now (fault_line JournalFault)
+LogsFault before now faults_before faults_now (HasJournal floor) = GotLine before now faults_before faults_now (fault_line (HasJournal floor))
 
 -- No count of the outside rose, nor stands at its last value.
-pub record NoneRose (input_before input_now out_before out_now log_before log_now : ℕ) : Type 0 where
+pub record NoneRose (input_before input_now out_before out_now log_before log_now disk_before disk_now : ℕ) : Type 0 where
   pub input : ¬ Rose input_before input_now
   pub out : ¬ Rose out_before out_now
   pub log : ¬ Rose log_before log_now
+  pub disk : ¬ Rose disk_before disk_now

@@ -4,3 +4,5 @@ pub mod Lines
 pub mod FrameLines
 pub mod ReadCommand
 pub mod Causes
+pub mod InitCommand
+pub mod VectorsCommand

@@ -16,7 +16,7 @@ use Rattle.link_replay.specs.Lines.{frame_lines}
 use Rattle.link_replay.specs.declared.words.Proto.{Proto}
 use Rattle.link_replay.specs.declared.words.Proto.TheVariants.{Rtu}
 use Rattle.link_replay.specs.declared.status.Status.{Status}
-use Rattle.link_replay.specs.declared.status.Status.TheVariants.{Done, Usage, BadTicks, ReadFault, WriteFault, TooLong}
+use Rattle.link_replay.specs.declared.status.Status.TheVariants.{Done, Usage, BadTicks, ReadFault, WriteFault, JournalFault, TooLong, HasJournal}
 
 -- what the device of a protocol reads of a line
 abbrev pub device_reads : Proto → List Tick → List FrameRead
@@ -67,6 +67,8 @@ PrintsFrames reads before now out_before out_now WriteFault =
     (items : List Item) × (end : End) × Takes 0 before now items end
     × (n : ℕ) × GotPrefix out_before out_now (frame_lines (reads (take n (ticks_in items ++ silent 4))))
 PrintsFrames reads before now out_before out_now Usage = ⊥
+PrintsFrames reads before now out_before out_now JournalFault = ⊥
+PrintsFrames reads before now out_before out_now (HasJournal floor) = ⊥
 
 -- The input tells a right text within the limits.
 pub record IsReadable (input : Option (List ℕ)) : Type 0 where

@@ -5,7 +5,7 @@ use Rattle.yasir_ticks.specs.declared.fault.TickFault.TheVariants.{Char, Odd, Lo
 use Rattle.tick_drive.specs.declared.end.TooMuch.{TooMuch}
 use Rattle.tick_drive.specs.declared.end.TooMuch.TheVariants.{Ticks, Bytes}
 use Rattle.link_replay.specs.declared.status.Status.{Status}
-use Rattle.link_replay.specs.declared.status.Status.TheVariants.{Done, Usage, BadTicks, ReadFault, WriteFault, TooLong}
+use Rattle.link_replay.specs.declared.status.Status.TheVariants.{Done, Usage, BadTicks, ReadFault, WriteFault, JournalFault, TooLong, HasJournal}
 
 abbrev pub code_of : Status → ℕ
 code_of Done = 0
@@ -13,7 +13,9 @@ code_of Usage = 2
 code_of (BadTicks bad) = 4
 code_of ReadFault = 5
 code_of WriteFault = 6
+code_of JournalFault = 7
 code_of (TooLong what count) = 10
+code_of (HasJournal floor) = 11
 
 abbrev pub fault_word : TickFault → List ℕ
 fault_word Char = codes "char"
@@ -35,3 +37,5 @@ fault_line (BadTicks bad) = codes "fault: line " ++ decimal bad.line ++ codes " 
 fault_line ReadFault = codes "fault: read\n"
 fault_line WriteFault = []
 fault_line (TooLong what count) = codes "fault: too long " ++ decimal count ++ unit_word what ++ codes "\n"
+fault_line JournalFault = codes "fault: journal\n"
+fault_line (HasJournal floor) = codes "fault: journal stands at " ++ decimal floor ++ codes "\n"

@@ -55,6 +55,16 @@ fn too_long_line(what: TooMuch, count: u64) -> Line
     line
 }
 
+fn has_journal_line(floor: u64) -> Line
+    ensures { result.items ≡ fault_line (Status.HasJournal floor) }
+{
+    let mut line = Line::new();
+    line.try_extend_from_slice(b"fault: journal stands at ").unwrap();
+    push_decimal(&mut line, floor);
+    line.push(b'\n');
+    line
+}
+
 // A line of a fixed text.
 fn fixed_line(text: &[u8]) -> Line
     requires { length text.now ≤ 20 }
@@ -73,8 +83,10 @@ fn fault_line(status: &Status) -> Line
         Status::Done | Status::WriteFault => Line::new(),
         Status::Usage => fixed_line(b"fault: usage\n"),
         Status::ReadFault => fixed_line(b"fault: read\n"),
+        Status::JournalFault => fixed_line(b"fault: journal\n"),
         Status::BadTicks(bad) => bad_ticks_line(bad),
         Status::TooLong { what, count } => too_long_line(*what, *count),
+        Status::HasJournal { floor } => has_journal_line(*floor),
     }
 }
 

@@ -1,24 +1,30 @@
 //! `link_replay`: replays a recorded serial line.
 #![tactic(auto)]
 
+mod ending;
 mod fault_log;
 mod frame_lines;
+mod init_command;
 mod lines;
 mod program;
 mod read_command;
 mod status;
 #[cfg(test)]
 mod tests;
+mod vectors_command;
 mod words;
 
 pub use program::run;
 pub use status::Status;
-pub use words::{Command, Proto, Usage, read_words};
+pub use words::{Command, Proto, Usage, journal_word, key_word, read_words};
 
 use std::alloc::{AllocError, Global};
 use std::env::Args;
 use std::process::ExitCode;
-use yasir_io::{StderrSink, StdinSource, StdoutSink, SteadySlots, SteadySource};
+use yasir_io::{FileSlots, FileSource, StderrSink, StdinSource, StdoutSink};
+
+/// The exit status where no memory is found for a path.
+const NO_MEMORY: u8 = 9;
 
 /// The exit status where the runtime refuses to give the words.
 const NO_WORDS: u8 = 13;
@@ -32,6 +38,14 @@ fn words_after_name(alloc: Global, args: Args) -> Result<Vec<String>, AllocError
     Ok(words)
 }
 
+// A copy of the word at this place, where there is one.
+fn path_at(words: &[String], place: Option<usize>) -> Result<Option<String>, AllocError> {
+    match place.and_then(|place| words.get(place)) {
+        Some(word) => Ok(Some(word.clone()?)),
+        None => Ok(None),
+    }
+}
+
 fn main(rt: HostRuntime) -> ExitCode {
     let Ok(args) = std::env::args(&rt) else {
         return ExitCode::from(NO_WORDS);
@@ -39,19 +53,22 @@ fn main(rt: HostRuntime) -> ExitCode {
     let Ok(words) = words_after_name(rt.alloc(), args) else {
         return ExitCode::from(NO_WORDS);
     };
-    let mut key = SteadySource::new(&[]);
-    let mut input = StdinSource::new(rt.stdin());
-    let mut out = StdoutSink::new(rt.stdout());
-    let mut log = StderrSink::new(rt.stderr());
-    let mut disk = SteadySlots::new([0; 16], [0; 16]);
+    let words = words.as_slice();
+    let Ok(key_path) = path_at(words, key_word(words)) else {
+        return ExitCode::from(NO_MEMORY);
+    };
+    let Ok(journal_path) = path_at(words, journal_word(words)) else {
+        return ExitCode::from(NO_MEMORY);
+    };
+    let makes_journal = matches!(read_words(words), Ok(Command::Init));
     let status = run(
         rt.alloc(),
-        words.as_slice(),
-        &mut key,
-        &mut input,
-        &mut out,
-        &mut log,
-        &mut disk,
+        words,
+        &mut FileSource::new(&rt, key_path),
+        &mut StdinSource::new(rt.stdin()),
+        &mut StdoutSink::new(rt.stdout()),
+        &mut StderrSink::new(rt.stderr()),
+        &mut FileSlots::new(&rt, journal_path, makes_journal),
     );
     ExitCode::from(status.code())
 }

@@ -3,11 +3,18 @@ ghost use Rattle.std.specs.String.{string_bytes};
 ghost use Rattle.link_replay.specs.declared.words.Command.{Command};
 ghost use Rattle.link_replay.specs.declared.words.Proto.{Proto};
 ghost use Rattle.link_replay.specs.Words.{IsCommand};
+ghost use Rattle.yasir_io.specs.declared.disk.Slot.TheVariants.{B};
+ghost use Rattle.yasir_io.specs.Disks.{LeavesOnly};
+ghost use Rattle.sequence_journal.specs.Journal.{IsBeside};
+ghost use Rattle.link_replay.specs.InitCommand.{MakesJournal, IsBlank};
+ghost use Rattle.link_replay.specs.VectorsCommand.{PrintsTables};
 ghost use Rattle.link_replay.specs.ReadCommand.{PrintsFrames, device_reads, IsReadable};
-ghost use Rattle.link_replay.specs.Causes.{InputCause, SinkCause, LogsFault, NoneRose};
+ghost use Rattle.link_replay.specs.Causes.{InputCause, SinkCause, DiskCause, LogsFault, NoneRose};
 
 use crate::fault_log::write_fault;
+use crate::init_command::make_journal;
 use crate::read_command::read_frames;
+use crate::vectors_command::print_tables;
 use crate::{Command, Proto, Status, Usage, read_words};
 use device_model::RtuDevice;
 use std::alloc::Global;
@@ -31,29 +38,39 @@ fn read<S: Source, O: Sink, L: Sink>(
 }
 
 // What the words ask for, but for the fault line.
-fn answer<S: Source, O: Sink, L: Sink>(
+fn answer<S: Source, O: Sink, L: Sink, D: SlotDisk>(
     words: &[String],
     input: &mut S,
     out: &mut O,
     log: &mut L,
+    disk: &mut D,
 ) -> Status
     ensures usage { (result ≡ Status.Usage) ↔ ((command : Command) → IsCommand (map string_bytes words.now) command → ⊥) }
-    ensures usage_input { result ≡ Status.Usage → (input.new ≡ input.old) × (out.new ≡ out.old) }
+    ensures usage_out { result ≡ Status.Usage → out.new ≡ out.old }
+    ensures init { IsCommand (map string_bytes words.now) Command.Init
+        → MakesJournal (D.told disk.old) (D.told disk.new) (D.may_leave disk.old) (D.may_leave disk.new) result }
+    ensures init_any_moment { IsCommand (map string_bytes words.now) Command.Init
+        → LeavesOnly D.moment D.left_since disk.old disk.new (IsBeside B (D.may_leave disk.old)) }
+    ensures init_out { IsCommand (map string_bytes words.now) Command.Init → O.held out.new ≡ O.held out.old }
     ensures read { (proto : Proto) → IsCommand (map string_bytes words.now) (Command.Read proto)
         → PrintsFrames (device_reads proto) (S.left input.old) (S.left input.new) (O.held out.old) (O.held out.new) result }
+    ensures vectors { IsCommand (map string_bytes words.now) Command.Vectors → PrintsTables (O.held out.old) (O.held out.new) result }
     ensures log { L.held log.new ≡ L.held log.old }
     ensures input { InputCause (S.faults input.old) (S.faults input.new) result }
     ensures sinks { SinkCause (O.faults out.old) (O.faults out.new) (L.faults log.old) (L.faults log.new) result }
+    ensures disk { DiskCause (D.faults disk.old) (D.faults disk.new) result }
+    ensures input_reached { ((proto : Proto) → IsCommand (map string_bytes words.now) (Command.Read proto) → ⊥) → input.new ≡ input.old }
+    ensures disk_reached { (IsCommand (map string_bytes words.now) Command.Init → ⊥) → disk.new ≡ disk.old }
 {
     match read_words(words) {
+        Ok(Command::Init) => make_journal(out, log, disk),
         Ok(Command::Read(proto)) => read(proto, input, out, log),
+        Ok(Command::Vectors) => print_tables(out, log),
         Err(Usage) => Status::Usage,
     }
 }
 
-/// The program: reads its words, and does what they ask for. The words are those after the program's name.
-///
-/// Nothing but the command's own objects is touched, and no memory is taken.
+/// The program: reads its words, those after the program's name, and does what they ask for. No memory is taken.
 pub fn run<K: Source, S: Source, O: Sink, L: Sink, D: SlotDisk>(
     alloc: Global,
     words: &[String],
@@ -63,19 +80,34 @@ pub fn run<K: Source, S: Source, O: Sink, L: Sink, D: SlotDisk>(
     log: &mut L,
     disk: &mut D,
 ) -> Status
-    // Usage comes exactly where the words ask for no command, and nothing is then written to `out`.
+    // Usage comes exactly where the words ask for no command, and `out` isn't touched then.
     ensures usage { (result ≡ Status.Usage) ↔ ((command : Command) → IsCommand (map string_bytes words.now) command → ⊥) }
-    ensures usage_input { result ≡ Status.Usage → (input.new ≡ input.old) × (out.new ≡ out.old) }
+    ensures usage_out { result ≡ Status.Usage → out.new ≡ out.old }
+
+    // `init`: what the disk holds, and what a crash may leave of it at any moment.
+    ensures init { IsCommand (map string_bytes words.now) Command.Init
+        → MakesJournal (D.told disk.old) (D.told disk.new) (D.may_leave disk.old) (D.may_leave disk.new) result }
+    ensures init_any_moment { IsCommand (map string_bytes words.now) Command.Init
+        → LeavesOnly D.moment D.left_since disk.old disk.new (IsBeside B (D.may_leave disk.old)) }
+    ensures init_out { IsCommand (map string_bytes words.now) Command.Init → O.held out.new ≡ O.held out.old }
 
     // `read`: what was taken of the input, and the lines that `out` has got.
     ensures read { (proto : Proto) → IsCommand (map string_bytes words.now) (Command.Read proto)
         → PrintsFrames (device_reads proto) (S.left input.old) (S.left input.new) (O.held out.old) (O.held out.new) result }
 
-    // Right words, a right text within the limits and no fault outside give `Done`.
-    ensures read_done { (proto : Proto) → IsCommand (map string_bytes words.now) (Command.Read proto)
-        → IsReadable (S.left input.old)
-        → NoneRose (S.faults input.old) (S.faults input.new) (O.faults out.old) (O.faults out.new) (L.faults log.old) (L.faults log.new)
-        → result ≡ Status.Done }
+    // `vectors`: the lines that the definitions give for the tables.
+    ensures vectors { IsCommand (map string_bytes words.now) Command.Vectors → PrintsTables (O.held out.old) (O.held out.new) result }
+
+    // Right words, right input and no fault outside give `Done`.
+    ensures init_done { IsCommand (map string_bytes words.now) Command.Init → IsBlank (D.told disk.old)
+        → NoneRose (S.faults input.old) (S.faults input.new) (O.faults out.old) (O.faults out.new)
+            (L.faults log.old) (L.faults log.new) (D.faults disk.old) (D.faults disk.new) → result ≡ Status.Done }
+    ensures read_done { (proto : Proto) → IsCommand (map string_bytes words.now) (Command.Read proto) → IsReadable (S.left input.old)
+        → NoneRose (S.faults input.old) (S.faults input.new) (O.faults out.old) (O.faults out.new)
+            (L.faults log.old) (L.faults log.new) (D.faults disk.old) (D.faults disk.new) → result ≡ Status.Done }
+    ensures vectors_done { IsCommand (map string_bytes words.now) Command.Vectors
+        → NoneRose (S.faults input.old) (S.faults input.new) (O.faults out.old) (O.faults out.new)
+            (L.faults log.old) (L.faults log.new) (D.faults disk.old) (D.faults disk.new) → result ≡ Status.Done }
 
     // The log has got the fault line of a refusal, and nothing else.
     ensures log { LogsFault (L.held log.old) (L.held log.new) (L.faults log.old) (L.faults log.new) result }
@@ -83,15 +115,16 @@ pub fn run<K: Source, S: Source, O: Sink, L: Sink, D: SlotDisk>(
     // The causes.
     ensures input { InputCause (S.faults input.old) (S.faults input.new) result }
     ensures sinks { SinkCause (O.faults out.old) (O.faults out.new) (L.faults log.old) (L.faults log.new) result }
+    ensures disk { DiskCause (D.faults disk.old) (D.faults disk.new) result }
 
-    // What no command has reached is as it was.
-    ensures key { key.new ≡ key.old }
-    ensures disk { disk.new ≡ disk.old }
+    // What the command doesn't reach is as it was.
+    ensures key_reached { key.new ≡ key.old }
+    ensures input_reached { ((proto : Proto) → IsCommand (map string_bytes words.now) (Command.Read proto) → ⊥) → input.new ≡ input.old }
+    ensures disk_reached { (IsCommand (map string_bytes words.now) Command.Init → ⊥) → disk.new ≡ disk.old }
 {
     let _ = alloc;
     let _ = key;
-    let _ = disk;
-    let status = answer(words, input, out, log);
+    let status = answer(words, input, out, log, disk);
     write_fault(log, &status);
     status
 }

@@ -1,4 +1,4 @@
-ghost use Rattle.std.specs.Prelude.{◌≡◌, ◌⊎◌, ℕ, List, [], Option};
+ghost use Rattle.std.specs.Prelude.{◌≡◌, [], ℕ};
 ghost use Rattle.yasir_io.specs.TextBuffer.{waiting_bytes};
 ghost use Rattle.tick_drive.specs.Input.{IsReadCause, is_read_fault};
 ghost use Rattle.tick_drive.specs.Consumers.{IsSinkCause};
@@ -7,6 +7,7 @@ ghost use Rattle.link_replay.specs.ReadCommand.{DrivesFrames, PrintsFrames, stat
 ghost use Rattle.link_replay.specs.Causes.{InputCause, SinkCause};
 
 use crate::Status;
+use crate::ending::flush_both;
 use crate::frame_lines::FrameLines;
 use device_model::Device;
 use tick_drive::{End, drive_to_rest};
@@ -46,22 +47,6 @@ fn status_of(end: End) -> Status
         End::ReadFault => Status::ReadFault,
         End::Stopped(_) => Status::WriteFault,
     }
-}
-
-/// Flushes both sinks, on the way to `Done`.
-pub fn flush_both<O: Sink, L: Sink>(out: &mut O, log: &mut L) -> Status
-    ensures status { (result ≡ Status.Done) ⊎ (result ≡ Status.WriteFault) }
-    ensures out { O.held out.new ≡ O.held out.old }
-    ensures log { L.held log.new ≡ L.held log.old }
-    ensures sinks { SinkCause (O.faults out.old) (O.faults out.new) (L.faults log.old) (L.faults log.new) result }
-{
-    if let Err(Failed) = out.flush() {
-        return Status::WriteFault;
-    }
-    if let Err(Failed) = log.flush() {
-        return Status::WriteFault;
-    }
-    Status::Done
 }
 
 /// Prints a line for each frame that a device reads from the input.

@@ -16,8 +16,12 @@ pub enum Status {
     ReadFault,
     /// Standard output or the log could not be written.
     WriteFault,
+    /// The journal's disk failed.
+    JournalFault,
     /// The input has more ticks or bytes than are taken; `count` is the first sum that was too much.
     TooLong { what: TooMuch, count: u64 },
+    /// A journal stands already, at this floor.
+    HasJournal { floor: u64 },
 }
 
 impl Status {
@@ -33,7 +37,9 @@ impl Status {
             Status::BadTicks(_) => 4,
             Status::ReadFault => 5,
             Status::WriteFault => 6,
+            Status::JournalFault => 7,
             Status::TooLong { .. } => 10,
+            Status::HasJournal { .. } => 11,
         }
     }
 }

@@ -1,8 +1,8 @@
-ghost use Rattle.std.specs.Prelude.{◌≡◌, [], ◌∷◌, IfOk, OnErr, map};
+ghost use Rattle.std.specs.Prelude.{◌≡◌, [], ◌∷◌, None, IfOk, OnErr, map, codes};
 ghost use Rattle.std.specs.String.{string_bytes};
 ghost use Rattle.link_replay.specs.declared.words.Proto.{Proto};
 ghost use Rattle.link_replay.specs.declared.words.Command.{Command};
-ghost use Rattle.link_replay.specs.Words.{IsCommand, proto_word};
+ghost use Rattle.link_replay.specs.Words.{IsCommand, proto_word, key_place, journal_place};
 
 /// The protocol of a line.
 #[derive(Clone, Copy, Debug, PartialEq, Eq)]
@@ -13,8 +13,12 @@ pub enum Proto {
 /// What the program is asked to do.
 #[derive(Clone, Copy, Debug, PartialEq, Eq)]
 pub enum Command {
-    /// The frames that a device reads from a line.
+    /// Makes a new journal.
+    Init,
+    /// Prints the frames that a device reads from a line.
     Read(Proto),
+    /// Tries the tables of known answers.
+    Vectors,
 }
 
 /// The words name no command.
@@ -29,11 +33,26 @@ fn read_proto(word: &str) -> Result<Proto, Usage>
     if word == "rtu" { Ok(Proto::Rtu) } else { Err(Usage) }
 }
 
+// The command of one word.
+fn read_one(word: &str) -> Result<Command, Usage>
+    ensures ok { IfOk result (λ command. IsCommand (word.now ∷ []) command) }
+    ensures usage { OnErr result ((command : Command) → IsCommand (word.now ∷ []) command → ⊥) }
+{
+    if word == "vectors" {
+        Ok(Command::Vectors)
+    } else {
+        Err(Usage)
+    }
+}
+
 // The command of two words.
 fn read_two(first: &str, second: &str) -> Result<Command, Usage>
     ensures ok { IfOk result (λ command. IsCommand (first.now ∷ second.now ∷ []) command) }
     ensures usage { OnErr result ((command : Command) → IsCommand (first.now ∷ second.now ∷ []) command → ⊥) }
 {
+    if first == "init" {
+        return read_init(first, second);
+    }
     if first != "read" {
         return Err(Usage);
     }
@@ -43,13 +62,50 @@ fn read_two(first: &str, second: &str) -> Result<Command, Usage>
     }
 }
 
+// The command `init` and its journal's path, which isn't empty.
+fn read_init(first: &str, path: &str) -> Result<Command, Usage>
+    requires { first.now ≡ codes "init" }
+    ensures ok { IfOk result (λ command. IsCommand (first.now ∷ path.now ∷ []) command) }
+    ensures usage { OnErr result ((command : Command) → IsCommand (first.now ∷ path.now ∷ []) command → ⊥) }
+{
+    if path.is_empty() {
+        Err(Usage)
+    } else {
+        Ok(Command::Init)
+    }
+}
+
 /// The command that the words after the program's name ask for, each word compared byte for byte.
 pub fn read_words(words: &[String]) -> Result<Command, Usage>
     ensures ok { IfOk result (λ command. IsCommand (map string_bytes words.now) command) }
     ensures usage { OnErr result ((command : Command) → IsCommand (map string_bytes words.now) command → ⊥) }
 {
     match words {
+        [word] => read_one(word.as_str()),
         [first, second] => read_two(first.as_str(), second.as_str()),
         _ => Err(Usage),
+    }
+}
+
+/// The place of the word that is the key file's path, counted from 0; none where the words have none.
+pub fn key_word(words: &[String]) -> Option<usize>
+    ensures place { (command : Command) → IsCommand (map string_bytes words.now) command → result ≡ key_place command }
+    ensures none { ((command : Command) → IsCommand (map string_bytes words.now) command → ⊥) → result ≡ None }
+{
+    match read_words(words) {
+        Ok(Command::Init | Command::Read(_) | Command::Vectors) => None,
+        Err(Usage) => None,
+    }
+}
+
+/// The place of the word that is the journal's path, counted from 0; none where the words have none.
+pub fn journal_word(words: &[String]) -> Option<usize>
+    ensures place { (command : Command) → IsCommand (map string_bytes words.now) command → result ≡ journal_place command }
+    ensures none { ((command : Command) → IsCommand (map string_bytes words.now) command → ⊥) → result ≡ None }
+{
+    match read_words(words) {
+        Ok(Command::Init) => Some(1),
+        Ok(Command::Read(_) | Command::Vectors) => None,
+        Err(Usage) => None,
     }
 }

@@ -4,7 +4,7 @@ ghost use Rattle.sequence_journal.specs.declared.numbers.TheConstants.{LIMIT};
 use crate::numbers::{LIMIT, slot_of};
 use crate::slots::{floor_in, read_slots, write_and_sync};
 use thiserror::Error;
-use yasir_io::{Slot, SlotDisk};
+use yasir_io::{Slot, SlotBytes, SlotDisk};
 
 /// A commit failed: the disk's count of faults rose. The journal is broken, and a later run loads it anew.
 #[derive(Clone, Copy, Debug, PartialEq, Eq, Error)]
@@ -19,7 +19,7 @@ pub enum LoadError {
     Fault,
     /// Neither slot holds a number.
     #[error("neither slot holds a number: {a:?} {b:?}")]
-    Bad { a: [u8; 16], b: [u8; 16] },
+    Bad { a: SlotBytes, b: SlotBytes },
 }
 
 /// Why a journal isn't made.

@@ -7,3 +7,6 @@ mod slots;
 
 pub use journal::{InitError, Journal, JournalFault, LoadError};
 pub use numbers::{LIMIT, full_number, number_in, slot_of};
+
+#[cfg(test)]
+mod tests;

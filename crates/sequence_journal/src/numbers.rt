@@ -3,34 +3,38 @@ ghost use Rattle.sequence_journal.specs.Numbers.{IsLeastWith, full_of};
 ghost use Rattle.sequence_journal.specs.Slots.{slot_bytes, number_held, with_complement};
 
 use byteorder::{BigEndian, ByteOrder};
+use yasir_io::{SLOT_LEN, SlotBytes};
+
+/// How many bytes of a slot hold its number; their complement fills the rest.
+const HALF: usize = SLOT_LEN / 2;
 
 /// The greatest number, 2^48 - 1.
 pub const LIMIT: u64 = 281_474_976_710_655;
 
 /// The slot that holds a number: its eight bytes, the highest first, and then their complement.
 #[tactic(auto, unfolding(crate::specs::Slots::slot_bytes))]
-pub fn slot_of(n: u64) -> [u8; 16]
+pub fn slot_of(n: u64) -> SlotBytes
     requires { n ≤ LIMIT }
     ensures { result ≡ slot_bytes n }
 {
-    let mut number = [0; 8];
-    BigEndian::write_u64(&mut number, n);
-    completed(number)
+    let mut half = [0; HALF];
+    BigEndian::write_u64(&mut half, n);
+    completed(half)
 }
 
-fn completed(half: [u8; 8]) -> [u8; 16]
+fn completed(half: [u8; HALF]) -> SlotBytes
     ensures { result ≡ with_complement half }
 {
-    let mut slot = [0; 16];
+    let mut slot = [0; SLOT_LEN];
     let complement = half.map(|b| u8::MAX - b);
-    slot[..8].copy_from_slice(&half);
-    slot[8..].copy_from_slice(&complement);
+    slot[..HALF].copy_from_slice(&half);
+    slot[HALF..].copy_from_slice(&complement);
     slot
 }
 
 /// The number that a slot holds. There is none where the slot isn't that of a number up to the limit.
 #[tactic(auto, unfolding(crate::specs::Slots::number_held))]
-pub fn number_in(slot: &[u8; 16]) -> Option<u64>
+pub fn number_in(slot: &SlotBytes) -> Option<u64>
     ensures value { result ≡ number_held slot.now }
     ensures within { IfSome result (λ n. n ≤ LIMIT) }
     ensures found { IfSome result (λ n. slot.now ≡ slot_bytes n) }

@@ -4,10 +4,10 @@ ghost use Rattle.yasir_io.specs.Disks.{Slots, NoMore, OneImage, LeavesOnly, othe
 ghost use Rattle.sequence_journal.specs.Journal.{IsBeside, IsFloorOf, AreRead, told_with, MaySet};
 
 use crate::numbers::number_in;
-use yasir_io::{Failed, Slot, SlotDisk};
+use yasir_io::{Failed, Slot, SlotBytes, SlotDisk};
 
 /// Both slots, as a read gives them.
-pub(crate) fn read_slots<D: SlotDisk>(disk: &mut D) -> Result<([u8; 16], [u8; 16]), Failed>
+pub(crate) fn read_slots<D: SlotDisk>(disk: &mut D) -> Result<(SlotBytes, SlotBytes), Failed>
     ensures slots { IfOk result (λ slots. AreRead (D.told disk.old) slots.0 slots.1) }
     ensures told { D.told disk.new ≡ D.told disk.old }
     ensures images { NoMore (D.may_leave disk.old) (D.may_leave disk.new) }
@@ -24,7 +24,7 @@ pub(crate) fn read_slots<D: SlotDisk>(disk: &mut D) -> Result<([u8; 16], [u8; 16
 pub(crate) fn write_and_sync<D: SlotDisk>(
     disk: &mut D,
     slot: Slot,
-    bytes: &[u8; 16],
+    bytes: &SlotBytes,
 ) -> Result<(), Failed>
     ensures set { OnOk result (D.told disk.new ≡ told_with (D.told disk.old) slot bytes.now) }
     ensures synced { OnOk result (OneImage (D.told disk.new) (D.may_leave disk.new)) }
@@ -38,7 +38,7 @@ pub(crate) fn write_and_sync<D: SlotDisk>(
 }
 
 /// The greater number that two slots hold, and the slot that holds it: at a tie slot A.
-pub(crate) fn floor_in(a: &[u8; 16], b: &[u8; 16]) -> Option<(u64, Slot)>
+pub(crate) fn floor_in(a: &SlotBytes, b: &SlotBytes) -> Option<(u64, Slot)>
     ensures { IsFloorOf a.now b.now result }
 {
     match (number_in(a), number_in(b)) {

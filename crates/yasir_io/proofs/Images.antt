@@ -2,6 +2,7 @@
 use Rattle.std.proofs.Common.{◌≡◌, ◌∙◌, ℕ, ◌≤◌, ◌⊎◌, List, [], ◌∷◌, ◌++◌, Some, length, drop, true, false, refl, sym, ap, subst, inl, inr, arith, length-append}
 use Rattle.std.proofs.lemmas.List.{drop-append-le}
 use Rattle.yasir_io.specs.declared.disk.Slot.{Slot}
+use Rattle.yasir_io.specs.declared.disk.TheConstants.{SLOT_LEN}
 use Rattle.yasir_io.specs.declared.disk.Slot.TheVariants.{A, B}
 use Rattle.yasir_io.specs.declared.mem_slots.Moment.{Moment}
 use Rattle.yasir_io.specs.Disks.{Slots, slot_in, other_slot, with_slot, Torn, Elapses}
@@ -76,7 +77,7 @@ pub images_torn : (slot : Slot) (before after : Moment) → IsMarked slot before
 images_torn A before after is c image =
     let d : Slots = record { a = before.a; b = c.b } in
     let was : IsImage before d = record {
-      size = λ slot. elim slot as (λ slot. length (slot_in d slot) ≡ 16) [ A ↦ before.a_size | B ↦ image.size B ];
+      size = λ slot. elim slot as (λ slot. length (slot_in d slot) ≡ SLOT_LEN) [ A ↦ before.a_size | B ↦ image.size B ];
       synced = λ slot. elim slot as (λ slot. is_written before slot ≡ false → slot_in d slot ≡ slot_in (slots_at before) slot) [
         | A ↦ λ h. refl
         | B ↦ λ h. image.synced B (is.other_mark ∙ h) ∙ is.other_bytes
@@ -86,7 +87,7 @@ images_torn A before after is c image =
 images_torn B before after is c image =
     let d : Slots = record { a = c.a; b = before.b } in
     let was : IsImage before d = record {
-      size = λ slot. elim slot as (λ slot. length (slot_in d slot) ≡ 16) [ A ↦ image.size A | B ↦ before.b_size ];
+      size = λ slot. elim slot as (λ slot. length (slot_in d slot) ≡ SLOT_LEN) [ A ↦ image.size A | B ↦ before.b_size ];
       synced = λ slot. elim slot as (λ slot. is_written before slot ≡ false → slot_in d slot ≡ slot_in (slots_at before) slot) [
         | A ↦ λ h. image.synced A (is.other_mark ∙ h) ∙ is.other_bytes
         | B ↦ λ h. refl

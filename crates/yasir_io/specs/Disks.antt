@@ -1,6 +1,7 @@
--- A disk of two slots of sixteen bytes, and what a crash may leave of it.
+-- A disk of two slots, and what a crash may leave of it.
 use Rattle.std.specs.Prelude.{◌≡◌, ℕ, ◌≤◌, ◌⊎◌, List, length, Option, Some}
 use Rattle.yasir_io.specs.declared.disk.Slot.{Slot}
+use Rattle.yasir_io.specs.declared.disk.TheConstants.{SLOT_LEN}
 use Rattle.yasir_io.specs.declared.disk.Slot.TheVariants.{A, B}
 
 -- what both slots hold, as a read gives them
@@ -21,13 +22,13 @@ abbrev pub with_slot : Slots → Slot → List ℕ → Slots
 with_slot slots A bytes = record slots { a = bytes }
 with_slot slots B bytes = record slots { b = bytes }
 
--- sixteen bytes
+-- as many bytes as a slot has
 pub record IsSlot (bytes : List ℕ) : Type 0 where
-  pub size : length bytes ≡ 16
+  pub size : length bytes ≡ SLOT_LEN
 
--- the slot may hold any sixteen bytes, and the other is as it was
+-- the slot may hold any bytes, and the other is as it was
 abbrev pub Torn : Slot → Slots → Slots → Type 0
-Torn slot old new = (bytes : List ℕ) × (length bytes ≡ 16) × (new ≡ with_slot old slot bytes)
+Torn slot old new = (bytes : List ℕ) × (length bytes ≡ SLOT_LEN) × (new ≡ with_slot old slot bytes)
 
 -- each new image is an old one after a step
 abbrev pub Follows : (Slots → Slots → Type 0) → (Slots → Type 0) → (Slots → Type 0) → Type 0

@@ -1,6 +1,7 @@
 -- What a disk in memory is, and what a crash may leave of it.
 use Rattle.std.specs.Prelude.{◌≡◌, ℕ, ◌≤◌, ◌⊎◌, List, [], ◌∷◌, ◌++◌, length, drop, Bool, false}
 use Rattle.yasir_io.specs.declared.disk.Slot.{Slot}
+use Rattle.yasir_io.specs.declared.disk.TheConstants.{SLOT_LEN}
 use Rattle.yasir_io.specs.declared.disk.Slot.TheVariants.{A, B}
 use Rattle.yasir_io.specs.declared.mem_slots.Moment.{Moment}
 use Rattle.yasir_io.specs.declared.mem_slots.MemSlots.{MemSlots}
@@ -16,9 +17,9 @@ abbrev pub is_written : Moment → Slot → Bool
 is_written moment A = moment.a_written
 is_written moment B = moment.b_written
 
--- What a crash at a moment may leave: any sixteen bytes in a slot that was written since the last sync, the other as it reads.
+-- What a crash at a moment may leave: any bytes in a slot that was written since the last sync, the other as it reads.
 pub record IsImage (moment : Moment) (image : Slots) : Type 0 where
-  pub size : (slot : Slot) → length (slot_in image slot) ≡ 16
+  pub size : (slot : Slot) → length (slot_in image slot) ≡ SLOT_LEN
   pub synced : (slot : Slot) → is_written moment slot ≡ false → slot_in image slot ≡ slot_in (slots_at moment) slot
 
 -- a crash at one of these moments may have left the image

@@ -1,6 +1,7 @@
 -- The laws that a disk in memory keeps.
 use Rattle.std.specs.Prelude.{◌≡◌, List, [], ◌∷◌, length, drop, Some, unwrap_or, refl}
 use Rattle.std.proofs.Common.{inl, inr, ap, subst}
+use Rattle.yasir_io.specs.declared.disk.TheConstants.{SLOT_LEN}
 use Rattle.yasir_io.specs.declared.disk.Slot.TheVariants.{A, B}
 use Rattle.yasir_io.specs.declared.mem_slots.Moment.{Moment}
 use Rattle.yasir_io.specs.declared.mem_slots.MemSlots.{MemSlots}
@@ -10,7 +11,7 @@ use Rattle.yasir_io.specs.MemSlots.{IsImage, IsImageOfAny, slots_at, mem_slots, 
 -- the slots as they read are an image
 pub present_is_image : (moment : Moment) → IsImage moment (slots_at moment)
 present_is_image moment = record {
-  size = λ slot. elim slot as (λ slot. length (slot_in (slots_at moment) slot) ≡ 16) [ A ↦ moment.a_size | B ↦ moment.b_size ];
+  size = λ slot. elim slot as (λ slot. length (slot_in (slots_at moment) slot) ≡ SLOT_LEN) [ A ↦ moment.a_size | B ↦ moment.b_size ];
   synced = λ slot same. refl;
 }
 

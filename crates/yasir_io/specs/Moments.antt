@@ -13,11 +13,11 @@ module _ {D : Type 0} (moment : D → ℕ) (left_since : D → ℕ → Slots →
   leaves_of_call old new before after P time only_now from_before from_after = record {
     later = time.later;
     each = λ c left. elim (time.nothing_else (moment old) c (omega arith) left) as (λ _. P c) [
-      inl past ↦ from_before c (only_now c past)
+      | inl past ↦ from_before c (only_now c past)
       | inr now ↦ from_after c now
     ];
     before = λ t c le left. elim (time.nothing_else t c le left) as (λ _. left_since old t c ⊎ P c) [
-      inl past ↦ inl past
+      | inl past ↦ inl past
       | inr now ↦ inr (from_after c now)
     ];
   }
@@ -30,11 +30,11 @@ module _ {D : Type 0} (moment : D → ℕ) (left_since : D → ℕ → Slots →
       record {
         later = omega (arith, first.later, second.later);
         each = λ c left. elim (second.before (moment old) c later left) as (λ _. P c) [
-          inl past ↦ first.each c past
+          | inl past ↦ first.each c past
           | inr now ↦ now
         ];
         before = λ t c le left. elim (second.before t c (omega (arith, le, later)) left) as (λ _. left_since old t c ⊎ P c) [
-          inl past ↦ first.before t c le past
+          | inl past ↦ first.before t c le past
           | inr now ↦ inr now
         ];
       }
@@ -46,7 +46,7 @@ module _ {D : Type 0} (moment : D → ℕ) (left_since : D → ℕ → Slots →
     later = leaves.later;
     each = λ c left. weaker c (leaves.each c left);
     before = λ t c le left. elim (leaves.before t c le left) as (λ _. left_since old t c ⊎ Q c) [
-      inl past ↦ inl past
+      | inl past ↦ inl past
       | inr now ↦ inr (weaker c now)
     ];
   }

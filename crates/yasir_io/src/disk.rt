@@ -3,6 +3,12 @@ ghost use Rattle.yasir_io.specs.Causes.{HasCause};
 
 use crate::Failed;
 
+/// How many bytes a slot has.
+pub const SLOT_LEN: usize = 16;
+
+/// The bytes of a slot.
+pub type SlotBytes = [u8; SLOT_LEN];
+
 /// The name of a slot.
 #[derive(Clone, Copy, Debug, PartialEq, Eq)]
 pub enum Slot {
@@ -24,7 +30,7 @@ impl Slot {
     }
 }
 
-/// A disk of two slots of sixteen bytes.
+/// A disk of two slots.
 pub trait SlotDisk {
     ghost use Rattle.yasir_io.specs.Disks.{Slots, slot_in, with_slot, Torn, Follows, NoMore, OneImage, Elapses};
 
@@ -43,7 +49,7 @@ pub trait SlotDisk {
     /// How often a call has failed.
     ghost faults: { Self → ℕ };
 
-    fn read_slot(&mut self, slot: Slot) -> Result<[u8; 16], Failed>
+    fn read_slot(&mut self, slot: Slot) -> Result<SlotBytes, Failed>
         ensures bytes { IfOk result (λ bytes. IfSome (told self.old) (λ slots. bytes ≡ slot_in slots slot)) }
         ensures told { told self.new ≡ told self.old }
         ensures images { NoMore (may_leave self.old) (may_leave self.new) }
@@ -51,8 +57,8 @@ pub trait SlotDisk {
         ensures time { Elapses (moment self.old) (moment self.new) (left_since self.old) (left_since self.new) (may_leave self.new) }
         ensures cause { HasCause (faults self.old) (faults self.new) result };
 
-    /// Sets a slot. After a failure it reads as before, but a crash may leave any sixteen bytes there.
-    fn write_slot(&mut self, slot: Slot, bytes: &[u8; 16]) -> Result<(), Failed>
+    /// Sets a slot. After a failure it reads as before, but a crash may leave any bytes there.
+    fn write_slot(&mut self, slot: Slot, bytes: &SlotBytes) -> Result<(), Failed>
         ensures written { OnOk result (told self.new ≡ option_map (λ slots. with_slot slots slot bytes.now) (told self.old)) }
         ensures unwritten { OnErr result (told self.new ≡ told self.old) }
         ensures images { Follows (Torn slot) (may_leave self.old) (may_leave self.new) }

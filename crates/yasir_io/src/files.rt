@@ -4,7 +4,7 @@ ghost use Rattle.std.specs.Io.{ReadsAtMost};
 ghost use Rattle.yasir_io.specs.Edge.{file_faults, slots_faults};
 
 use crate::faults::Faults;
-use crate::{Failed, Slot, SlotDisk, Source};
+use crate::{Failed, SLOT_LEN, Slot, SlotBytes, SlotDisk, Source};
 use std::fs::{OpenFile, OpenOptions};
 use std::io::{self, Read, Seek, SeekFrom, Write};
 use std::rt::Files;
@@ -104,7 +104,7 @@ impl<'a, R: Files> FileSlots<'a, R> {
 fn place_of(slot: Slot) -> SeekFrom {
     match slot {
         Slot::A => SeekFrom::Start(0),
-        Slot::B => SeekFrom::Start(16),
+        Slot::B => SeekFrom::Start(SLOT_LEN as u64),
     }
 }
 
@@ -115,11 +115,11 @@ fn open_slots<'b, R: Files>(
     file.open(OpenOptions::new().read(true).write(true).create(create))
 }
 
-fn read_at<F: Read + Seek>(file: &mut F, slot: Slot) -> io::Result<[u8; 16]> {
+fn read_at<F: Read + Seek>(file: &mut F, slot: Slot) -> io::Result<SlotBytes> {
     file.seek(place_of(slot))?;
-    let mut bytes = [0; 16];
+    let mut bytes = [0; SLOT_LEN];
     let mut len = 0;
-    while len < 16 {
+    while len < SLOT_LEN {
         let n = file.read(&mut bytes[len..])?;
         if n == 0 {
             break;
@@ -129,9 +129,9 @@ fn read_at<F: Read + Seek>(file: &mut F, slot: Slot) -> io::Result<[u8; 16]> {
     Ok(bytes)
 }
 
-fn write_at<F: Write + Seek>(file: &mut F, slot: Slot, bytes: &[u8; 16]) -> io::Result<()> {
+fn write_at<F: Write + Seek>(file: &mut F, slot: Slot, bytes: &SlotBytes) -> io::Result<()> {
     file.seek(place_of(slot))?;
-    if file.write(bytes)? < 16 {
+    if file.write(bytes)? < SLOT_LEN {
         return Err(io::ErrorKind::WriteZero.into());
     }
     Ok(())
@@ -141,7 +141,7 @@ fn read_slot_of<R: Files>(
     file: &mut LazyFile<'_, R>,
     create: bool,
     slot: Slot,
-) -> io::Result<[u8; 16]> {
+) -> io::Result<SlotBytes> {
     read_at(open_slots(file, create)?, slot)
 }
 
@@ -149,7 +149,7 @@ fn write_slot_of<R: Files>(
     file: &mut LazyFile<'_, R>,
     create: bool,
     slot: Slot,
-    bytes: &[u8; 16],
+    bytes: &SlotBytes,
 ) -> io::Result<()> {
     write_at(open_slots(file, create)?, slot, bytes)
 }
@@ -175,14 +175,14 @@ impl<'a, R: Files> SlotDisk for FileSlots<'a, R> {
 
     ghost only_now = { λ disk c image. image };
 
-    fn read_slot(&mut self, slot: Slot) -> Result<[u8; 16], Failed> {
+    fn read_slot(&mut self, slot: Slot) -> Result<SlotBytes, Failed> {
         match read_slot_of(&mut self.file, self.create, slot) {
             Ok(bytes) => Ok(bytes),
             Err(_) => Err(self.faults.add()),
         }
     }
 
-    fn write_slot(&mut self, slot: Slot, bytes: &[u8; 16]) -> Result<(), Failed> {
+    fn write_slot(&mut self, slot: Slot, bytes: &SlotBytes) -> Result<(), Failed> {
         match write_slot_of(&mut self.file, self.create, slot, bytes) {
             Ok(()) => Ok(()),
             Err(_) => Err(self.faults.add()),

@@ -18,7 +18,7 @@ mod tests;
 mod text_buffer;
 
 pub use calls::{NoMemory, Plan};
-pub use disk::{Slot, SlotDisk};
+pub use disk::{SLOT_LEN, Slot, SlotBytes, SlotDisk};
 pub use edge::{StderrSink, StdinSource, StdoutSink, WriterSink};
 pub use files::{FileSlots, FileSource};
 pub use mem_sink::MemSink;

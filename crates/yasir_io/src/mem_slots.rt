@@ -1,18 +1,19 @@
 ghost use Rattle.std.specs.Prelude.{◌≡◌, ◌≤◌, length, vec_len, vec_capacity};
+ghost use Rattle.yasir_io.specs.declared.disk.TheConstants.{SLOT_LEN};
 
 use crate::calls::{Calls, NoMemory, Plan};
-use crate::{Failed, Slot, SlotDisk};
+use crate::{Failed, SLOT_LEN, Slot, SlotBytes, SlotDisk};
 use std::alloc::Global;
 
 /// Both slots at a moment, and which of them were written since the last sync.
 #[derive(Clone, Copy)]
 pub(crate) struct Moment {
-    a: [u8; 16],
-    b: [u8; 16],
+    a: SlotBytes,
+    b: SlotBytes,
     a_written: bool,
     b_written: bool,
-    ghost a_size: { length a ≡ 16 },
-    ghost b_size: { length b ≡ 16 },
+    ghost a_size: { length a ≡ SLOT_LEN },
+    ghost b_size: { length b ≡ SLOT_LEN },
 }
 
 /// A disk in memory, which fails at chosen calls. It keeps a record of its calls, and so tells what a crash at any
@@ -33,7 +34,7 @@ impl Moment {
     ghost use Rattle.yasir_io.specs.Disks.{slot_in, with_slot, other_slot};
     ghost use Rattle.yasir_io.specs.MemSlots.{slots_at, is_written};
 
-    fn slot(&self, which: Slot) -> [u8; 16]
+    fn slot(&self, which: Slot) -> SlotBytes
         ensures { result ≡ slot_in (slots_at self.now) which }
     {
         match which {
@@ -42,7 +43,7 @@ impl Moment {
         }
     }
 
-    fn set(&mut self, which: Slot, bytes: [u8; 16])
+    fn set(&mut self, which: Slot, bytes: SlotBytes)
         ensures slots { slots_at self.new ≡ with_slot (slots_at self.old) which bytes }
         ensures written { (slot : Slot) → is_written self.new slot ≡ is_written self.old slot }
     {
@@ -83,8 +84,8 @@ impl MemSlots {
     /// The calls in `fail`, counted from 1, fail, and so does each one past `calls`.
     pub fn with_room(
         alloc: Global,
-        a: [u8; 16],
-        b: [u8; 16],
+        a: SlotBytes,
+        b: SlotBytes,
         calls: usize,
         fail: Plan,
     ) -> Result<MemSlots, NoMemory>
@@ -111,7 +112,7 @@ impl MemSlots {
     }
 
     /// The slot as a read gives it. It doesn't count as a call.
-    pub fn slot(&self, which: Slot) -> [u8; 16]
+    pub fn slot(&self, which: Slot) -> SlotBytes
         ensures { result ≡ slot_in (mem_slots self.now) which }
     {
         self.present.slot(which)
@@ -176,7 +177,7 @@ impl SlotDisk for MemSlots {
 
     ghost only_now = { λ disk c left. only_now_law disk c left };
 
-    fn read_slot(&mut self, slot: Slot) -> Result<[u8; 16], Failed>
+    fn read_slot(&mut self, slot: Slot) -> Result<SlotBytes, Failed>
         ensures bytes { IfOk result (λ bytes. IfSome (Some (mem_slots self.old)) (λ slots. bytes ≡ slot_in slots slot)) }
         ensures told { Some (mem_slots self.new) ≡ Some (mem_slots self.old) }
         ensures images { NoMore (MayLeave self.old) (MayLeave self.new) }
@@ -194,7 +195,7 @@ impl SlotDisk for MemSlots {
         Ok(self.slot(slot))
     }
 
-    fn write_slot(&mut self, slot: Slot, bytes: &[u8; 16]) -> Result<(), Failed>
+    fn write_slot(&mut self, slot: Slot, bytes: &SlotBytes) -> Result<(), Failed>
         ensures written { OnOk result (Some (mem_slots self.new) ≡ option_map (λ slots. with_slot slots slot bytes.now) (Some (mem_slots self.old))) }
         ensures unwritten { OnErr result (Some (mem_slots self.new) ≡ Some (mem_slots self.old)) }
         ensures images { Follows (Torn slot) (MayLeave self.old) (MayLeave self.new) }

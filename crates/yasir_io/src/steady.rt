@@ -2,7 +2,7 @@ ghost use Rattle.std.specs.Prelude.{◌≡◌, Some};
 ghost use Rattle.yasir_io.specs.Disks.{slot_in};
 ghost use Rattle.yasir_io.specs.Steady.{steady_bytes, steady_slots};
 
-use crate::{Failed, Slot, SlotDisk, Source};
+use crate::{Failed, Slot, SlotBytes, SlotDisk, Source};
 
 /// Bytes in memory as a source that never fails.
 #[derive(Drop)]
@@ -36,20 +36,20 @@ impl<'a> Source for SteadySource<'a> {
 /// Two slots in memory. No call fails, and of a crash nothing is told.
 #[derive(Drop)]
 pub struct SteadySlots {
-    a: [u8; 16],
-    b: [u8; 16],
+    a: SlotBytes,
+    b: SlotBytes,
 }
 
 impl SteadySlots {
     /// A disk with these slots.
-    pub fn new(a: [u8; 16], b: [u8; 16]) -> SteadySlots
+    pub fn new(a: SlotBytes, b: SlotBytes) -> SteadySlots
         ensures { steady_slots result ≡ record { a = a; b = b } }
     {
         SteadySlots { a, b }
     }
 
     /// The slot as a read gives it. It doesn't count as a call.
-    pub fn slot(&self, which: Slot) -> [u8; 16]
+    pub fn slot(&self, which: Slot) -> SlotBytes
         ensures { result ≡ slot_in (steady_slots self.now) which }
     {
         match which {
@@ -76,11 +76,11 @@ impl SlotDisk for SteadySlots {
 
     ghost only_now = { λ disk c image. image };
 
-    fn read_slot(&mut self, slot: Slot) -> Result<[u8; 16], Failed> {
+    fn read_slot(&mut self, slot: Slot) -> Result<SlotBytes, Failed> {
         Ok(self.slot(slot))
     }
 
-    fn write_slot(&mut self, slot: Slot, bytes: &[u8; 16]) -> Result<(), Failed> {
+    fn write_slot(&mut self, slot: Slot, bytes: &SlotBytes) -> Result<(), Failed> {
         match slot {
             Slot::A => self.a = *bytes,
             Slot::B => self.b = *bytes,

@@ -1,0 +1,35 @@
+-- The command `init`: what it leaves on the disk, and when each status comes.
+use Rattle.std.specs.Prelude.{◌≡◌, ℕ, List, Option, Some, None, IfSome}
+use Rattle.yasir_io.specs.declared.disk.Slot.TheVariants.{A}
+use Rattle.yasir_io.specs.Disks.{Slots, NoMore, OneImage}
+use Rattle.sequence_journal.specs.Slots.{slot_bytes, floor_of}
+use Rattle.sequence_journal.specs.Journal.{told_with, MaySet}
+use Rattle.link_replay.specs.declared.status.Status.{Status}
+use Rattle.link_replay.specs.declared.status.Status.TheVariants.{Done, Usage, BadTicks, ReadFault, WriteFault, JournalFault, TooLong, HasJournal}
+
+-- Neither slot held a number; slot A holds number 0, slot B is as it was, and a crash leaves just this.
+pub record IsNewJournal (old new : Option Slots) (may_leave : Slots → Type 0) : Type 0 where
+  pub none : IfSome old (λ slots. floor_of slots ≡ None)
+  pub set : new ≡ told_with old A (slot_bytes 0)
+  pub synced : OneImage new may_leave
+
+-- A slot holds a number, the greater one is the floor, and nothing is written.
+pub record IsOldJournal (old new : Option Slots) (may_leave_old may_leave_new : Slots → Type 0) (floor : ℕ) : Type 0 where
+  pub stands : IfSome old (λ slots. floor_of slots ≡ Some floor)
+  pub same : new ≡ old
+  pub images : NoMore may_leave_old may_leave_new
+  pub images_back : NoMore may_leave_new may_leave_old
+
+abbrev pub MakesJournal : Option Slots → Option Slots → (Slots → Type 0) → (Slots → Type 0) → Status → Type 0
+MakesJournal old new may_leave_old may_leave_new Done = IsNewJournal old new may_leave_new
+MakesJournal old new may_leave_old may_leave_new WriteFault = IsNewJournal old new may_leave_new
+MakesJournal old new may_leave_old may_leave_new (HasJournal floor) = IsOldJournal old new may_leave_old may_leave_new floor
+MakesJournal old new may_leave_old may_leave_new JournalFault = MaySet old A (slot_bytes 0) new
+MakesJournal old new may_leave_old may_leave_new Usage = ⊥
+MakesJournal old new may_leave_old may_leave_new (BadTicks bad) = ⊥
+MakesJournal old new may_leave_old may_leave_new ReadFault = ⊥
+MakesJournal old new may_leave_old may_leave_new (TooLong what count) = ⊥
+
+-- The disk tells two slots that hold no number.
+abbrev pub IsBlank : Option Slots → Type 0
+IsBlank told = (slots : Slots) × (told ≡ Some slots) × (floor_of slots ≡ None)

@@ -1,0 +1,31 @@
+-- The command `vectors`: a line for each table of known answers.
+use Rattle.std.specs.Prelude.{◌≡◌, ℕ, List, ◌++◌, length, Option, Result, Ok, Err, codes, decimal}
+use Rattle.std.specs.Io.KnownBytes.{append_known}
+use Rattle.yasir_io.specs.Output.{GotPrefix}
+use Rattle.vectors.specs.Cases.{answer}
+use Rattle.vectors.specs.Tables.{crc_cases, hmac_cases, frames_cases}
+use Rattle.vectors.specs.declared.table.Miss.{Miss}
+use Rattle.link_replay.specs.declared.status.Status.{Status}
+use Rattle.link_replay.specs.declared.status.Status.TheVariants.{Done, Usage, BadTicks, ReadFault, WriteFault, JournalFault, TooLong, HasJournal}
+
+-- `NAME N ok`, or `NAME miss ROW` with the first row that isn't right
+abbrev pub table_line : List ℕ → ℕ → Result (Unit {0}) Miss → List ℕ
+table_line name rows (Ok x) = name ++ codes " " ++ decimal rows ++ codes " ok\n"
+table_line name rows (Err miss) = name ++ codes " miss " ++ decimal miss.row ++ codes "\n"
+
+-- the lines of all tables, each with what the definitions answer to it
+abbrev pub table_lines : List ℕ
+table_lines =
+    table_line (codes "crc") (length crc_cases) (answer crc_cases)
+    ++ table_line (codes "hmac") (length hmac_cases) (answer hmac_cases)
+    ++ table_line (codes "frames") (length frames_cases) (answer frames_cases)
+
+abbrev pub PrintsTables : Option (List ℕ) → Option (List ℕ) → Status → Type 0
+PrintsTables out_before out_now Done = out_now ≡ append_known out_before table_lines
+PrintsTables out_before out_now WriteFault = GotPrefix out_before out_now table_lines
+PrintsTables out_before out_now Usage = ⊥
+PrintsTables out_before out_now (BadTicks bad) = ⊥
+PrintsTables out_before out_now ReadFault = ⊥
+PrintsTables out_before out_now JournalFault = ⊥
+PrintsTables out_before out_now (TooLong what count) = ⊥
+PrintsTables out_before out_now (HasJournal floor) = ⊥
