@@ -1,9 +1,12 @@
-use crate::{Status, run};
-use std::alloc::Global;
+use crate::{Status, journal_word, key_word, run};
+use std::alloc::{AllocError, Global};
 use std::process::Abort;
 use std::test::Fail;
+use std::{env, fs};
 use tick_drive::TooMuch;
-use yasir_io::{MemSink, MemSource, Plan, SteadySlots, SteadySource};
+use yasir_io::{
+    FileSlots, MemSink, MemSlots, MemSource, Plan, Sink, Slot, SlotDisk, SteadySlots, SteadySource,
+};
 use yasir_ticks::{BadTicks, TickFault};
 
 const READ_RTU: &[&str] = &["read", "rtu"];
@@ -50,6 +53,41 @@ fn plan(calls: &[u32]) -> Plan {
     plan
 }
 
+fn strings(alloc: Global, words: &[&str]) -> Result<Vec<String>, AllocError> {
+    let mut strings = Vec::new(alloc);
+    for word in words {
+        strings.push(String::from_str(alloc, *word)?)?;
+    }
+    Ok(strings)
+}
+
+fn replay_over<D: SlotDisk>(
+    rt: &impl Abort,
+    alloc: Global,
+    words: &[&str],
+    text: &[u8],
+    outside: &Outside,
+    disk: &mut D,
+) -> Result<Ran, Fail> {
+    let piece = outside.piece;
+    assert!(rt; piece >= 1 && piece <= 512);
+    let words = strings(alloc, words)?;
+    let mut key = SteadySource::new(&[]);
+    let mut input = MemSource::new(text, piece, plan(outside.input));
+    let mut out = MemSink::with_room(alloc, 20000, piece, plan(outside.out))?;
+    let mut log = MemSink::with_room(alloc, 100, piece, plan(outside.log))?;
+    let status = run(
+        alloc,
+        words.as_slice(),
+        &mut key,
+        &mut input,
+        &mut out,
+        &mut log,
+        disk,
+    );
+    Ok(Ran { status, out, log })
+}
+
 fn replay(
     rt: &impl Abort,
     alloc: Global,
@@ -57,27 +95,8 @@ fn replay(
     text: &[u8],
     outside: &Outside,
 ) -> Result<Ran, Fail> {
-    let piece = outside.piece;
-    assert!(rt; piece >= 1 && piece <= 512);
-    let mut given = Vec::new(alloc);
-    for word in words {
-        given.push(String::from_str(alloc, *word)?)?;
-    }
-    let mut key = SteadySource::new(&[]);
-    let mut input = MemSource::new(text, piece, plan(outside.input));
-    let mut out = MemSink::with_room(alloc, 20000, piece, plan(outside.out))?;
-    let mut log = MemSink::with_room(alloc, 100, piece, plan(outside.log))?;
     let mut disk = SteadySlots::new([0; 16], [0; 16]);
-    let status = run(
-        alloc,
-        given.as_slice(),
-        &mut key,
-        &mut input,
-        &mut out,
-        &mut log,
-        &mut disk,
-    );
-    Ok(Ran { status, out, log })
+    replay_over(rt, alloc, words, text, outside, &mut disk)
 }
 
 #[test]
@@ -326,7 +345,7 @@ fn writes_a_front_of_a_long_answer(rt: HostRuntime) -> Result<(), Fail> {
 
 #[test]
 fn refuses_words_of_no_command(rt: HostRuntime) -> Result<(), Fail> {
-    let rows: [&[&str]; 7] = [
+    let rows: [&[&str]; 10] = [
         &[],
         &["read"],
         &["read", "dnp3"],
@@ -334,6 +353,9 @@ fn refuses_words_of_no_command(rt: HostRuntime) -> Result<(), Fail> {
         &["read", "RTU"],
         &["rtu", "read"],
         &["seal", "rtu"],
+        &["init"],
+        &["init", ""],
+        &["vectors", "x"],
     ];
     for words in rows {
         let ran = replay(&rt, rt.alloc(), words, REQUEST, &STEADY)?;
@@ -341,6 +363,186 @@ fn refuses_words_of_no_command(rt: HostRuntime) -> Result<(), Fail> {
         assert_eq!(rt; ran.status.code(), 2);
         assert_eq!(rt; ran.out.held(), b"".as_slice());
         assert_eq!(rt; ran.log.held(), b"fault: usage\n".as_slice());
+        let words = strings(rt.alloc(), words)?;
+        assert_eq!(rt; key_word(words.as_slice()), None);
+        assert_eq!(rt; journal_word(words.as_slice()), None);
+    }
+    let words = strings(rt.alloc(), &["init", "journal"])?;
+    assert_eq!(rt; key_word(words.as_slice()), None);
+    assert_eq!(rt; journal_word(words.as_slice()), Some(1));
+    Ok(())
+}
+
+#[test]
+fn flushes_for_an_answer_alone(rt: HostRuntime) -> Result<(), Fail> {
+    // words, text, fault line: no call is made on the output, so the next one is its first, which fails
+    let rows: [(&[&str], &[u8], &[u8]); 2] = [
+        (READ_RTU, b"x", b"fault: line 1 char\n"),
+        (&["read"], b"", b"fault: usage\n"),
+    ];
+    for (words, text, fault) in rows {
+        let mut ran = replay(&rt, rt.alloc(), words, text, &failing(512, &[], &[1], &[]))?;
+        assert_eq!(rt; ran.log.held(), fault);
+        assert!(rt; ran.out.flush().is_err());
+        assert!(rt; ran.out.flush().is_ok());
+    }
+    Ok(())
+}
+
+#[test]
+fn prints_what_the_tables_answer(rt: HostRuntime) -> Result<(), Fail> {
+    let lines: &[u8] = b"crc 2 ok\nhmac 5 ok\nframes 5 ok\n";
+    // the calls of the output that fail, status, what the output holds
+    let rows: [(&[u32], Status, &[u8]); 3] = [
+        (&[], Status::Done, lines),
+        (&[1], Status::WriteFault, b""),
+        (&[2], Status::WriteFault, lines),
+    ];
+    for (fail, status, held) in rows {
+        let ran = replay(
+            &rt,
+            rt.alloc(),
+            &["vectors"],
+            b"",
+            &failing(512, &[], fail, &[]),
+        )?;
+        assert_eq!(rt; ran.status, status);
+        assert_eq!(rt; ran.out.held(), held);
+        assert_eq!(rt; ran.log.held(), b"".as_slice());
+    }
+    Ok(())
+}
+
+const INIT: &[&str] = &["init", "journal"];
+
+/// A slot that holds number 0, and one that holds none.
+const NUMBER_0: [u8; 16] = [
+    0, 0, 0, 0, 0, 0, 0, 0, 255, 255, 255, 255, 255, 255, 255, 255,
+];
+
+const NO_NUMBER: [u8; 16] = [0x11; 16];
+
+#[test]
+fn makes_a_journal_in_memory(rt: HostRuntime) -> Result<(), Fail> {
+    let stands = Status::HasJournal { floor: 0 };
+    // slot A, slot B, the call that fails, status, code, fault line, slot A then
+    let rows: [([u8; 16], [u8; 16], &[u32], Status, u8, &[u8], [u8; 16]); 7] = [
+        (NO_NUMBER, NO_NUMBER, &[], Status::Done, 0, b"", NUMBER_0),
+        (
+            NUMBER_0,
+            [0; 16],
+            &[],
+            stands,
+            11,
+            b"fault: journal stands at 0\n",
+            NUMBER_0,
+        ),
+        (
+            NO_NUMBER,
+            NUMBER_0,
+            &[],
+            stands,
+            11,
+            b"fault: journal stands at 0\n",
+            NO_NUMBER,
+        ),
+        (
+            NO_NUMBER,
+            NO_NUMBER,
+            &[1],
+            Status::JournalFault,
+            7,
+            b"fault: journal\n",
+            NO_NUMBER,
+        ),
+        (
+            NO_NUMBER,
+            NO_NUMBER,
+            &[2],
+            Status::JournalFault,
+            7,
+            b"fault: journal\n",
+            NO_NUMBER,
+        ),
+        (
+            NO_NUMBER,
+            NO_NUMBER,
+            &[3],
+            Status::JournalFault,
+            7,
+            b"fault: journal\n",
+            NO_NUMBER,
+        ),
+        (
+            NO_NUMBER,
+            NO_NUMBER,
+            &[4],
+            Status::JournalFault,
+            7,
+            b"fault: journal\n",
+            NUMBER_0,
+        ),
+    ];
+    for (a, b, fail, status, code, fault, now) in rows {
+        let mut disk = MemSlots::with_room(rt.alloc(), a, b, 8, plan(fail))?;
+        let ran = replay_over(&rt, rt.alloc(), INIT, b"", &STEADY, &mut disk)?;
+        assert_eq!(rt; ran.status, status);
+        assert_eq!(rt; ran.status.code(), code);
+        assert_eq!(rt; ran.out.held(), b"".as_slice());
+        assert_eq!(rt; ran.log.held(), fault);
+        assert_eq!(rt; disk.slot(Slot::A), now);
+        assert_eq!(rt; disk.slot(Slot::B), b);
+    }
+    Ok(())
+}
+
+// A path of this process's own, where no file stands.
+fn fresh_path(rt: &HostRuntime, name: &str) -> Result<String, Fail> {
+    let folder = env::temp_dir(rt)?;
+    let id = std::process::id(rt.process());
+    let path = format!(in rt.alloc(); "{}/link_replay_{id}_{name}", folder.display())?;
+    let _ = fs::remove_file(rt, path.as_str());
+    Ok(path)
+}
+
+#[test]
+fn makes_a_journal_in_a_file(rt: HostRuntime) -> Result<(), Fail> {
+    let missing = fresh_path(&rt, "missing")?;
+    let empty = fresh_path(&rt, "empty")?;
+    fs::write(&rt, empty.as_str(), "")?;
+    let stands = Status::HasJournal { floor: 0 };
+    // Each file first has no journal, and then the one that was made.
+    let rows: [(Option<String>, Status, &[u8]); 6] = [
+        (Some(missing.clone()?), Status::Done, b""),
+        (
+            Some(missing.clone()?),
+            stands,
+            b"fault: journal stands at 0\n",
+        ),
+        (Some(empty.clone()?), Status::Done, b""),
+        (
+            Some(empty.clone()?),
+            stands,
+            b"fault: journal stands at 0\n",
+        ),
+        (
+            Some(String::from_str(rt.alloc(), ".")?),
+            Status::JournalFault,
+            b"fault: journal\n",
+        ),
+        (None, Status::JournalFault, b"fault: journal\n"),
+    ];
+    for (path, status, fault) in rows {
+        let mut disk = FileSlots::new(&rt, path, true);
+        let ran = replay_over(&rt, rt.alloc(), INIT, b"", &STEADY, &mut disk)?;
+        assert_eq!(rt; ran.status, status);
+        assert_eq!(rt; ran.log.held(), fault);
+    }
+    for path in [missing, empty] {
+        let mut disk = FileSlots::new(&rt, Some(path.clone()?), false);
+        assert_eq!(rt; disk.read_slot(Slot::A), Ok(NUMBER_0));
+        assert_eq!(rt; disk.read_slot(Slot::B), Ok([0; 16]));
+        fs::remove_file(&rt, path.as_str())?;
     }
     Ok(())
 }
