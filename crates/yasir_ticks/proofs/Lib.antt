@@ -10,3 +10,5 @@ pub mod Feeding
 pub mod BurstsOfLaws
 pub mod HexValues
 pub mod Worked
+pub mod Writing
+pub mod Writers
