@@ -12,3 +12,4 @@ pub mod HexValues
 pub mod Worked
 pub mod Writing
 pub mod Writers
+pub mod CanonicalLaws
