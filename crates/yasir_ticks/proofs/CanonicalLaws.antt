@@ -79,6 +79,7 @@ bytes_from (b ∷ l) all i = at_index i (within (length (b ∷ l)) i)
   where
     within : (n i : ℕ) → (i < n) ⊎ (n ≤ i)
     within n i = cases_lt i n
+
     at_index : (i : ℕ) → (i < length (b ∷ l)) ⊎ (length (b ∷ l) ≤ i) → get_or (b ∷ l) i 0 < 256
     at_index i (inl h) = All-get_or (λ x. x < 256) (b ∷ l) i 0 h all
     at_index i (inr h) = rw (get_or_past (b ∷ l) i 0 h) (omega arith)

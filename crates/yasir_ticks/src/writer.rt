@@ -10,6 +10,9 @@ use itoa::Buffer;
 /// The text of one line of tick text, its LF included.
 pub type LineText = ArrayVec<u8, 66>;
 
+/// The most bytes that one line stands for.
+const MAX_BYTES: usize = 32;
+
 /// The most silent ticks that one line stands for.
 const MAX_SILENCE: u32 = 1_000_000;
 
@@ -73,7 +76,8 @@ impl TickWriter {
     {
         match &mut self.unfilled {
             Run::Bytes(line) => {
-                if line.len() < 31 {
+                let after = line.len() + 1;
+                if after < MAX_BYTES {
                     line.push(b);
                     return LineText::new();
                 }
@@ -99,8 +103,9 @@ impl TickWriter {
     {
         match &mut self.unfilled {
             Run::Silence(n) => {
-                if *n + 1 < MAX_SILENCE {
-                    *n += 1;
+                let after = *n + 1;
+                if after < MAX_SILENCE {
+                    *n = after;
                     return LineText::new();
                 }
                 self.unfilled = Run::Nothing;

@@ -3,11 +3,11 @@ use Rattle.arrayvec.specs.ArrayVec.{array_vec_len}
 use Rattle.yasir_ticks.proofs.Writers.{byte_joins, byte_fills, byte_ends_silence, byte_begins}
 use Rattle.yasir_ticks.proofs.writer.TickWriter.push_byte.Goals as goal
 
-pub returns-then-len-lt31 : goal.returns-then-len-lt31
-returns-then-len-lt31 c = byte_joins _ c.in-Bytes.line c.push.new.self _ _ c.in-Bytes.is c.push.ensures.items c.new.ensures
+pub returns-then-after-lt-MAX_BYTES : goal.returns-then-after-lt-MAX_BYTES
+returns-then-after-lt-MAX_BYTES c = byte_joins _ c.in-Bytes.line c.push.new.self _ _ c.in-Bytes.is c.push.ensures.items c.new.ensures
 
-pub returns-else-len-lt31 : goal.returns-else-len-lt31
-returns-else-len-lt31 c =
+pub returns-else-after-lt-MAX_BYTES : goal.returns-else-after-lt-MAX_BYTES
+returns-else-after-lt-MAX_BYTES c =
     let enough : 31 ≤ length c.in-Bytes.line.items = omega arith in
     byte_fills _ c.in-Bytes.line _ _ _ c.in-Bytes.is c.args.self.now.room enough
     (rw (← c.take-filled.ensures.value) c.push-in-Bytes.ensures.items) c.hex_line.ensures
