@@ -160,7 +160,7 @@ module _ (cut : ℕ) where
   bursts_from-silent n (Silent ∷ l) = bursts_from-silent (suc n) l
   bursts_from-silent n (Byte a ∷ l) = ap (λ x. with_byte cut n a x) (bursts_from-silent (suc n) l)
 
-  extended-nil : (m b : ℕ) → extended cut m b [] ≡ alone m b ∷ []
+  pub extended-nil : (m b : ℕ) → extended cut m b [] ≡ alone m b ∷ []
   unfolding extended
   extended-nil m b = refl
 
