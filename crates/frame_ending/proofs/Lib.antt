@@ -1,0 +1,5 @@
+pub mod Pauses
+pub mod Rooms
+pub mod LastBurst
+pub mod BurstSteps
+pub mod Cutting

@@ -14,3 +14,7 @@ pub record StandsFor {R : Type 0} (rules : Rules) (stands : R → List ℕ → T
   pub extra_is : value.extra ≡ has_extra_so_far rules line
   pub paused_is : value.paused ≡ has_paused_so_far line
   pub bytes : stands value.rules (live_bytes_so_far rules line)
+
+-- how many ticks it has taken
+abbrev pub ticks_taken : {R : Type 0} → BurstCut R → ℕ
+ticks_taken value = value.taken
