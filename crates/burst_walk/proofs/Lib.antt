@@ -1,2 +1,4 @@
 pub mod Spread
+pub mod Images
 pub mod Walks
+pub mod Longer

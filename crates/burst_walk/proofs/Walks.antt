@@ -13,30 +13,8 @@ use Rattle.yasir_ticks.proofs.BurstLaws.{alone, with_last, extended, extended-ni
 use Rattle.burst_walk.specs.Laid.{tick_at, laid}
 use Rattle.burst_walk.specs.Walk.{Walker, Noted, noted, walked, imaged, state_after, notes_before, notes_at, notes_of, line_of}
 use Rattle.burst_walk.specs.Causal.{IsCausal, MayGoOn, GoesOn, going_on}
+use Rattle.burst_walk.proofs.Images.{tick_at-none, tick_at-front, laid-more, laid-same}
 use Rattle.burst_walk.proofs.Spread.{AreSpread, EndBy, bursts-spread, bursts-end}
-
--- ---- images
-
-tick_at-none : (i : ℕ) → tick_at [] i ≡ Silent
-unfolding tick_at
-tick_at-none i = refl
-
--- images in front of others hide the same ticks, whatever the others are
-pub tick_at-front : (front a b : List Burst) (i : ℕ) → tick_at a i ≡ tick_at b i → tick_at (front ++ a) i ≡ tick_at (front ++ b) i
-unfolding tick_at
-tick_at-front [] a b i same = same
-tick_at-front (d ∷ front) a b i same =
-    ap (λ t. cond (nat_le d.start i && nat_lt i (end_of d)) (get_or d.body (i - d.start) Silent) t) (tick_at-front front a b i same)
-
-pub laid-more : (m : ℕ) (images : List Burst) → laid (m + 1) images ≡ laid m images ++ tick_at images m ∷ []
-laid-more m images = map-range_with_len_more (λ i. tick_at images i) 0 m m (omega arith)
-
-laid-same : (a n : ℕ) (f g : ℕ → Tick) → ((i : ℕ) → i < a + n → f i ≡ g i) → map f (range_with_len a n) ≡ map g (range_with_len a n)
-laid-same a zero f g same = refl
-laid-same a (suc n) f g same =
-    let first : a < a + suc n = omega arith in
-    rw (same a first)
-    (ap (λ l. g a ∷ l) (laid-same (a + 1) n f g (λ i below. let h : i < a + suc n = omega arith in same i h)))
 
 -- ---- walks in two parts
 

@@ -1,0 +1,43 @@
+-- A causal walk on longer lines: notes and line begin with those of the line.
+use Rattle.std.proofs.Common.{◌≡◌, ◌∙◌, ℕ, ◌+◌, ◌<◌, ◌≤◌, List, [], ◌∷◌, ◌++◌, length, refl, sym, ap, subst, arith, append_assoc}
+use Rattle.std.proofs.lemmas.List.{append-nil}
+use Rattle.std.proofs.lemmas.List.FromFn.{length-map-range_with_len}
+use Rattle.yasir_ticks.specs.Bursts.{Burst, bursts}
+use Rattle.yasir_ticks.specs.declared.tick.Tick.{Tick}
+use Rattle.burst_walk.specs.Laid.{tick_at, laid}
+use Rattle.burst_walk.specs.Walk.{Walker, Noted, walked, imaged, notes_at, notes_of, line_of}
+use Rattle.burst_walk.specs.Causal.{IsCausal, GoesOn}
+use Rattle.burst_walk.specs.Longer.{Begins, Extends}
+use Rattle.burst_walk.proofs.Walks.{goes_on}
+
+begins-more : {A : Type 0} (a b c : List A) (added : List A) → b ≡ a ++ added → Begins b c → Begins a c
+begins-more a b c added is begins = record {
+  rest = added ++ begins.rest;
+  is = begins.is ∙ (ap (λ x. x ++ begins.rest) is ∙ append_assoc a added begins.rest);
+}
+
+-- the line of the link is as long as the device's
+pub length-line_of : {S N : Type 0} (w : Walker S N) (s : S) (line : List Tick) → length (line_of w s line) ≡ length line
+length-line_of w s line = length-map-range_with_len (λ i. tick_at (imaged w s (bursts line)) i) 0 (length line)
+
+module _ {S N : Type 0} (w : Walker S N) (causal : IsCausal w) where
+  pub extends : (s : S) (line more : List Tick) → Extends w s line more
+  extends s line [] =
+      let P : List Tick → Type 0 = λ l. Extends w s line l in
+      let same : Begins (notes_of w s line) (notes_of w s (line ++ [])) =
+      record { rest = []; is = ap (λ l. notes_of w s l) (append-nil line) ∙ sym (append-nil (notes_of w s line)) } in
+      let ticks : Begins (line_of w s line) (line_of w s (line ++ [])) =
+      record { rest = []; is = ap (λ l. line_of w s l) (append-nil line) ∙ sym (append-nil (line_of w s line)) } in
+      record { notes = same; ticks = ticks }
+  extends s line (t ∷ more) =
+      let on : GoesOn w s line t = goes_on w causal s line t in
+      let rest : Extends w s (line ++ t ∷ []) more = extends s (line ++ t ∷ []) more in
+      let whole : (line ++ t ∷ []) ++ more ≡ line ++ t ∷ more = append_assoc line (t ∷ []) more in
+      let P : List Tick → Type 0 = λ l. Begins (notes_of w s (line ++ t ∷ [])) (notes_of w s l) in
+      let Q : List Tick → Type 0 = λ l. Begins (line_of w s (line ++ t ∷ [])) (line_of w s l) in
+      record {
+        notes = begins-more (notes_of w s line) (notes_of w s (line ++ t ∷ [])) (notes_of w s (line ++ t ∷ more))
+            (notes_at (length line) (walked w s (bursts (line ++ t ∷ [])))) on.notes (subst P whole rest.notes);
+        ticks = begins-more (line_of w s line) (line_of w s (line ++ t ∷ [])) (line_of w s (line ++ t ∷ more))
+            (tick_at (imaged w s (bursts (line ++ t ∷ []))) (length line) ∷ []) on.ticks (subst Q whole rest.ticks);
+      }
