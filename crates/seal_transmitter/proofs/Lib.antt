@@ -1,1 +1,4 @@
 pub mod Worked
+pub mod LiveTicks
+pub mod Causality
+pub mod Profiles
