@@ -50,6 +50,10 @@ pub struct TickWriter {
 }
 
 impl TickWriter {
+    ghost use Rattle.std.specs.Prelude.{map};
+    ghost use Rattle.yasir_ticks.specs.Ticks.{AreTicks};
+    ghost use Rattle.yasir_ticks.specs.Ticks.Item.{tick};
+    ghost use Rattle.yasir_ticks.specs.TickText.{IsTickText};
     ghost use Rattle.yasir_ticks.specs.CanonicalText.{canonical_text};
     ghost use Rattle.yasir_ticks.specs.Writer.{HasWritten, Writes, BeginsWith};
 
@@ -138,8 +142,10 @@ impl TickWriter {
 
     /// Takes the end of the ticks, and answers the line that isn't filled, or an empty text.
     pub fn finish(self) -> LineText
-        ensures { (ticks : List Tick) (answered : List ℕ) → HasWritten self ticks answered
+        ensures whole { (ticks : List Tick) (answered : List ℕ) → HasWritten self ticks answered
             → answered ++ result.items ≡ canonical_text ticks }
+        ensures reads { (ticks : List Tick) (answered : List ℕ) → HasWritten self ticks answered → AreTicks ticks
+            → IsTickText 0 (answered ++ result.items) (map tick ticks) }
     {
         match &self.unfilled {
             Run::Nothing => LineText::new(),
