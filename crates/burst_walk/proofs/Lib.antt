@@ -2,3 +2,4 @@ pub mod Spread
 pub mod Images
 pub mod Walks
 pub mod Longer
+pub mod LastNote

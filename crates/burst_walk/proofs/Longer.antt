@@ -2,10 +2,12 @@
 use Rattle.std.proofs.Common.{◌≡◌, ◌∙◌, ℕ, ◌+◌, ◌<◌, ◌≤◌, List, [], ◌∷◌, ◌++◌, length, refl, sym, ap, subst, arith, append_assoc}
 use Rattle.std.proofs.lemmas.List.{append-nil}
 use Rattle.std.proofs.lemmas.List.FromFn.{length-map-range_with_len}
+use Rattle.yasir_ticks.specs.Ticks.{silent}
 use Rattle.yasir_ticks.specs.Bursts.{Burst, bursts}
+use Rattle.yasir_ticks.proofs.BurstLaws.{bursts_from-silent_end}
 use Rattle.yasir_ticks.specs.declared.tick.Tick.{Tick}
 use Rattle.burst_walk.specs.Laid.{tick_at, laid}
-use Rattle.burst_walk.specs.Walk.{Walker, Noted, walked, imaged, notes_at, notes_of, line_of}
+use Rattle.burst_walk.specs.Walk.{Walker, Noted, walked, imaged, notes_before, notes_at, notes_of, line_of}
 use Rattle.burst_walk.specs.Causal.{IsCausal, GoesOn}
 use Rattle.burst_walk.specs.Longer.{Begins, Extends}
 use Rattle.burst_walk.proofs.Walks.{goes_on}
@@ -41,3 +43,12 @@ module _ {S N : Type 0} (w : Walker S N) (causal : IsCausal w) where
         ticks = begins-more (line_of w s line) (line_of w s (line ++ t ∷ [])) (line_of w s (line ++ t ∷ more))
             (tick_at (imaged w s (bursts (line ++ t ∷ []))) (length line) ∷ []) on.ticks (subst Q whole rest.ticks);
       }
+
+-- ---- silence behind a line: its bursts are the same, and so is all that falls into its own ticks
+
+module _ {S N : Type 0} (w : Walker S N) (s : S) (line : List Tick) (k : ℕ) where
+  pub notes_of-silence : notes_before (length line) (walked w s (bursts (line ++ silent k))) ≡ notes_of w s line
+  notes_of-silence = ap (λ ds. notes_before (length line) (walked w s ds)) (bursts_from-silent_end 4 0 k line)
+
+  pub line_of-silence : laid (length line) (imaged w s (bursts (line ++ silent k))) ≡ line_of w s line
+  line_of-silence = ap (λ ds. laid (length line) (imaged w s ds)) (bursts_from-silent_end 4 0 k line)
