@@ -1,7 +1,6 @@
 -- The note of a step is that of the last burst: no other one can fall into it.
-use Rattle.std.proofs.Common.{◌≡◌, ◌∙◌, ◌==◌, ℕ, suc, ◌+◌, ◌<◌, ◌≤◌, false, cond, List, [], ◌∷◌, ◌++◌, length, refl, sym, ap, subst, arith, length-append}
+use Rattle.std.proofs.Common.{◌≡◌, ◌∙◌, ◌==◌, ℕ, ◌+◌, ◌<◌, ◌≤◌, false, List, [], ◌∷◌, ◌++◌, length, refl, ap, subst, arith, length-append}
 use Rattle.std.proofs.lemmas.Bool.{cond-false}
-use Rattle.std.proofs.lemmas.List.{length-replicate}
 use Rattle.yasir_ticks.specs.Bursts.{Burst, bursts, end_of}
 use Rattle.yasir_ticks.specs.BurstsOf.{IsKnit, one, more}
 use Rattle.yasir_ticks.specs.declared.tick.Tick.{Tick}

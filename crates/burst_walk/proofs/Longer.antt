@@ -1,13 +1,13 @@
 -- A causal walk on longer lines: notes and line begin with those of the line.
-use Rattle.std.proofs.Common.{◌≡◌, ◌∙◌, ℕ, ◌+◌, ◌<◌, ◌≤◌, List, [], ◌∷◌, ◌++◌, length, refl, sym, ap, subst, arith, append_assoc}
+use Rattle.std.proofs.Common.{◌≡◌, ◌∙◌, ℕ, List, [], ◌∷◌, ◌++◌, length, sym, ap, subst, append_assoc}
 use Rattle.std.proofs.lemmas.List.{append-nil}
 use Rattle.std.proofs.lemmas.List.FromFn.{length-map-range_with_len}
 use Rattle.yasir_ticks.specs.Ticks.{silent}
-use Rattle.yasir_ticks.specs.Bursts.{Burst, bursts}
+use Rattle.yasir_ticks.specs.Bursts.{bursts}
 use Rattle.yasir_ticks.proofs.BurstLaws.{bursts_from-silent_end}
 use Rattle.yasir_ticks.specs.declared.tick.Tick.{Tick}
 use Rattle.burst_walk.specs.Laid.{tick_at, laid}
-use Rattle.burst_walk.specs.Walk.{Walker, Noted, walked, imaged, notes_before, notes_at, notes_of, line_of}
+use Rattle.burst_walk.specs.Walk.{Walker, walked, imaged, notes_before, notes_at, notes_of, line_of}
 use Rattle.burst_walk.specs.Causal.{IsCausal, GoesOn}
 use Rattle.burst_walk.specs.Longer.{Begins, Extends}
 use Rattle.burst_walk.proofs.Walks.{goes_on}

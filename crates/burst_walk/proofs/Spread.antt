@@ -1,8 +1,8 @@
 -- The bursts of a line: each is knit, they stand four silent ticks apart, and they end with the line at the latest.
-use Rattle.std.proofs.Common.{◌≡◌, ◌∙◌, ℕ, suc, ◌+◌, ◌≤◌, ◌<◌, List, [], ◌∷◌, ◌++◌, length, refl, sym, ap, subst, arith, length-append}
+use Rattle.std.proofs.Common.{◌≡◌, ◌∙◌, ℕ, ◌+◌, ◌≤◌, List, [], ◌∷◌, ◌++◌, length, ap, arith, length-append}
 use Rattle.std.proofs.lemmas.List.{length-replicate}
 use Rattle.yasir_ticks.specs.Ticks.{silent}
-use Rattle.yasir_ticks.specs.Bursts.{Burst, bursts, bursts_from, end_of}
+use Rattle.yasir_ticks.specs.Bursts.{Burst, bursts, end_of}
 use Rattle.yasir_ticks.specs.BurstsOf.{IsKnit, StartsFrom, AreBursts}
 use Rattle.yasir_ticks.specs.declared.tick.Tick.{Tick}
 use Rattle.yasir_ticks.specs.declared.tick.Tick.TheVariants.{Silent}

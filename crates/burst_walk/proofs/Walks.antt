@@ -1,17 +1,15 @@
 -- A causal walk: what one more tick of the line adds.
-use Rattle.std.proofs.Common.{◌≡◌, ◌∙◌, ◌==◌, ◌&&◌, ℕ, zero, suc, ◌+◌, ◌-◌, ◌<◌, ◌≤◌, nat_lt, nat_le, Bool, true, false, cond, List, [], ◌∷◌, ◌++◌, length, map, take, refl, sym, ap, subst, arith, append_assoc, length-append, add-one, get_or, ⊎_elim}
-use Rattle.std.specs.List.{filter, range_with_len}
+use Rattle.std.proofs.Common.{◌≡◌, ◌∙◌, ◌==◌, ℕ, ◌+◌, ◌<◌, ◌≤◌, nat_lt, true, false, List, [], ◌∷◌, ◌++◌, length, refl, sym, ap, arith, append_assoc, length-append, ⊎_elim}
 use Rattle.std.proofs.lemmas.Bool.{cases_lt, lt-ltb, le-ltb, cond-true, cond-false}
-use Rattle.std.proofs.lemmas.List.{append-nil, take-append-le, take_all}
+use Rattle.std.proofs.lemmas.List.{append-nil}
 use Rattle.std.proofs.lemmas.List.Elements.{filter-append}
-use Rattle.std.proofs.lemmas.List.FromFn.{map-range_with_len_more, length-map-range_with_len}
-use Rattle.yasir_ticks.specs.Bursts.{Burst, bursts, bursts_from, end_of}
-use Rattle.yasir_ticks.specs.BurstsOf.{IsKnit, one}
+use Rattle.yasir_ticks.specs.Bursts.{Burst, bursts, end_of}
+use Rattle.yasir_ticks.specs.BurstsOf.{one}
 use Rattle.yasir_ticks.specs.declared.tick.Tick.{Tick}
 use Rattle.yasir_ticks.specs.declared.tick.Tick.TheVariants.{Silent, Byte}
-use Rattle.yasir_ticks.proofs.BurstLaws.{alone, with_last, extended, extended-nil, extended-near, extended-far, extended-cons, bursts_from-byte, bursts_from-silent}
+use Rattle.yasir_ticks.proofs.BurstLaws.{alone, extended, extended-nil, extended-near, extended-far, extended-cons, bursts_from-byte, bursts_from-silent}
 use Rattle.burst_walk.specs.Laid.{tick_at, laid}
-use Rattle.burst_walk.specs.Walk.{Walker, Noted, noted, walked, imaged, state_after, notes_before, notes_at, notes_of, line_of}
+use Rattle.burst_walk.specs.Walk.{Walker, Noted, noted, walked, imaged, state_after, notes_before, notes_at, notes_of}
 use Rattle.burst_walk.specs.Causal.{IsCausal, MayGoOn, GoesOn, going_on}
 use Rattle.burst_walk.proofs.Images.{tick_at-none, tick_at-front, laid-more, laid-same}
 use Rattle.burst_walk.proofs.Spread.{AreSpread, EndBy, bursts-spread, bursts-end}

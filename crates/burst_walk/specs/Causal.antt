@@ -6,7 +6,7 @@ use Rattle.yasir_ticks.specs.BurstsOf.{IsKnit}
 use Rattle.yasir_ticks.specs.declared.tick.Tick.{Tick}
 use Rattle.yasir_ticks.specs.declared.tick.Tick.TheVariants.{Silent, Byte}
 use Rattle.burst_walk.specs.Laid.{tick_at}
-use Rattle.burst_walk.specs.Walk.{Walker, Noted, walked, imaged, notes_of, line_of, notes_at}
+use Rattle.burst_walk.specs.Walk.{Walker, walked, imaged, notes_of, line_of, notes_at}
 
 -- a burst that goes on with a byte at tick m
 abbrev pub going_on : Burst → ℕ → ℕ → Burst

@@ -1,7 +1,7 @@
 -- Longer lines.
 use Rattle.std.specs.Prelude.{◌≡◌, List, ◌++◌}
 use Rattle.yasir_ticks.specs.declared.tick.Tick.{Tick}
-use Rattle.burst_walk.specs.Walk.{Walker, Noted, notes_of, line_of}
+use Rattle.burst_walk.specs.Walk.{Walker, notes_of, line_of}
 
 -- the list begins so
 pub record Begins {A : Type 0} (front whole : List A) : Type 0 where

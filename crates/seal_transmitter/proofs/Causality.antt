@@ -1,7 +1,7 @@
 -- The transmitter needs no tick of the device before its time.
-use Rattle.std.proofs.Common.{◌≡◌, ◌∙◌, ◌==◌, ℕ, suc, ◌+◌, ◌-◌, ◌<◌, ◌≤◌, nat_lt, nat_le, Bool, true, false, not, ◌||◌, cond, List, [], ◌∷◌, ◌++◌, length, map, refl, sym, ap, subst, arith, get_or, ⊎_elim, length-append}
+use Rattle.std.proofs.Common.{◌≡◌, ◌∙◌, ◌==◌, ℕ, suc, ◌+◌, ◌-◌, ◌<◌, ◌≤◌, nat_lt, Bool, true, false, not, ◌||◌, cond, List, [], ◌∷◌, ◌++◌, length, map, refl, sym, ap, arith, get_or, ⊎_elim}
 use Rattle.std.proofs.lemmas.Bool.{cases_Bool, cases_lt}
-use Rattle.std.proofs.lemmas.List.{append-nil, length-replicate}
+use Rattle.std.proofs.lemmas.List.{append-nil}
 use Rattle.yasir_ticks.specs.Ticks.{silent}
 use Rattle.yasir_ticks.specs.Bursts.{Burst, end_of}
 use Rattle.yasir_ticks.specs.BurstsOf.{IsKnit}
@@ -10,7 +10,7 @@ use Rattle.yasir_ticks.specs.declared.tick.Tick.TheVariants.{Silent, Byte}
 use Rattle.yasir_ticks.proofs.BurstsOfLaws.{knit-more}
 use Rattle.line_rules.specs.Rules.{Rules}
 use Rattle.line_rules.specs.RulesLaws.{IsLawful}
-use Rattle.frame_ending.specs.LiveBytes.{live_bytes, live_ticks, live_end, has_extra}
+use Rattle.frame_ending.specs.LiveBytes.{live_bytes, live_ticks, has_extra}
 use Rattle.frame_ending.proofs.LastBurst.{IsWithin}
 use Rattle.frame_ending.proofs.BurstSteps.{longer-end}
 use Rattle.burst_walk.specs.Laid.{tick_at}
@@ -20,7 +20,7 @@ use Rattle.burst_walk.proofs.Images.{tick_at-none, tick_at-before, tick_at-from,
 use Rattle.burst_walk.proofs.Walks.{goes_on}
 use Rattle.burst_walk.proofs.Longer.{extends}
 use Rattle.seal_transmitter.specs.Profile.{Profile, trailer}
-use Rattle.seal_transmitter.specs.Sealing.{SealState, Judgement, judged, forwarded, image_by, sealer, at_floor}
+use Rattle.seal_transmitter.specs.Sealing.{SealState, Judgement, judged, forwarded, image_by, sealer}
 use Rattle.seal_transmitter.specs.Sealing.Judgement.{sealed_with, unsealed}
 use Rattle.seal_transmitter.specs.declared.note.UnsealedWhy.TheVariants.{Early, Form, Spent}
 use Rattle.seal_transmitter.proofs.LiveTicks.{live_ticks-whole, live_ticks-before}

@@ -1,7 +1,6 @@
 -- The ticks up to the last live byte of a burst that goes on with a byte.
-use Rattle.std.proofs.Common.{◌≡◌, ◌∙◌, ℕ, suc, ◌+◌, ◌-◌, ◌<◌, ◌≤◌, nat_le, Bool, true, false, ◌||◌, List, [], ◌∷◌, ◌++◌, length, refl, sym, ap, subst, arith, append_assoc, length-append, get_or, ⊎_elim}
-use Rattle.std.proofs.lemmas.Bool.{cases_Bool, or_parts, ltb-false, cases_lt}
-use Rattle.std.proofs.lemmas.List.{append-nil, length-replicate}
+use Rattle.std.proofs.Common.{◌≡◌, ◌∙◌, ℕ, suc, ◌+◌, ◌-◌, ◌<◌, ◌≤◌, nat_le, Bool, true, false, ◌||◌, List, [], ◌∷◌, ◌++◌, length, sym, ap, subst, arith, length-append, get_or, ⊎_elim}
+use Rattle.std.proofs.lemmas.Bool.{cases_Bool, or_parts, ltb-false}
 use Rattle.yasir_ticks.specs.Ticks.{bytes_in, silent}
 use Rattle.yasir_ticks.specs.Bursts.{Burst, end_of}
 use Rattle.yasir_ticks.specs.BurstsOf.{IsKnit}

@@ -1,5 +1,5 @@
 -- Lengths of trailers, and the profile y18.
-use Rattle.std.proofs.Common.{◌≡◌, ◌∙◌, ℕ, zero, suc, ◌+◌, List, length, refl, ap, arith, lit≤, length-append}
+use Rattle.std.proofs.Common.{◌≡◌, ◌∙◌, ℕ, zero, suc, List, length, refl, ap, arith, lit≤, length-append}
 use Rattle.std.specs.Int.{bytes_high_first}
 use Rattle.sha1.specs.Sha1.{sha1}
 use Rattle.hmac_tag.specs.Tag.{tag_text}

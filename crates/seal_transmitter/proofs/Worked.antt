@@ -1,5 +1,5 @@
 -- The definitions of the transmitter on small lines of a Modbus RTU device, with a tag that stands in for HMAC.
-use Rattle.std.proofs.Common.{◌≡◌, ℕ, ◌+◌, ◌-◌, ◌==◌, ◌&&◌, nat_le, Bool, true, false, List, [], ◌∷◌, ◌++◌, length, map, take, replicate, refl, lit≤}
+use Rattle.std.proofs.Common.{◌≡◌, ℕ, ◌==◌, ◌&&◌, nat_le, true, List, [], ◌∷◌, ◌++◌, length, map, take, replicate, refl, lit≤}
 use Rattle.yasir_ticks.specs.Ticks.{silent}
 use Rattle.yasir_ticks.specs.Bursts.{bursts_from, with_byte}
 use Rattle.yasir_ticks.specs.declared.tick.Tick.{Tick}
@@ -10,7 +10,7 @@ use Rattle.frame_ending.specs.LiveBytes.{before_pause, up_to_byte}
 use Rattle.burst_walk.specs.Laid.{tick_at}
 use Rattle.burst_walk.specs.Walk.{Noted}
 use Rattle.seal_transmitter.specs.Profile.{Profile}
-use Rattle.seal_transmitter.specs.Sealing.{SealEntry, SealedFrame, judged, seal_notes, link_line, sealed}
+use Rattle.seal_transmitter.specs.Sealing.{SealEntry, judged, seal_notes, link_line, sealed}
 use Rattle.seal_transmitter.specs.Sealing.SealEntry.{sealed_entry, unsealed_entry}
 use Rattle.seal_transmitter.specs.declared.note.UnsealedWhy.TheVariants.{Early, Form, Spent}
 

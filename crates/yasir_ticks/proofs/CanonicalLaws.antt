@@ -1,5 +1,5 @@
 -- The canonical text of ticks stands for them, and for nothing else.
-use Rattle.std.proofs.Common.{◌≡◌, ◌≢◌, ◌∙◌, ◌==◌, ◌&&◌, ℕ, zero, suc, ◌+◌, ◌*◌, ◌-◌, ◌/◌, ◌%◌, ◌^◌, ◌<◌, ◌≤◌, Bool, true, false, cond, List, [], ◌∷◌, ◌++◌, length, map, take, drop, replicate, Some, get_or, refl, sym, ap, subst, arith, append_assoc, Ok, not, ◌⊎◌, inl, inr}
+use Rattle.std.proofs.Common.{◌≡◌, ◌≢◌, ◌∙◌, ◌==◌, ℕ, zero, suc, ◌+◌, ◌*◌, ◌/◌, ◌%◌, ◌^◌, ◌<◌, ◌≤◌, Bool, true, false, cond, List, [], ◌∷◌, ◌++◌, length, map, take, drop, replicate, Some, get_or, refl, sym, ap, subst, arith, append_assoc, Ok, not, ◌⊎◌, inl, inr}
 use Rattle.std.specs.List.{flat_map, range_with_len, list_all, All}
 use Rattle.std.specs.Fmt.{decimal}
 use Rattle.std.proofs.Math.Seq.{take-add}
@@ -11,7 +11,7 @@ use Rattle.hex.specs.Hex.{encode_lower, decode_of, is_hex_digit, IsBytes}
 use Rattle.hex.proofs.HexLemmas.{decode_of-encode_lower}
 use Rattle.yasir_ticks.specs.Ticks.{Item, IsTick, AreTicks, marks_in}
 use Rattle.yasir_ticks.specs.Ticks.Item.{tick}
-use Rattle.yasir_ticks.specs.TickText.{lines_of, line_items, all_items, byte_items, silence_items, is_decimal_digit, is_plain_decimal, number_after, without_return, ends_in_return, content_items, IsTickText}
+use Rattle.yasir_ticks.specs.TickText.{lines_of, line_items, all_items, is_decimal_digit, is_plain_decimal, number_after, ends_in_return, content_items, IsTickText}
 use Rattle.yasir_ticks.specs.CanonicalText.{Stretch, stretches, with_tick, stretch_lines, byte_line, silence_line, canonical_text}
 use Rattle.yasir_ticks.specs.CanonicalText.Stretch.{bytes, silence}
 use Rattle.yasir_ticks.specs.declared.tick.Tick.{Tick}

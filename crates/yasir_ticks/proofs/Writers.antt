@@ -1,12 +1,12 @@
 -- What a tick does to the line of a writer that isn't filled.
-use Rattle.std.proofs.Common.{◌≡◌, ◌∙◌, ℕ, zero, suc, ◌+◌, ◌*◌, ◌<◌, ◌≤◌, nat_lt, Bool, true, List, [], ◌∷◌, ◌++◌, length, refl, sym, ap, subst, arith, inl, inr, ◌⊎◌, ⊎_elim}
+use Rattle.std.proofs.Common.{◌≡◌, ◌∙◌, ℕ, suc, ◌+◌, ◌*◌, ◌<◌, ◌≤◌, nat_lt, true, List, [], ◌∷◌, ◌++◌, length, refl, sym, ap, subst, arith, inl, inr, ⊎_elim}
 use Rattle.std.specs.List.{flat_map}
 use Rattle.std.proofs.lemmas.Grind.{flat_map-append}
 use Rattle.std.proofs.lemmas.List.{append-nil, append_assoc, length-append}
 use Rattle.yasir_ticks.specs.CanonicalText.{Stretch, stretches, stretch_lines, byte_line, silence_line, canonical_text}
 use Rattle.yasir_ticks.specs.CanonicalText.Stretch.{bytes, silence}
 use Rattle.yasir_ticks.specs.Line.{is_unfilled}
-use Rattle.yasir_ticks.specs.Writer.{EndsInBytes, EndsInSilence, IsUntouched, Leaves, grown, BeginsWith, Writes, HasWritten}
+use Rattle.yasir_ticks.specs.Writer.{EndsInBytes, EndsInSilence, Leaves, grown, BeginsWith, Writes, HasWritten}
 use Rattle.yasir_ticks.specs.declared.writer.TickWriter.{TickWriter}
 use Rattle.yasir_ticks.specs.declared.run.Run.{Run}
 use Rattle.arrayvec.specs.ArrayVec.{ArrayVec}

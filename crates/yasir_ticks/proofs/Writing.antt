@@ -1,13 +1,13 @@
 -- One more tick at a writer of tick text: stretches that grow, and the lines that they are cut into.
-use Rattle.std.proofs.Common.{◌≡◌, ◌∙◌, ℕ, zero, suc, ◌+◌, ◌*◌, ◌/◌, ◌%◌, ◌==◌, ◌<◌, ◌≤◌, cond, false, List, [], ◌∷◌, ◌++◌, length, take, drop, replicate, refl, sym, ap, subst, arith, ◌⊎◌, ⊎_elim}
+use Rattle.std.proofs.Common.{◌≡◌, ◌∙◌, ℕ, zero, suc, ◌+◌, ◌*◌, ◌/◌, ◌%◌, ◌==◌, ◌<◌, ◌≤◌, cond, false, List, [], ◌∷◌, ◌++◌, length, take, drop, replicate, refl, sym, ap, arith}
 use Rattle.std.specs.List.{flat_map, range_with_len}
 use Rattle.std.proofs.Math.Seq.{drop-append-add}
 use Rattle.std.proofs.lemmas.Bool.{cond-false}
 use Rattle.std.proofs.lemmas.Grind.{flat_map-append}
-use Rattle.std.proofs.lemmas.List.{append-nil, append_assoc, length-append, take_all, take-append-le, drop-append-le, length-drop}
+use Rattle.std.proofs.lemmas.List.{append-nil, length-append, take_all, take-append-le, drop-append-le, length-drop}
 use Rattle.yasir_ticks.specs.CanonicalText.{Stretch, stretches, with_tick, stretch_lines, byte_line, silence_line}
 use Rattle.yasir_ticks.specs.CanonicalText.Stretch.{bytes, silence}
-use Rattle.yasir_ticks.specs.Writer.{EndsInBytes, EndsInSilence, IsUntouched, grown}
+use Rattle.yasir_ticks.specs.Writer.{grown}
 use Rattle.yasir_ticks.specs.declared.tick.Tick.{Tick}
 use Rattle.yasir_ticks.specs.declared.tick.Tick.TheVariants.{Silent, Byte}
 

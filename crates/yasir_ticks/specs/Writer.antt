@@ -1,7 +1,7 @@
 -- What a writer of tick text stands for: ticks, the lines that it has answered, and a line that isn't filled yet.
 use Rattle.std.specs.Prelude.{◌≡◌, ℕ, suc, ◌+◌, ◌*◌, ◌<◌, ◌⊎◌, List, [], ◌∷◌, ◌++◌, length}
 use Rattle.std.specs.List.{flat_map}
-use Rattle.yasir_ticks.specs.CanonicalText.{Stretch, stretches, stretch_lines, byte_line, silence_line}
+use Rattle.yasir_ticks.specs.CanonicalText.{Stretch, stretches, stretch_lines}
 use Rattle.yasir_ticks.specs.CanonicalText.Stretch.{bytes, silence}
 use Rattle.yasir_ticks.specs.declared.run.Run.{Run}
 use Rattle.yasir_ticks.specs.declared.run.Run.TheVariants.{Nothing, Bytes, Silence}

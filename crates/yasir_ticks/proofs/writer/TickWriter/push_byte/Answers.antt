@@ -1,5 +1,4 @@
-use Rattle.std.proofs.Common.{◌≤◌, length, arith, ap, ◌∙◌}
-use Rattle.arrayvec.specs.ArrayVec.{array_vec_len}
+use Rattle.std.proofs.Common.{◌≤◌, length, arith}
 use Rattle.yasir_ticks.proofs.Writers.{byte_joins, byte_fills, byte_ends_silence, byte_begins}
 use Rattle.yasir_ticks.proofs.writer.TickWriter.push_byte.Goals as goal
 
