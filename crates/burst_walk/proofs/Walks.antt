@@ -34,10 +34,10 @@ module _ {S N : Type 0} (w : Walker S N) where
 -- ---- notes by their ticks
 
 module _ {N : Type 0} where
-  before-early : (m : ℕ) (n : Noted N) (l : List (Noted N)) → n.tick < m → notes_before m (n ∷ l) ≡ n ∷ notes_before m l
+  pub before-early : (m : ℕ) (n : Noted N) (l : List (Noted N)) → n.tick < m → notes_before m (n ∷ l) ≡ n ∷ notes_before m l
   before-early m n l early = cond-true _ _ _ (lt-ltb n.tick m early)
 
-  before-late : (m : ℕ) (n : Noted N) (l : List (Noted N)) → m ≤ n.tick → notes_before m (n ∷ l) ≡ notes_before m l
+  pub before-late : (m : ℕ) (n : Noted N) (l : List (Noted N)) → m ≤ n.tick → notes_before m (n ∷ l) ≡ notes_before m l
   before-late m n l late = cond-false _ _ _ (le-ltb n.tick m late)
 
   at-same : (m : ℕ) (n : Noted N) (l : List (Noted N)) → n.tick ≡ m → notes_at m (n ∷ l) ≡ n ∷ notes_at m l
@@ -56,7 +56,7 @@ module _ {N : Type 0} where
 
 module _ {S N : Type 0} (w : Walker S N) (causal : IsCausal w) where
   -- bursts that start late have late notes
-  none_before : (s : S) (n m : ℕ) (ds : List Burst) → AreSpread n ds → m ≤ n → notes_before m (walked w s ds) ≡ []
+  pub none_before : (s : S) (n m : ℕ) (ds : List Burst) → AreSpread n ds → m ≤ n → notes_before m (walked w s ds) ≡ []
   none_before s n m [] spread late = refl
   none_before s n m (d ∷ ds) spread late =
       let begun : d.start ≤ w.tick s d = causal.not_before s d spread.1 in

@@ -27,10 +27,10 @@ use Rattle.seal_transmitter.proofs.LiveTicks.{live_ticks-whole, live_ticks-befor
 
 -- ---- judgements
 
-abbrev judge_by : Bool → Bool → Bool → ℕ → Judgement
+abbrev pub judge_by : Bool → Bool → Bool → ℕ → Judgement
 judge_by early wrong last number = cond early (unsealed Early) (cond wrong (unsealed Form) (cond last (unsealed Spent) (sealed_with number)))
 
-judged-is : (profile : Profile) (rules : Rules) (s : SealState) (d : Burst)
+pub judged-is : (profile : Profile) (rules : Rules) (s : SealState) (d : Burst)
     → judged profile rules s d ≡ judge_by (nat_lt d.start s.free) (has_extra rules d || not (rules.is_frame (live_bytes rules d))) (s.floor == profile.limit) (suc s.floor)
 unfolding judged
 judged-is profile rules s d = refl

@@ -1,6 +1,6 @@
 -- What the transmitter makes of the device's line: its notes, the frames that it seals, and the line of the link.
-use Rattle.std.specs.Prelude.{ℕ, suc, ◌+◌, ◌==◌, ◌||◌, not, nat_lt, List, [], ◌∷◌, ◌++◌, map, Option, Some, None, if◌then◌else◌}
-use Rattle.std.specs.List.{filter_map}
+use Rattle.std.specs.Prelude.{◌≡◌, ℕ, length, suc, ◌+◌, ◌==◌, ◌||◌, not, nat_lt, List, [], ◌∷◌, ◌++◌, map, Option, Some, None, if◌then◌else◌}
+use Rattle.std.specs.List.{filter_map, range_with_len}
 use Rattle.yasir_ticks.specs.Ticks.{silent}
 use Rattle.yasir_ticks.specs.Bursts.{Burst, end_of}
 use Rattle.yasir_ticks.specs.declared.tick.Tick.{Tick}
@@ -90,3 +90,7 @@ sealed_in (unsealed_entry start why) = None
 -- the frames that the transmitter has sealed
 abbrev pub sealed : Profile → Rules → ℕ → List Tick → List SealedFrame
 sealed profile rules floor line = filter_map (λ n. sealed_in n.note) (seal_notes profile rules floor line)
+
+-- The frames have the numbers after this floor, one after the other.
+pub record AreNumberedFrom (floor : ℕ) (frames : List SealedFrame) : Type 0 where
+  pub numbers : map (λ f. f.number) frames ≡ range_with_len (floor + 1) (length frames)
