@@ -1,8 +1,8 @@
 -- The bursts of a line that goes on by one tick. The cut is any number, so that each device has its own.
-use Rattle.std.proofs.Common.{◌≡◌, ℕ, suc, ◌+◌, ◌-◌, ◌<◌, ◌≤◌, nat_lt, cond, List, [], ◌∷◌, ◌++◌, length, refl, arith, sym, ◌∙◌, ap, append_assoc, length-append, add-one, subst}
+use Rattle.std.proofs.Common.{◌≡◌, ℕ, zero, suc, ◌+◌, ◌-◌, ◌<◌, ◌≤◌, nat_lt, cond, List, [], ◌∷◌, ◌++◌, length, refl, arith, sym, ◌∙◌, ap, append_assoc, length-append, add-one, subst}
 use Rattle.std.proofs.Common.{⊎_elim}
 use Rattle.std.proofs.lemmas.Bool.{cases_lt, lt-ltb, le-ltb, cond-true, cond-false}
-use Rattle.std.proofs.lemmas.List.{length-replicate}
+use Rattle.std.proofs.lemmas.List.{append-nil, length-replicate}
 use Rattle.yasir_ticks.specs.Ticks.{silent}
 use Rattle.yasir_ticks.specs.Bursts.{Burst, with_byte, bursts_from, end_of, AreClosed}
 use Rattle.yasir_ticks.specs.BurstsOf.{StartsFrom}
@@ -160,7 +160,13 @@ module _ (cut : ℕ) where
   bursts_from-silent n (Silent ∷ l) = bursts_from-silent (suc n) l
   bursts_from-silent n (Byte a ∷ l) = ap (λ x. with_byte cut n a x) (bursts_from-silent (suc n) l)
 
-  extended-nil : (m b : ℕ) → extended cut m b [] ≡ alone m b ∷ []
+  pub bursts_from-silent_end : (n k : ℕ) (l : List Tick) → bursts_from cut n (l ++ silent k) ≡ bursts_from cut n l
+  bursts_from-silent_end n zero l = ap (λ x. bursts_from cut n x) (append-nil l)
+  bursts_from-silent_end n (suc k) l =
+      ap (λ x. bursts_from cut n x) (sym (append_assoc l (Silent ∷ []) (silent k)))
+      ∙ (bursts_from-silent_end n k (l ++ Silent ∷ []) ∙ bursts_from-silent n l)
+
+  pub extended-nil : (m b : ℕ) → extended cut m b [] ≡ alone m b ∷ []
   unfolding extended
   extended-nil m b = refl
 

@@ -130,3 +130,11 @@ module _ (cut : ℕ) where
       ∙ (bursts_from-knit (n + are.0) d.body are.1 are.4 (subst P (sym others) (subst Q are.3 are.5))
       ∙ (ap (λ x. let e : Burst = record { start = n + are.0; body = d.body } in e ∷ x) others
       ∙ ap (λ i. let e : Burst = record { start = i; body = d.body } in e ∷ ds) (sym are.3))))
+
+-- Knit ticks that go on after fewer than `cut` silent ones stay knit.
+pub knit-more : (cut : ℕ) (x : List Tick) (gap b : ℕ) → IsKnit cut x → gap < cut → IsKnit cut (x ++ (silent gap ++ Byte b ∷ []))
+knit-more cut x gap b (one c) few = more c gap (Byte b ∷ []) few (one b)
+knit-more cut x gap b (more c g rest little knit) few =
+    let P : List Tick → Type 0 = λ y. IsKnit cut (Byte c ∷ y) in
+    subst P (sym (append_assoc (silent g) rest (silent gap ++ Byte b ∷ [])))
+    (more c g (rest ++ (silent gap ++ Byte b ∷ [])) little (knit-more cut rest gap b knit few))

@@ -11,3 +11,6 @@ pub mod BurstsOfLaws
 pub mod HexValues
 pub mod Worked
 pub mod TextLaws
+pub mod Writing
+pub mod Writers
+pub mod CanonicalLaws

@@ -20,6 +20,11 @@ abbrev pub IsTick : Tick → Type 0
 IsTick Silent = Unit {0}
 IsTick (Byte b) = b < 256
 
+-- ticks whose bytes are below 256
+abbrev pub AreTicks : List Tick → Type 0
+AreTicks [] = Unit {0}
+AreTicks (t ∷ l) = IsTick t × AreTicks l
+
 -- What a tick text stands for: ticks, and marks between lists of them.
 pub data Item : Type 0 where
   tick : Tick → Item

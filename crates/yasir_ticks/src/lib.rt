@@ -9,11 +9,13 @@ mod run;
 #[cfg(test)]
 mod tests;
 mod tick;
+mod writer;
 
 pub use fault::{BadTicks, TickFault};
 pub use reader::TickReader;
 pub use run::{LineBytes, Run};
 pub use tick::Tick;
+pub use writer::{LineText, TickWriter};
 
 /// How many ticks may be taken at most by whatever counts its ticks: 2^62.
 pub const MAX_TICKS: u64 = 4_611_686_018_427_387_904;

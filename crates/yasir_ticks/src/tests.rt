@@ -1,4 +1,4 @@
-use crate::{BadTicks, Run, TickFault, TickReader};
+use crate::{BadTicks, Run, Tick, TickFault, TickReader, TickWriter};
 use std::alloc::Global;
 use std::process::Abort;
 use std::test::Fail;
@@ -120,6 +120,52 @@ fn reads_each_kind_of_text(rt: HostRuntime) -> Result<(), Fail> {
     for (text, line, why) in REFUSED {
         let bad = read(&rt, rt.alloc(), text)?.err().ok_or("accepted")?;
         assert_eq!(rt; bad, BadTicks { line, why });
+    }
+    Ok(())
+}
+
+/// Ticks as runs of the same tick, and their text.
+const WRITTEN: [(&[(Tick, u32)], &[u8]); 6] = [
+    (&[], b""),
+    (
+        &[(Tick::Byte(0xAB), 32)],
+        b"+abababababababababababababababababababababababababababababababab\n",
+    ),
+    (
+        &[(Tick::Byte(0xAB), 33)],
+        b"+abababababababababababababababababababababababababababababababab\n+ab\n",
+    ),
+    (&[(Tick::Silent, 1_000_000)], b"-1000000\n"),
+    (&[(Tick::Silent, 1_000_001)], b"-1000000\n-1\n"),
+    (
+        &[
+            (Tick::Silent, 3),
+            (Tick::Byte(15), 1),
+            (Tick::Silent, 20),
+            (Tick::Byte(0), 2),
+        ],
+        b"-3\n+0f\n-20\n+0000\n",
+    ),
+];
+
+/// All answers of a writer of these ticks, joined.
+fn write(alloc: Global, runs: &[(Tick, u32)]) -> Result<Vec<u8>, Fail> {
+    let mut writer = TickWriter::new();
+    let mut text = Vec::new(alloc);
+    for (tick, n) in runs {
+        for _ in 0..*n {
+            text.extend_from_slice(writer.push(*tick).as_slice())?;
+        }
+    }
+    text.extend_from_slice(writer.finish().as_slice())?;
+    Ok(text)
+}
+
+#[test]
+fn writes_full_lines(rt: HostRuntime) -> Result<(), Fail> {
+    for (runs, text) in WRITTEN {
+        let written = write(rt.alloc(), runs)?;
+        assert_eq!(rt; written.as_slice(), text);
     }
     Ok(())
 }

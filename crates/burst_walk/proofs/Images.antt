@@ -1,0 +1,66 @@
+-- Images on a line, tick by tick.
+use Rattle.std.proofs.Common.{◌≡◌, ◌&&◌, ℕ, zero, suc, ◌+◌, ◌-◌, ◌<◌, ◌≤◌, nat_lt, nat_le, true, false, cond, List, [], ◌∷◌, ◌++◌, length, map, refl, sym, ap, arith, get_or, ⊎_elim}
+use Rattle.std.specs.List.{range_with_len}
+use Rattle.std.proofs.lemmas.Bool.{cases_lt}
+use Rattle.std.proofs.lemmas.List.{get_or_past}
+use Rattle.std.proofs.lemmas.List.FromFn.{map-range_with_len_more}
+use Rattle.yasir_ticks.specs.Ticks.{silent}
+use Rattle.yasir_ticks.specs.Bursts.{Burst, end_of}
+use Rattle.yasir_ticks.specs.declared.tick.Tick.{Tick}
+use Rattle.yasir_ticks.specs.declared.tick.Tick.TheVariants.{Silent}
+use Rattle.burst_walk.specs.Laid.{tick_at, laid}
+
+pub tick_at-none : (i : ℕ) → tick_at [] i ≡ Silent
+unfolding tick_at
+tick_at-none i = refl
+
+-- images in front of others hide the same ticks, whatever the others are
+pub tick_at-front : (front a b : List Burst) (i : ℕ) → tick_at a i ≡ tick_at b i → tick_at (front ++ a) i ≡ tick_at (front ++ b) i
+unfolding tick_at
+tick_at-front [] a b i same = same
+tick_at-front (d ∷ front) a b i same =
+    ap (λ t. cond (nat_le d.start i && nat_lt i (end_of d)) (get_or d.body (i - d.start) Silent) t) (tick_at-front front a b i same)
+
+pub laid-more : (m : ℕ) (images : List Burst) → laid (m + 1) images ≡ laid m images ++ tick_at images m ∷ []
+laid-more m images = map-range_with_len_more (λ i. tick_at images i) 0 m m (omega arith)
+
+pub laid-same : (a n : ℕ) (f g : ℕ → Tick) → ((i : ℕ) → i < a + n → f i ≡ g i) → map f (range_with_len a n) ≡ map g (range_with_len a n)
+laid-same a zero f g same = refl
+laid-same a (suc n) f g same =
+    let first : a < a + suc n = omega arith in
+    rw (same a first)
+    (ap (λ l. g a ∷ l) (laid-same (a + 1) n f g (λ i below. let h : i < a + suc n = omega arith in same i h)))
+
+-- one image: silence before it, its ticks, and silence after it
+pub tick_at-before : (d : Burst) (i : ℕ) → i < d.start → tick_at (d ∷ []) i ≡ Silent
+unfolding tick_at
+tick_at-before d i before = rw (outside d.start (end_of d) i before) refl
+  where
+    outside : (a b i : ℕ) → i < a → (nat_le a i && nat_lt i b) ≡ false
+    outside a b i h = grind arith
+
+pub tick_at-from : (d : Burst) (i : ℕ) → d.start ≤ i → tick_at (d ∷ []) i ≡ get_or d.body (i - d.start) Silent
+unfolding tick_at
+tick_at-from d i from =
+    ⊎_elim
+    (λ within. rw (inside d.start (end_of d) i from within) refl)
+    (λ past. let beyond : length d.body ≤ i - d.start = omega arith in
+    rw (after d.start (end_of d) i past) (sym (get_or_past d.body (i - d.start) Silent beyond)))
+    (cases_lt i (end_of d))
+  where
+    inside : (a b i : ℕ) → a ≤ i → i < b → (nat_le a i && nat_lt i b) ≡ true
+    inside a b i h k = grind arith
+
+    after : (a b i : ℕ) → b ≤ i → (nat_le a i && nat_lt i b) ≡ false
+    after a b i h = grind arith
+
+silent_at : (n k : ℕ) (y : List Tick) → k < n → get_or (silent n ++ y) k Silent ≡ Silent
+silent_at zero k y few = absurd (omega arith)
+silent_at (suc n) zero y few = refl
+silent_at (suc n) (suc k) y few = silent_at n k y (omega arith)
+
+-- silence after some ticks is what their end stands for
+pub get_or-silence : (x : List Tick) (n k : ℕ) (y : List Tick) → k < length x + n → get_or (x ++ (silent n ++ y)) k Silent ≡ get_or x k Silent
+get_or-silence [] n k y few = let h : k < n = omega arith in silent_at n k y h
+get_or-silence (t ∷ x) n zero y few = refl
+get_or-silence (t ∷ x) n (suc k) y few = get_or-silence x n k y (omega arith)

@@ -1,0 +1,4 @@
+pub mod Laid
+pub mod Walk
+pub mod Causal
+pub mod Longer

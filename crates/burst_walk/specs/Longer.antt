@@ -1,0 +1,14 @@
+-- Longer lines.
+use Rattle.std.specs.Prelude.{◌≡◌, List, ◌++◌}
+use Rattle.yasir_ticks.specs.declared.tick.Tick.{Tick}
+use Rattle.burst_walk.specs.Walk.{Walker, notes_of, line_of}
+
+-- the list begins so
+pub record Begins {A : Type 0} (front whole : List A) : Type 0 where
+  pub rest : List A
+  pub is : whole ≡ front ++ rest
+
+-- Notes and line of the longer list begin with those of the list.
+pub record Extends {S N : Type 0} (w : Walker S N) (s : S) (line more : List Tick) : Type 0 where
+  pub notes : Begins (notes_of w s line) (notes_of w s (line ++ more))
+  pub ticks : Begins (line_of w s line) (line_of w s (line ++ more))

@@ -1,0 +1,54 @@
+-- A walk over the bursts of a line, in order: a state, and from each burst a note with its tick, and an image.
+use Rattle.std.specs.Prelude.{ℕ, ◌==◌, nat_lt, List, [], ◌∷◌, ◌++◌, length}
+use Rattle.std.specs.List.{filter}
+use Rattle.yasir_ticks.specs.Bursts.{Burst, bursts}
+use Rattle.yasir_ticks.specs.declared.tick.Tick.{Tick}
+use Rattle.burst_walk.specs.Laid.{laid}
+
+pub record Walker (S N : Type 0) : Type 0 where
+  -- the state after a burst
+  pub next : S → Burst → S
+  -- what is noted of a burst, and at which tick
+  pub note : S → Burst → N
+  pub tick : S → Burst → ℕ
+  -- the image of a burst on the other line: none or one
+  pub image : S → Burst → List Burst
+
+-- a note, and the tick of the step that it comes in
+pub record Noted (N : Type 0) : Type 0 where
+  pub tick : ℕ
+  pub note : N
+
+abbrev pub noted : {S N : Type 0} → Walker S N → S → Burst → Noted N
+noted w s d = record { tick = w.tick s d; note = w.note s d }
+
+-- the notes of these bursts, from a state on
+abbrev pub walked : {S N : Type 0} → Walker S N → S → List Burst → List (Noted N)
+walked w s [] = []
+walked w s (d ∷ ds) = noted w s d ∷ walked w (w.next s d) ds
+
+-- the images of these bursts
+abbrev pub imaged : {S N : Type 0} → Walker S N → S → List Burst → List Burst
+imaged w s [] = []
+imaged w s (d ∷ ds) = w.image s d ++ imaged w (w.next s d) ds
+
+-- the state after these bursts
+abbrev pub state_after : {S N : Type 0} → Walker S N → S → List Burst → S
+state_after w s [] = s
+state_after w s (d ∷ ds) = state_after w (w.next s d) ds
+
+-- the notes that come before tick m
+abbrev pub notes_before : {N : Type 0} → ℕ → List (Noted N) → List (Noted N)
+notes_before m notes = filter (λ n. nat_lt n.tick m) notes
+
+-- the notes that come in the step of tick m
+abbrev pub notes_at : {N : Type 0} → ℕ → List (Noted N) → List (Noted N)
+notes_at m notes = filter (λ n. n.tick == m) notes
+
+-- The notes of a line, and the ticks of the other line, as far as its own ticks go. All else is still to come: a line that
+-- goes on in silence has the same bursts.
+abbrev pub notes_of : {S N : Type 0} → Walker S N → S → List Tick → List (Noted N)
+notes_of w s line = notes_before (length line) (walked w s (bursts line))
+
+abbrev pub line_of : {S N : Type 0} → Walker S N → S → List Tick → List Tick
+line_of w s line = laid (length line) (imaged w s (bursts line))

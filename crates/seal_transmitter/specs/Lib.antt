@@ -1,0 +1,3 @@
+pub mod Profile
+pub mod Sealing
+pub mod Y18

@@ -1,0 +1,156 @@
+ghost use Rattle.std.specs.Prelude.{◌≡◌, ℕ, ◌+◌, ◌*◌, ◌<◌, ◌≤◌, ◌^◌, ◌∷◌, ◌++◌, [], List, true, length};
+ghost use Rattle.arrayvec.specs.ArrayVec.{array_vec_len};
+ghost use Rattle.yasir_ticks.specs.CanonicalText.{byte_line, silence_line};
+ghost use Rattle.yasir_ticks.specs.Line.{is_unfilled};
+
+use crate::{LineBytes, Run, Tick};
+use arrayvec::ArrayVec;
+use itoa::Buffer;
+
+/// The text of one line of tick text, its LF included.
+pub type LineText = ArrayVec<u8, 66>;
+
+/// The most bytes that one line stands for.
+const MAX_BYTES: usize = 32;
+
+/// The most silent ticks that one line stands for.
+const MAX_SILENCE: u32 = 1_000_000;
+
+/// The line `+` of these bytes.
+fn hex_line(bytes: &LineBytes) -> LineText
+    ensures { result.items ≡ byte_line bytes.now.items }
+{
+    let mut digits = [0; 64];
+    let digits = &mut digits[..2 * bytes.len()];
+    let _ = hex::encode_to_slice(bytes.as_slice(), digits);
+    let mut line = LineText::new();
+    line.push(b'+');
+    let _ = line.try_extend_from_slice(digits);
+    line.push(b'\n');
+    line
+}
+
+/// The line `-` of so many silent ticks.
+fn count_line(n: u32) -> LineText
+    ensures { result.items ≡ silence_line n }
+{
+    let mut buffer = Buffer::new();
+    let mut line = LineText::new();
+    line.push(b'-');
+    let _ = line.try_extend_from_slice(buffer.format(n).as_bytes());
+    line.push(b'\n');
+    line
+}
+
+/// Writes ticks as canonical tick text, a line at a time: all answers joined are the text of the ticks pushed.
+#[derive(Drop)]
+pub struct TickWriter {
+    unfilled: Run,
+    ghost room: { is_unfilled unfilled ≡ true },
+}
+
+impl TickWriter {
+    ghost use Rattle.std.specs.Prelude.{map};
+    ghost use Rattle.yasir_ticks.specs.Ticks.{AreTicks};
+    ghost use Rattle.yasir_ticks.specs.Ticks.Item.{tick};
+    ghost use Rattle.yasir_ticks.specs.TickText.{IsTickText};
+    ghost use Rattle.yasir_ticks.specs.CanonicalText.{canonical_text};
+    ghost use Rattle.yasir_ticks.specs.Writer.{HasWritten, Writes, BeginsWith};
+
+    /// A writer that has taken no tick.
+    pub fn new() -> TickWriter
+        ensures { HasWritten result [] [] }
+    {
+        TickWriter {
+            unfilled: Run::Nothing,
+        }
+    }
+
+    /// Begins a line with a byte.
+    fn begin_bytes(&mut self, b: u8)
+        ensures { BeginsWith b self.new.unfilled }
+    {
+        let mut line = LineBytes::new();
+        line.push(b);
+        self.unfilled = Run::Bytes(line);
+    }
+
+    fn push_byte(&mut self, b: u8) -> LineText
+        ensures { Writes self.old.unfilled (Tick.Byte b) result.items self.new.unfilled }
+    {
+        match &mut self.unfilled {
+            Run::Bytes(line) => {
+                let after = line.len() + 1;
+                if after < MAX_BYTES {
+                    line.push(b);
+                    return LineText::new();
+                }
+                let mut filled = line.take();
+                filled.push(b);
+                self.unfilled = Run::Nothing;
+                hex_line(&filled)
+            }
+            Run::Silence(n) => {
+                let line = count_line(*n);
+                self.begin_bytes(b);
+                line
+            }
+            Run::Nothing => {
+                self.begin_bytes(b);
+                LineText::new()
+            }
+        }
+    }
+
+    fn push_silent(&mut self) -> LineText
+        ensures { Writes self.old.unfilled Tick.Silent result.items self.new.unfilled }
+    {
+        match &mut self.unfilled {
+            Run::Silence(n) => {
+                let after = *n + 1;
+                if after < MAX_SILENCE {
+                    *n = after;
+                    return LineText::new();
+                }
+                self.unfilled = Run::Nothing;
+                count_line(MAX_SILENCE)
+            }
+            Run::Bytes(line) => {
+                let line = hex_line(line);
+                self.unfilled = Run::Silence(1);
+                line
+            }
+            Run::Nothing => {
+                self.unfilled = Run::Silence(1);
+                LineText::new()
+            }
+        }
+    }
+
+    /// Takes the next tick, and answers the line that it completes, or an empty text. A tick completes the line that it
+    /// fills (32 bytes, or 1000000 silent ticks), and else the unfilled line of the other kind that stands before it.
+    #[inline]
+    pub fn push(&mut self, t: Tick) -> LineText
+        ensures { (ticks : List Tick) (answered : List ℕ) → HasWritten self.old ticks answered
+            → HasWritten self.new (ticks ++ t ∷ []) (answered ++ result.items) }
+    {
+        match t {
+            Tick::Silent => self.push_silent(),
+            Tick::Byte(b) => self.push_byte(b),
+        }
+    }
+
+    /// Takes the end of the ticks, and answers the line that isn't filled, or an empty text.
+    pub fn finish(self) -> LineText
+        ensures whole { (ticks : List Tick) (answered : List ℕ) → HasWritten self ticks answered
+            → answered ++ result.items ≡ canonical_text ticks }
+        ensures reads { (ticks : List Tick) (answered : List ℕ) → HasWritten self ticks answered → AreTicks ticks
+            → IsTickText 0 (answered ++ result.items) (map tick ticks) }
+    {
+        match &self.unfilled {
+            Run::Nothing => LineText::new(),
+            Run::Bytes(line) => hex_line(line),
+            Run::Silence(n) => count_line(*n),
+        }
+    }
+}
