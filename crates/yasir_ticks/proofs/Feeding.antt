@@ -21,7 +21,7 @@ use Rattle.yasir_ticks.proofs.Completions.{marks_in-run, begins_at}
 
 module _ (text : List ℕ) where
   -- the last line goes on, or ends
-  items_more : (b : ℕ) (run : Run) → b ≢ 10 → items_of_run run ≡ [] → ended_items (text ++ b ∷ []) ≡ ended_items text ++ items_of_run run
+  pub items_more : (b : ℕ) (run : Run) → b ≢ 10 → items_of_run run ≡ [] → ended_items (text ++ b ∷ []) ≡ ended_items text ++ items_of_run run
   items_more b run n e = rw (lines_of-more text b n, e) (sym (append-nil (ended_items text)))
 
   items_lf : (run : Run) → line_items (lines_of text).last ≡ Some (items_of_run run)
@@ -44,7 +44,7 @@ module _ (text : List ℕ) where
 
 module _ (place new_place : Place) (bytes new_bytes : List ℕ) (line left marks : ℕ) (text : List ℕ) (at : IsAt place bytes line left marks text) where
   -- a byte within a line
-  at_more : (b : ℕ) (run : Run) → b ≢ 10 → Accepts place bytes b (items_of_run run) new_place new_bytes → IsAt new_place new_bytes line left marks (text ++ b ∷ [])
+  pub at_more : (b : ℕ) (run : Run) → b ≢ 10 → Accepts place bytes b (items_of_run run) new_place new_bytes → IsAt new_place new_bytes line left marks (text ++ b ∷ [])
   at_more b run n a = record {
     ended = rw (lines_of-more text b n) at.ended;
     marked = rw (lines_of-more text b n) at.marked;

@@ -6,3 +6,4 @@ pub mod CanonicalText
 pub mod Place
 pub mod Reader
 pub mod ReaderStep
+pub mod Slices

@@ -6,6 +6,7 @@ mod fault;
 mod place;
 mod reader;
 mod run;
+mod slices;
 #[cfg(test)]
 mod tests;
 mod tick;
@@ -13,6 +14,7 @@ mod tick;
 pub use fault::{BadTicks, TickFault};
 pub use reader::TickReader;
 pub use run::{LineBytes, Run};
+pub use slices::Fed;
 pub use tick::Tick;
 
 /// How many ticks may be taken at most by whatever counts its ticks: 2^62.

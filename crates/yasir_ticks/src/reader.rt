@@ -7,7 +7,7 @@ use crate::place::{Content, Place};
 use crate::{BadTicks, LineBytes, Run, TickFault};
 
 /// The most bytes of a comment after its `#`.
-const MAX_COMMENT: u8 = 120;
+pub(crate) const MAX_COMMENT: u8 = 120;
 
 /// The most silent ticks that one line stands for.
 const MAX_SILENCE: u64 = 1_000_000;
@@ -18,9 +18,9 @@ type Advance = Result<Option<Content>, TickFault>;
 /// A reader of tick text, byte by byte. Each line that ends is answered as a run.
 #[derive(Drop)]
 pub struct TickReader {
-    line: u32,
-    place: Place,
-    bytes: LineBytes,
+    pub(crate) line: u32,
+    pub(crate) place: Place,
+    pub(crate) bytes: LineBytes,
     ghost room: { has_room place bytes.items ≡ true },
 }
 
