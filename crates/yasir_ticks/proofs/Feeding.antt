@@ -1,6 +1,6 @@
 -- One byte more at a place of a text, and its end.
 use Rattle.std.proofs.Common.{◌≡◌, ◌≢◌, inl, inr, ◌∙◌, ◌==◌, ℕ, ◌+◌, List, [], ◌∷◌, ◌++◌, Some, None, Result, Ok, Err, refl, ap, sym, arith, append_assoc, append-nil, unwrap_or, length-append}
-use Rattle.std.specs.Prelude.{OnOk, IfOk, IfErr}
+use Rattle.std.specs.Prelude.{OnOk, OnErr, IfOk, IfErr}
 use Rattle.std.specs.List.{flat_map}
 use Rattle.std.proofs.lemmas.Bool.{cases_eq}
 use Rattle.std.proofs.lemmas.Grind.{flat_map-append}
@@ -155,6 +155,11 @@ module _ (old new : TickReader) (b marks : ℕ) (text : List ℕ) (stood : Stand
     s.case.1 ∙ stood.at.counted,
     sym (s.case.0.cause (lines_of text).last stood.at.last),
   )
+
+-- a refused byte leaves the reader in its line
+pub fed_line : (old new : TickReader) (b : ℕ) (result : Result Run BadTicks) → Steps old b result new → OnErr result (new.line ≡ old.line)
+fed_line old new b (Ok run) s = tt
+fed_line old new b (Err bad) s = s.case.2.line ∙ s.case.1
 
 module _ (reader : TickReader) (marks : ℕ) (text : List ℕ) (stood : StandsFor reader marks text) where
   pub ended_right : (result : Result Run BadTicks) → Stops reader result

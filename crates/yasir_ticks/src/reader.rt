@@ -25,7 +25,7 @@ pub struct TickReader {
 }
 
 impl TickReader {
-    ghost use Rattle.std.specs.Prelude.{◌≢◌, ◌⊎◌, OnOk, IfOk, IfErr, ◌%◌, None, Err};
+    ghost use Rattle.std.specs.Prelude.{◌≢◌, ◌⊎◌, OnOk, OnErr, IfOk, IfErr, ◌%◌, None, Err};
     ghost use Rattle.yasir_ticks.specs.declared.fault.TickFault.{TickFault};
     ghost use Rattle.yasir_ticks.specs.declared.fault.BadTicks.{BadTicks};
     ghost use Rattle.yasir_ticks.specs.Ticks.{Item, items_of_run};
@@ -311,6 +311,7 @@ impl TickReader {
             → IfErr result (λ bad. IsRefusedAfter marks text b
             × (bad.line ≡ line_after text) × (bad.why ≡ fault_after text b)) }
         ensures line { OnOk result (reader_line self.new ≡ (if b == 10 then reader_line self.old + 1 else reader_line self.old)) }
+        ensures line_kept { OnErr result (reader_line self.new ≡ reader_line self.old) }
         ensures line_by_one { reader_line self.new ≤ reader_line self.old + 1 }
         ensures remembered { IfErr result (λ bad. HasRefused self.new bad) }
         ensures for_good { (bad : BadTicks) → HasRefused self.old bad → (result ≡ Err bad) × (self.new ≡ self.old) }

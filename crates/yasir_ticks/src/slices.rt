@@ -105,7 +105,7 @@ impl TickReader {
             × (bad.line ≡ line_after (text ++ take result.taken bytes.now))
             × (bad.why ≡ fault_after (text ++ take result.taken bytes.now) (slice_index bytes.now result.taken))
             × (ended_items (text ++ take result.taken bytes.now) ≡ ended_items text)) }
-        ensures lines { OnOk result.run (reader_line self.new ≤ reader_line self.old + result.taken) }
+        ensures lines { reader_line self.new ≤ reader_line self.old + result.taken }
         ensures remembered { IfErr result.run (λ bad. HasRefused self.new bad) }
         ensures for_good { (bad : BadTicks) → HasRefused self.old bad → 0 < length bytes.now
             → (result.taken ≡ 0) × (result.run ≡ Err bad) × (self.new ≡ self.old) }

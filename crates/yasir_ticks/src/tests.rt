@@ -133,7 +133,7 @@ fn read_slices(alloc: Global, text: &[u8], size: usize) -> Result<Seen, Fail> {
     };
     let mut rest = text;
     for _ in 0..200 {
-        let slice = &rest[..size.min(rest.len())];
+        let slice = &rest[..size.min(200).min(rest.len())];
         if reader.line() > 9 {
             return Err("too many lines".into());
         }

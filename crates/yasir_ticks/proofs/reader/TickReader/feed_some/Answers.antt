@@ -75,3 +75,8 @@ returns-in-Err-clause-for_good c = λ bad was some.
     let still = c.take_many-taken.ensures.for_good bad (rw none.1 was) in
     let again = c.in-Err.ensures.for_good bad (rw (still.1, none.1) was) in
     (omega (arith, none.0, still.0), again.0, again.1 ∙ still.1 ∙ none.1)
+
+pub returns-in-Err-clause-lines : goal.returns-in-Err-clause-lines
+returns-in-Err-clause-lines c =
+    let goes = goes_on_slice _ _ _ c.args.bytes.now _ _ c.loop-taken.invariant.goes c.take_many-taken.ensures.goes in
+    omega (arith, c.in-Err.ensures.line_kept, goes.lines, length-take (c.loop-taken.taken + c.take_many-taken.result) c.args.bytes.now)
