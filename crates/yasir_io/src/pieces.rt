@@ -14,7 +14,7 @@ pub struct Pieces {
 }
 
 impl Pieces {
-    ghost use Rattle.std.specs.Prelude.{◌≡◌, List, ℕ, [], ◌∷◌, true, false, Ok, None, Some, OnErr, OnSome, IfOk};
+    ghost use Rattle.std.specs.Prelude.{◌≡◌, ◌<◌, List, ℕ, [], ◌∷◌, length, take, drop, true, false, Ok, None, Some, OnErr, OnSome, IfOk};
     ghost use Rattle.std.specs.Option.{option_to_list};
     ghost use Rattle.std.specs.Io.KnownBytes.{prepend_known, IsAtEnd};
     ghost use Rattle.yasir_io.specs.Causes.{HasCause};
@@ -83,16 +83,79 @@ impl Pieces {
         ensures for_good { has_ended self.old ≡ true → (result ≡ Ok None) × (self.new ≡ self.old) × (source.new ≡ source.old) }
         ensures cause { HasCause (S.faults source.old) (S.faults source.new) result }
     {
-        if self.ended {
+        if !self.fill(source)? {
             return Ok(None);
+        }
+        let first = self.kept()[0];
+        self.skip(1);
+        Ok(Some(first))
+    }
+
+    /// The bytes that are kept, in their order.
+    #[inline]
+    pub fn kept(&self) -> &[u8]
+        ensures { result.now ≡ kept_bytes self.now }
+    {
+        &self.bytes[self.place..self.end]
+    }
+
+    /// Passes over so many of the bytes that are kept.
+    #[inline]
+    pub fn skip(&mut self, n: usize)
+        requires { n ≤ length (kept_bytes self.old) }
+        ensures kept { kept_bytes self.new ≡ drop n (kept_bytes self.old) }
+        ensures ended { has_ended self.new ≡ has_ended self.old }
+    {
+        self.place += n;
+    }
+
+    /// Reads where nothing is kept. Answers whether a byte is kept then; none is once a read has answered 0, and from then on always.
+    pub fn fill<S: Source>(&mut self, source: &mut S) -> Result<bool, Failed>
+        // No byte is lost.
+        ensures same { to_come self.new (S.left source.new) ≡ to_come self.old (S.left source.old) }
+        ensures some { result ≡ Ok true → 0 < length (kept_bytes self.new) }
+
+        // Where a byte is kept nothing is read.
+        ensures kept { 0 < length (kept_bytes self.old) → (result ≡ Ok true) × (self.new ≡ self.old) × (source.new ≡ source.old) }
+
+        // Only the end ends it.
+        ensures still_open { result ≡ Ok true → has_ended self.new ≡ has_ended self.old }
+        ensures err_open { OnErr result (has_ended self.new ≡ has_ended self.old) }
+
+        // A read fails only where nothing is kept.
+        ensures err_kept { OnErr result ((kept_bytes self.old ≡ []) × (kept_bytes self.new ≡ [])) }
+
+        // The end, and after it.
+        ensures end { result ≡ Ok false → (has_ended self.new ≡ true) × (kept_bytes self.new ≡ []) }
+        ensures nothing_left { result ≡ Ok false → has_ended self.old ≡ false → IsAtEnd (S.left source.new) }
+        ensures for_good { has_ended self.old ≡ true → kept_bytes self.old ≡ []
+            → (result ≡ Ok false) × (self.new ≡ self.old) × (source.new ≡ source.old) }
+
+        ensures cause { HasCause (S.faults source.old) (S.faults source.new) result }
+    {
+        if !self.kept().is_empty() {
+            return Ok(true);
+        }
+        if self.ended {
+            return Ok(false);
         }
         let n = source.read(&mut self.bytes)?;
         if n == 0 {
             self.ended = true;
-            return Ok(None);
+            return Ok(false);
         }
-        self.place = 1;
+        self.keep(n);
+        Ok(true)
+    }
+
+    // Keeps the first bytes of what was read.
+    fn keep(&mut self, n: usize)
+        requires { n ≤ 512 }
+        ensures kept { kept_bytes self.new ≡ take n self.old.bytes }
+        ensures count { length (kept_bytes self.new) ≡ n }
+        ensures ended { has_ended self.new ≡ has_ended self.old }
+    {
+        self.place = 0;
         self.end = n;
-        Ok(Some(self.bytes[0]))
     }
 }

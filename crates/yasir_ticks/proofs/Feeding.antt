@@ -1,6 +1,6 @@
 -- One byte more at a place of a text, and its end.
 use Rattle.std.proofs.Common.{◌≡◌, ◌≢◌, inl, inr, ◌∙◌, ◌==◌, ℕ, ◌+◌, List, [], ◌∷◌, ◌++◌, Some, None, Result, Ok, Err, refl, ap, sym, arith, append_assoc, append-nil, unwrap_or, length-append}
-use Rattle.std.specs.Prelude.{OnOk, IfOk, IfErr}
+use Rattle.std.specs.Prelude.{OnOk, OnErr, IfOk, IfErr}
 use Rattle.std.specs.List.{flat_map}
 use Rattle.std.proofs.lemmas.Bool.{cases_eq}
 use Rattle.std.proofs.lemmas.Grind.{flat_map-append}
@@ -21,7 +21,7 @@ use Rattle.yasir_ticks.proofs.Completions.{marks_in-run, begins_at}
 
 module _ (text : List ℕ) where
   -- the last line goes on, or ends
-  items_more : (b : ℕ) (run : Run) → b ≢ 10 → items_of_run run ≡ [] → ended_items (text ++ b ∷ []) ≡ ended_items text ++ items_of_run run
+  pub items_more : (b : ℕ) (run : Run) → b ≢ 10 → items_of_run run ≡ [] → ended_items (text ++ b ∷ []) ≡ ended_items text ++ items_of_run run
   items_more b run n e = rw (lines_of-more text b n, e) (sym (append-nil (ended_items text)))
 
   items_lf : (run : Run) → line_items (lines_of text).last ≡ Some (items_of_run run)
@@ -44,7 +44,7 @@ module _ (text : List ℕ) where
 
 module _ (place new_place : Place) (bytes new_bytes : List ℕ) (line left marks : ℕ) (text : List ℕ) (at : IsAt place bytes line left marks text) where
   -- a byte within a line
-  at_more : (b : ℕ) (run : Run) → b ≢ 10 → Accepts place bytes b (items_of_run run) new_place new_bytes → IsAt new_place new_bytes line left marks (text ++ b ∷ [])
+  pub at_more : (b : ℕ) (run : Run) → b ≢ 10 → Accepts place bytes b (items_of_run run) new_place new_bytes → IsAt new_place new_bytes line left marks (text ++ b ∷ [])
   at_more b run n a = record {
     ended = rw (lines_of-more text b n) at.ended;
     marked = rw (lines_of-more text b n) at.marked;
@@ -155,6 +155,11 @@ module _ (old new : TickReader) (b marks : ℕ) (text : List ℕ) (stood : Stand
     s.case.1 ∙ stood.at.counted,
     sym (s.case.0.cause (lines_of text).last stood.at.last),
   )
+
+-- a refused byte leaves the reader in its line
+pub fed_line : (old new : TickReader) (b : ℕ) (result : Result Run BadTicks) → Steps old b result new → OnErr result (new.line ≡ old.line)
+fed_line old new b (Ok run) s = tt
+fed_line old new b (Err bad) s = s.case.2.line ∙ s.case.1
 
 module _ (reader : TickReader) (marks : ℕ) (text : List ℕ) (stood : StandsFor reader marks text) where
   pub ended_right : (result : Result Run BadTicks) → Stops reader result

@@ -7,6 +7,7 @@ pub mod Steps
 pub mod Readers
 pub mod Completions
 pub mod Feeding
+pub mod ManyBytes
 pub mod BurstsOfLaws
 pub mod HexValues
 pub mod Worked

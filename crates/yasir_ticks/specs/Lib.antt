@@ -8,3 +8,4 @@ pub mod Reader
 pub mod ReaderStep
 pub mod Line
 pub mod Writer
+pub mod Slices

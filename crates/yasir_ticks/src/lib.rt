@@ -6,6 +6,7 @@ mod fault;
 mod place;
 mod reader;
 mod run;
+mod slices;
 #[cfg(test)]
 mod tests;
 mod tick;
@@ -14,6 +15,7 @@ mod writer;
 pub use fault::{BadTicks, TickFault};
 pub use reader::TickReader;
 pub use run::{LineBytes, Run};
+pub use slices::Fed;
 pub use tick::Tick;
 pub use writer::{LineText, TickWriter};
 

@@ -7,7 +7,7 @@ use crate::place::{Content, Place};
 use crate::{BadTicks, LineBytes, Run, TickFault};
 
 /// The most bytes of a comment after its `#`.
-const MAX_COMMENT: u8 = 120;
+pub(crate) const MAX_COMMENT: u8 = 120;
 
 /// The most silent ticks that one line stands for.
 const MAX_SILENCE: u64 = 1_000_000;
@@ -18,14 +18,14 @@ type Advance = Result<Option<Content>, TickFault>;
 /// A reader of tick text, byte by byte. Each line that ends is answered as a run.
 #[derive(Drop)]
 pub struct TickReader {
-    line: u32,
-    place: Place,
-    bytes: LineBytes,
+    pub(crate) line: u32,
+    pub(crate) place: Place,
+    pub(crate) bytes: LineBytes,
     ghost room: { has_room place bytes.items ≡ true },
 }
 
 impl TickReader {
-    ghost use Rattle.std.specs.Prelude.{◌≢◌, ◌⊎◌, OnOk, IfOk, IfErr, ◌%◌, None, Err};
+    ghost use Rattle.std.specs.Prelude.{◌≢◌, ◌⊎◌, OnOk, OnErr, IfOk, IfErr, ◌%◌, None, Err};
     ghost use Rattle.yasir_ticks.specs.declared.fault.TickFault.{TickFault};
     ghost use Rattle.yasir_ticks.specs.declared.fault.BadTicks.{BadTicks};
     ghost use Rattle.yasir_ticks.specs.Ticks.{Item, items_of_run};
@@ -311,6 +311,7 @@ impl TickReader {
             → IfErr result (λ bad. IsRefusedAfter marks text b
             × (bad.line ≡ line_after text) × (bad.why ≡ fault_after text b)) }
         ensures line { OnOk result (reader_line self.new ≡ (if b == 10 then reader_line self.old + 1 else reader_line self.old)) }
+        ensures line_kept { OnErr result (reader_line self.new ≡ reader_line self.old) }
         ensures line_by_one { reader_line self.new ≤ reader_line self.old + 1 }
         ensures remembered { IfErr result (λ bad. HasRefused self.new bad) }
         ensures for_good { (bad : BadTicks) → HasRefused self.old bad → (result ≡ Err bad) × (self.new ≡ self.old) }

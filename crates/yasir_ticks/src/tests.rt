@@ -169,3 +169,36 @@ fn writes_full_lines(rt: HostRuntime) -> Result<(), Fail> {
     }
     Ok(())
 }
+
+/// Feeds a text in slices of so many bytes to a reader and ends it.
+fn read_slices(alloc: Global, text: &[u8], size: usize) -> Result<Seen, Fail> {
+    let mut reader = TickReader::new(0);
+    let mut seen = Seen {
+        bytes: Vec::new(alloc),
+        silent: 0,
+    };
+    let mut rest = text;
+    for _ in 0..200 {
+        let slice = &rest[..size.min(200).min(rest.len())];
+        if reader.line() > 9 {
+            return Err("too many lines".into());
+        }
+        let fed = reader.feed_some(slice);
+        seen.take(fed.run.ok().ok_or("refused")?)?;
+        rest = &rest[fed.taken..];
+    }
+    seen.take(reader.finish().ok().ok_or("refused at the end")?)?;
+    Ok(seen)
+}
+
+#[test]
+fn reads_slices_of_each_size(rt: HostRuntime) -> Result<(), Fail> {
+    for (text, bytes, silent) in ACCEPTED {
+        for size in [1, 2, 3, 7, 200] {
+            let seen = read_slices(rt.alloc(), text, size)?;
+            assert_eq!(rt; seen.bytes.as_slice(), bytes);
+            assert_eq!(rt; seen.silent, silent);
+        }
+    }
+    Ok(())
+}
