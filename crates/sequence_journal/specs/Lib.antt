@@ -1,3 +1,4 @@
+pub mod FloorLaws
 pub mod Journal
 pub mod Numbers
 pub mod Slots

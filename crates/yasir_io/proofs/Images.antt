@@ -144,3 +144,11 @@ pub elapses_unchanged : (past new : List Moment) (before after : Moment) → May
     → Elapses (length past) (length new) (Left past before) (Left new after) (IsImage after)
 elapses_unchanged past new before after added same =
     elapses past new before after added (λ c image. subst (λ m. IsImage m c) (sym same) image)
+
+unwritten : (moment : Moment) → moment.a_written ≡ false → moment.b_written ≡ false → (slot : Slot) → is_written moment slot ≡ false
+unwritten moment a b A = a
+unwritten moment a b B = b
+
+-- the same, by the marks of both slots
+pub only_image_unmarked : (moment : Moment) (c : Slots) → IsImage moment c → moment.a_written ≡ false → moment.b_written ≡ false → Some (slots_at moment) ≡ Some c
+only_image_unmarked moment c image a b = only_image moment (unwritten moment a b) c image

@@ -2,7 +2,7 @@ ghost use Rattle.std.specs.Prelude.{◌≡◌, ◌≤◌, length, vec_len, vec_c
 ghost use Rattle.yasir_io.specs.declared.disk.TheConstants.{SLOT_LEN};
 
 use crate::calls::{Calls, NoMemory, Plan};
-use crate::{Failed, SLOT_LEN, Slot, SlotBytes, SlotDisk};
+use crate::{Failed, Slot, SlotBytes, SlotDisk};
 use std::alloc::Global;
 
 /// Both slots at a moment, and which of them were written since the last sync.
@@ -75,10 +75,10 @@ impl Moment {
 }
 
 impl MemSlots {
-    ghost use Rattle.std.specs.Prelude.{◌≡◌, ◌+◌, ◌-◌, ◌^◌, ◌<◌, ◌≤◌, ◌↔◌, [], ◌∷◌, ◌++◌, min, IfOk, OnOk, IsErr, IsTrue, if◌then◌else◌};
+    ghost use Rattle.std.specs.Prelude.{◌≡◌, ◌+◌, ◌-◌, ◌^◌, ◌<◌, ◌≤◌, ◌↔◌, [], ◌∷◌, ◌++◌, min, Some, IfOk, OnOk, IsErr, IsTrue, if◌then◌else◌};
     ghost use Rattle.yasir_io.specs.Causes.{HasCause};
-    ghost use Rattle.yasir_io.specs.Disks.{slot_in};
-    ghost use Rattle.yasir_io.specs.MemSlots.{mem_slots, slots_plan, slots_calls, slots_room, slots_recorded, MayAdd, SlotsFail};
+    ghost use Rattle.yasir_io.specs.Disks.{slot_in, OneImage};
+    ghost use Rattle.yasir_io.specs.MemSlots.{mem_slots, slots_plan, slots_calls, slots_room, slots_recorded, MayAdd, MayLeave, SlotsFail};
 
     /// A disk with these slots, both synced, and room to record so many calls, which is taken at once.
     /// The calls in `fail`, counted from 1, fail, and so does each one past `calls`.
@@ -94,6 +94,7 @@ impl MemSlots {
         ensures recorded { IfOk result (λ disk. slots_recorded disk ≡ 0) }
         ensures plan { IfOk result (λ disk. slots_plan disk ≡ fail.items) }
         ensures calls { IfOk result (λ disk. slots_calls disk ≡ 0) }
+        ensures synced { IfOk result (λ disk. OneImage (Some (mem_slots disk)) (MayLeave disk)) }
     {
         let Ok(past) = Vec::with_capacity(alloc, calls) else {
             return Err(NoMemory);
