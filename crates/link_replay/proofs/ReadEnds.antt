@@ -36,7 +36,7 @@ printed start now text buffered =
 ticks_in-take : (items : List Item) (n : ℕ) → ticks_in (take n items) ≡ take (length (ticks_in (take n items))) (ticks_in items)
 ticks_in-take items n =
     let whole : ticks_in items ≡ ticks_in (take n items) ++ ticks_in (drop n items) =
-        ap ticks_in (sym (take-append-drop n items)) ∙ ticks_in-append (take n items) (drop n items) in
+    ap ticks_in (sym (take-append-drop n items)) ∙ ticks_in-append (take n items) (drop n items) in
     sym (ap (take (length (ticks_in (take n items)))) whole ∙ take-append_seam (ticks_in (take n items)) (ticks_in (drop n items)))
 
 module _ {C V : Type 0} (device : C → V) (waits : C → List ℕ) (stands : V → List Tick → Type 0) (reads : List Tick → List FrameRead) where
@@ -52,7 +52,7 @@ module _ {C V : Type 0} (device : C → V) (waits : C → List ℕ) (stands : V 
       → PrintsReads stands reads (device old) (waits old) (record { out = first.out; log = first.log; floor = 0 }) first []
       → (items : List Item) × Takes 0 before now items end
       × EndsWith (λ c start held items. PrintsReads stands reads (device c) (waits c) start held items)
-          (λ c stop start held items. StopsPrinting reads stop start held items) 4 old first new last items end
+      (λ c stop start held items. StopsPrinting reads stop start held items) 4 old first new last items end
       → DrivesFrames reads before now first.out last.out (waits new) end × (last.log ≡ first.log)
   driven old new first last before now Whole start (items, takes, ends) =
       let at = ends _ [] start in
@@ -62,17 +62,27 @@ module _ {C V : Type 0} (device : C → V) (waits : C → List ℕ) (stands : V 
   driven old new first last before now ReadFault start (items, takes, ends) = let at = ends _ [] start in ((items, takes, at.lines), at.quiet)
   driven old new first last before now (Stopped stop) start (items, takes, ends) =
       let at = ends _ [] start in
-      let all : List Item = items ++ silent_items 4 in
-      ((at.1.why, (items, takes, (length (ticks_in (take at.0 all)),
-          subst (λ line. GotPrefix first.out last.out (frame_lines (reads line)))
-              (ticks_in-take all at.0 ∙ ap (take (length (ticks_in (take at.0 all)))) (ticks_in-append items (silent_items 4))) at.1.lines))),
-       at.1.quiet)
+      let all : List Item = items ++ silent_items 4 in (
+        (
+          at.1.why,
+          (
+            items,
+            takes,
+            (
+              length (ticks_in (take at.0 all)),
+              subst (λ line. GotPrefix first.out last.out (frame_lines (reads line)))
+                  (ticks_in-take all at.0 ∙ ap (take (length (ticks_in (take at.0 all)))) (ticks_in-append items (silent_items 4))) at.1.lines,
+            ),
+          ),
+        ),
+        at.1.quiet,
+      )
 
   pub drives_frames : (old new : C) (first last : Held) (before now : Option (List ℕ)) (end : End)
       → stands (device old) [] → reads [] ≡ [] → waits old ≡ []
       → (items : List Item) × Takes 0 before now items end
       × EndsWith (λ c start held items. PrintsReads stands reads (device c) (waits c) start held items)
-          (λ c stop start held items. StopsPrinting reads stop start held items) 4 old first new last items end
+      (λ c stop start held items. StopsPrinting reads stop start held items) 4 old first new last items end
       → DrivesFrames reads before now first.out last.out (waits new) end × (last.log ≡ first.log)
   drives_frames old new first last before now end hears nothing empty ends =
       driven old new first last before now end (at_first old first hears nothing empty) ends
@@ -82,18 +92,34 @@ module _ (reads : List Tick → List FrameRead) (before now : Option (List ℕ))
   pub drain_fails : (end : End) → ((stop : Stop) → end ≡ Stopped stop → ⊥) → DrivesFrames reads before now out_before out_now waits end
       → ((text : List ℕ) → Buffered out_before out_now waits text → GotPrefix out_before out_last text)
       → PrintsFrames reads before now out_before out_last WriteFault
-  drain_fails Whole other (items, takes, lines) drain =
-      (items, Whole, takes, length (ticks_in items ++ silent 4),
-       subst (λ line. GotPrefix out_before out_last (frame_lines (reads line))) (sym (take-length (ticks_in items ++ silent 4))) (drain _ lines))
-  drain_fails (Refused bad) other (items, takes, lines) drain =
-      (items, Refused bad, takes, length (ticks_in items),
-       subst (λ line. GotPrefix out_before out_last (frame_lines (reads line))) (sym (take-append_seam (ticks_in items) (silent 4))) (drain _ lines))
-  drain_fails (TooLong what count) other (items, takes, lines) drain =
-      (items, TooLong what count, takes, length (ticks_in items),
-       subst (λ line. GotPrefix out_before out_last (frame_lines (reads line))) (sym (take-append_seam (ticks_in items) (silent 4))) (drain _ lines))
-  drain_fails ReadFault other (items, takes, lines) drain =
-      (items, ReadFault, takes, length (ticks_in items),
-       subst (λ line. GotPrefix out_before out_last (frame_lines (reads line))) (sym (take-append_seam (ticks_in items) (silent 4))) (drain _ lines))
+  drain_fails Whole other (items, takes, lines) drain = (
+    items,
+    Whole,
+    takes,
+    length (ticks_in items ++ silent 4),
+    subst (λ line. GotPrefix out_before out_last (frame_lines (reads line))) (sym (take-length (ticks_in items ++ silent 4))) (drain _ lines),
+  )
+  drain_fails (Refused bad) other (items, takes, lines) drain = (
+    items,
+    Refused bad,
+    takes,
+    length (ticks_in items),
+    subst (λ line. GotPrefix out_before out_last (frame_lines (reads line))) (sym (take-append_seam (ticks_in items) (silent 4))) (drain _ lines),
+  )
+  drain_fails (TooLong what count) other (items, takes, lines) drain = (
+    items,
+    TooLong what count,
+    takes,
+    length (ticks_in items),
+    subst (λ line. GotPrefix out_before out_last (frame_lines (reads line))) (sym (take-append_seam (ticks_in items) (silent 4))) (drain _ lines),
+  )
+  drain_fails ReadFault other (items, takes, lines) drain = (
+    items,
+    ReadFault,
+    takes,
+    length (ticks_in items),
+    subst (λ line. GotPrefix out_before out_last (frame_lines (reads line))) (sym (take-append_seam (ticks_in items) (silent 4))) (drain _ lines),
+  )
   drain_fails (Stopped stop) other h drain = absurd (other stop refl)
 
   -- all lines were written, and the input was no whole one
@@ -116,10 +142,14 @@ module _ (reads : List Tick → List FrameRead) (before now : Option (List ℕ))
       subst (PrintsFrames reads before now out_before out_last) (sym done) (items, takes, printed _ _ _ (drain _ lines))
   whole_prints status (inr fault) (items, takes, lines) drain =
       let whole = drain _ lines in
-      subst (PrintsFrames reads before now out_before out_last) (sym fault)
-        (items, Whole, takes, length (ticks_in items ++ silent 4),
-         subst (λ line. GotPrefix out_before out_last (frame_lines (reads line))) (sym (take-length (ticks_in items ++ silent 4)))
-           (record { front = whole.front; rest = []; got = whole.got; all = whole.all }))
+      subst (PrintsFrames reads before now out_before out_last) (sym fault) (
+        items,
+        Whole,
+        takes,
+        length (ticks_in items ++ silent 4),
+        subst (λ line. GotPrefix out_before out_last (frame_lines (reads line))) (sym (take-length (ticks_in items ++ silent 4)))
+            (record { front = whole.front; rest = []; got = whole.got; all = whole.all }),
+      )
 
 pub input_cause : (before now : ℕ) (end : End) → IsReadCause before now (is_read_fault end) → InputCause before now (status_of end)
 input_cause before now Whole h = h.same refl

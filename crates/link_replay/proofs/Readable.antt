@@ -42,23 +42,23 @@ module _ (text : List ℕ) (items : List Item) (right : IsTickText 0 text items)
   few_in_front : (front back : List Item) → items ≡ front ++ back → length (ticks_in items) ≤ max_ticks → length (ticks_in front) ≤ max_ticks
   few_in_front front back whole few =
       let sum : length (ticks_in items) ≡ length (ticks_in front) + length (ticks_in back) =
-          ap (λ l. length (ticks_in l)) whole ∙ ap length (ticks_in-append front back) ∙ length-append (ticks_in front) (ticks_in back) in
+      ap (λ l. length (ticks_in l)) whole ∙ ap length (ticks_in-append front back) ∙ length-append (ticks_in front) (ticks_in back) in
       omega (arith, sum)
 
   no_line_too_long : (met : List ℕ) (now : Option (List ℕ)) (taken : List Item) (count : ℕ) → length (ticks_in items) ≤ max_ticks
       → HasTooManyTicks 0 (Some text) now met taken count → ⊥
   no_line_too_long met now taken count few h = elim h.ended [
-    inl e ↦
-      let at = met_of_told text (met ++ e.byte ∷ []) e.met.0 e.met.1 in
-      let front = ended_items-begin 0 (met ++ e.byte ∷ []) at.0 items (subst (λ x. IsTickText 0 x items) at.1 right) in
-      let short : length (ticks_in (taken ++ h.line)) ≤ max_ticks =
-          few_in_front (taken ++ h.line) front.0 (front.1 ∙ ap (λ l. l ++ front.0) e.ended) few in
-      omega (arith, short, h.sum, h.above)
+    | inl e ↦
+        let at = met_of_told text (met ++ e.byte ∷ []) e.met.0 e.met.1 in
+        let front = ended_items-begin 0 (met ++ e.byte ∷ []) at.0 items (subst (λ x. IsTickText 0 x items) at.1 right) in
+        let short : length (ticks_in (taken ++ h.line)) ≤ max_ticks =
+        few_in_front (taken ++ h.line) front.0 (front.1 ∙ ap (λ l. l ++ front.0) e.ended) few in
+        omega (arith, short, h.sum, h.above)
     | inr e ↦
-      let same : items ≡ taken ++ h.line = IsTickText-one 0 text items (taken ++ h.line) right
-          (subst (λ x. IsTickText 0 x (taken ++ h.line)) (sym (all_of_told text met now e.met e.at_end)) e.ended) in
-      let short : length (ticks_in (taken ++ h.line)) ≤ max_ticks = subst (λ l. length (ticks_in l) ≤ max_ticks) same few in
-      omega (arith, short, h.sum, h.above)
+        let same : items ≡ taken ++ h.line = IsTickText-one 0 text items (taken ++ h.line) right
+        (subst (λ x. IsTickText 0 x (taken ++ h.line)) (sym (all_of_told text met now e.met e.at_end)) e.ended) in
+        let short : length (ticks_in (taken ++ h.line)) ≤ max_ticks = subst (λ l. length (ticks_in l) ≤ max_ticks) same few in
+        omega (arith, short, h.sum, h.above)
   ]
 
   no_byte_too_many : (met : List ℕ) (count : ℕ) → length text ≤ max_bytes → HasTooManyBytes 0 (Some text) met count → ⊥
@@ -91,14 +91,16 @@ pub readable_done : (reads : List Tick → List FrameRead) (before now out_befor
     → PrintsFrames reads before now out_before out_now status → InputCause in0 in1 status → SinkCause out0 out1 log0 log1 status → status ≡ Done
 readable_done reads before now out_before out_now in0 in1 out0 out1 log0 log1 disk0 disk1 status readable calm h input sinks =
     done_by readable.text readable.items readable.right reads now out_before out_now in0 in1 out0 out1 log0 log1 disk0 disk1 status
-        readable.few_ticks readable.few_bytes calm (subst (λ left. PrintsFrames reads left now out_before out_now status) readable.told h) input sinks
+    readable.few_ticks readable.few_bytes calm (subst (λ left. PrintsFrames reads left now out_before out_now status) readable.told h) input sinks
 
 -- the sinks' causes with a fault line that was written, or failed
 pub sinks_after : (out_before out_now log_before log_mid log_now : ℕ) (status : Status) → SinkCause out_before out_now log_before log_mid status
     → log_mid ≤ log_now → (fault_line status ≡ [] → log_now ≡ log_mid) → SinkCause out_before out_now log_before log_now status
 sinks_after out_before out_now log_before log_mid log_now Done h rises same = (h.0, same refl ∙ h.1)
 sinks_after out_before out_now log_before log_mid log_now WriteFault h rises same = elim h [
-    inl out ↦ inl out | inr log ↦ inr (subst (Rose log_before) (sym (same refl)) log) ]
+  | inl out ↦ inl out
+  | inr log ↦ inr (subst (Rose log_before) (sym (same refl)) log)
+]
 sinks_after out_before out_now log_before log_mid log_now ReadFault h rises same = (h.0, omega (arith, h.1, rises))
 sinks_after out_before out_now log_before log_mid log_now Usage h rises same = (h.0, omega (arith, h.1, rises))
 sinks_after out_before out_now log_before log_mid log_now (Refused bad) h rises same = (h.0, omega (arith, h.1, rises))

@@ -59,7 +59,8 @@ fn has_journal_line(floor: u64) -> Line
     ensures { result.items ≡ fault_line (Status.HasJournal floor) }
 {
     let mut line = Line::new();
-    line.try_extend_from_slice(b"fault: journal stands at ").unwrap();
+    line.try_extend_from_slice(b"fault: journal stands at ")
+        .unwrap();
     push_decimal(&mut line, floor);
     line.push(b'\n');
     line

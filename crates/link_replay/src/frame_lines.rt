@@ -57,7 +57,13 @@ impl<V: Device + Drop, O: Sink, L: Sink, D: SlotDisk> Consumer<O, L, D> for Fram
 
     ghost safe = { λ self image. ⊤ };
 
-    fn take_tick(&mut self, out: &mut O, _log: &mut L, _disk: &mut D, tick: Tick) -> Result<(), Stop> {
+    fn take_tick(
+        &mut self,
+        out: &mut O,
+        _log: &mut L,
+        _disk: &mut D,
+        tick: Tick,
+    ) -> Result<(), Stop> {
         let frame = match self.device.step(tick) {
             Some(frame) => frame,
             None => return Ok(()),

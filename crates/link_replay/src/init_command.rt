@@ -11,11 +11,7 @@ use sequence_journal::{InitError, Journal};
 use yasir_io::{Sink, SlotDisk};
 
 /// Makes a new journal at floor 0, where none stands.
-pub fn make_journal<O: Sink, L: Sink, D: SlotDisk>(
-    out: &mut O,
-    log: &mut L,
-    disk: &mut D,
-) -> Status
+pub fn make_journal<O: Sink, L: Sink, D: SlotDisk>(out: &mut O, log: &mut L, disk: &mut D) -> Status
     ensures journal { MakesJournal (D.told disk.old) (D.told disk.new) (D.may_leave disk.old) (D.may_leave disk.new) result }
     ensures any_moment { LeavesOnly D.moment D.left_since disk.old disk.new (IsBeside B (D.may_leave disk.old)) }
     ensures out { O.held out.new ≡ O.held out.old }

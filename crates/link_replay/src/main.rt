@@ -16,11 +16,10 @@ mod words;
 
 pub use program::run;
 pub use status::Status;
-pub use words::{Command, Proto, Usage, journal_word, key_word, read_words};
-
 use std::alloc::{AllocError, Global};
 use std::env::Args;
 use std::process::ExitCode;
+pub use words::{Command, Proto, Usage, journal_word, key_word, read_words};
 use yasir_io::{FileSlots, FileSource, StderrSink, StdinSource, StdoutSink};
 
 /// The exit status where no memory is found for a path.

@@ -101,13 +101,13 @@ pub fn run<K: Source, S: Source, O: Sink, L: Sink, D: SlotDisk>(
     // Right words, right input and no fault outside give `Done`.
     ensures init_done { IsCommand (map string_bytes words.now) Command.Init → IsBlank (D.told disk.old)
         → NoneRose (S.faults input.old) (S.faults input.new) (O.faults out.old) (O.faults out.new)
-            (L.faults log.old) (L.faults log.new) (D.faults disk.old) (D.faults disk.new) → result ≡ Status.Done }
+        (L.faults log.old) (L.faults log.new) (D.faults disk.old) (D.faults disk.new) → result ≡ Status.Done }
     ensures read_done { (proto : Proto) → IsCommand (map string_bytes words.now) (Command.Read proto) → IsReadable (S.left input.old)
         → NoneRose (S.faults input.old) (S.faults input.new) (O.faults out.old) (O.faults out.new)
-            (L.faults log.old) (L.faults log.new) (D.faults disk.old) (D.faults disk.new) → result ≡ Status.Done }
+        (L.faults log.old) (L.faults log.new) (D.faults disk.old) (D.faults disk.new) → result ≡ Status.Done }
     ensures vectors_done { IsCommand (map string_bytes words.now) Command.Vectors
         → NoneRose (S.faults input.old) (S.faults input.new) (O.faults out.old) (O.faults out.new)
-            (L.faults log.old) (L.faults log.new) (D.faults disk.old) (D.faults disk.new) → result ≡ Status.Done }
+        (L.faults log.old) (L.faults log.new) (D.faults disk.old) (D.faults disk.new) → result ≡ Status.Done }
 
     // The log has got the fault line of a refusal, and nothing else.
     ensures log { LogsFault (L.held log.old) (L.held log.new) (L.faults log.old) (L.faults log.new) result }

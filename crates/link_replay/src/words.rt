@@ -30,7 +30,11 @@ fn read_proto(word: &str) -> Result<Proto, Usage>
     ensures ok { IfOk result (λ proto. word.now ≡ proto_word proto) }
     ensures usage { OnErr result ((proto : Proto) → word.now ≡ proto_word proto → ⊥) }
 {
-    if word == "rtu" { Ok(Proto::Rtu) } else { Err(Usage) }
+    if word == "rtu" {
+        Ok(Proto::Rtu)
+    } else {
+        Err(Usage)
+    }
 }
 
 // The command of one word.

@@ -51,14 +51,14 @@ progress_start stands marks before intake old first met = record {
 
 module _ {C : Type 0} (stands : C → Start → Held → List Item → Type 0) (stopped : C → Stop → Start → Held → List Item → Type 0)
     (marks : ℕ) (before : Option (List ℕ)) where
-  -- a byte that ends no line with ticks
-  pub progress_byte : (now later : Option (List ℕ)) (intake next : Intake) (old : C) (first : Held) (new : C) (last : Held) (ticks : ℕ)
-      → (p : Progress stands marks before now intake old first new last ticks) → (byte : ℕ) → IsMet next marks before later (p.text ++ byte ∷ [])
-      → ended_items (p.text ++ byte ∷ []) ≡ ended_items p.text ++ []
+  -- bytes that end no line with ticks
+  pub progress_quiet : (now later : Option (List ℕ)) (intake next : Intake) (old : C) (first : Held) (new : C) (last : Held) (ticks : ℕ)
+      → (p : Progress stands marks before now intake old first new last ticks) → (whole : List ℕ) → IsMet next marks before later whole
+      → ended_items whole ≡ ended_items p.text ++ []
       → Progress stands marks before later next old first new last ticks
-  progress_byte now later intake next old first new last ticks p byte met same =
-      let e : ended_items (p.text ++ byte ∷ []) ≡ ended_items p.text = same ∙ append-nil _ in record {
-        text = p.text ++ byte ∷ [];
+  progress_quiet now later intake next old first new last ticks p whole met same =
+      let e : ended_items whole ≡ ended_items p.text = same ∙ append-nil _ in record {
+        text = whole;
         met = met;
         moved = subst (Moves stands old first new last) (sym e) p.moved;
         sum = p.sum ∙ ap (λ items. length (ticks_in items)) (sym e);
@@ -67,17 +67,17 @@ module _ {C : Type 0} (stands : C → Start → Held → List Item → Type 0) (
 
   -- a line that was handed over
   pub progress_line : (now later : Option (List ℕ)) (intake next : Intake) (old : C) (first : Held) (mid : C) (between : Held) (new : C) (last : Held) (ticks sum : ℕ)
-      → (p : Progress stands marks before now intake old first mid between ticks) → (byte : ℕ) (line : List Item) → IsMet next marks before later (p.text ++ byte ∷ [])
-      → ended_items (p.text ++ byte ∷ []) ≡ ended_items p.text ++ line
+      → (p : Progress stands marks before now intake old first mid between ticks) → (whole : List ℕ) (line : List Item) → IsMet next marks before later whole
+      → ended_items whole ≡ ended_items p.text ++ line
       → HandsOver stands stopped mid between new last ticks line (Ok sum)
       → Progress stands marks before later next old first new last sum
-  progress_line now later intake next old first mid between new last ticks sum p byte line met e handed = record {
-    text = p.text ++ byte ∷ [];
+  progress_line now later intake next old first mid between new last ticks sum p whole line met e handed = record {
+    text = whole;
     met = met;
     moved = subst (Moves stands old first new last) (sym e) (moves_then stands stopped old first mid between new last _ line p.moved handed.0);
     sum = let joined : length (ticks_in (ended_items p.text ++ line)) ≡ length (ticks_in (ended_items p.text)) + length (ticks_in line) =
         ap length (ticks_in-append (ended_items p.text) line) ∙ length-append (ticks_in (ended_items p.text)) (ticks_in line) in
-        let shown : length (ticks_in (ended_items (p.text ++ byte ∷ []))) ≡ length (ticks_in (ended_items p.text ++ line)) =
+        let shown : length (ticks_in (ended_items whole)) ≡ length (ticks_in (ended_items p.text ++ line)) =
         ap (λ items. length (ticks_in items)) e in
         omega (arith, joined, shown, handed.1, p.sum);
     within = handed.2;
@@ -86,7 +86,8 @@ module _ {C : Type 0} (stands : C → Start → Held → List Item → Type 0) (
   -- a step that isn't answered ends the run
   pub step_takes : (intake : Intake) (now : Option (List ℕ)) (text : List ℕ) (end : End) → BeginsTickText marks text → length (ticks_in (ended_items text)) ≤ max_ticks
       → StepAnswer intake marks before now text (Err end) → Takes marks before now (ended_items text) end
-  step_takes intake now text (Refused bad) begins within h = (text, inl h, refl, within)
+  step_takes intake now text (Refused bad) begins within h =
+      (text ++ h.front, inl h.refused, sym h.quiet, within)
   step_takes intake now text (TooLong Bytes count) begins within h = (text, h, refl, within)
   step_takes intake now text ReadFault begins within h = (text, h, begins, refl, within)
   step_takes intake now text (TooLong Ticks count) begins within h = absurd h
@@ -177,6 +178,18 @@ module _ {C : Type 0} (stands : C → Start → Held → List Item → Type 0) (
   line_ends now text line (Refused bad) old first mid between new last ticks ended moved sum within h = absurd h
   line_ends now text line ReadFault old first mid between new last ticks ended moved sum within h = absurd h
   line_ends now text line Whole old first mid between new last ticks ended moved sum within h = absurd h
+
+  -- the same of a line that ended at a byte behind others, in which no line with ticks ended
+  pub line_ends_behind : (now : Option (List ℕ)) (text front : List ℕ) (byte : ℕ) (line : List Item) (end : End) (old : C) (first : Held) (mid : C) (between : Held) (new : C) (last : Held) (ticks : ℕ)
+      → IsMetOf before ((text ++ front) ++ byte ∷ []) → ended_items ((text ++ front) ++ byte ∷ []) ≡ ended_items text ++ line
+      → ended_items (text ++ front) ≡ ended_items text
+      → Moves stands old first mid between (ended_items text) → ticks ≡ length (ticks_in (ended_items text)) → ticks ≤ max_ticks
+      → HandsOver stands stopped mid between new last ticks line (Err end)
+      → (all : List Item) × Takes marks before now all end × EndsAs stands stopped old first new last all end
+  line_ends_behind now text front byte line end old first mid between new last ticks met ended quiet moved sum within h =
+      line_ends now (text ++ front) line end old first mid between new last ticks
+      (inl (record { byte = byte; met = met; ended = ended ∙ ap (λ items. items ++ line) (sym quiet) }))
+      (subst (Moves stands old first mid between) (sym quiet) moved) (sum ∙ ap (λ items. length (ticks_in items)) (sym quiet)) within h
 
   pub line_reads_no_fault : (items : List Item) (end : End) (mid : C) (between : Held) (new : C) (last : Held) (ticks : ℕ)
       → HandsOver stands stopped mid between new last ticks items (Err end) → (is_read_fault end ≡ false) × (end ≡ Whole → ⊥)

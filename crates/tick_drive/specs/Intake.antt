@@ -1,11 +1,13 @@
 -- The bytes of an input on their way to the reader.
-use Rattle.std.specs.Prelude.{◌≡◌, ℕ, List, [], ◌∷◌, ◌++◌, length, Option, Some, None, Result, Ok, Err, false}
+use Rattle.std.specs.Prelude.{◌≡◌, ◌≢◌, ℕ, List, [], ◌∷◌, ◌++◌, length, Option, Some, None, Result, Ok, Err, false}
 use Rattle.std.specs.Io.KnownBytes.{prepend_known, IsAtEnd}
 use Rattle.yasir_io.specs.Pieces.{to_come, has_ended}
 use Rattle.yasir_ticks.specs.Ticks.{Item, items_of_run}
 use Rattle.yasir_ticks.specs.Reader.{StandsFor}
 use Rattle.yasir_ticks.specs.TickText.{IsTickText, BeginsTickText, ended_items, line_after, fault_at_end}
+use Rattle.yasir_ticks.specs.declared.fault.BadTicks.{BadTicks}
 use Rattle.yasir_ticks.specs.declared.run.Run.{Run}
+use Rattle.yasir_ticks.specs.declared.run.Run.TheVariants.{Nothing}
 use Rattle.tick_drive.specs.Input.{IsRefusedByte, HasTooManyBytes}
 use Rattle.tick_drive.specs.declared.intake.Intake.{Intake}
 use Rattle.tick_drive.specs.declared.end.End.{End}
@@ -24,11 +26,26 @@ pub record IsMet (intake : Intake) (marks : ℕ) (before now : Option (List ℕ)
   pub open_end : has_ended intake.pieces ≡ false
   pub count : intake.bytes ≡ length text
 
+-- Bytes were met after a text, at least one and none refused, and this run is that of the lines that ended.
+-- Where it has ticks, the last of these bytes ended its line, and no line with ticks ended before.
+pub record MeetsRun (intake : Intake) (marks : ℕ) (before now : Option (List ℕ)) (text : List ℕ) (run : Run) : Type 0 where
+  pub front : List ℕ
+  pub byte : ℕ
+  pub met : IsMet intake marks before now ((text ++ front) ++ byte ∷ [])
+  pub ended : ended_items ((text ++ front) ++ byte ∷ []) ≡ ended_items text ++ items_of_run run
+  pub quiet : run ≢ Nothing → ended_items (text ++ front) ≡ ended_items text
+
+-- Bytes were met after a text, in which no line with ticks ended, and then one that is refused.
+pub record MeetsRefused (marks : ℕ) (before : Option (List ℕ)) (text : List ℕ) (bad : BadTicks) : Type 0 where
+  pub front : List ℕ
+  pub refused : IsRefusedByte marks before (text ++ front) bad
+  pub quiet : ended_items (text ++ front) ≡ ended_items text
+
 -- what the answer to one step says, after a text was met
 abbrev pub StepAnswer : Intake → ℕ → Option (List ℕ) → Option (List ℕ) → List ℕ → Result (Option Run) End → Type 0
-StepAnswer intake marks before now text (Ok (Some run)) = (byte : ℕ) × IsMet intake marks before now (text ++ byte ∷ []) × (ended_items (text ++ byte ∷ []) ≡ ended_items text ++ items_of_run run)
+StepAnswer intake marks before now text (Ok (Some run)) = MeetsRun intake marks before now text run
 StepAnswer intake marks before now text (Ok None) = HasFed intake marks text × BeginsTickText marks text × (before ≡ prepend_known text now) × IsAtEnd now
-StepAnswer intake marks before now text (Err (Refused bad)) = IsRefusedByte marks before text bad
+StepAnswer intake marks before now text (Err (Refused bad)) = MeetsRefused marks before text bad
 StepAnswer intake marks before now text (Err (TooLong Bytes count)) = HasTooManyBytes marks before text count
 StepAnswer intake marks before now text (Err ReadFault) = before ≡ prepend_known text now
 StepAnswer intake marks before now text (Err (TooLong Ticks count)) = ⊥

@@ -1,14 +1,14 @@
-ghost use Rattle.std.specs.Prelude.{◌≡◌, ℕ, ◌+◌, ◌≤◌, List, [], Option, IfOk, IfSome};
+ghost use Rattle.std.specs.Prelude.{◌≡◌, ℕ, ◌+◌, ◌≤◌, ◌<◌, List, [], length, Option, IfOk, IfSome, false};
 ghost use Rattle.yasir_ticks.specs.Reader.{reader_line};
 
 use crate::{End, TooMuch};
 use yasir_io::{Failed, Pieces, Source};
-use yasir_ticks::{Run, TickReader};
+use yasir_ticks::{Fed, Run, TickReader};
 
 /// How many bytes of an input are read at most.
 pub const MAX_INPUT_BYTES: u32 = 268_435_456;
 
-/// The bytes of an input, fed one after the other to a reader of tick text.
+/// The bytes of an input, fed in their order to a reader of tick text.
 #[derive(Drop)]
 pub struct Intake {
     pieces: Pieces,
@@ -20,6 +20,7 @@ pub struct Intake {
 
 impl Intake {
     ghost use Rattle.tick_drive.specs.Intake.{IsMet, HasFed, StepAnswer, FinishAnswer};
+    ghost use Rattle.yasir_io.specs.Pieces.{kept_bytes};
     ghost use Rattle.tick_drive.specs.Input.{is_read_answer, IsReadCause};
 
     /// Nothing met yet of a text with exactly so many marks.
@@ -34,31 +35,45 @@ impl Intake {
         }
     }
 
-    /// Meets the next byte, and answers the run of the line that it ends, or `Nothing`; none at the input's end.
+    /// Meets bytes up to the end of the first line with ticks, and answers its run, or `Nothing`; none at the input's end.
     #[inline]
     pub fn step<S: Source>(&mut self, source: &mut S) -> Result<Option<Run>, End>
         ensures answer { (marks : ℕ) (before : Option (List ℕ)) (text : List ℕ)
             → IsMet self.old marks before (S.left source.old) text
             → StepAnswer self.new marks before (S.left source.new) text result }
-        ensures counted { IfOk result (λ next. IfSome next (λ run. self.new.bytes ≡ self.old.bytes + 1)) }
+        ensures counted { IfOk result (λ next. IfSome next (λ run. self.old.bytes < self.new.bytes)) }
         ensures cause { IsReadCause (S.faults source.old) (S.faults source.new) (is_read_answer result) }
     {
-        match self.pieces.next(source) {
-            Ok(Some(byte)) => {
-                if self.bytes == MAX_INPUT_BYTES {
-                    return Err(End::TooLong {
-                        what: TooMuch::Bytes,
-                        count: 268_435_457,
-                    });
-                }
-                self.bytes += 1;
-                match self.reader.feed(byte) {
-                    Ok(run) => Ok(Some(run)),
-                    Err(bad) => Err(End::Refused(bad)),
-                }
-            }
-            Ok(None) => Ok(None),
+        match self.pieces.fill(source) {
+            Ok(true) => self.feed_kept(),
+            Ok(false) => Ok(None),
             Err(Failed) => Err(End::ReadFault),
+        }
+    }
+
+    // Feeds bytes that are kept.
+    #[inline]
+    fn feed_kept(&mut self) -> Result<Option<Run>, End>
+        requires { 0 < length (kept_bytes self.old.pieces) }
+        ensures answer { (marks : ℕ) (before now : Option (List ℕ)) (text : List ℕ)
+            → IsMet self.old marks before now text → StepAnswer self.new marks before now text result }
+        ensures counted { IfOk result (λ next. IfSome next (λ run. self.old.bytes < self.new.bytes)) }
+        ensures no_read { is_read_answer result ≡ false }
+    {
+        if self.bytes == MAX_INPUT_BYTES {
+            return Err(End::TooLong {
+                what: TooMuch::Bytes,
+                count: 268_435_457,
+            });
+        }
+        let kept = self.pieces.kept();
+        let within = kept.len().min((MAX_INPUT_BYTES - self.bytes) as usize);
+        let Fed { taken, run } = self.reader.feed_some(&kept[..within]);
+        self.bytes += taken as u32;
+        self.pieces.skip(taken);
+        match run {
+            Ok(run) => Ok(Some(run)),
+            Err(bad) => Err(End::Refused(bad)),
         }
     }
 

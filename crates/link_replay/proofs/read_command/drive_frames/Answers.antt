@@ -6,11 +6,11 @@ use Rattle.link_replay.proofs.read_command.drive_frames.Goals as goal
 pub returns-clause-driven : goal.returns-clause-driven
 returns-clause-driven g c =
     (drives_frames (λ printer. printer.device) (λ printer. waiting_bytes printer.lines) g.V.Device.stands g.V.Device.reads
-        c.args.printer.now c.drive_to_rest.new.consumer _ _ _ _ c.drive_to_rest.result
-        c.requires.stands c.requires.nothing c.requires.waits c.drive_to_rest.ensures.end).0
+    c.args.printer.now c.drive_to_rest.new.consumer _ _ _ _ c.drive_to_rest.result
+    c.requires.stands c.requires.nothing c.requires.waits c.drive_to_rest.ensures.end).0
 
 pub returns-clause-log : goal.returns-clause-log
 returns-clause-log g c =
     (drives_frames (λ printer. printer.device) (λ printer. waiting_bytes printer.lines) g.V.Device.stands g.V.Device.reads
-        c.args.printer.now c.drive_to_rest.new.consumer _ _ _ _ c.drive_to_rest.result
-        c.requires.stands c.requires.nothing c.requires.waits c.drive_to_rest.ensures.end).1
+    c.args.printer.now c.drive_to_rest.new.consumer _ _ _ _ c.drive_to_rest.result
+    c.requires.stands c.requires.nothing c.requires.waits c.drive_to_rest.ensures.end).1

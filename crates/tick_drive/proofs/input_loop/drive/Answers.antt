@@ -2,7 +2,7 @@ use Rattle.std.proofs.Common.{◌∙◌, inl, inr, refl}
 use Rattle.yasir_ticks.specs.TickText.{ended_items}
 use Rattle.yasir_ticks.specs.Ticks.{items_of_run}
 use Rattle.tick_drive.proofs.Moving.{moves_then, leaves_now, leaves_then}
-use Rattle.tick_drive.proofs.Driving.{progress_start, progress_byte, progress_line, step_takes, step_moves, finish_takes, finish_moves, finish_stops_none, line_ends, line_reads_no_fault, within_line, sinks_from, disk_from, sinks_same, disk_same, read_same}
+use Rattle.tick_drive.proofs.Driving.{progress_start, progress_quiet, progress_line, step_takes, step_moves, finish_takes, finish_moves, finish_stops_none, line_ends, line_ends_behind, line_reads_no_fault, within_line, sinks_from, disk_from, sinks_same, disk_same, read_same}
 use Rattle.tick_drive.proofs.input_loop.drive.Goals as goal
 
 pub loop-run-init : goal.loop-run-init
@@ -26,8 +26,8 @@ pub loop-run-preserved-in-Nothing : goal.loop-run-preserved-in-Nothing
 loop-run-preserved-in-Nothing g c =
     let progress = c.loop-run.invariant.0 in
     let answer = (rw c.in-Ok-Some.field-0-is at c.in-Ok-Some.ensures.answer) _ _ progress.text progress.met in
-    let same = rw c.in-Nothing.is at answer.2 in (
-      progress_byte g.C.Consumer.stands g.C.Consumer.stopped _ _ _ _ _ _ _ _ _ _ _ progress answer.0 answer.1 same,
+    let same = rw c.in-Nothing.is at answer.ended in (
+      progress_quiet g.C.Consumer.stands g.C.Consumer.stopped _ _ _ _ _ _ _ _ _ _ _ progress _ answer.met same,
       c.loop-run.invariant.1,
       c.loop-run.invariant.2,
       c.in-Ok-Some.ensures.cause.same refl ∙ c.loop-run.invariant.3,
@@ -41,7 +41,7 @@ loop-run-preserved g c =
     let progress = c.loop-run.invariant.0 in
     let calm = c.loop-run.invariant.1 in
     let answer = (rw c.in-Ok-Some.field-0-is at c.in-Ok-Some.ensures.answer) _ _ progress.text progress.met in (
-      progress_line g.C.Consumer.stands g.C.Consumer.stopped _ _ _ _ _ _ _ _ _ _ _ _ _ _ progress answer.0 _ answer.1 answer.2 c.in-Ok.ensures.handed,
+      progress_line g.C.Consumer.stands g.C.Consumer.stopped _ _ _ _ _ _ _ _ _ _ _ _ _ _ progress _ _ answer.met answer.ended c.in-Ok.ensures.handed,
       record {
         is_able = c.in-Ok.ensures.able;
         is_kept = λ k. c.in-Ok.ensures.kept (calm.is_kept k);
@@ -63,8 +63,8 @@ returns-in-Err-hand_over g c =
     let answer = (rw c.in-Ok-Some.field-0-is at c.in-Ok-Some.ensures.answer) _ _ progress.text progress.met in
     let cases = line_reads_no_fault g.C.Consumer.stands g.C.Consumer.stopped c.args.marks (g.S.Source.left c.args.input.now) (items_of_run c.in-Ok-Some.run') _ _ _ _ _ _ call.handed in
     record {
-      end = line_ends g.C.Consumer.stands g.C.Consumer.stopped _ _ _ progress.text _ _ _ _ _ _ _ _ _
-          (inl (record { byte = answer.0; met = (_, answer.1.source); ended = answer.2 })) progress.moved progress.sum progress.within call.handed;
+      end = line_ends_behind g.C.Consumer.stands g.C.Consumer.stopped _ _ _ progress.text answer.front answer.byte _ _ _ _ _ _ _ _ _
+          (_, answer.met.source) answer.ended (answer.quiet c.in_default.not-Nothing) progress.moved progress.sum progress.within call.handed;
       goes_on = λ whole. absurd (cases.1 whole);
       kept = λ k. call.kept (calm.is_kept k);
       any_moment = λ k. leaves_then g.D.SlotDisk.moment g.D.SlotDisk.left_since _ _ _ _ _ (calm.any_moment k) (call.any_moment (calm.is_kept k)) calm.safer;

@@ -29,8 +29,11 @@ returns-in-Ok-clause-advances g c = record {
 pub returns-in-Err-clause-advances : goal.returns-in-Err-clause-advances
 returns-in-Err-clause-advances g c = record {
   moved = tt;
-  ended = λ start line before. (1, stops_at_line g.V.Device.stands g.V.Device.reads _ _ _ _ c.in-Some.ensures.answer start _ _ line
-      (λ text waits. rw (← c.frame_line.ensures, ← c.as_slice.ensures.value) (c.in-Err.ensures.err start.out text waits)) refl before);
+  ended = λ start line before. (
+    1,
+    stops_at_line g.V.Device.stands g.V.Device.reads _ _ _ _ c.in-Some.ensures.answer start _ _ line
+        (λ text waits. rw (← c.frame_line.ensures, ← c.as_slice.ensures.value) (c.in-Err.ensures.err start.out text waits)) refl before,
+  );
   counted = tt;
   is_able = tt;
   is_kept = λ k. tt;
