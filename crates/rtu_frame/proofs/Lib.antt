@@ -1,3 +1,3 @@
-pub mod CrcLaws
 pub mod FrameLaws
+pub mod RtuLaws
 pub mod Rows

@@ -1,6 +1,7 @@
 -- The definitions, computed at known values: those of a query of Modbus over Serial Line V1.02, and the usual check text.
 use Rattle.std.proofs.Common.{◌≡◌, [], ◌∷◌, true, false, refl, codes}
-use Rattle.rtu_frame.specs.Crc.{bit_step, bit_steps, byte_step, crc, crc_rtu}
+use Rattle.line_rules.specs.Crc.{bit_step, bit_steps, byte_step, crc}
+use Rattle.rtu_frame.specs.Crc.{crc_rtu}
 use Rattle.rtu_frame.specs.Frame.{is_frame}
 
 pub crc_of_two_bytes : crc_rtu (0x01 ∷ 0x03 ∷ []) ≡ 0x2140

@@ -1,10 +1,7 @@
 -- Modbus RTU frames (Modbus over Serial Line V1.02): address, function, up to 252 bytes of data, and their CRC.
-use Rattle.std.specs.Prelude.{◌≡◌, ℕ, ◌-◌, ◌/◌, ◌%◌, ◌≤◌, ◌==◌, ◌&&◌, nat_le, Bool, List, [], ◌∷◌, ◌++◌, length, take, slice_index}
+use Rattle.std.specs.Prelude.{◌≡◌, ℕ, ◌-◌, ◌/◌, ◌%◌, ◌≤◌, ◌==◌, ◌&&◌, nat_le, Bool, List, ◌++◌, length, take, slice_index}
+use Rattle.line_rules.specs.Bytes.{low_first}
 use Rattle.rtu_frame.specs.Crc.{crc_rtu}
-
--- the two bytes of a number below 65536, the low one first
-abbrev pub low_first : ℕ → List ℕ
-low_first n = n % 256 ∷ n / 256 ∷ []
 
 -- A frame has 4 to 256 bytes: a body, and then the CRC of the body, its low byte first.
 pub record IsFrame (frame : List ℕ) : Type 0 where
@@ -12,6 +9,11 @@ pub record IsFrame (frame : List ℕ) : Type 0 where
   pub at_most : length frame ≤ 256
   pub body : List ℕ
   pub ends_in_crc : frame ≡ body ++ low_first (crc_rtu body)
+
+-- The last two of at least two bytes are the CRC of those before, its low byte first.
+pub record HasRightEnding (bytes : List ℕ) : Type 0 where
+  pub body : List ℕ
+  pub ends_in_crc : bytes ≡ body ++ low_first (crc_rtu body)
 
 -- all bytes but the last two
 abbrev pub body_of : List ℕ → List ℕ

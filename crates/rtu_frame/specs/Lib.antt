@@ -1,2 +1,4 @@
 pub mod Crc
 pub mod Frame
+pub mod Rules
+pub mod Rtu

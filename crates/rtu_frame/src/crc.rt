@@ -1,10 +1,11 @@
 ghost use Rattle.std.specs.Prelude.{◌≡◌};
-ghost use Rattle.rtu_frame.specs.Crc.{bit_step, byte_step, crc_rtu};
+ghost use Rattle.line_rules.specs.Crc.{bit_step, byte_step};
+ghost use Rattle.rtu_frame.specs.Crc.{crc_rtu};
 
 // x^16 + x^15 + x^2 + 1, its bits in reverse order.
 const POLYNOMIAL: u16 = 0xA001;
 
-const FIRST_REGISTER: u16 = 0xFFFF;
+pub(crate) const FIRST_REGISTER: u16 = 0xFFFF;
 
 // The mask is all ones where the bit that is shifted out is 1, and else 0.
 #[inline]
@@ -16,7 +17,7 @@ fn after_bit(register: u16) -> u16
 }
 
 #[inline]
-fn after_byte(register: u16, byte: u8) -> u16
+pub(crate) fn after_byte(register: u16, byte: u8) -> u16
     ensures { result ≡ byte_step POLYNOMIAL register byte }
 {
     let mut shifted = register ^ u16::from(byte);

@@ -1,5 +1,5 @@
 ghost use Rattle.std.specs.Prelude.{◌↔◌, IsTrue};
-ghost use Rattle.rtu_frame.specs.Frame.{IsFrame};
+ghost use Rattle.rtu_frame.specs.Frame.{IsFrame, HasRightEnding};
 
 use crate::crc::crc16;
 
@@ -17,4 +17,12 @@ pub fn is_frame(bytes: &[u8]) -> bool
     }
     let [low, high] = crc16(&bytes[..length - 2]).to_le_bytes();
     bytes[length - 2] == low && bytes[length - 1] == high
+}
+
+/// Whether the last two of at least two bytes are the CRC of those before, low byte first. The CRC of all of them is 0 then,
+/// and only then.
+pub fn has_right_ending(bytes: &[u8]) -> bool
+    ensures { IsTrue result ↔ HasRightEnding bytes.now }
+{
+    crc16(bytes) == 0
 }

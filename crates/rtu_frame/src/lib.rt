@@ -1,15 +1,21 @@
 //! Frames of Modbus RTU and their check.
 #![tactic(auto)]
 
+mod closing;
 mod crc;
 mod frame;
+mod rtu;
 
+pub use closing::{NoRoom, RtuBytes, close};
 pub use crc::crc16;
-pub use frame::is_frame;
+pub use frame::{has_right_ending, is_frame};
+pub use rtu::Rtu;
 
 #[cfg(test)]
 mod tests {
-    use super::{crc16, is_frame};
+    use super::{NoRoom, Rtu, RtuBytes, close, crc16, has_right_ending, is_frame};
+    use line_rules::{Head, LineRules};
+    use std::test::Fail;
 
     #[test]
     fn known_frames(rt: HostRuntime) {
@@ -19,5 +25,56 @@ mod tests {
         assert!(rt; is_frame(b"\x11\x03\x00\x6B\x00\x03\x76\x87"));
         assert!(rt; is_frame(b"\x01\x03\x40\x21"));
         assert!(rt; !is_frame(b"\x01\x03\x00\x00\x00\x0A\xC5\xCC"));
+
+        // right endings of bytes too few for a frame
+        assert!(rt; has_right_ending(b"\x01\x7E\x80") && !is_frame(b"\x01\x7E\x80"));
+        assert!(rt; has_right_ending(b"\xFF\xFF"));
+        assert!(rt; !has_right_ending(b"\xFF") && !has_right_ending(b""));
+    }
+
+    #[test]
+    fn closed_bodies(rt: HostRuntime) -> Result<(), Fail> {
+        let mut bytes = RtuBytes::new();
+        assert!(rt; bytes.try_extend_from_slice(b"\x01\x03").is_ok());
+        assert!(rt; close(&mut bytes).is_ok());
+        assert_eq!(rt; bytes.as_slice(), b"\x01\x03\x40\x21".as_slice());
+
+        // with 255 bytes there is room for one more alone
+        assert!(rt; bytes.try_extend_from_slice(&[0; 251]).is_ok());
+        assert_eq!(rt; close(&mut bytes), Err(NoRoom));
+        assert_eq!(rt; bytes.len(), 255);
+        Ok(())
+    }
+
+    // What the rules say of these bytes.
+    fn judged<R: LineRules>(bytes: &[u8]) -> (u16, bool, bool, Head, u16) {
+        let mut rules = R::fresh();
+        rules.restart();
+        for byte in bytes {
+            if !rules.full() {
+                rules.take(*byte);
+            }
+        }
+        (
+            rules.len(),
+            rules.full(),
+            rules.good(),
+            rules.head(),
+            rules.left(),
+        )
+    }
+
+    #[test]
+    fn judged_bytes(rt: HostRuntime) {
+        assert_eq!(rt; (Rtu::MAX, Rtu::LABEL), (256, 1));
+        assert_eq!(rt;
+            judged::<Rtu>(b"\x01\x03\x40\x21"),
+            (4, false, true, Head::Good, 0)
+        );
+        assert_eq!(rt;
+            judged::<Rtu>(b"\x01\x7E\x80"),
+            (3, false, false, Head::Good, 0)
+        );
+        assert_eq!(rt; judged::<Rtu>(&[0; 257]), (256, true, false, Head::Good, 0));
     }
 }

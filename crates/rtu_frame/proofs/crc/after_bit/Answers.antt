@@ -1,5 +1,5 @@
 use Rattle.std.proofs.Common.{arith}
-use Rattle.rtu_frame.proofs.CrcLaws.{bit_step-masked}
+use Rattle.line_rules.proofs.CrcLaws.{bit_step-masked}
 use Rattle.rtu_frame.proofs.crc.after_bit.Goals as goal
 
 pub returns : goal.returns

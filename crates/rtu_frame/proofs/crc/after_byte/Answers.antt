@@ -1,8 +1,8 @@
 use Rattle.std.proofs.Common.{◌∙◌, sym, ap, arith}
 use Rattle.std.specs.Prelude.{bit_xor}
-use Rattle.rtu_frame.specs.Crc.{bit_steps}
+use Rattle.line_rules.specs.Crc.{bit_steps}
 use Rattle.rtu_frame.specs.declared.crc.TheConstants.{POLYNOMIAL}
-use Rattle.rtu_frame.proofs.CrcLaws.{bit_steps-next, bit_steps-done, byte_step_lem}
+use Rattle.line_rules.proofs.CrcLaws.{bit_steps-next, bit_steps-done, byte_step_lem}
 use Rattle.rtu_frame.proofs.crc.after_byte.Goals as goal
 
 pub loop-init : goal.loop-init

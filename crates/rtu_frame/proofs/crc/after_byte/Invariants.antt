@@ -1,5 +1,5 @@
 use Rattle.std.proofs.Common.{◌≡◌, ◌-◌}
-use Rattle.rtu_frame.specs.Crc.{bit_steps, byte_step}
+use Rattle.line_rules.specs.Crc.{bit_steps, byte_step}
 use Rattle.rtu_frame.specs.declared.crc.TheConstants.{POLYNOMIAL}
 use Rattle.rtu_frame.proofs.crc.after_byte.Given as goal
 

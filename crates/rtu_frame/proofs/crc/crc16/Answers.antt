@@ -1,8 +1,8 @@
 use Rattle.std.proofs.Common.{◌∙◌, sym, ap, drop, ◌+◌, arith}
 use Rattle.std.proofs.Math.ListN.{drop_of_length-le}
-use Rattle.rtu_frame.specs.Crc.{crc}
+use Rattle.line_rules.specs.Crc.{crc}
 use Rattle.rtu_frame.specs.declared.crc.TheConstants.{POLYNOMIAL}
-use Rattle.rtu_frame.proofs.CrcLaws.{crc-drop, crc-nil}
+use Rattle.line_rules.proofs.CrcLaws.{crc-drop, crc-nil}
 use Rattle.rtu_frame.proofs.crc.crc16.Goals as goal
 
 pub loop-byte-preserved : goal.loop-byte-preserved

@@ -1,5 +1,6 @@
 use Rattle.std.proofs.Common.{◌≡◌, drop}
-use Rattle.rtu_frame.specs.Crc.{crc, crc_rtu}
+use Rattle.line_rules.specs.Crc.{crc}
+use Rattle.rtu_frame.specs.Crc.{crc_rtu}
 use Rattle.rtu_frame.specs.declared.crc.TheConstants.{POLYNOMIAL}
 use Rattle.rtu_frame.proofs.crc.crc16.Given as goal
 

@@ -6,7 +6,7 @@ use Rattle.std.proofs.Math.Nat.{mod-eq_of_lt}
 use Rattle.std.proofs.Math.Seq.{drop-cons}
 use Rattle.std.proofs.lemmas.Nat.{and_mask}
 use Rattle.std.proofs.lemmas.Bool.{cond_both, eqb-true, eqb-false}
-use Rattle.rtu_frame.specs.Crc.{bit_step, bit_steps, byte_step, crc}
+use Rattle.line_rules.specs.Crc.{bit_step, bit_steps, byte_step, crc}
 
 -- A bit step without a branch: the mask is all ones where the lowest bit is 1, and else 0.
 pub bit_step-masked : (p r mask : ℕ) → p < 2 ^ 16 → mask < 2 ^ 16 → (mask + bit_and r 1) % 2 ^ 16 ≡ 0

@@ -1,0 +1,50 @@
+-- Each burst has a live byte.
+use Rattle.std.proofs.Common.{◌≡◌, ℕ, zero, suc, ◌<◌, List, [], ◌∷◌, ◌++◌, length, arith, refl, ◌∙◌, ap, ⊎_elim}
+use Rattle.line_rules.specs.Rules.{Rules}
+use Rattle.line_rules.specs.RulesLaws.{IsLawful}
+use Rattle.yasir_ticks.specs.Ticks.{bytes_in, silent}
+use Rattle.yasir_ticks.specs.Bursts.{Burst}
+use Rattle.yasir_ticks.specs.BurstsOf.{IsKnit, one, more}
+use Rattle.yasir_ticks.specs.declared.tick.Tick.{Tick}
+use Rattle.yasir_ticks.specs.declared.tick.Tick.TheVariants.{Byte}
+use Rattle.frame_ending.specs.LiveBytes.{before_pause, up_to_byte, within_room, live_bytes, live_end}
+use Rattle.frame_ending.proofs.Rooms.{FitFirst, within_room-fit}
+
+knit-begins : (cut : ℕ) (x : List Tick) → IsKnit cut x → (b : ℕ) × (l : List Tick) × (x ≡ Byte b ∷ l)
+knit-begins cut x (one b) = (b, [], refl)
+knit-begins cut x (more b gap rest few knit) = (b, silent gap ++ rest, refl)
+
+module _ (rules : Rules) (lawful : IsLawful rules) where
+  some-fit : (live x : List ℕ) (b : ℕ) → FitFirst rules live (b ∷ x) → 0 < length live
+  some-fit [] x b fit =
+      let some = lawful.some_room in
+      ⊎_elim
+      (λ all. let none : b ∷ x ≡ [] = fit.whole ∙ all.0 in cc)
+      (λ full. absurd (omega arith))
+      fit.room
+  some-fit (c ∷ live) x b fit = omega arith
+
+  up_to-first : (k b : ℕ) (l : List Tick) → 0 < k → 0 < length (up_to_byte k (Byte b ∷ l))
+  unfolding up_to_byte
+  up_to-first zero b l some = absurd (omega arith)
+  up_to-first (suc k) b l some = omega arith
+
+  some-live : (body : List Tick) (b : ℕ) (l : List Tick) → body ≡ Byte b ∷ l
+      → 0 < length (within_room rules (bytes_in (before_pause body)))
+  unfolding before_pause
+  some-live body b l begins =
+      let x : List ℕ = bytes_in (before_pause l) in
+      let same : length (within_room rules (bytes_in (before_pause body))) ≡ length (within_room rules (b ∷ x)) =
+      ap (λ y. length (within_room rules (bytes_in (before_pause y)))) begins in
+      let some = some-fit (within_room rules (b ∷ x)) x b (within_room-fit rules lawful (b ∷ x)) in
+      omega arith
+
+  -- so its last live byte doesn't stand before its first byte
+  pub live_end-later : (d : Burst) → IsKnit 4 d.body → d.start < live_end rules d
+  live_end-later d knit =
+      let first = knit-begins 4 d.body knit in
+      let some = some-live d.body first.0 first.1 first.2 in
+      let k : ℕ = length (live_bytes rules d) in
+      let long : length (up_to_byte k d.body) ≡ length (up_to_byte k (Byte first.0 ∷ first.1)) = ap (λ y. length (up_to_byte k y)) first.2 in
+      let ticks = up_to-first k first.0 first.1 some in
+      omega arith

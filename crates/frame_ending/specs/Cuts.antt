@@ -1,0 +1,35 @@
+-- What a tick is, by the ticks of the line up to it.
+use Rattle.std.specs.Prelude.{ℕ, suc, ◌-◌, nat_le, ◌==◌, List, [], ◌∷◌, ◌++◌, length, Option, Some, None, if◌then◌else◌}
+use Rattle.line_rules.specs.Rules.{Rules}
+use Rattle.yasir_ticks.specs.Bursts.{Burst, end_of}
+use Rattle.yasir_ticks.specs.declared.tick.Tick.{Tick}
+use Rattle.yasir_ticks.specs.declared.tick.Tick.TheVariants.{Silent, Byte}
+use Rattle.frame_ending.specs.declared.cut.Cut.{Cut}
+use Rattle.frame_ending.specs.declared.cut.Cut.TheVariants.{Start, Live, Extra, Pause, Closed, Quiet}
+use Rattle.frame_ending.specs.LiveBytes.{live_end}
+use Rattle.frame_ending.specs.SoFar.{last_burst}
+
+-- A byte at tick n is the last one of the last burst: it is the first byte of that burst too, or its last live one, or neither.
+abbrev pub byte_cut : Rules → ℕ → ℕ → Option Burst → Cut
+byte_cut rules n b None = Start b
+byte_cut rules n b (Some d) =
+    if d.start == n then Start b
+    else if live_end rules d == suc n then Live b
+    else Extra b
+
+-- the n-th silent tick in a row after a byte
+abbrev pub silence_cut : ℕ → Cut
+silence_cut n =
+    if nat_le n 3 then Pause n
+    else if n == 4 then Closed
+    else Quiet
+
+-- a silent tick at tick n, after this burst
+abbrev pub silent_cut : ℕ → Option Burst → Cut
+silent_cut n None = Quiet
+silent_cut n (Some d) = silence_cut (suc n - end_of d)
+
+-- what the tick t is that comes after these ticks
+abbrev pub cut_of : Rules → List Tick → Tick → Cut
+cut_of rules line (Byte b) = byte_cut rules (length line) b (last_burst (line ++ Byte b ∷ []))
+cut_of rules line Silent = silent_cut (length line) (last_burst line)

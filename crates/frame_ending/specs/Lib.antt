@@ -1,0 +1,4 @@
+pub mod LiveBytes
+pub mod SoFar
+pub mod Cuts
+pub mod Stands

@@ -1,0 +1,217 @@
+use crate::Cut;
+use line_rules::LineRules;
+use yasir_ticks::{MAX_TICKS, Tick};
+
+// so many silent ticks end a burst
+const CUT: u8 = 4;
+
+// after so many silent ticks no byte of a burst is live
+const PAUSE: u8 = 2;
+
+/// Cuts a line into bursts, a tick at a time, and tells the live bytes of each by the rules `R`: those before the first two
+/// silent ticks that stand together, as many as there is room for.
+///
+/// What it tells of a burst is that of the one that is running or was the last.
+#[derive(Drop)]
+pub struct BurstCut<R> {
+    taken: u64,
+    // silent ticks since the last byte, counted up to `CUT`
+    quiet: u8,
+    // the tick of the first byte, and that of the last live one
+    start: u64,
+    last_live: u64,
+    // whether there was a byte that isn't live
+    extra: bool,
+    // whether two silent ticks stood together
+    paused: bool,
+    // the live bytes
+    rules: R,
+}
+
+impl<R: LineRules> BurstCut<R> {
+    ghost use Rattle.std.specs.Prelude.{◌≡◌, ℕ, ◌+◌, ◌<◌, ◌≤◌, false, true, ◌||◌, List, [], ◌∷◌, ◌++◌, length};
+    ghost use Rattle.yasir_ticks.specs.declared.tick.Tick.{Tick};
+    ghost use Rattle.yasir_ticks.specs.declared.tick.Tick.TheVariants.{Silent, Byte};
+    ghost use Rattle.frame_ending.specs.SoFar.{start_so_far, live_bytes_so_far, last_live_so_far, has_extra_so_far, is_over_so_far};
+    ghost use Rattle.frame_ending.specs.Cuts.{cut_of};
+    ghost use Rattle.frame_ending.specs.Stands.{StandsFor, ticks_taken};
+
+    /// A value that has taken no tick.
+    pub fn new() -> BurstCut<R>
+        ensures taken { ticks_taken result ≡ 0 }
+        ensures stands { StandsFor R.rules R.stands result [] }
+    {
+        BurstCut {
+            taken: 0,
+            quiet: CUT,
+            start: 0,
+            last_live: 0,
+            extra: false,
+            paused: false,
+            rules: R::fresh(),
+        }
+    }
+
+    // The first byte of a burst.
+    #[inline]
+    fn begin(&mut self, byte: u8) -> Cut
+        requires room { self.old.taken < MAX_TICKS }
+        requires quiet { CUT ≤ self.old.quiet }
+        ensures taken { self.new.taken ≡ self.old.taken + 1 }
+        ensures stands { (line : List Tick) → StandsFor R.rules R.stands self.old line
+            → StandsFor R.rules R.stands self.new (line ++ Byte byte ∷ []) }
+        ensures answer { (line : List Tick) → StandsFor R.rules R.stands self.old line → result ≡ cut_of R.rules line (Byte byte) }
+    {
+        self.rules.restart();
+        self.rules.take(byte);
+        self.start = self.taken;
+        self.last_live = self.taken;
+        self.extra = false;
+        self.paused = false;
+        self.quiet = 0;
+        self.taken += 1;
+        Cut::Start(byte)
+    }
+
+    // A further live byte.
+    #[inline]
+    fn go_on(&mut self, byte: u8) -> Cut
+        requires room { self.old.taken < MAX_TICKS }
+        requires quiet { self.old.quiet < CUT }
+        requires open { self.old.paused ≡ false }
+        requires fits { R.is_full self.old.rules ≡ false }
+        ensures taken { self.new.taken ≡ self.old.taken + 1 }
+        ensures stands { (line : List Tick) → StandsFor R.rules R.stands self.old line
+            → StandsFor R.rules R.stands self.new (line ++ Byte byte ∷ []) }
+        ensures answer { (line : List Tick) → StandsFor R.rules R.stands self.old line → result ≡ cut_of R.rules line (Byte byte) }
+    {
+        self.rules.take(byte);
+        self.last_live = self.taken;
+        self.quiet = 0;
+        self.taken += 1;
+        Cut::Live(byte)
+    }
+
+    // A further byte that isn't live.
+    #[inline]
+    fn pass_over(&mut self, byte: u8) -> Cut
+        requires room { self.old.taken < MAX_TICKS }
+        requires quiet { self.old.quiet < CUT }
+        requires over { (self.old.paused || R.is_full self.old.rules) ≡ true }
+        ensures taken { self.new.taken ≡ self.old.taken + 1 }
+        ensures stands { (line : List Tick) → StandsFor R.rules R.stands self.old line
+            → StandsFor R.rules R.stands self.new (line ++ Byte byte ∷ []) }
+        ensures answer { (line : List Tick) → StandsFor R.rules R.stands self.old line → result ≡ cut_of R.rules line (Byte byte) }
+    {
+        self.extra = true;
+        self.quiet = 0;
+        self.taken += 1;
+        Cut::Extra(byte)
+    }
+
+    #[inline]
+    fn hear(&mut self, byte: u8) -> Cut
+        requires { self.old.taken < MAX_TICKS }
+        ensures taken { self.new.taken ≡ self.old.taken + 1 }
+        ensures stands { (line : List Tick) → StandsFor R.rules R.stands self.old line
+            → StandsFor R.rules R.stands self.new (line ++ Byte byte ∷ []) }
+        ensures answer { (line : List Tick) → StandsFor R.rules R.stands self.old line → result ≡ cut_of R.rules line (Byte byte) }
+    {
+        if self.quiet >= CUT {
+            return self.begin(byte);
+        }
+        if self.paused {
+            return self.pass_over(byte);
+        }
+        if self.rules.full() {
+            return self.pass_over(byte);
+        }
+        self.go_on(byte)
+    }
+
+    #[inline]
+    fn wait(&mut self) -> Cut
+        requires { self.old.taken < MAX_TICKS }
+        ensures taken { self.new.taken ≡ self.old.taken + 1 }
+        ensures stands { (line : List Tick) → StandsFor R.rules R.stands self.old line
+            → StandsFor R.rules R.stands self.new (line ++ Silent ∷ []) }
+        ensures answer { (line : List Tick) → StandsFor R.rules R.stands self.old line → result ≡ cut_of R.rules line Silent }
+    {
+        self.taken += 1;
+        if self.quiet >= CUT {
+            return Cut::Quiet;
+        }
+        self.quiet += 1;
+        self.paused |= self.quiet >= PAUSE;
+        if self.quiet < CUT {
+            Cut::Pause(self.quiet)
+        } else {
+            Cut::Closed
+        }
+    }
+
+    /// Takes the next tick, and says what it is. Fewer than `MAX_TICKS` ticks were taken before.
+    #[inline]
+    pub fn step(&mut self, t: Tick) -> Cut
+        requires { ticks_taken self.old < MAX_TICKS }
+        ensures taken { ticks_taken self.new ≡ ticks_taken self.old + 1 }
+        ensures stands { (line : List Tick) → StandsFor R.rules R.stands self.old line
+            → StandsFor R.rules R.stands self.new (line ++ t ∷ []) }
+        ensures answer { (line : List Tick) → StandsFor R.rules R.stands self.old line → result ≡ cut_of R.rules line t }
+    {
+        match t {
+            Tick::Silent => self.wait(),
+            Tick::Byte(byte) => self.hear(byte),
+        }
+    }
+
+    /// The live bytes.
+    #[inline]
+    pub fn rules(&self) -> &R
+        ensures { (line : List Tick) → StandsFor R.rules R.stands self.now line
+            → R.stands result.now (live_bytes_so_far R.rules line) }
+    {
+        &self.rules
+    }
+
+    /// The tick of the burst's first byte; 0 before the first burst.
+    #[inline]
+    pub fn start(&self) -> u64
+        ensures { (line : List Tick) → StandsFor R.rules R.stands self.now line → result ≡ start_so_far line }
+    {
+        self.start
+    }
+
+    /// The tick of the last live byte; 0 before the first burst.
+    #[inline]
+    pub fn last_live(&self) -> u64
+        ensures { (line : List Tick) → StandsFor R.rules R.stands self.now line → result ≡ last_live_so_far R.rules line }
+    {
+        self.last_live
+    }
+
+    /// Whether a byte of the burst isn't live.
+    #[inline]
+    pub fn extra(&self) -> bool
+        ensures { (line : List Tick) → StandsFor R.rules R.stands self.now line → result ≡ has_extra_so_far R.rules line }
+    {
+        self.extra
+    }
+
+    /// Whether no further byte of the burst can be live: two silent ticks stood together in it or after it, or the room is full.
+    #[inline]
+    pub fn live_over(&self) -> bool
+        ensures { (line : List Tick) → StandsFor R.rules R.stands self.now line → result ≡ is_over_so_far R.rules line }
+    {
+        self.paused || self.rules.full()
+    }
+
+    /// How many ticks were taken.
+    #[inline]
+    pub fn ticks(&self) -> u64
+        ensures taken { result ≡ ticks_taken self.now }
+        ensures count { (line : List Tick) → StandsFor R.rules R.stands self.now line → result ≡ length line }
+    {
+        self.taken
+    }
+}

@@ -1,0 +1,16 @@
+/// What a tick of a line is.
+#[derive(Clone, Copy, Debug, PartialEq, Eq)]
+pub enum Cut {
+    /// The first byte of a burst.
+    Start(u8),
+    /// A further live byte of a burst.
+    Live(u8),
+    /// A byte of a burst that is not live.
+    Extra(u8),
+    /// The first, second or third silent tick in a row after a byte: 1, 2 or 3.
+    Pause(u8),
+    /// The fourth silent tick in a row after a byte, which closes the burst.
+    Closed,
+    /// Any other silence.
+    Quiet,
+}

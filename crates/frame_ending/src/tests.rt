@@ -1,0 +1,301 @@
+ghost use Rattle.std.specs.Prelude.{◌≡◌, ℕ, ◌≤◌, ◌<◌, Bool, true, false, List, [], ◌∷◌, ◌++◌, length, All, nat_le, refl};
+ghost use Rattle.std.proofs.Common.{rules};
+
+use super::*;
+use line_rules::{Head, LineRules};
+use std::alloc::{AllocError, Global};
+use std::test::Fail;
+use yasir_ticks::Tick;
+
+// Rules with the room of Modbus RTU, by which nothing is a frame.
+#[derive(Drop)]
+struct Counted {
+    len: u16,
+}
+
+impl LineRules for Counted {
+    ghost use Rattle.line_rules.specs.Rules.{Rules};
+
+    ghost rules = { record {
+      label = 1;
+      longest = 256;
+      room = λ x. 256;
+      is_frame = λ x. false;
+      header_len = 0;
+      is_good_header = λ x. true;
+      size = length;
+    } };
+
+    ghost stands = { λ v x. (v.len ≡ length x) × (length x ≤ 256) × All (λ b. b < 256) x };
+
+    ghost is_full = { λ v. nat_le 256 v.len };
+
+    ghost MAX = { 256 };
+
+    ghost LABEL = { 1 };
+
+    ghost lawful = { record { some_room = Prim.search rules; fits = λ x b short. short; stays = λ x b full. refl; bounded = λ x bytes. Prim.search rules } };
+
+    ghost headed = { record { room_for_header = λ x. Prim.search rules } };
+
+    ghost framed = { record { some_byte = λ frame framed. Prim.search rules; good_header = λ frame framed. Prim.search rules; whole = λ frame framed. refl; has_room = λ frame framed. Prim.search rules } };
+
+    ghost numbers = { record { longest_is = refl; label_is = refl } };
+
+    ghost fullness = { λ v x stands. Prim.search rules };
+
+    ghost bytes = { λ v x stands. stands.2 };
+
+    ghost within = { λ v x stands. stands.1 };
+
+    const MAX: u16 = 256;
+
+    const LABEL: u8 = 1;
+
+    fn fresh() -> Counted {
+        Counted { len: 0 }
+    }
+
+    fn restart(&mut self) {
+        self.len = 0;
+    }
+
+    fn len(&self) -> u16 {
+        self.len
+    }
+
+    fn full(&self) -> bool {
+        self.len >= Self::MAX
+    }
+
+    fn take(&mut self, _b: u8) {
+        self.len += 1;
+    }
+
+    fn good(&self) -> bool {
+        false
+    }
+
+    fn head(&self) -> Head {
+        Head::Good
+    }
+
+    fn left(&self) -> u16 {
+        0
+    }
+}
+
+// A part of a line.
+#[derive(Drop)]
+enum Part {
+    Bytes(&'static [u8]),
+    Silence(usize),
+}
+
+use Part::{Bytes, Silence};
+
+fn add_part(line: &mut Vec<Tick>, part: &Part) -> Result<(), AllocError> {
+    match part {
+        Bytes(bytes) => {
+            for byte in *bytes {
+                line.push(Tick::Byte(*byte))?;
+            }
+        }
+        Silence(ticks) => {
+            for _ in 0..*ticks {
+                line.push(Tick::Silent)?;
+            }
+        }
+    }
+    Ok(())
+}
+
+fn line_of(alloc: Global, parts: &[Part]) -> Result<Vec<Tick>, AllocError> {
+    let mut line = Vec::new(alloc);
+    for part in parts {
+        add_part(&mut line, part)?;
+    }
+    Ok(line)
+}
+
+// What each tick is, and the value after them.
+fn cuts<R: LineRules>(alloc: Global, line: &[Tick]) -> Result<(Vec<Cut>, BurstCut<R>), AllocError>
+    requires { length line.now < 1000 }
+{
+    let mut cut = BurstCut::new();
+    let mut kinds = Vec::new(alloc);
+    for tick in line {
+        kinds.push(cut.step(*tick))?;
+    }
+    Ok((kinds, cut))
+}
+
+fn letter(cut: Cut) -> u8 {
+    match cut {
+        Cut::Start(_) => b's',
+        Cut::Live(_) => b'l',
+        Cut::Extra(_) => b'x',
+        Cut::Pause(1) => b'1',
+        Cut::Pause(2) => b'2',
+        Cut::Pause(_) => b'3',
+        Cut::Closed => b'c',
+        Cut::Quiet => b'-',
+    }
+}
+
+// What a burst is at the end of a line.
+#[derive(Debug, PartialEq, Drop)]
+struct Told {
+    start: u64,
+    last_live: u64,
+    live: u16,
+    extra: bool,
+    over: bool,
+}
+
+fn burst_told<R: LineRules>(cut: &BurstCut<R>) -> Told {
+    Told {
+        start: cut.start(),
+        last_live: cut.last_live(),
+        live: cut.rules().len(),
+        extra: cut.extra(),
+        over: cut.live_over(),
+    }
+}
+
+fn letters_and_burst(alloc: Global, parts: &[Part]) -> Result<(Vec<u8>, Told), Fail> {
+    let line = line_of(alloc, parts)?;
+    if line.len() >= 1000 {
+        return Err("a long line".into());
+    }
+    let (kinds, cut) = cuts::<Counted>(alloc, line.as_slice())?;
+    let mut letters = Vec::new(alloc);
+    for kind in &kinds {
+        letters.push(letter(*kind))?;
+    }
+    Ok((letters, burst_told(&cut)))
+}
+
+const QUERY: &[u8] = b"\x01\x03\x00\x00\x00\x0A\xC5\xCD";
+
+#[test]
+fn bursts_of_lines(rt: HostRuntime) -> Result<(), Fail> {
+    let alloc = rt.alloc();
+
+    // nothing yet
+    let (letters, burst) = letters_and_burst(alloc, &[Silence(5)])?;
+    assert_eq!(rt; letters.as_slice(), b"-----".as_slice());
+    assert_eq!(rt;
+        burst,
+        Told {
+            start: 0,
+            last_live: 0,
+            live: 0,
+            extra: false,
+            over: false
+        }
+    );
+
+    // one silent tick between all bytes
+    let apart = [
+        Silence(2),
+        Bytes(b"\x01"),
+        Silence(1),
+        Bytes(b"\x03"),
+        Silence(1),
+        Bytes(b"\x00"),
+        Silence(1),
+        Bytes(b"\x00"),
+        Silence(1),
+        Bytes(b"\x00"),
+        Silence(1),
+        Bytes(b"\x0A"),
+        Silence(1),
+        Bytes(b"\xC5"),
+        Silence(1),
+        Bytes(b"\xCD"),
+        Silence(1),
+    ];
+    let (letters, burst) = letters_and_burst(alloc, &apart)?;
+    assert_eq!(rt; letters.as_slice(), b"--s1l1l1l1l1l1l1l1".as_slice());
+    assert_eq!(rt;
+        burst,
+        Told {
+            start: 2,
+            last_live: 16,
+            live: 8,
+            extra: false,
+            over: false
+        }
+    );
+
+    // two silent ticks inside
+    let parted = [
+        Bytes(b"\x01\x03\x00"),
+        Silence(2),
+        Bytes(b"\x00\x00\x0A\xC5\xCD"),
+        Silence(6),
+    ];
+    let (letters, burst) = letters_and_burst(alloc, &parted)?;
+    assert_eq!(rt; letters.as_slice(), b"sll12xxxxx123c--".as_slice());
+    assert_eq!(rt;
+        burst,
+        Told {
+            start: 0,
+            last_live: 2,
+            live: 3,
+            extra: true,
+            over: true
+        }
+    );
+
+    // three silent ticks and a byte
+    let (letters, burst) = letters_and_burst(alloc, &[Bytes(QUERY), Silence(3), Bytes(b"\x00")])?;
+    assert_eq!(rt; letters.as_slice(), b"slllllll123x".as_slice());
+    assert_eq!(rt;
+        burst,
+        Told {
+            start: 0,
+            last_live: 7,
+            live: 8,
+            extra: true,
+            over: true
+        }
+    );
+
+    // four silent ticks and a byte
+    let (letters, burst) = letters_and_burst(alloc, &[Bytes(QUERY), Silence(4), Bytes(b"\x00")])?;
+    assert_eq!(rt; letters.as_slice(), b"slllllll123cs".as_slice());
+    assert_eq!(rt;
+        burst,
+        Told {
+            start: 12,
+            last_live: 12,
+            live: 1,
+            extra: false,
+            over: false
+        }
+    );
+    Ok(())
+}
+
+#[test]
+fn a_byte_more_than_there_is_room_for(rt: HostRuntime) -> Result<(), Fail> {
+    let (letters, burst) = letters_and_burst(rt.alloc(), &[Bytes(&[0; 257]), Silence(4)])?;
+    assert_eq!(rt; letters.len(), 261);
+    assert_eq!(rt;
+        (letters[0], letters[1], letters[255], letters[256]),
+        (b's', b'l', b'l', b'x')
+    );
+    assert_eq!(rt;
+        burst,
+        Told {
+            start: 0,
+            last_live: 255,
+            live: 256,
+            extra: true,
+            over: true
+        }
+    );
+    Ok(())
+}

@@ -1,0 +1,42 @@
+-- The rules of a protocol's frames, over whole lists of bytes.
+use Rattle.std.specs.Prelude.{ℕ, ◌-◌, nat_lt, ◌==◌, Bool, List, length, take, if◌then◌else◌}
+use Rattle.line_rules.specs.declared.head.Head.{Head}
+use Rattle.line_rules.specs.declared.head.Head.TheVariants.{Short, Good, Bad}
+
+pub record Rules : Type 0 where
+  -- the number of the protocol
+  pub label : ℕ
+  -- how many bytes a frame has at most
+  pub longest : ℕ
+  -- how many bytes of a burst can be a frame's, where the burst begins with these bytes
+  pub room : List ℕ → ℕ
+  pub is_frame : List ℕ → Bool
+  -- how many bytes a header has, and whether so many bytes are a good one; a protocol without headers has 0
+  pub header_len : ℕ
+  pub is_good_header : List ℕ → Bool
+  -- how many bytes the frame has that begins with these bytes, where they begin with a good header
+  pub size : List ℕ → ℕ
+
+abbrev pub is_frame_of : Rules → List ℕ → Bool
+is_frame_of rules x = rules.is_frame x
+
+-- the bytes have as many as there is room for
+abbrev pub fills_room : Rules → List ℕ → Bool
+fills_room rules x = length x == rules.room x
+
+-- what the header says
+abbrev pub head_of : Rules → List ℕ → Head
+head_of rules x =
+    if nat_lt (length x) rules.header_len then Short
+    else if rules.is_good_header (take rules.header_len x) then Good
+    else Bad
+
+-- of so many bytes, as many as are left by this header
+abbrev pub left_by : Head → ℕ → ℕ
+left_by Good n = n
+left_by Short n = 0
+left_by Bad n = 0
+
+-- how many bytes are still lacking
+abbrev pub left_of : Rules → List ℕ → ℕ
+left_of rules x = left_by (head_of rules x) (rules.size x - length x)

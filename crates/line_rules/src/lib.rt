@@ -1,0 +1,8 @@
+//! The rules of a protocol's frames on a serial line, as what transmitter and receiver ask of a protocol.
+#![tactic(auto)]
+
+mod head;
+mod line_rules;
+
+pub use head::Head;
+pub use line_rules::LineRules;

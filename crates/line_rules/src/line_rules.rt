@@ -1,0 +1,78 @@
+ghost use Rattle.std.specs.Prelude.{◌≡◌, ℕ, ◌≤◌, Bool, false, List, [], ◌∷◌, ◌++◌, length};
+ghost use Rattle.line_rules.specs.Bytes.{AreBytes};
+ghost use Rattle.line_rules.specs.Rules.{Rules, fills_room, is_frame_of, head_of, left_of};
+ghost use Rattle.line_rules.specs.RulesLaws.{IsLawful, IsHeaded, IsFramed, HasNumbers};
+
+use crate::Head;
+
+/// The bytes that a burst of a line has given so far, as the rules of a protocol see them.
+pub trait LineRules: Drop {
+    // The protocol's rules over whole lists.
+    ghost rules: { Rules };
+
+    // The value stands for these bytes.
+    ghost stands: { Self → List ℕ → Type 0 };
+
+    // No further byte has room.
+    ghost is_full: { Self → Bool };
+
+    ghost MAX: { ℕ };
+
+    ghost LABEL: { ℕ };
+
+    /// How many bytes a frame has at most.
+    const MAX: u16;
+
+    /// The number of the protocol: 1 is Modbus RTU, 2 is DNP3.
+    const LABEL: u8;
+
+    /// A value that stands for no bytes.
+    fn fresh() -> Self
+        ensures stands { stands result [] }
+        ensures room { is_full result ≡ false };
+
+    /// Makes the value stand for no bytes again.
+    fn restart(&mut self)
+        ensures stands { stands self.new [] }
+        ensures room { is_full self.new ≡ false };
+
+    /// How many bytes there are.
+    fn len(&self) -> u16
+        ensures { (x : List ℕ) → stands self.now x → result ≡ length x };
+
+    /// Whether no further byte has room.
+    fn full(&self) -> bool
+        ensures full { result ≡ is_full self.now }
+        ensures stands { (x : List ℕ) → stands self.now x → result ≡ fills_room rules x };
+
+    /// Appends a byte, for which there must be room.
+    fn take(&mut self, b: u8)
+        requires { is_full self.old ≡ false }
+        ensures { (x : List ℕ) → stands self.old x → stands self.new (x ++ b ∷ []) };
+
+    /// Whether the bytes are a frame.
+    fn good(&self) -> bool
+        ensures { (x : List ℕ) → stands self.now x → result ≡ is_frame_of rules x };
+
+    /// What the header says.
+    fn head(&self) -> Head
+        ensures { (x : List ℕ) → stands self.now x → result ≡ head_of rules x };
+
+    /// How many bytes the frame still lacks that begins with a good header; 0 where there is none.
+    fn left(&self) -> u16
+        ensures { (x : List ℕ) → stands self.now x → result ≡ left_of rules x };
+
+    ghost lawful: { IsLawful rules };
+
+    ghost headed: { IsHeaded rules };
+
+    ghost framed: { IsFramed rules };
+
+    ghost numbers: { HasNumbers rules MAX LABEL };
+
+    ghost fullness: { (value : Self) (x : List ℕ) → stands value x → is_full value ≡ fills_room rules x };
+
+    ghost bytes: { (value : Self) (x : List ℕ) → stands value x → AreBytes x };
+
+    ghost within: { (value : Self) (x : List ℕ) → stands value x → length x ≤ rules.room x };
+}

@@ -1,0 +1,24 @@
+ghost use Rattle.std.specs.Prelude.{◌≡◌, ◌<◌, ◌++◌, ◌↔◌, length, IsErr, OnOk, OnErr};
+ghost use Rattle.line_rules.specs.Bytes.{low_first};
+ghost use Rattle.rtu_frame.specs.Crc.{crc_rtu};
+
+use crate::crc::crc16;
+use arrayvec::ArrayVec;
+
+/// The bytes of a Modbus RTU frame.
+pub type RtuBytes = ArrayVec<u8, 256>;
+
+/// There is no room for the two bytes of a CRC.
+#[derive(Clone, Copy, Debug, PartialEq, Eq)]
+pub struct NoRoom;
+
+/// Makes a frame of its address, its function and its data: appends their CRC, low byte first.
+/// `NoRoom` where there are more than 254 bytes; then nothing changes.
+pub fn close(bytes: &mut RtuBytes) -> Result<(), NoRoom>
+    ensures closed { OnOk result (bytes.new.items ≡ bytes.old.items ++ low_first (crc_rtu bytes.old.items)) }
+    ensures unchanged { OnErr result (bytes.new ≡ bytes.old) }
+    ensures cause { IsErr result ↔ (254 < length bytes.old.items) }
+{
+    let sent = crc16(bytes.as_slice()).to_le_bytes();
+    bytes.try_extend_from_slice(&sent).map_err(|_| NoRoom)
+}

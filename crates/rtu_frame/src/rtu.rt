@@ -1,0 +1,91 @@
+use crate::crc::{FIRST_REGISTER, after_byte};
+use line_rules::{Head, LineRules};
+
+const SHORTEST: u16 = 4;
+
+/// The bytes of a burst so far, as the rules of Modbus RTU see them: how many there are, and their CRC. A frame ends in the
+/// CRC of what stands before it, so that the CRC of the whole is 0.
+#[derive(Drop)]
+pub struct Rtu {
+    len: u16,
+    register: u16,
+}
+
+impl LineRules for Rtu {
+    ghost use Rattle.std.specs.Prelude.{ℕ};
+    ghost use Rattle.rtu_frame.specs.Rules.{rtu_rules, rtu_lawful, rtu_headed, rtu_framed, rtu_numbers};
+    ghost use Rattle.rtu_frame.specs.Rtu.{RtuStandsFor, is_full_rtu, rtu_fullness, rtu_bytes, rtu_within};
+
+    ghost rules = { rtu_rules };
+
+    ghost stands = { RtuStandsFor };
+
+    ghost is_full = { is_full_rtu };
+
+    ghost MAX = { 256 };
+
+    ghost LABEL = { 1 };
+
+    ghost lawful = { rtu_lawful };
+
+    ghost headed = { rtu_headed };
+
+    ghost framed = { rtu_framed };
+
+    ghost numbers = { rtu_numbers };
+
+    ghost fullness = { rtu_fullness };
+
+    ghost bytes = { rtu_bytes };
+
+    ghost within = { rtu_within };
+
+    const MAX: u16 = 256;
+
+    const LABEL: u8 = 1;
+
+    #[inline]
+    fn fresh() -> Rtu {
+        Rtu {
+            len: 0,
+            register: FIRST_REGISTER,
+        }
+    }
+
+    #[inline]
+    fn restart(&mut self) {
+        self.len = 0;
+        self.register = FIRST_REGISTER;
+    }
+
+    #[inline]
+    fn len(&self) -> u16 {
+        self.len
+    }
+
+    #[inline]
+    fn full(&self) -> bool {
+        self.len >= Self::MAX
+    }
+
+    #[inline]
+    fn take(&mut self, b: u8) {
+        self.len += 1;
+        self.register = after_byte(self.register, b);
+    }
+
+    #[inline]
+    fn good(&self) -> bool {
+        self.len >= SHORTEST && self.register == 0
+    }
+
+    #[inline]
+    fn head(&self) -> Head {
+        Head::Good
+    }
+
+    #[inline]
+    fn left(&self) -> u16 {
+        0
+    }
+}
