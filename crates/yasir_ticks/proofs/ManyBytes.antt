@@ -5,8 +5,8 @@ use Rattle.std.proofs.lemmas.List.{take_more, get_or-take, length-take, take_all
 use Rattle.std.proofs.lemmas.Bool.{eq-eqb}
 use Rattle.std.proofs.Math.Seq.{take-add}
 use Rattle.memchr.specs.Find.{IsFirstByte, is_byte}
-use Rattle.yasir_ticks.specs.TickText.{ended_items, lines_of}
-use Rattle.yasir_ticks.specs.Reader.{IsAt, IsComment, StandsFor}
+use Rattle.yasir_ticks.specs.TickText.{ended_items}
+use Rattle.yasir_ticks.specs.Reader.{IsAt, StandsFor}
 use Rattle.yasir_ticks.specs.ReaderStep.{Accepts}
 use Rattle.yasir_ticks.specs.Slices.{GoesOn}
 use Rattle.yasir_ticks.specs.declared.run.Run.TheVariants.{Nothing}
@@ -43,9 +43,9 @@ goes_on_pair old new h l high low p q e first second room kept = record {
   stands = λ marks text s.
       let at : IsAt Pairs old.bytes.items old.line 0 marks text = rw p at s.at in
       let half = at_more Pairs (HalfPair high) old.bytes.items old.bytes.items old.line 0 marks text at h Nothing not_first
-          (accepts_high old.bytes.items h high (sym first) room) in
+      (accepts_high old.bytes.items h high (sym first) room) in
       let whole = at_more (HalfPair high) Pairs old.bytes.items (old.bytes.items ++ (high * 16 + low) ∷ []) old.line 0 marks (text ++ h ∷ []) half l Nothing not_second
-          (accepts_low old.bytes.items l high low (sym second)) in
+      (accepts_low old.bytes.items l high low (sym second)) in
       record { at = rw (q, e, kept, ← append_assoc text (h ∷ []) (l ∷ [])) whole };
   quiet = λ marks text s. rw (← append_assoc text (h ∷ []) (l ∷ [])) (quiet_byte (text ++ h ∷ []) l not_second ∙ quiet_byte text h not_first);
   lines = omega arith;

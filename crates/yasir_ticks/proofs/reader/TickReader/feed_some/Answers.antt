@@ -1,4 +1,4 @@
-use Rattle.std.proofs.Common.{◌≡◌, ◌+◌, ◌-◌, ◌<◌, ◌≤◌, ◌∙◌, ◌++◌, ◌∷◌, [], ℕ, List, length, take, get_or, refl, ap, sym, subst, arith, append-nil}
+use Rattle.std.proofs.Common.{◌≡◌, ◌+◌, ◌-◌, ◌∙◌, ◌++◌, take, ap, sym, subst, arith, append-nil}
 use Rattle.std.proofs.lemmas.List.{length-take}
 use Rattle.yasir_ticks.specs.Ticks.{items_of_run}
 use Rattle.yasir_ticks.specs.TickText.{BeginsTickText, ended_items}
@@ -66,8 +66,8 @@ returns-in-Err-clause-refused c =
     let goes = goes_on_slice _ _ _ c.args.bytes.now _ _ c.loop-taken.invariant.goes c.take_many-taken.ensures.goes in
     let inside = within_slice c.args.bytes.now _ _ c.loop-taken.invariant.within c.take_many-taken.ensures.within c.if-taken-bytes.false in
     λ marks text stood.
-        let refused = c.in-Err.ensures.refused marks _ (goes.stands marks text stood) in
-        (inside, refused.0, refused.1, refused.2, goes.quiet marks text stood)
+    let refused = c.in-Err.ensures.refused marks _ (goes.stands marks text stood) in
+    (inside, refused.0, refused.1, refused.2, goes.quiet marks text stood)
 
 pub returns-in-Err-clause-for_good : goal.returns-in-Err-clause-for_good
 returns-in-Err-clause-for_good c = λ bad was some.
