@@ -9,6 +9,8 @@ mod lines;
 mod program;
 mod read_command;
 mod status;
+#[cfg(test)]
+mod tests;
 mod vectors_command;
 mod words;
 
