@@ -19,11 +19,11 @@ xor-zero a b none =
     omega arith
 
 module _ (p : ℕ) (high : 2 ^ 15 ≤ p) (fits : p < 2 ^ 16) where
-  bit_step-even : (r : ℕ) → r % 2 ≡ 0 → bit_step p r ≡ r / 2
+  pub bit_step-even : (r : ℕ) → r % 2 ≡ 0 → bit_step p r ≡ r / 2
   unfolding bit_step
   bit_step-even r even = cond-false (nat_eq (r % 2) 1) _ _ (ne_eqb (r % 2) 1 (λ odd. omega arith))
 
-  bit_step-odd : (r : ℕ) → r % 2 ≡ 1 → bit_step p r ≡ bit_xor (r / 2) p
+  pub bit_step-odd : (r : ℕ) → r % 2 ≡ 1 → bit_step p r ≡ bit_xor (r / 2) p
   unfolding bit_step
   bit_step-odd r odd = cond-true (nat_eq (r % 2) 1) _ _ (eq-eqb (r % 2) 1 odd)
 
@@ -84,7 +84,7 @@ module _ (p : ℕ) (high : 2 ^ 15 ≤ p) (fits : p < 2 ^ 16) where
       twice ∙ (ap (λ x. 2 * x) half ∙ (sym (mul_assoc 2 (2 ^ n) (bit_steps p n (bit_step p r))) ∙ ap (λ x. x * bit_steps p n (bit_step p r)) (sym (pow-succ' 2 n)))))
       (cases_eq (r % 2) 1)
 
-  bit_steps-shift : (n v : ℕ) → bit_steps p n (2 ^ n * v) ≡ v
+  pub bit_steps-shift : (n v : ℕ) → bit_steps p n (2 ^ n * v) ≡ v
   unfolding bit_steps
   bit_steps-shift zero v = omega arith
   bit_steps-shift (suc n) v =

@@ -2,3 +2,4 @@ pub mod Crc
 pub mod Frame
 pub mod Rules
 pub mod Rtu
+pub mod WholeBytes

@@ -3,7 +3,7 @@ ghost use Rattle.line_rules.specs.Crc.{bit_step, byte_step};
 ghost use Rattle.rtu_frame.specs.Crc.{crc_rtu};
 
 // x^16 + x^15 + x^2 + 1, its bits in reverse order.
-const POLYNOMIAL: u16 = 0xA001;
+pub(crate) const POLYNOMIAL: u16 = 0xA001;
 
 pub(crate) const FIRST_REGISTER: u16 = 0xFFFF;
 

@@ -5,6 +5,7 @@ mod closing;
 mod crc;
 mod frame;
 mod rtu;
+mod whole_bytes;
 
 pub use closing::{NoRoom, RtuBytes, close};
 pub use crc::crc16;

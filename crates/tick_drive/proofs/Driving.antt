@@ -34,6 +34,10 @@ pub record Calm {C D : Type 0} (able kept : C → D → Type 0) (safe : C → Sl
   pub any_moment : kept old disk_old → LeavesOnly moment left_since disk_old disk_new (safe old)
   pub safer : (c : Slots) → safe new c → safe old c
 
+-- a right text begins one
+pub begins_right : (marks : ℕ) (text : List ℕ) (items : List Item) → IsTickText marks text items → BeginsTickText marks text
+begins_right marks text items right = ([], items, subst (λ x. IsTickText marks x items) (sym (append-nil text)) right)
+
 ended_items-nil : ended_items [] ≡ []
 unfolding lines_of
 ended_items-nil = refl
@@ -138,14 +142,14 @@ module _ {C : Type 0} (stands : C → Start → Held → List Item → Type 0) (
 
   -- what a line that ended says of the text with it
   line_text : (now : Option (List ℕ)) (text : List ℕ) (line : List Item)
-      → EndsLine before text (ended_items text) line ⊎ EndsLast marks before now text (ended_items text) line
-      → (whole : List ℕ) × IsMetOf before whole × ((ended_items text ++ line ≡ ended_items whole) ⊎ IsTickText marks whole (ended_items text ++ line))
-  line_text now text line (inl e) = (text ++ e.byte ∷ [], e.met, inl (sym e.ended))
-  line_text now text line (inr e) = (text, (now, e.met), inr e.ended)
+      → EndsLine marks before text (ended_items text) line ⊎ EndsLast marks before now text (ended_items text) line
+      → (whole : List ℕ) × IsMetOf before whole × BeginsTickText marks whole × ((ended_items text ++ line ≡ ended_items whole) ⊎ IsTickText marks whole (ended_items text ++ line))
+  line_text now text line (inl e) = (text ++ e.byte ∷ [], e.met, e.begins, inl (sym e.ended))
+  line_text now text line (inr e) = (text, (now, e.met), begins_right marks text (ended_items text ++ line) e.ended, inr e.ended)
 
   -- a line that wasn't handed over whole ends the run
   pub line_ends : (now : Option (List ℕ)) (text : List ℕ) (line : List Item) (end : End) (old : C) (first : Held) (mid : C) (between : Held) (new : C) (last : Held) (ticks : ℕ)
-      → EndsLine before text (ended_items text) line ⊎ EndsLast marks before now text (ended_items text) line
+      → EndsLine marks before text (ended_items text) line ⊎ EndsLast marks before now text (ended_items text) line
       → Moves stands old first mid between (ended_items text) → ticks ≡ length (ticks_in (ended_items text)) → ticks ≤ max_ticks
       → HandsOver stands stopped mid between new last ticks line (Err end)
       → (all : List Item) × Takes marks before now all end × EndsAs stands stopped old first new last all end
@@ -171,7 +175,7 @@ module _ {C : Type 0} (stands : C → Start → Held → List Item → Type 0) (
       ap length (ticks_in-append (ended_items text) line) ∙ length-append (ticks_in (ended_items text)) (ticks_in line) in
       let whole = line_text now text line ended in (
         ended_items text ++ line,
-        (whole.0, whole.1, whole.2, omega (arith, joined, sum, h.1)),
+        (whole.0, whole.1, whole.2, whole.3, omega (arith, joined, sum, h.1)),
         stops_then stands stopped old first mid between new last (ended_items text) line stop moved h.0,
       )
   line_ends now text line (TooLong Bytes count) old first mid between new last ticks ended moved sum within h = absurd h
@@ -181,14 +185,14 @@ module _ {C : Type 0} (stands : C → Start → Held → List Item → Type 0) (
 
   -- the same of a line that ended at a byte behind others, in which no line with ticks ended
   pub line_ends_behind : (now : Option (List ℕ)) (text front : List ℕ) (byte : ℕ) (line : List Item) (end : End) (old : C) (first : Held) (mid : C) (between : Held) (new : C) (last : Held) (ticks : ℕ)
-      → IsMetOf before ((text ++ front) ++ byte ∷ []) → ended_items ((text ++ front) ++ byte ∷ []) ≡ ended_items text ++ line
-      → ended_items (text ++ front) ≡ ended_items text
+      → IsMetOf before ((text ++ front) ++ byte ∷ []) → BeginsTickText marks ((text ++ front) ++ byte ∷ [])
+      → ended_items ((text ++ front) ++ byte ∷ []) ≡ ended_items text ++ line → ended_items (text ++ front) ≡ ended_items text
       → Moves stands old first mid between (ended_items text) → ticks ≡ length (ticks_in (ended_items text)) → ticks ≤ max_ticks
       → HandsOver stands stopped mid between new last ticks line (Err end)
       → (all : List Item) × Takes marks before now all end × EndsAs stands stopped old first new last all end
-  line_ends_behind now text front byte line end old first mid between new last ticks met ended quiet moved sum within h =
+  line_ends_behind now text front byte line end old first mid between new last ticks met begins ended quiet moved sum within h =
       line_ends now (text ++ front) line end old first mid between new last ticks
-      (inl (record { byte = byte; met = met; ended = ended ∙ ap (λ items. items ++ line) (sym quiet) }))
+      (inl (record { byte = byte; met = met; begins = begins; ended = ended ∙ ap (λ items. items ++ line) (sym quiet) }))
       (subst (Moves stands old first mid between) (sym quiet) moved) (sum ∙ ap (λ items. length (ticks_in items)) (sym quiet)) within h
 
   pub line_reads_no_fault : (items : List Item) (end : End) (mid : C) (between : Held) (new : C) (last : Held) (ticks : ℕ)

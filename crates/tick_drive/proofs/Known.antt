@@ -37,7 +37,7 @@ pub met_slice_more : (before left : Option (List ℕ)) (text kept : List ℕ) (w
 met_slice_more before left text kept within n h p = (
   prepend_known (drop (n + 1) kept) left,
   met_slice before left text kept (drop (n + 1) kept) within (n + 1) (omega arith) refl p
-  ∙ ap (λ l. prepend_known l (prepend_known (drop (n + 1) kept) left)) (sym (text_more text (take within kept) n h)),
+      ∙ ap (λ l. prepend_known l (prepend_known (drop (n + 1) kept) left)) (sym (text_more text (take within kept) n h)),
 )
 
 -- the first byte that is kept is met

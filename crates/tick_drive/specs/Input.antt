@@ -38,10 +38,11 @@ pub record IsRefusedEnd (marks : ℕ) (before now : Option (List ℕ)) (text : L
   pub line : bad.line ≡ line_after text
   pub why : bad.why ≡ fault_at_end text
 
--- The next byte, an LF, ends a line of these items.
-pub record EndsLine (before : Option (List ℕ)) (text : List ℕ) (items line : List Item) : Type 0 where
+-- The next byte, an LF, ends a line of these items, and begins a right text with those before it.
+pub record EndsLine (marks : ℕ) (before : Option (List ℕ)) (text : List ℕ) (items line : List Item) : Type 0 where
   pub byte : ℕ
   pub met : IsMetOf before (text ++ byte ∷ [])
+  pub begins : BeginsTickText marks (text ++ byte ∷ [])
   pub ended : ended_items (text ++ byte ∷ []) ≡ items ++ line
 
 -- The input's end ends a line of these items.
@@ -55,7 +56,7 @@ pub record HasTooManyTicks (marks : ℕ) (before now : Option (List ℕ)) (text 
   pub taken : items ≡ ended_items text
   pub within : length (ticks_in items) ≤ max_ticks
   pub line : List Item
-  pub ended : EndsLine before text items line ⊎ EndsLast marks before now text items line
+  pub ended : EndsLine marks before text items line ⊎ EndsLast marks before now text items line
   pub sum : count ≡ length (ticks_in (items ++ line))
   pub above : max_ticks < count
 
@@ -74,7 +75,7 @@ Takes marks before now items (Refused bad) = (text : List ℕ) × (IsRefusedByte
 Takes marks before now items (TooLong Ticks count) = (text : List ℕ) × HasTooManyTicks marks before now text items count
 Takes marks before now items (TooLong Bytes count) = (text : List ℕ) × HasTooManyBytes marks before text count × (items ≡ ended_items text) × (length (ticks_in items) ≤ max_ticks)
 Takes marks before now items ReadFault = (text : List ℕ) × (before ≡ prepend_known text now) × BeginsTickText marks text × (items ≡ ended_items text) × (length (ticks_in items) ≤ max_ticks)
-Takes marks before now items (Stopped stop) = (text : List ℕ) × IsMetOf before text × ((items ≡ ended_items text) ⊎ IsTickText marks text items) × (length (ticks_in items) ≤ max_ticks)
+Takes marks before now items (Stopped stop) = (text : List ℕ) × IsMetOf before text × BeginsTickText marks text × ((items ≡ ended_items text) ⊎ IsTickText marks text items) × (length (ticks_in items) ≤ max_ticks)
 
 abbrev pub is_read_fault : End → Bool
 is_read_fault ReadFault = true

@@ -26,7 +26,8 @@ impl TickReader {
     ghost use Rattle.yasir_ticks.specs.Slices.{GoesOn};
 
     // Takes whole pairs of digits from the front, as long as there is room. Answers how many bytes these are.
-    #[inline]
+    // A call of its own, so that its loop has all registers to itself.
+    #[inline(never)]
     fn take_pairs(&mut self, bytes: &[u8]) -> usize
         requires { self.old.place ≡ Pairs }
         ensures within { result ≤ length bytes.now }

@@ -64,7 +64,7 @@ returns-in-Err-hand_over g c =
     let cases = line_reads_no_fault g.C.Consumer.stands g.C.Consumer.stopped c.args.marks (g.S.Source.left c.args.input.now) (items_of_run c.in-Ok-Some.run') _ _ _ _ _ _ call.handed in
     record {
       end = line_ends_behind g.C.Consumer.stands g.C.Consumer.stopped _ _ _ progress.text answer.front answer.byte _ _ _ _ _ _ _ _ _
-          (_, answer.met.source) answer.ended (answer.quiet c.in_default.not-Nothing) progress.moved progress.sum progress.within call.handed;
+          (_, answer.met.source) answer.met.begins answer.ended (answer.quiet c.in_default.not-Nothing) progress.moved progress.sum progress.within call.handed;
       goes_on = λ whole. absurd (cases.1 whole);
       kept = λ k. call.kept (calm.is_kept k);
       any_moment = λ k. leaves_then g.D.SlotDisk.moment g.D.SlotDisk.left_since _ _ _ _ _ (calm.any_moment k) (call.any_moment (calm.is_kept k)) calm.safer;

@@ -1,6 +1,6 @@
 use Rattle.std.proofs.Common.{inr}
 use Rattle.tick_drive.proofs.Moving.{stops_then}
-use Rattle.tick_drive.proofs.Driving.{ends_with_rest}
+use Rattle.tick_drive.proofs.Driving.{begins_right, ends_with_rest}
 use Rattle.tick_drive.proofs.input_loop.drive_to_rest.Goals as goal
 
 pub returns-in_default : goal.returns-in_default
@@ -22,6 +22,6 @@ pub returns-in-Err-clause-end : goal.returns-in-Err-clause-end
 returns-in-Err-clause-end g c =
     let whole = c.in-Whole.ensures.end in (
       whole.0,
-      (whole.1.0, (_, whole.1.1), inr whole.1.3, whole.1.4),
+      (whole.1.0, (_, whole.1.1), begins_right _ _ _ whole.1.3, inr whole.1.3, whole.1.4),
       stops_then g.C.Consumer.stands g.C.Consumer.stopped _ _ _ _ _ _ whole.0 _ _ whole.2 c.in-Err.ensures.advances.ended,
     )
