@@ -1,12 +1,12 @@
 -- How the lines of a device's frames go on by one tick.
-use Rattle.std.proofs.Common.{◌≡◌, ℕ, List, [], ◌∷◌, ◌++◌, Option, subst, sym, ap, refl, ◌∙◌, append-nil, append_assoc}
+use Rattle.std.proofs.Common.{◌≡◌, ℕ, List, [], ◌∷◌, ◌++◌, subst, sym, ap, refl, ◌∙◌, append-nil}
 use Rattle.std.proofs.lemmas.Grind.{flat_map-append}
 use Rattle.yasir_io.specs.Output.{Buffered, GotPrefix}
 use Rattle.yasir_ticks.specs.Ticks.{Item, ticks_in}
 use Rattle.yasir_ticks.specs.Ticks.Item.{tick}
 use Rattle.yasir_ticks.specs.declared.tick.Tick.{Tick}
 use Rattle.device_model.specs.Frames.{FrameRead}
-use Rattle.tick_drive.specs.Consumers.{Held, Start, held_by}
+use Rattle.tick_drive.specs.Consumers.{Held, Start}
 use Rattle.tick_drive.specs.declared.consumer.Stop.TheVariants.{WriteFault}
 use Rattle.tick_drive.proofs.ItemLaws.{ticks_in-append}
 use Rattle.link_replay.specs.Lines.{frame_line, frame_lines}

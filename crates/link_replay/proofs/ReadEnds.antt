@@ -1,14 +1,13 @@
 -- How the run of `read` ends: from the end of its input to its status.
-use Rattle.std.proofs.Common.{◌≡◌, ℕ, ◌≤◌, ◌⊎◌, inl, inr, List, [], ◌∷◌, ◌++◌, length, take, drop, Option, Some, None, subst, sym, ap, refl, ◌∙◌, append-nil, arith, true, false}
+use Rattle.std.proofs.Common.{◌≡◌, ℕ, ◌⊎◌, inl, inr, List, [], ◌++◌, length, take, drop, Option, Some, None, subst, sym, ap, refl, ◌∙◌, append-nil, arith}
 use Rattle.std.proofs.Math.Seq.{take-append_seam, take-length}
 use Rattle.std.proofs.lemmas.List.{take-append-drop}
 use Rattle.std.specs.Io.KnownBytes.{append_known}
-use Rattle.yasir_io.specs.Causes.{Rose}
 use Rattle.yasir_io.specs.Output.{Buffered, GotPrefix}
 use Rattle.yasir_ticks.specs.Ticks.{Item, ticks_in, silent}
 use Rattle.yasir_ticks.specs.declared.tick.Tick.{Tick}
 use Rattle.device_model.specs.Frames.{FrameRead}
-use Rattle.tick_drive.specs.Consumers.{Held, Start, IsSinkCause}
+use Rattle.tick_drive.specs.Consumers.{Held, IsSinkCause}
 use Rattle.tick_drive.specs.Input.{Takes, IsReadCause, is_read_fault}
 use Rattle.tick_drive.specs.Items.{silent_items}
 use Rattle.tick_drive.specs.Drive.{EndsWith, is_write_stop}
@@ -18,7 +17,7 @@ use Rattle.tick_drive.specs.declared.end.End.TheVariants.{Whole, Refused, TooLon
 use Rattle.tick_drive.proofs.ItemLaws.{ticks_in-append}
 use Rattle.link_replay.specs.Lines.{frame_lines}
 use Rattle.link_replay.specs.FrameLines.{PrintsReads, StopsPrinting}
-use Rattle.link_replay.specs.ReadCommand.{DrivesFrames, PrintsFrames, IsPrinting, HasPrinted, status_of}
+use Rattle.link_replay.specs.ReadCommand.{DrivesFrames, PrintsFrames, IsPrinting, status_of}
 use Rattle.link_replay.specs.Causes.{InputCause, SinkCause}
 use Rattle.link_replay.specs.declared.status.Status.{Status}
 use Rattle.link_replay.specs.declared.status.Status.TheVariants.{Done, WriteFault}

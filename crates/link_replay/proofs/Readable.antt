@@ -1,15 +1,14 @@
 -- A right text within the limits is refused by nothing but a fault outside.
-use Rattle.std.proofs.Common.{◌≡◌, ◌≢◌, ℕ, ◌+◌, ◌<◌, ◌≤◌, ◌⊎◌, inl, inr, List, [], ◌∷◌, ◌++◌, length, length-append, Option, Some, None, option_map, subst, sym, ap, refl, ◌∙◌, append-nil, append_assoc, arith}
+use Rattle.std.proofs.Common.{◌≡◌, ℕ, ◌+◌, ◌≤◌, inl, inr, List, [], ◌∷◌, ◌++◌, length, length-append, Option, Some, None, subst, sym, ap, refl, ◌∙◌, append-nil, arith}
 use Rattle.std.specs.Io.KnownBytes.{prepend_known, IsAtEnd}
 use Rattle.yasir_io.specs.Causes.{Rose}
 use Rattle.yasir_ticks.specs.Ticks.{Item, ticks_in}
-use Rattle.yasir_ticks.specs.TickText.{IsTickText, BeginsTickText, ended_items, lines_of, line_items, all_items}
+use Rattle.yasir_ticks.specs.TickText.{IsTickText}
 use Rattle.yasir_ticks.specs.declared.tick.Tick.{Tick}
 use Rattle.yasir_ticks.specs.declared.fault.BadTicks.{BadTicks}
 use Rattle.yasir_ticks.proofs.TextLaws.{ended_items-begin, IsTickText-one}
 use Rattle.device_model.specs.Frames.{FrameRead}
-use Rattle.tick_drive.specs.Input.{IsMetOf, IsRefusedByte, IsRefusedEnd, EndsLine, EndsLast, HasTooManyTicks, HasTooManyBytes, max_ticks, max_bytes}
-use Rattle.tick_drive.specs.declared.end.TooMuch.{TooMuch}
+use Rattle.tick_drive.specs.Input.{IsRefusedByte, IsRefusedEnd, HasTooManyTicks, HasTooManyBytes, max_ticks, max_bytes}
 use Rattle.tick_drive.specs.declared.end.TooMuch.TheVariants.{Ticks, Bytes}
 use Rattle.tick_drive.proofs.ItemLaws.{ticks_in-append}
 use Rattle.link_replay.specs.ReadCommand.{PrintsFrames, IsReadable}

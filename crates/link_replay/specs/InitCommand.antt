@@ -1,5 +1,5 @@
 -- The command `init`: what it leaves on the disk, and when each status comes.
-use Rattle.std.specs.Prelude.{◌≡◌, ℕ, List, Option, Some, None, IfSome}
+use Rattle.std.specs.Prelude.{◌≡◌, ℕ, Option, Some, None, IfSome}
 use Rattle.yasir_io.specs.declared.disk.Slot.TheVariants.{A}
 use Rattle.yasir_io.specs.Disks.{Slots, NoMore, OneImage}
 use Rattle.sequence_journal.specs.Slots.{slot_bytes, floor_of}

@@ -1,5 +1,5 @@
 -- The exit status and the fault line of each status.
-use Rattle.std.specs.Prelude.{◌≡◌, ℕ, List, [], ◌∷◌, ◌++◌, Option, Some, None, codes, decimal}
+use Rattle.std.specs.Prelude.{ℕ, List, [], ◌++◌, codes, decimal}
 use Rattle.yasir_ticks.specs.declared.fault.TickFault.{TickFault}
 use Rattle.yasir_ticks.specs.declared.fault.TickFault.TheVariants.{Char, Odd, Long, Count, Empty, Mark}
 use Rattle.tick_drive.specs.declared.end.TooMuch.{TooMuch}

@@ -3,7 +3,7 @@
 pub enum UnsealedWhy {
     /// It starts too soon after a sealed one: before four silent ticks could follow that one's trailer.
     Early,
-    /// Some of its bytes isn't live, or its bytes are no frame.
+    /// Some of its bytes aren't live, or its bytes are no frame.
     Form,
     /// The greatest number is used.
     Spent,

@@ -1,5 +1,4 @@
 use Rattle.yasir_io.specs.TextBuffer.{waiting_bytes}
-use Rattle.tick_drive.specs.Consumers.{held_by}
 use Rattle.link_replay.proofs.ReadEnds.{drives_frames}
 use Rattle.link_replay.proofs.read_command.drive_frames.Goals as goal
 

@@ -1,6 +1,4 @@
-use Rattle.std.proofs.Common.{refl, ◌∙◌, sym, arith, inl}
-use Rattle.link_replay.specs.Causes.{InputCause, SinkCause}
-use Rattle.link_replay.specs.ReadCommand.{PrintsFrames}
+use Rattle.std.proofs.Common.{refl, ◌∙◌, inl}
 use Rattle.link_replay.proofs.ReadEnds.{drain_fails, refusal_prints, whole_prints, input_cause, input_cause_of_whole, sink_cause, sink_cause_of_whole, no_write_failed}
 use Rattle.link_replay.proofs.read_command.read_frames.Goals as goal
 

@@ -1,4 +1,4 @@
-use Rattle.std.proofs.Common.{◌≡◌, refl, ◌∙◌, sym, ap, arith, take}
+use Rattle.std.proofs.Common.{refl}
 use Rattle.tick_drive.proofs.Moving.{leaves_now}
 use Rattle.link_replay.proofs.Printing.{prints_nothing, prints_line, stops_at_line}
 use Rattle.link_replay.proofs.frame_lines.FrameLinesConsumer.take_tick.Goals as goal
