@@ -1,6 +1,6 @@
 -- Eight steps of the register at once: the steps are linear, and the high byte is shifted down unchanged.
-use Rattle.std.proofs.Common.{◌≡◌, ℕ, zero, suc, ◌+◌, ◌*◌, ◌/◌, ◌%◌, ◌^◌, ◌<◌, ◌≤◌, ◌&&◌, ◌==◌, Bool, true, refl, arith, sym, ◌∙◌, ap, nat_eq, ⊎_elim, inl, inr}
-use Rattle.std.specs.Prelude.{bit_xor, count_ones}
+use Rattle.std.proofs.Common.{◌≡◌, ℕ, zero, suc, ◌*◌, ◌/◌, ◌%◌, ◌^◌, ◌<◌, ◌≤◌, ◌&&◌, ◌==◌, Bool, true, refl, arith, sym, ◌∙◌, ap, ⊎_elim}
+use Rattle.std.specs.Prelude.{bit_xor}
 use lib.Count.{ones}
 use Rattle.std.specs.Int.Bits.{xor_zero_l, xor_zero_r, xor_self, xor_assoc}
 use Rattle.std.proofs.Math.Nat.{mod-eq_of_lt}

@@ -1,4 +1,4 @@
-use Rattle.std.proofs.Common.{◌∙◌, inl, inr, refl}
+use Rattle.std.proofs.Common.{◌∙◌, inr, refl}
 use Rattle.yasir_ticks.specs.TickText.{ended_items}
 use Rattle.yasir_ticks.specs.Ticks.{items_of_run}
 use Rattle.tick_drive.proofs.Moving.{moves_then, leaves_now, leaves_then}
