@@ -26,8 +26,7 @@ impl TickReader {
     ghost use Rattle.yasir_ticks.specs.Slices.{GoesOn};
 
     // Takes whole pairs of digits from the front, as long as there is room. Answers how many bytes these are.
-    // A call of its own, so that its loop has all registers to itself.
-    #[inline(never)]
+    #[inline]
     fn take_pairs(&mut self, bytes: &[u8]) -> usize
         requires { self.old.place ≡ Pairs }
         ensures within { result ≤ length bytes.now }
