@@ -27,11 +27,14 @@ pub struct StdinSource<I: Read + Drop> {
 }
 
 impl ReadAhead {
-    ghost use Rattle.std.specs.Prelude.{◌≤◌};
+    ghost use Rattle.std.specs.Prelude.{◌≡◌, ◌≤◌, min, take, drop, length};
+    ghost use Rattle.yasir_io.specs.Edge.{bytes_ahead};
 
-    // Moves the first bytes into the front of `buf`, and answers how many.
+    // Moves the first bytes into the front of `buf`, and answers how many: all of them, unless `buf` is too short.
     fn move_into(&mut self, buf: &mut [u8; 512]) -> usize
-        ensures { result ≤ 512 }
+        ensures count { result ≡ min (length (bytes_ahead self.old)) 512 }
+        ensures moved { take result buf.new ≡ take result (bytes_ahead self.old) }
+        ensures left { bytes_ahead self.new ≡ drop result (bytes_ahead self.old) }
     {
         let n = (self.end - self.place).min(buf.len());
         buf[..n].copy_from_slice(&self.bytes[self.place..self.place + n]);

@@ -193,6 +193,26 @@ fn a_reader_is_read_to_its_end(rt: HostRuntime) -> Result<(), Fail> {
 }
 
 #[test]
+fn a_reader_keeps_its_order_where_it_gives_much_at_once(rt: HostRuntime) -> Result<(), Fail> {
+    let mut bytes = [0u8; 40_000];
+    let mut next = 0u8;
+    for byte in bytes.iter_mut() {
+        *byte = next;
+        next = next.wrapping_add(7);
+    }
+    let mut out = Vec::new(rt.alloc());
+    let mut source = StdinSource::new(bytes.as_slice());
+    let mut pieces = Pieces::new();
+    for _ in 0..50_000 {
+        if let Ok(Some(byte)) = pieces.next(&mut source) {
+            out.push(byte)?;
+        }
+    }
+    assert!(rt; out.as_slice() == bytes.as_slice());
+    Ok(())
+}
+
+#[test]
 fn a_writer_gets_each_piece_at_once(rt: HostRuntime) -> Result<(), Fail> {
     let mut outside = Outside {
         bytes: Vec::new(rt.alloc()),
