@@ -279,6 +279,13 @@ pushed old new t text writes ticks answered has =
     let P : List Stretch → Type 0 = λ x. Leaves new.unfilled x (answered ++ text) in
     record { left = subst P (sym (stretches-more ticks t)) (writes.leaves (stretches ticks) answered has.left) }
 
+-- the same of a tick that completes no line
+pub extended : (old new : TickWriter) (t : Tick) → Writes old.unfilled t [] new.unfilled
+    → (ticks : List Tick) (answered : List ℕ) → HasWritten old ticks answered → HasWritten new (ticks ++ t ∷ []) answered
+extended old new t writes ticks answered has =
+    let P : List ℕ → Type 0 = λ text. HasWritten new (ticks ++ t ∷ []) text in
+    subst P (append-nil answered) (pushed old new t [] writes ticks answered has)
+
 pub finished_bytes : (writer : TickWriter) (line : ArrayVec ℕ) (text : List ℕ) → writer.unfilled ≡ Bytes line → is_unfilled writer.unfilled ≡ true → text ≡ byte_line line.items
     → (ticks : List Tick) (answered : List ℕ) → HasWritten writer ticks answered → answered ++ text ≡ canonical_text ticks
 finished_bytes writer line text is room line_is ticks answered has =

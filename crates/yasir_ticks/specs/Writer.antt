@@ -1,5 +1,5 @@
 -- What a writer of tick text stands for: ticks, the lines that it has answered, and a line that isn't filled yet.
-use Rattle.std.specs.Prelude.{◌≡◌, ℕ, suc, ◌+◌, ◌*◌, ◌<◌, ◌⊎◌, List, [], ◌∷◌, ◌++◌, length}
+use Rattle.std.specs.Prelude.{◌≡◌, ℕ, suc, ◌+◌, ◌*◌, ◌<◌, ◌⊎◌, Bool, true, false, nat_lt, List, [], ◌∷◌, ◌++◌, length}
 use Rattle.std.specs.List.{flat_map}
 use Rattle.yasir_ticks.specs.CanonicalText.{Stretch, stretches, stretch_lines}
 use Rattle.yasir_ticks.specs.CanonicalText.Stretch.{bytes, silence}
@@ -53,6 +53,14 @@ grown (s ∷ r ∷ more) t = s ∷ grown (r ∷ more) t
 -- A tick leaves the new line where the old one was left, and completes the line of this text, or none.
 pub record Writes (old : Run) (t : Tick) (text : List ℕ) (new : Run) : Type 0 where
   pub leaves : (parts : List Stretch) (answered : List ℕ) → Leaves old parts answered → Leaves new (grown parts t) (answered ++ text)
+
+-- a tick completes no line: it joins the one that isn't filled, and doesn't fill it, or begins one
+abbrev pub joins : Run → Tick → Bool
+joins Nothing t = true
+joins (Bytes line) (Byte b) = nat_lt (length line.items + 1) 32
+joins (Bytes line) Silent = false
+joins (Silence n) Silent = nat_lt (n + 1) 1000000
+joins (Silence n) (Byte b) = false
 
 -- the line is this byte
 abbrev pub BeginsWith : ℕ → Run → Type 0

@@ -1,4 +1,4 @@
-ghost use Rattle.std.specs.Prelude.{◌≡◌, ℕ, ◌+◌, ◌*◌, ◌<◌, ◌≤◌, ◌^◌, ◌∷◌, ◌++◌, [], List, true, length};
+ghost use Rattle.std.specs.Prelude.{◌≡◌, ℕ, ◌+◌, ◌*◌, ◌<◌, ◌≤◌, ◌^◌, ◌∷◌, ◌++◌, [], List, true, false, length};
 ghost use Rattle.arrayvec.specs.ArrayVec.{array_vec_len};
 ghost use Rattle.yasir_ticks.specs.CanonicalText.{byte_line, silence_line};
 ghost use Rattle.yasir_ticks.specs.Line.{is_unfilled};
@@ -55,7 +55,7 @@ impl TickWriter {
     ghost use Rattle.yasir_ticks.specs.Ticks.Item.{tick};
     ghost use Rattle.yasir_ticks.specs.TickText.{IsTickText};
     ghost use Rattle.yasir_ticks.specs.CanonicalText.{canonical_text};
-    ghost use Rattle.yasir_ticks.specs.Writer.{HasWritten, Writes, BeginsWith};
+    ghost use Rattle.yasir_ticks.specs.Writer.{HasWritten, Writes, BeginsWith, joins};
 
     /// A writer that has taken no tick.
     pub fn new() -> TickWriter
@@ -75,16 +75,72 @@ impl TickWriter {
         self.unfilled = Run::Bytes(line);
     }
 
-    fn push_byte(&mut self, b: u8) -> LineText
+    #[inline]
+    fn extend_byte(&mut self, b: u8) -> bool
+        ensures answer { result ≡ joins self.old.unfilled (Tick.Byte b) }
+        ensures taken { result ≡ true → Writes self.old.unfilled (Tick.Byte b) [] self.new.unfilled }
+        ensures left { result ≡ false → self.new ≡ self.old }
+    {
+        match &mut self.unfilled {
+            Run::Bytes(line) => {
+                let joins = line.len() + 1 < MAX_BYTES;
+                if joins {
+                    line.push(b);
+                }
+                joins
+            }
+            Run::Silence(_) => false,
+            Run::Nothing => {
+                self.begin_bytes(b);
+                true
+            }
+        }
+    }
+
+    #[inline]
+    fn extend_silent(&mut self) -> bool
+        ensures answer { result ≡ joins self.old.unfilled Tick.Silent }
+        ensures taken { result ≡ true → Writes self.old.unfilled Tick.Silent [] self.new.unfilled }
+        ensures left { result ≡ false → self.new ≡ self.old }
+    {
+        match &mut self.unfilled {
+            Run::Silence(n) => {
+                let after = *n + 1;
+                let joins = after < MAX_SILENCE;
+                if joins {
+                    *n = after;
+                }
+                joins
+            }
+            Run::Bytes(_) => false,
+            Run::Nothing => {
+                self.unfilled = Run::Silence(1);
+                true
+            }
+        }
+    }
+
+    /// Takes the next tick if it completes no line, and answers whether it did; where it did not, nothing changes.
+    #[inline]
+    pub fn extend(&mut self, t: Tick) -> bool
+        ensures answer { result ≡ joins self.old.unfilled t }
+        ensures taken { result ≡ true → (ticks : List Tick) (answered : List ℕ) → HasWritten self.old ticks answered
+            → HasWritten self.new (ticks ++ t ∷ []) answered }
+        ensures left { result ≡ false → self.new ≡ self.old }
+    {
+        match t {
+            Tick::Silent => self.extend_silent(),
+            Tick::Byte(b) => self.extend_byte(b),
+        }
+    }
+
+    // The line that a byte completes: it fills it, or ends one of silence.
+    fn complete_by_byte(&mut self, b: u8) -> LineText
+        requires { joins self.old.unfilled (Tick.Byte b) ≡ false }
         ensures { Writes self.old.unfilled (Tick.Byte b) result.items self.new.unfilled }
     {
         match &mut self.unfilled {
             Run::Bytes(line) => {
-                let after = line.len() + 1;
-                if after < MAX_BYTES {
-                    line.push(b);
-                    return LineText::new();
-                }
                 let mut filled = line.take();
                 filled.push(b);
                 self.unfilled = Run::Nothing;
@@ -95,23 +151,17 @@ impl TickWriter {
                 self.begin_bytes(b);
                 line
             }
-            Run::Nothing => {
-                self.begin_bytes(b);
-                LineText::new()
-            }
+            Run::Nothing => LineText::new(),
         }
     }
 
-    fn push_silent(&mut self) -> LineText
+    // The line that a silent tick completes: it fills it, or ends one of bytes.
+    fn complete_by_silence(&mut self) -> LineText
+        requires { joins self.old.unfilled Tick.Silent ≡ false }
         ensures { Writes self.old.unfilled Tick.Silent result.items self.new.unfilled }
     {
         match &mut self.unfilled {
-            Run::Silence(n) => {
-                let after = *n + 1;
-                if after < MAX_SILENCE {
-                    *n = after;
-                    return LineText::new();
-                }
+            Run::Silence(_) => {
                 self.unfilled = Run::Nothing;
                 count_line(MAX_SILENCE)
             }
@@ -120,10 +170,7 @@ impl TickWriter {
                 self.unfilled = Run::Silence(1);
                 line
             }
-            Run::Nothing => {
-                self.unfilled = Run::Silence(1);
-                LineText::new()
-            }
+            Run::Nothing => LineText::new(),
         }
     }
 
@@ -134,9 +181,12 @@ impl TickWriter {
         ensures { (ticks : List Tick) (answered : List ℕ) → HasWritten self.old ticks answered
             → HasWritten self.new (ticks ++ t ∷ []) (answered ++ result.items) }
     {
+        if self.extend(t) {
+            return LineText::new();
+        }
         match t {
-            Tick::Silent => self.push_silent(),
-            Tick::Byte(b) => self.push_byte(b),
+            Tick::Silent => self.complete_by_silence(),
+            Tick::Byte(b) => self.complete_by_byte(b),
         }
     }
 
