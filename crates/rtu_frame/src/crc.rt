@@ -17,7 +17,7 @@ fn after_bit(register: u16) -> u16
 }
 
 #[inline]
-pub(crate) fn after_byte(register: u16, byte: u8) -> u16
+fn after_byte(register: u16, byte: u8) -> u16
     ensures { result ≡ byte_step POLYNOMIAL register byte }
 {
     let mut shifted = register ^ u16::from(byte);

@@ -1,4 +1,5 @@
-use crate::crc::{FIRST_REGISTER, after_byte};
+use crate::crc::FIRST_REGISTER;
+use crate::whole_bytes::after_whole_byte;
 use line_rules::{Head, LineRules};
 
 const SHORTEST: u16 = 4;
@@ -71,7 +72,7 @@ impl LineRules for Rtu {
     #[inline]
     fn take(&mut self, b: u8) {
         self.len += 1;
-        self.register = after_byte(self.register, b);
+        self.register = after_whole_byte(self.register, b);
     }
 
     #[inline]
