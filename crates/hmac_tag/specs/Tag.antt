@@ -3,6 +3,8 @@ use Rattle.std.specs.Prelude.{◌≡◌, ℕ, List, ◌∷◌, ◌++◌, take}
 use Rattle.std.specs.Int.{w64, to_be_bytes}
 use Rattle.sha1.specs.Sha1.{sha1}
 use Rattle.hmac_tag.specs.Hmac.{hmac}
+use Rattle.hmac_tag.specs.declared.dir.Dir.{Dir}
+use Rattle.hmac_tag.specs.declared.dir.Dir.TheVariants.{Ab, Ba}
 
 -- how many bytes a tag may have
 abbrev pub IsTagSize : ℕ → Type 0
@@ -18,6 +20,11 @@ hmac_sha1 = hmac sha1
 
 abbrev pub hmac_sha1_96 : List ℕ → List ℕ → List ℕ
 hmac_sha1_96 = hmac_cut sha1 12
+
+-- the number of a direction
+abbrev pub direction_number : Dir → ℕ
+direction_number Ab = 0
+direction_number Ba = 1
 
 -- what a numbered frame is coded as: a byte for the protocol, a byte for the direction, the frame's bytes and its whole
 -- number as 8 bytes, high byte first

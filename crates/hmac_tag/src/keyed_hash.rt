@@ -1,4 +1,4 @@
-ghost use Rattle.std.specs.Prelude.{◌≡◌, ℕ, List, [], ◌++◌, ◌≤◌, ◌<◌, length, take};
+ghost use Rattle.std.specs.Prelude.{◌≡◌, ℕ, List, [], ◌∷◌, ◌++◌, ◌≤◌, ◌<◌, length, take};
 ghost use Rattle.arrayvec.specs.ArrayVec.{array_vec_len};
 ghost use Rattle.hmac_tag.specs.Digests.{length-hmac_cut, All-hmac_cut};
 ghost use Rattle.hmac_tag.specs.Hmac.{xored, filled, key_block, hmac};
@@ -17,12 +17,14 @@ const INNER_PAD: u8 = 0x36;
 const OUTER_PAD: u8 = 0x5C;
 
 /// HMAC (RFC 2104) of a text that comes in pieces: hashers that have taken the key's inner and outer block, and one that
-/// has taken the inner block and the text so far.
+/// has taken the inner block and the text so far, but for its last bytes, which wait until they fill a block. So a piece of
+/// one byte costs no call of the hasher.
 #[derive(Drop)]
 pub struct Hmac<D, const N: usize> {
     inner: D,
     outer: D,
     running: D,
+    waiting: ArrayVec<u8, BLOCK_LEN>,
 }
 
 /// HMAC over SHA-1, whose tags are its first 12 bytes (RFC 2404).
@@ -95,6 +97,40 @@ impl<D: Digest<N>, const N: usize> Hmac<D, N> {
     }
 }
 
+impl<D: Digest<N>, const N: usize> Hmac<D, N> {
+    // Gives the hasher the bytes that wait.
+    fn hash_waiting(&mut self)
+        ensures stands { (key text : List ℕ) → StandsFor D.digest_of D.holds self.old key text → StandsFor D.digest_of D.holds self.new key text }
+        ensures hashed { (key text : List ℕ) → StandsFor D.digest_of D.holds self.old key text
+            → D.holds self.new.running (xored 0x36 (key_block D.digest_of key) ++ text) }
+        ensures empty { self.new.waiting.items ≡ [] }
+    {
+        self.running.update(self.waiting.as_slice());
+        self.waiting.clear();
+    }
+
+    // Appends a byte to the text.
+    #[inline]
+    fn update_byte(&mut self, byte: u8)
+        ensures { (key text : List ℕ) → StandsFor D.digest_of D.holds self.old key text
+            → StandsFor D.digest_of D.holds self.new key (text ++ byte ∷ []) }
+    {
+        match self.waiting.try_push(byte) {
+            Ok(()) => {}
+            Err(_) => self.update_whole(&[byte]),
+        }
+    }
+
+    // Appends a piece of any length to the text.
+    fn update_whole(&mut self, part: &[u8])
+        ensures { (key text : List ℕ) → StandsFor D.digest_of D.holds self.old key text
+            → StandsFor D.digest_of D.holds self.new key (text ++ part.now) }
+    {
+        self.hash_waiting();
+        self.running.update(part);
+    }
+}
+
 // The first bytes of a code.
 fn cut<const N: usize>(code: &[u8; N], size: usize) -> TagBytes
     requires within { size ≤ N }
@@ -131,19 +167,26 @@ impl<D: Digest<N>, const N: usize> Mac for Hmac<D, N> {
             inner,
             outer,
             running,
+            waiting: ArrayVec::new(),
         }
     }
 
     fn begin(&mut self) {
         self.running = self.inner.fork();
+        self.waiting.clear();
     }
 
+    #[inline]
     fn update(&mut self, part: &[u8]) {
-        self.running.update(part);
+        match part {
+            [byte] => self.update_byte(*byte),
+            _ => self.update_whole(part),
+        }
     }
 
     #[tactic(auto, unfolding(crate::specs::Hmac::hmac))]
     fn finish(&mut self) -> TagBytes {
+        self.hash_waiting();
         let inner = mem::replace(&mut self.running, self.inner.fork());
         cut(&nested(self.outer.fork(), inner), D::TAG)
     }

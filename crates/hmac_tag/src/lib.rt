@@ -1,12 +1,14 @@
 //! HMAC (RFC 2104) as a stream over one key, and the tags that are its first bytes (RFC 2404).
 #![tactic(auto)]
 
+mod dir;
 mod hash;
 mod keyed_hash;
 mod tag;
 #[cfg(test)]
 mod tests;
 
+pub use dir::Dir;
 pub use hash::Digest;
 pub use keyed_hash::{Hmac, HmacSha1};
 pub use tag::{Mac, TagBytes};

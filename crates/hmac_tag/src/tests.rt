@@ -1,4 +1,4 @@
-use crate::{HmacSha1, Mac, TagBytes};
+use crate::{Dir, HmacSha1, Mac, TagBytes};
 
 // HMAC-SHA-1 by Python's `hmac`: of the text whose byte i is 5 i + 1 (modulo 256), whole with 150 bytes and empty, under the
 // first bytes of the key whose byte i is 7 i + 3.
@@ -94,5 +94,12 @@ fn texts_cut_at_every_place(rt: HostRuntime) {
             &empty[..12],
             "a key of {len} bytes, no text"
         );
+    }
+}
+
+#[test]
+fn directions_have_numbers(rt: HostRuntime) {
+    for (dir, number) in [(Dir::Ab, 0), (Dir::Ba, 1)] {
+        assert_eq!(rt; dir.number(), number);
     }
 }

@@ -1,0 +1,24 @@
+ghost use Rattle.std.specs.Prelude.{◌≡◌};
+ghost use Rattle.hmac_tag.specs.Tag.{direction_number};
+
+/// The direction of a line between two ends, a and b.
+#[derive(Clone, Copy, Debug, PartialEq, Eq)]
+pub enum Dir {
+    /// From a to b.
+    Ab,
+    /// From b to a.
+    Ba,
+}
+
+impl Dir {
+    /// Its number in the text of a tag: 0 for `ab`, 1 for `ba`.
+    #[inline]
+    pub fn number(self) -> u8
+        ensures { result ≡ direction_number self }
+    {
+        match self {
+            Dir::Ab => 0,
+            Dir::Ba => 1,
+        }
+    }
+}
