@@ -79,3 +79,8 @@ abbrev pub RefusesInit : Option Slots → Option Slots → ℕ → ℕ → InitE
 RefusesInit old new before now Init.Fault = Rose before now × MaySet old A (slot_bytes 0) new
 RefusesInit old new before now (Init.Stands floor) =
     IfSome old (λ slots. floor_of slots ≡ Some floor) × (new ≡ old) × (now ≡ before)
+
+-- The floor's slot is in every image as a read gives it, and no image has a floor below the journal's.
+pub record IsSecured (journal : Journal) (told : Option Slots) (images : Slots → Type 0) : Type 0 where
+  pub kept : IsKept journal told images
+  pub floors : (c : Slots) → images c → HasFloorFrom (journal_floor journal) c

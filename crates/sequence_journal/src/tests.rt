@@ -1,3 +1,4 @@
+use crate::laws::numbers_rise;
 use crate::{InitError, Journal, LIMIT, LoadError, full_number, number_in, slot_of};
 use std::test::Fail;
 use yasir_io::{MemSlots, Plan, Slot};
@@ -79,6 +80,7 @@ fn the_greater_number_is_the_floor(rt: HostRuntime) -> Result<(), Fail> {
     let mut disk = disk_of(&rt, ONES, BLANK, 0)?;
     let refused = Journal::load(&mut disk).err();
     assert_eq!(rt; refused, Some(LoadError::Bad { a: ONES, b: BLANK }));
+    numbers_rise();
     Ok(())
 }
 
