@@ -40,7 +40,7 @@ ticks_in-take items n =
 
 module _ {C V : Type 0} (device : C → V) (waits : C → List ℕ) (stands : V → List Tick → Type 0) (reads : List Tick → List FrameRead) where
   at_first : (c : C) (held : Held) → stands (device c) [] → reads [] ≡ [] → waits c ≡ []
-      → PrintsReads stands reads (device c) (waits c) (record { out = held.out; log = held.log; floor = 0 }) held []
+      → PrintsReads stands reads (device c) (waits c) (record { out = held.out; log = held.log; floor = 0; key = []; direction = 0 }) held []
   at_first c held hears nothing empty = record {
     hears = hears;
     lines = record { front = []; got = append_known-nil held.out; all = ap frame_lines nothing ∙ sym empty };
@@ -48,7 +48,7 @@ module _ {C V : Type 0} (device : C → V) (waits : C → List ℕ) (stands : V 
   }
 
   driven : (old new : C) (first last : Held) (before now : Option (List ℕ)) (end : End)
-      → PrintsReads stands reads (device old) (waits old) (record { out = first.out; log = first.log; floor = 0 }) first []
+      → PrintsReads stands reads (device old) (waits old) (record { out = first.out; log = first.log; floor = 0; key = []; direction = 0 }) first []
       → (items : List Item) × Takes 0 before now items end
       × EndsWith (λ c start held items. PrintsReads stands reads (device c) (waits c) start held items)
       (λ c stop start held items. StopsPrinting reads stop start held items) 4 old first new last items end

@@ -12,11 +12,13 @@ pub record Held : Type 0 where
   pub log : Option (List ℕ)
   pub slots : Option Slots
 
--- as the run began: what the sinks held, and the floor of the journal
+-- as the run began: what the sinks held, the floor of the journal, and the key and the direction of a box
 pub record Start : Type 0 where
   pub out : Option (List ℕ)
   pub log : Option (List ℕ)
   pub floor : ℕ
+  pub key : List ℕ
+  pub direction : ℕ
 
 abbrev pub held_by : Option (List ℕ) → Option (List ℕ) → Option Slots → Held
 held_by out log slots = record { out = out; log = log; slots = slots }
