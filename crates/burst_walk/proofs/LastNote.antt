@@ -19,11 +19,11 @@ last_starts n (e ∷ front) d spread =
     let here : n ≤ e.start = spread.0 in
     omega arith
 
-last_knit : (n : ℕ) (front : List Burst) (d : Burst) → AreSpread n (front ++ d ∷ []) → IsKnit 4 d.body
+pub last_knit : (n : ℕ) (front : List Burst) (d : Burst) → AreSpread n (front ++ d ∷ []) → IsKnit 4 d.body
 last_knit n [] d spread = spread.1
 last_knit n (e ∷ front) d spread = last_knit (end_of e + 4) front d spread.2
 
-last_ends : (m : ℕ) (front : List Burst) (d : Burst) → EndBy m (front ++ d ∷ []) → end_of d ≤ m
+pub last_ends : (m : ℕ) (front : List Burst) (d : Burst) → EndBy m (front ++ d ∷ []) → end_of d ≤ m
 last_ends m [] d ends = ends.0
 last_ends m (e ∷ front) d ends = last_ends m front d ends.1
 

@@ -40,12 +40,12 @@ early-only true last number is = cc
 early-only false true number is = cc
 early-only false false number is = cc
 
-sealed-right : (early wrong last : Bool) (number n : ℕ) → judge_by early wrong last number ≡ sealed_with n → wrong ≡ false
+pub sealed-right : (early wrong last : Bool) (number n : ℕ) → judge_by early wrong last number ≡ sealed_with n → wrong ≡ false
 sealed-right true wrong last number n is = cc
 sealed-right false true last number n is = cc
 sealed-right false false last number n is = refl
 
-no_extra : (extra other : Bool) → (extra || other) ≡ false → extra ≡ false
+pub no_extra : (extra other : Bool) → (extra || other) ≡ false → extra ≡ false
 no_extra true other is = is
 no_extra false other is = refl
 
@@ -53,14 +53,14 @@ no_extra false other is = refl
 
 module _ (profile : Profile) (rules : Rules) (lawful : IsLawful rules) where
   -- the live bytes alone
-  shown : Burst → ℕ → Tick
+  pub shown : Burst → ℕ → Tick
   shown d i = tick_at (forwarded rules d [] ∷ []) i
 
   shown-before : (d : Burst) (i : ℕ) → i < d.start → shown d i ≡ Silent
   unfolding shown
   shown-before d i before = tick_at-before (forwarded rules d []) i before
 
-  shown-from : (d : Burst) (i : ℕ) → d.start ≤ i → shown d i ≡ get_or (live_ticks rules d) (i - d.start) Silent
+  pub shown-from : (d : Burst) (i : ℕ) → d.start ≤ i → shown d i ≡ get_or (live_ticks rules d) (i - d.start) Silent
   unfolding shown
   shown-from d i from =
       tick_at-from (forwarded rules d []) i from ∙ ap (λ x. get_or x (i - d.start) Silent) (append-nil (live_ticks rules d))
@@ -88,7 +88,7 @@ module _ (profile : Profile) (rules : Rules) (lawful : IsLawful rules) where
   image-shown d i (unsealed Form) knit not_early right before = refl
   image-shown d i (unsealed Spent) knit not_early right before = refl
 
-  image-judged : (s : SealState) (d : Burst) (i : ℕ) → IsKnit 4 d.body → nat_lt d.start s.free ≡ false → i < end_of d + 3
+  pub image-judged : (s : SealState) (d : Burst) (i : ℕ) → IsKnit 4 d.body → nat_lt d.start s.free ≡ false → i < end_of d + 3
       → tick_at (image_by profile rules d (judged profile rules s d)) i ≡ shown d i
   image-judged s d i knit late before =
       let wrong : Bool = has_extra rules d || not (rules.is_frame (live_bytes rules d)) in
@@ -100,7 +100,7 @@ module _ (profile : Profile) (rules : Rules) (lawful : IsLawful rules) where
       (sealed-right false wrong (s.floor == profile.limit) (suc s.floor) n (sym is ∙ sealed)))
       before
 
-  image-early : (s : SealState) (d : Burst) → nat_lt d.start s.free ≡ true → image_by profile rules d (judged profile rules s d) ≡ []
+  pub image-early : (s : SealState) (d : Burst) → nat_lt d.start s.free ≡ true → image_by profile rules d (judged profile rules s d) ≡ []
   image-early s d early =
       ap (λ j. image_by profile rules d j)
       (judged-is profile rules s d

@@ -1,5 +1,5 @@
 -- The sealed frames: their numbers rise by one from the floor, and those of a longer line begin with those of the line.
-use Rattle.std.proofs.Common.{◌≡◌, ◌∙◌, ◌==◌, ℕ, zero, suc, ◌+◌, ◌<◌, ◌≤◌, nat_lt, Bool, true, false, not, ◌||◌, List, [], ◌∷◌, ◌++◌, length, map, refl, sym, ap, subst, arith, ⊎_elim}
+use Rattle.std.proofs.Common.{◌≡◌, ◌∙◌, ◌==◌, ℕ, suc, ◌+◌, ◌≤◌, nat_lt, Bool, true, false, not, ◌||◌, List, [], ◌∷◌, ◌++◌, length, map, refl, sym, ap, subst, arith, ⊎_elim}
 use Rattle.std.specs.List.{filter_map, range_with_len}
 use Rattle.std.proofs.lemmas.Bool.{cases_lt}
 use Rattle.std.proofs.lemmas.List.Elements.{filter_map-append}
@@ -9,7 +9,7 @@ use Rattle.line_rules.specs.Rules.{Rules}
 use Rattle.line_rules.specs.RulesLaws.{IsLawful}
 use Rattle.frame_ending.specs.LiveBytes.{live_bytes, has_extra}
 use Rattle.burst_walk.specs.Walk.{Noted, noted, walked, notes_before}
-use Rattle.burst_walk.specs.Longer.{Begins, Extends}
+use Rattle.burst_walk.specs.Longer.{Begins}
 use Rattle.burst_walk.proofs.Spread.{AreSpread, bursts-spread}
 use Rattle.burst_walk.proofs.Walks.{before-early, before-late, none_before}
 use Rattle.seal_transmitter.specs.Profile.{Profile}
@@ -24,7 +24,7 @@ sealed-number false false true number n is = cc
 sealed-number false false false number n is = cc
 
 -- the frames among these notes
-abbrev frames_in : List (Noted SealEntry) → List SealedFrame
+abbrev pub frames_in : List (Noted SealEntry) → List SealedFrame
 frames_in notes = filter_map (λ n. sealed_in n.note) notes
 
 module _ (profile : Profile) (rules : Rules) (lawful : IsLawful rules) where

@@ -12,12 +12,14 @@ use Rattle.seal_transmitter.specs.Profile.{Profile, trailer_len, trailer}
 use Rattle.seal_transmitter.specs.declared.note.UnsealedWhy.{UnsealedWhy}
 use Rattle.seal_transmitter.specs.declared.note.UnsealedWhy.TheVariants.{Early, Form, Spent}
 
+-- what the transmitter knows between bursts
 pub record SealState : Type 0 where
   -- the number of the last sealed burst; at first the floor of the journal
   pub floor : ℕ
   -- a burst that starts before this tick is early
   pub free : ℕ
 
+-- what becomes of a burst: it is sealed with a number, or not sealed for a reason
 pub data Judgement : Type 0 where
   sealed_with : (number : ℕ) → Judgement
   unsealed : UnsealedWhy → Judgement
@@ -90,6 +92,11 @@ sealed_in (unsealed_entry start why) = None
 -- the frames that the transmitter has sealed
 abbrev pub sealed : Profile → Rules → ℕ → List Tick → List SealedFrame
 sealed profile rules floor line = filter_map (λ n. sealed_in n.note) (seal_notes profile rules floor line)
+
+-- the number of the last of these frames, or the floor where there is none
+abbrev pub last_number : ℕ → List SealedFrame → ℕ
+last_number floor [] = floor
+last_number floor (f ∷ frames) = last_number f.number frames
 
 -- The frames have the numbers after this floor, one after the other.
 pub record AreNumberedFrom (floor : ℕ) (frames : List SealedFrame) : Type 0 where

@@ -1,7 +1,15 @@
 //! The transmitter: it forwards the bursts of a device and seals those that are frames, each with a number and a tag.
-//! So far its definitions over whole lists of ticks stand here, in `specs/`.
 #![tactic(auto)]
 
+mod laws;
 mod note;
+mod sealer;
+mod trailer;
 
-pub use note::UnsealedWhy;
+pub use hmac_tag::Dir;
+pub use laws::longer_lines;
+pub use note::{SealNote, SealStep, UnsealedWhy};
+pub use sealer::Sealer;
+
+#[cfg(test)]
+mod tests;

@@ -1,3 +1,5 @@
+use yasir_ticks::Tick;
+
 /// Why a burst of the device isn't sealed.
 #[derive(Clone, Copy, Debug, PartialEq, Eq)]
 pub enum UnsealedWhy {
@@ -7,4 +9,22 @@ pub enum UnsealedWhy {
     Form,
     /// The greatest number is used.
     Spent,
+}
+
+/// What is noted of a burst of the device, in the step that closes it. Ticks are counted from 0, as the transmitter takes them.
+#[derive(Clone, Copy, Debug, PartialEq, Eq)]
+pub enum SealNote {
+    /// It is a frame of `len` bytes and is sealed with this number; its first byte came at tick `start`.
+    Sealed { number: u64, start: u64, len: u16 },
+    /// It isn't sealed; its first byte came at tick `start`.
+    Unsealed { start: u64, why: UnsealedWhy },
+}
+
+/// What the transmitter answers to a tick of the device.
+#[derive(Clone, Copy, Debug, PartialEq, Eq)]
+pub struct SealStep {
+    /// The tick of the link, at the same place.
+    pub tick: Tick,
+    /// The note that falls into this step.
+    pub note: Option<SealNote>,
 }

@@ -1,0 +1,189 @@
+-- What stands on the link, and what is noted, where the line of the device goes on.
+use Rattle.std.proofs.Common.{◌≡◌, ◌∙◌, ◌==◌, ◌&&◌, ℕ, suc, ◌+◌, ◌-◌, ◌<◌, ◌≤◌, nat_lt, nat_le, true, false, List, [], ◌∷◌, ◌++◌, length, map, drop, refl, sym, ap, arith, append_assoc, length-append, get_or, ◌⊎◌, inl, inr, ⊎_elim}
+use Rattle.std.proofs.lemmas.Bool.{cases_lt, cond-false}
+use Rattle.std.proofs.lemmas.List.{get_or_past, get_or-map, get_or-append_right, length-map}
+use Rattle.yasir_ticks.specs.Ticks.{silent}
+use Rattle.yasir_ticks.specs.Bursts.{Burst, end_of, AreClosed}
+use Rattle.yasir_ticks.specs.declared.tick.Tick.{Tick}
+use Rattle.yasir_ticks.specs.declared.tick.Tick.TheVariants.{Silent, Byte}
+use Rattle.line_rules.specs.Rules.{Rules}
+use Rattle.frame_ending.specs.LiveBytes.{live_bytes, live_ticks, live_end}
+use Rattle.frame_ending.proofs.Pauses.{up_to_byte-le}
+use Rattle.burst_walk.specs.Laid.{tick_at}
+use Rattle.burst_walk.specs.Walk.{Noted, noted, walked, imaged, state_after, notes_before, notes_at}
+use Rattle.burst_walk.proofs.Images.{tick_at-none, tick_at-from}
+use Rattle.burst_walk.proofs.Walks.{before-early}
+use Rattle.seal_transmitter.specs.Profile.{Profile, trailer}
+use Rattle.seal_transmitter.specs.Sealing.{SealState, SealEntry, Judgement, judged, state_by, entry_by, image_by, forwarded, sealer, last_number}
+use Rattle.seal_transmitter.specs.Sealing.Judgement.{sealed_with, unsealed}
+use Rattle.seal_transmitter.specs.Trailers.{first_of}
+use Rattle.seal_transmitter.specs.Stands.{sent_at}
+use Rattle.seal_transmitter.specs.declared.note.UnsealedWhy.TheVariants.{Early, Form, Spent}
+use Rattle.seal_transmitter.proofs.Numbers.{frames_in}
+
+-- ---- ticks over one another
+
+-- a tick, and another one where it is silent
+abbrev pub or_else : Tick → Tick → Tick
+or_else Silent t = t
+or_else (Byte b) t = Byte b
+
+or_else-assoc : (a b c : Tick) → or_else a (or_else b c) ≡ or_else (or_else a b) c
+or_else-assoc Silent b c = refl
+or_else-assoc (Byte x) b c = refl
+
+pub or_else-silent : (a : Tick) → or_else a Silent ≡ a
+or_else-silent Silent = refl
+or_else-silent (Byte x) = refl
+
+-- where an image covers tick i, it has a byte there
+abbrev IsBright : Burst → ℕ → Type 0
+IsBright e i = e.start ≤ i → i < end_of e → (x : ℕ) × (get_or e.body (i - e.start) Silent ≡ Byte x)
+
+-- in front of others these images hide tick i only by a byte
+abbrev pub Overlays : List Burst → ℕ → Type 0
+Overlays a i = (more : List Burst) → tick_at (a ++ more) i ≡ or_else (tick_at a i) (tick_at more i)
+
+is_outside : (a b i : ℕ) → (i < a) ⊎ (b ≤ i) → (nat_le a i && nat_lt i b) ≡ false
+is_outside a b i h = grind arith
+
+is_inside : (a b i : ℕ) → a ≤ i → i < b → (nat_le a i && nat_lt i b) ≡ true
+is_inside a b i h k = grind arith
+
+overlays-outside : (e : Burst) (i : ℕ) → (i < e.start) ⊎ (end_of e ≤ i) → Overlays (e ∷ []) i
+unfolding tick_at
+overlays-outside e i out more = rw (is_outside e.start (end_of e) i out) refl
+
+overlays-byte : (e : Burst) (i x : ℕ) → e.start ≤ i → i < end_of e → get_or e.body (i - e.start) Silent ≡ Byte x → Overlays (e ∷ []) i
+unfolding tick_at
+overlays-byte e i x from within is more = rw (is_inside e.start (end_of e) i from within) (rw is refl)
+
+overlays-one : (e : Burst) (i : ℕ) → IsBright e i → Overlays (e ∷ []) i
+overlays-one e i bright more =
+    ⊎_elim
+    (λ before. overlays-outside e i (inl before) more)
+    (λ from. ⊎_elim
+    (λ within. let byte = bright from within in overlays-byte e i byte.0 from within byte.1 more)
+    (λ past. overlays-outside e i (inr past) more)
+    (cases_lt i (end_of e)))
+    (cases_lt i e.start)
+
+pub overlays-none : (i : ℕ) → Overlays [] i
+overlays-none i more = sym (ap (λ t. or_else t (tick_at more i)) (tick_at-none i))
+
+overlays-append : (a b : List Burst) (i : ℕ) → Overlays a i → Overlays b i → Overlays (a ++ b) i
+overlays-append a b i first second more =
+    ap (λ x. tick_at x i) (append_assoc a b more)
+    ∙ (first (b ++ more)
+    ∙ (ap (λ t. or_else (tick_at a i) t) (second more)
+    ∙ (or_else-assoc (tick_at a i) (tick_at b i) (tick_at more i)
+    ∙ ap (λ t. or_else t (tick_at more i)) (sym (first b)))))
+
+-- ---- bytes that are sent
+
+pub sent-first : (m : ℕ) (left : List ℕ) → sent_at m left m ≡ first_of left
+sent-first m [] = refl
+sent-first m (b ∷ left) = let none : m - m ≡ 0 = omega arith in ap (λ k. get_or (map (λ x. Byte x) (b ∷ left)) k Silent) none
+
+pub sent-later : (m : ℕ) (left : List ℕ) (i : ℕ) → m + 1 ≤ i → sent_at m left i ≡ sent_at (m + 1) (drop 1 left) i
+sent-later m [] i later = refl
+sent-later m (b ∷ left) i later =
+    let one_less : i - m ≡ suc (i - (m + 1)) = omega arith in
+    ap (λ k. get_or (map (λ x. Byte x) (b ∷ left)) k Silent) one_less
+
+-- ---- images of closed bursts
+
+module _ (profile : Profile) (rules : Rules) where
+  pub live_end-within : (d : Burst) → live_end rules d ≤ end_of d
+  live_end-within d = let few = up_to_byte-le (length (live_bytes rules d)) d.body in omega arith
+
+  -- the live bytes alone have ended before
+  forwarded-dark : (d : Burst) (i : ℕ) → end_of d ≤ i → end_of (forwarded rules d []) ≤ i
+  forwarded-dark d i later =
+      let few = live_end-within d in
+      let long = length-append (live_ticks rules d) [] in
+      omega arith
+
+  pub forwarded-past : (d : Burst) (i : ℕ) → end_of d ≤ i → tick_at (forwarded rules d [] ∷ []) i ≡ Silent
+  forwarded-past d i later =
+      let end = forwarded-dark d i later in
+      let from : d.start ≤ i = omega arith in
+      let past : length (live_ticks rules d ++ []) ≤ i - d.start = omega arith in
+      tick_at-from (forwarded rules d []) i from ∙ get_or_past (live_ticks rules d ++ []) (i - d.start) Silent past
+
+  -- a sealed image after three silent ticks: its trailer
+  pub sealed-from : (d : Burst) (bytes : List ℕ) (i : ℕ) → live_end rules d + 3 ≤ i
+      → get_or (forwarded rules d (silent 3 ++ map (λ b. Byte b) bytes)).body (i - d.start) Silent ≡ sent_at (live_end rules d + 3) bytes i
+  sealed-from d bytes i from =
+      let n : ℕ = length (live_ticks rules d) in
+      let first : n ≤ i - d.start = omega arith in
+      let second : 3 ≤ i - d.start - n = omega arith in
+      let same : i - d.start - n - 3 ≡ i - (live_end rules d + 3) = omega arith in
+      get_or-append_right (live_ticks rules d) (silent 3 ++ map (λ b. Byte b) bytes) n (i - d.start) Silent refl first
+      ∙ (get_or-append_right (silent 3) (map (λ b. Byte b) bytes) 3 (i - d.start - n) Silent refl second
+      ∙ ap (λ k. get_or (map (λ b. Byte b) bytes) k Silent) same)
+
+  sealed-bright : (d : Burst) (bytes : List ℕ) (i : ℕ) → live_end rules d + 3 ≤ i → IsBright (forwarded rules d (silent 3 ++ map (λ b. Byte b) bytes)) i
+  sealed-bright d bytes i from begun within =
+      let long : length (live_ticks rules d ++ (silent 3 ++ map (λ b. Byte b) bytes)) ≡ length (live_ticks rules d) + (3 + length bytes) = simp (length-append, length-map) (omega arith) in
+      let few : i - (live_end rules d + 3) < length bytes = omega arith in (
+        get_or bytes (i - (live_end rules d + 3)) 0,
+        sealed-from d bytes i from ∙ get_or-map (λ b. Byte b) bytes (i - (live_end rules d + 3)) 0 Silent few,
+      )
+
+  image-overlays : (d : Burst) (i : ℕ) (j : Judgement) → end_of d + 3 ≤ i → Overlays (image_by profile rules d j) i
+  image-overlays d i (sealed_with n) later =
+      let end = live_end-within d in
+      let from : live_end rules d + 3 ≤ i = omega arith in
+      overlays-one (forwarded rules d (silent 3 ++ map (λ b. Byte b) (trailer profile n (live_bytes rules d)))) i
+      (sealed-bright d (trailer profile n (live_bytes rules d)) i from)
+  image-overlays d i (unsealed Early) later = overlays-none i
+  image-overlays d i (unsealed Form) later = let past : end_of d ≤ i = omega arith in overlays-outside (forwarded rules d []) i (inr (forwarded-dark d i past))
+  image-overlays d i (unsealed Spent) later = let past : end_of d ≤ i = omega arith in overlays-outside (forwarded rules d []) i (inr (forwarded-dark d i past))
+
+  pub closed-overlays : (s : SealState) (closed : List Burst) (m i : ℕ) → AreClosed 4 m closed → m ≤ i → Overlays (imaged (sealer profile rules) s closed) i
+  closed-overlays s [] m i are later = overlays-none i
+  closed-overlays s (d ∷ closed) m i are later =
+      let close = are.0 in
+      let past : end_of d + 3 ≤ i = omega arith in
+      overlays-append (image_by profile rules d (judged profile rules s d)) (imaged (sealer profile rules) (state_by profile rules s d (judged profile rules s d)) closed) i
+      (image-overlays d i (judged profile rules s d) past)
+      (closed-overlays (state_by profile rules s d (judged profile rules s d)) closed m i are.1 later)
+
+  -- ---- notes of closed bursts
+
+  pub closed-quiet : (s : SealState) (closed : List Burst) (m : ℕ) → AreClosed 4 m closed → notes_at m (walked (sealer profile rules) s closed) ≡ []
+  closed-quiet s [] m are = refl
+  closed-quiet s (d ∷ closed) m are =
+      let close = are.0 in
+      let early : end_of d + 3 < m = omega arith in
+      cond-false _ _ _ (is_other (end_of d + 3) m early)
+      ∙ closed-quiet (state_by profile rules s d (judged profile rules s d)) closed m are.1
+    where
+      is_other : (a b : ℕ) → a < b → (a == b) ≡ false
+      is_other a b h = grind arith
+
+  pub closed-noted : (s : SealState) (closed : List Burst) (m : ℕ) → AreClosed 4 m closed
+      → notes_before m (walked (sealer profile rules) s closed) ≡ walked (sealer profile rules) s closed
+  closed-noted s [] m are = refl
+  closed-noted s (d ∷ closed) m are =
+      let close = are.0 in
+      let early : end_of d + 3 < m = omega arith in
+      let next : SealState = state_by profile rules s d (judged profile rules s d) in
+      before-early m (noted (sealer profile rules) s d) (walked (sealer profile rules) next closed) early
+      ∙ ap (λ l. noted (sealer profile rules) s d ∷ l) (closed-noted next closed m are.1)
+
+  number-more : (s : SealState) (d : Burst) (tick floor : ℕ) (j : Judgement) (more : List (Noted SealEntry))
+      → floor ≡ last_number (state_by profile rules s d j).floor (frames_in more)
+      → floor ≡ last_number s.floor (frames_in (record { tick = tick; note = entry_by rules d j } ∷ more))
+  number-more s d tick floor (sealed_with n) more rest = rest
+  number-more s d tick floor (unsealed why) more rest = rest
+
+  -- the last number among the notes is the floor of the state
+  pub closed-number : (s : SealState) (closed : List Burst)
+      → (state_after (sealer profile rules) s closed).floor ≡ last_number s.floor (frames_in (walked (sealer profile rules) s closed))
+  closed-number s [] = refl
+  closed-number s (d ∷ closed) =
+      let next : SealState = state_by profile rules s d (judged profile rules s d) in
+      number-more s d (end_of d + 3) (state_after (sealer profile rules) next closed).floor (judged profile rules s d)
+      (walked (sealer profile rules) next closed) (closed-number next closed)

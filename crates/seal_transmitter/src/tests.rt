@@ -1,0 +1,86 @@
+ghost use Rattle.std.specs.Prelude.{◌≡◌, ◌<◌, length};
+ghost use Rattle.sequence_journal.specs.Journal.{Fits};
+ghost use Rattle.seal_transmitter.specs.Stands.{ticks_taken};
+
+mod fours;
+
+use super::*;
+use fours::Fours;
+use hmac_tag::{HmacSha1, Mac};
+use line_rules::LineRules;
+use sequence_journal::{Journal, slot_of};
+use std::alloc::Global;
+use std::test::Fail;
+use yasir_io::{SlotDisk, SteadySlots};
+use yasir_ticks::Tick;
+
+// A tick as the texts here have it: a point is silence.
+fn tick_of(letter: u8) -> Tick {
+    match letter {
+        b'.' => Tick::Silent,
+        byte => Tick::Byte(byte),
+    }
+}
+
+// What the transmitter answers to each tick.
+fn steps<R: LineRules, M: Mac, D: SlotDisk>(
+    alloc: Global,
+    sealer: &mut Sealer<R, M>,
+    journal: &mut Journal,
+    disk: &mut D,
+    line: &[u8],
+) -> Result<Vec<SealStep>, Fail>
+    requires begun { ticks_taken sealer.old ≡ 0 }
+    requires fits { Fits journal.old (D.told disk.old) }
+    requires short { length line.now < 1000 }
+{
+    let mut steps = Vec::new(alloc);
+    for letter in line {
+        steps.push(sealer.step(tick_of(*letter), journal, disk)?)?;
+    }
+    Ok(steps)
+}
+
+#[test]
+fn a_frame_is_sealed_and_another_burst_is_not(rt: HostRuntime) -> Result<(), Fail> {
+    let key: [u8; 16] = 0x000102030405060708090a0b0c0d0e0f_u128.to_be_bytes();
+    let mut sealer: Sealer<Fours, HmacSha1> = Sealer::new(&key, Dir::Ab);
+    let mut disk = SteadySlots::new(slot_of(0x10202), [0; 16]);
+    let mut journal = Journal::load(&mut disk)?;
+    let line: &[u8] = b"\x01\x02\x03\x04.....................\x05\x06....";
+    let steps = steps(rt.alloc(), &mut sealer, &mut journal, &mut disk, line)?;
+
+    // The trailer is the word of number 0x10203, and its tag by openssl:
+    //   printf 0100010203040000000000010203 | xxd -r -p
+    //     | openssl dgst -sha1 -mac HMAC -macopt hexkey:000102030405060708090a0b0c0d0e0f | cut -c1-24
+    let link: &[u8] =
+        b"\x01\x02\x03\x04...\x02\x03\x6d\x1c\x48\xa1\x8e\xdb\x2b\x63\xa8\x5b\x36\xb2....\x05\x06....";
+    assert_eq!(rt; steps.len(), link.len());
+    for (i, (step, letter)) in steps.iter().zip(link).enumerate() {
+        let note = match i {
+            7 => Some(SealNote::Sealed {
+                number: 0x10203,
+                start: 0,
+                len: 4,
+            }),
+            30 => Some(SealNote::Unsealed {
+                start: 25,
+                why: UnsealedWhy::Form,
+            }),
+            _ => None,
+        };
+        assert_eq!(rt;
+            (step.tick, step.note),
+            (tick_of(*letter), note),
+            "at tick {i}"
+        );
+    }
+    assert_eq!(rt; journal.floor(), 0x10203);
+    assert_eq!(rt; sealer.live_bytes().len(), 2);
+    Ok(())
+}
+
+// A transmitter holds at most 280 bytes beside its rules and its code.
+const _: () = prove!(
+    size_of::<Sealer<Fours, HmacSha1>>() <= size_of::<Fours>() + size_of::<HmacSha1>() + 280
+);

@@ -1,0 +1,68 @@
+ghost use Rattle.std.specs.Prelude.{◌≡◌, [], ◌∷◌, ◌++◌, length, drop, IfSome, IfNone};
+ghost use Rattle.std.specs.Int.{bytes_high_first};
+ghost use Rattle.arrayvec.specs.ArrayVec.{array_vec_len};
+ghost use Rattle.seal_transmitter.specs.Trailers.{bytes_left, first_of};
+
+use arrayvec::ArrayVec;
+use hmac_tag::TagBytes;
+use yasir_ticks::Tick;
+
+/// How many bytes of a number stand on the link: the lowest two.
+pub const WORD_LEN: usize = 2;
+
+/// The trailer of the last sealed frame: the low bytes of its number, the high one first, and its tag. The bytes that
+/// were sent stand in front of those that are left.
+#[derive(Drop)]
+pub struct Trailer {
+    bytes: ArrayVec<u8, 18>,
+    sent: usize,
+}
+
+impl Trailer {
+    /// No trailer: nothing is left to be sent.
+    pub fn none() -> Trailer
+        ensures { bytes_left result ≡ [] }
+    {
+        Trailer {
+            bytes: ArrayVec::new(),
+            sent: 0,
+        }
+    }
+
+    /// The trailer of a number and its tag.
+    pub fn new(number: u64, tag: &TagBytes) -> Trailer
+        ensures { bytes_left result ≡ bytes_high_first 2 number ++ tag.now.items }
+    {
+        let digits = number.to_be_bytes();
+        let mut bytes = ArrayVec::new();
+        let _ = bytes.try_extend_from_slice(&digits[8 - WORD_LEN..]);
+        let _ = bytes.try_extend_from_slice(tag.as_slice());
+        Trailer { bytes, sent: 0 }
+    }
+
+    // The next byte to be sent; none where all are.
+    #[inline]
+    fn next(&mut self) -> Option<u8>
+        ensures some { IfSome result (λ b. bytes_left self.old ≡ b ∷ bytes_left self.new) }
+        ensures none { IfNone result (bytes_left self.old ≡ []) }
+        ensures same { IfNone result (bytes_left self.new ≡ []) }
+    {
+        let next = self.bytes.as_slice().get(self.sent).copied();
+        if next.is_some() {
+            self.sent += 1;
+        }
+        next
+    }
+
+    /// The tick of the next byte to be sent; silence where all are.
+    #[inline]
+    pub fn next_tick(&mut self) -> Tick
+        ensures tick { result ≡ first_of (bytes_left self.old) }
+        ensures left { bytes_left self.new ≡ drop 1 (bytes_left self.old) }
+    {
+        match self.next() {
+            Some(byte) => Tick::Byte(byte),
+            None => Tick::Silent,
+        }
+    }
+}
