@@ -12,22 +12,24 @@ use Rattle.tick_drive.specs.Input.{Takes, IsReadCause, is_read_fault}
 use Rattle.tick_drive.specs.Items.{silent_items}
 use Rattle.tick_drive.specs.Drive.{EndsWith, is_write_stop}
 use Rattle.tick_drive.specs.declared.consumer.Stop.{Stop}
+use Rattle.tick_drive.specs.declared.consumer.Stop.TheVariants as stops
 use Rattle.tick_drive.specs.declared.end.End.{End}
 use Rattle.tick_drive.specs.declared.end.End.TheVariants.{Whole, Refused, TooLong, ReadFault, Stopped}
 use Rattle.tick_drive.proofs.ItemLaws.{ticks_in-append}
 use Rattle.link_replay.specs.Lines.{frame_lines}
 use Rattle.link_replay.specs.FrameLines.{PrintsReads, StopsPrinting}
-use Rattle.link_replay.specs.ReadCommand.{DrivesFrames, PrintsFrames, IsPrinting, status_of}
+use Rattle.link_replay.specs.ReadCommand.{DrivesFrames, PrintsFrames, IsPrinting}
+use Rattle.link_replay.specs.Endings.{status_of}
 use Rattle.link_replay.specs.Causes.{InputCause, SinkCause}
 use Rattle.link_replay.specs.declared.status.Status.{Status}
 use Rattle.link_replay.specs.declared.status.Status.TheVariants.{Done, WriteFault}
 
-append_known-nil : (known : Option (List ℕ)) → known ≡ append_known known []
+pub append_known-nil : (known : Option (List ℕ)) → known ≡ append_known known []
 append_known-nil None = refl
 append_known-nil (Some xs) = ap Some (sym (append-nil xs))
 
 -- a text that was pushed whole, where nothing waits
-printed : (start now : Option (List ℕ)) (text : List ℕ) → Buffered start now [] text → now ≡ append_known start text
+pub printed : (start now : Option (List ℕ)) (text : List ℕ) → Buffered start now [] text → now ≡ append_known start text
 printed start now text buffered =
     subst (λ front. now ≡ append_known start front) (sym (buffered.all ∙ append-nil buffered.front)) buffered.got
 
@@ -154,8 +156,9 @@ pub input_cause : (before now : ℕ) (end : End) → IsReadCause before now (is_
 input_cause before now Whole h = h.same refl
 input_cause before now (Refused bad) h = h.same refl
 input_cause before now (TooLong what count) h = h.same refl
-input_cause before now ReadFault h = h.failed refl
-input_cause before now (Stopped stop) h = h.never_falls
+input_cause before now ReadFault h = (h.failed refl, h.never_falls)
+input_cause before now (Stopped stops.WriteFault) h = h.never_falls
+input_cause before now (Stopped stops.JournalFault) h = h.same refl
 
 pub input_cause_of_whole : (before now : ℕ) (status : Status) → (status ≡ Done) ⊎ (status ≡ WriteFault) → now ≡ before → InputCause before now status
 input_cause_of_whole before now status (inl done) same = subst (InputCause before now) (sym done) same

@@ -15,26 +15,26 @@ use Rattle.link_replay.specs.ReadCommand.{PrintsFrames, IsReadable}
 use Rattle.link_replay.specs.Causes.{InputCause, SinkCause, NoneRose}
 use Rattle.link_replay.specs.Statuses.{fault_line}
 use Rattle.link_replay.specs.declared.status.Status.{Status}
-use Rattle.link_replay.specs.declared.status.Status.TheVariants.{Done, Usage, BadTicks as Refused, ReadFault, WriteFault, JournalFault, TooLong, HasJournal}
+use Rattle.link_replay.specs.declared.status.Status.TheVariants.{Done, Usage, BadTicks as Refused, ReadFault, WriteFault, JournalFault, TooLong, HasJournal, BadKey, BadJournal}
 
 -- what was met of a told text begins it
-met_of_told : (text met : List ℕ) (later : Option (List ℕ)) → Some text ≡ prepend_known met later → (rest : List ℕ) × (text ≡ met ++ rest)
+pub met_of_told : (text met : List ℕ) (later : Option (List ℕ)) → Some text ≡ prepend_known met later → (rest : List ℕ) × (text ≡ met ++ rest)
 met_of_told text met None h = cc
 met_of_told text met (Some rest) h = (rest, cc)
 
 -- all of a told text was met
-all_of_told : (text met : List ℕ) (now : Option (List ℕ)) → Some text ≡ prepend_known met now → IsAtEnd now → text ≡ met
+pub all_of_told : (text met : List ℕ) (now : Option (List ℕ)) → Some text ≡ prepend_known met now → IsAtEnd now → text ≡ met
 all_of_told text met None h ended = cc
 all_of_told text met (Some rest) h ended =
     let whole : text ≡ met ++ rest = cc in whole ∙ ap (λ r. met ++ r) ended ∙ append-nil met
 
 module _ (text : List ℕ) (items : List Item) (right : IsTickText 0 text items) where
-  no_byte_refused : (met : List ℕ) (bad : BadTicks) → IsRefusedByte 0 (Some text) met bad → ⊥
+  pub no_byte_refused : (met : List ℕ) (bad : BadTicks) → IsRefusedByte 0 (Some text) met bad → ⊥
   no_byte_refused met bad h =
       let at = met_of_told text (met ++ h.byte ∷ []) h.met.0 h.met.1 in
       h.refused.refused (at.0, items, subst (λ x. IsTickText 0 x items) at.1 right)
 
-  no_end_refused : (met : List ℕ) (now : Option (List ℕ)) (bad : BadTicks) → IsRefusedEnd 0 (Some text) now met bad → ⊥
+  pub no_end_refused : (met : List ℕ) (now : Option (List ℕ)) (bad : BadTicks) → IsRefusedEnd 0 (Some text) now met bad → ⊥
   no_end_refused met now bad h = h.refused (items, subst (λ x. IsTickText 0 x items) (all_of_told text met now h.met h.at_end) right)
 
   -- the ticks of a front of the items are no more than all ticks
@@ -44,7 +44,7 @@ module _ (text : List ℕ) (items : List Item) (right : IsTickText 0 text items)
       ap (λ l. length (ticks_in l)) whole ∙ ap length (ticks_in-append front back) ∙ length-append (ticks_in front) (ticks_in back) in
       omega (arith, sum)
 
-  no_line_too_long : (met : List ℕ) (now : Option (List ℕ)) (taken : List Item) (count : ℕ) → length (ticks_in items) ≤ max_ticks
+  pub no_line_too_long : (met : List ℕ) (now : Option (List ℕ)) (taken : List Item) (count : ℕ) → length (ticks_in items) ≤ max_ticks
       → HasTooManyTicks 0 (Some text) now met taken count → ⊥
   no_line_too_long met now taken count few h = elim h.ended [
     | inl e ↦
@@ -60,36 +60,38 @@ module _ (text : List ℕ) (items : List Item) (right : IsTickText 0 text items)
         omega (arith, short, h.sum, h.above)
   ]
 
-  no_byte_too_many : (met : List ℕ) (count : ℕ) → length text ≤ max_bytes → HasTooManyBytes 0 (Some text) met count → ⊥
+  pub no_byte_too_many : (met : List ℕ) (count : ℕ) → length text ≤ max_bytes → HasTooManyBytes 0 (Some text) met count → ⊥
   no_byte_too_many met count few h =
       let at = met_of_told text (met ++ h.byte ∷ []) h.met.0 h.met.1 in
       let long : length text ≡ length (met ++ h.byte ∷ []) + length at.0 = ap length at.1 ∙ length-append (met ++ h.byte ∷ []) at.0 in
       let more : length (met ++ h.byte ∷ []) ≡ length met + 1 = length-append met (h.byte ∷ []) in
       omega (arith, long, more, h.full)
 
-  done_by : (reads : List Tick → List FrameRead) (now out_before out_now : Option (List ℕ)) (in0 in1 out0 out1 log0 log1 disk0 disk1 : ℕ) (status : Status)
-      → length (ticks_in items) ≤ max_ticks → length text ≤ max_bytes → NoneRose in0 in1 out0 out1 log0 log1 disk0 disk1
+  done_by : (reads : List Tick → List FrameRead) (now out_before out_now : Option (List ℕ)) (key0 key1 in0 in1 out0 out1 log0 log1 disk0 disk1 : ℕ) (status : Status)
+      → length (ticks_in items) ≤ max_ticks → length text ≤ max_bytes → NoneRose key0 key1 in0 in1 out0 out1 log0 log1 disk0 disk1
       → PrintsFrames reads (Some text) now out_before out_now status → InputCause in0 in1 status → SinkCause out0 out1 log0 log1 status → status ≡ Done
-  done_by reads now out_before out_now in0 in1 out0 out1 log0 log1 disk0 disk1 Done few short calm h input sinks = refl
-  done_by reads now out_before out_now in0 in1 out0 out1 log0 log1 disk0 disk1 Usage few short calm h input sinks = absurd h
-  done_by reads now out_before out_now in0 in1 out0 out1 log0 log1 disk0 disk1 (Refused bad) few short calm h input sinks =
+  done_by reads now out_before out_now key0 key1 in0 in1 out0 out1 log0 log1 disk0 disk1 Done few short calm h input sinks = refl
+  done_by reads now out_before out_now key0 key1 in0 in1 out0 out1 log0 log1 disk0 disk1 Usage few short calm h input sinks = absurd h
+  done_by reads now out_before out_now key0 key1 in0 in1 out0 out1 log0 log1 disk0 disk1 (Refused bad) few short calm h input sinks =
       elim h.1.1 [ inl byte ↦ absurd (no_byte_refused h.1.0 bad byte) | inr end ↦ absurd (no_end_refused h.1.0 now bad end) ]
-  done_by reads now out_before out_now in0 in1 out0 out1 log0 log1 disk0 disk1 ReadFault few short calm h input sinks = absurd (calm.input input)
-  done_by reads now out_before out_now in0 in1 out0 out1 log0 log1 disk0 disk1 WriteFault few short calm h input sinks =
+  done_by reads now out_before out_now key0 key1 in0 in1 out0 out1 log0 log1 disk0 disk1 ReadFault few short calm h input sinks = absurd (calm.input input.0)
+  done_by reads now out_before out_now key0 key1 in0 in1 out0 out1 log0 log1 disk0 disk1 WriteFault few short calm h input sinks =
       elim sinks [ inl out ↦ absurd (calm.out out) | inr log ↦ absurd (calm.log log) ]
-  done_by reads now out_before out_now in0 in1 out0 out1 log0 log1 disk0 disk1 JournalFault few short calm h input sinks = absurd h
-  done_by reads now out_before out_now in0 in1 out0 out1 log0 log1 disk0 disk1 (HasJournal floor) few short calm h input sinks = absurd h
-  done_by reads now out_before out_now in0 in1 out0 out1 log0 log1 disk0 disk1 (TooLong Ticks count) few short calm h input sinks =
+  done_by reads now out_before out_now key0 key1 in0 in1 out0 out1 log0 log1 disk0 disk1 JournalFault few short calm h input sinks = absurd h
+  done_by reads now out_before out_now key0 key1 in0 in1 out0 out1 log0 log1 disk0 disk1 (HasJournal floor) few short calm h input sinks = absurd h
+  done_by reads now out_before out_now key0 key1 in0 in1 out0 out1 log0 log1 disk0 disk1 (BadKey place) few short calm h input sinks = absurd h
+  done_by reads now out_before out_now key0 key1 in0 in1 out0 out1 log0 log1 disk0 disk1 (BadJournal a b) few short calm h input sinks = absurd h
+  done_by reads now out_before out_now key0 key1 in0 in1 out0 out1 log0 log1 disk0 disk1 (TooLong Ticks count) few short calm h input sinks =
       absurd (no_line_too_long h.1.0 now h.0 count few h.1.1)
-  done_by reads now out_before out_now in0 in1 out0 out1 log0 log1 disk0 disk1 (TooLong Bytes count) few short calm h input sinks =
+  done_by reads now out_before out_now key0 key1 in0 in1 out0 out1 log0 log1 disk0 disk1 (TooLong Bytes count) few short calm h input sinks =
       absurd (no_byte_too_many h.1.0 count short h.1.1)
 
 -- A right text within the limits, and no fault outside, give `Done`.
-pub readable_done : (reads : List Tick → List FrameRead) (before now out_before out_now : Option (List ℕ)) (in0 in1 out0 out1 log0 log1 disk0 disk1 : ℕ) (status : Status)
-    → IsReadable before → NoneRose in0 in1 out0 out1 log0 log1 disk0 disk1
+pub readable_done : (reads : List Tick → List FrameRead) (before now out_before out_now : Option (List ℕ)) (key0 key1 in0 in1 out0 out1 log0 log1 disk0 disk1 : ℕ) (status : Status)
+    → IsReadable before → NoneRose key0 key1 in0 in1 out0 out1 log0 log1 disk0 disk1
     → PrintsFrames reads before now out_before out_now status → InputCause in0 in1 status → SinkCause out0 out1 log0 log1 status → status ≡ Done
-readable_done reads before now out_before out_now in0 in1 out0 out1 log0 log1 disk0 disk1 status readable calm h input sinks =
-    done_by readable.text readable.items readable.right reads now out_before out_now in0 in1 out0 out1 log0 log1 disk0 disk1 status
+readable_done reads before now out_before out_now key0 key1 in0 in1 out0 out1 log0 log1 disk0 disk1 status readable calm h input sinks =
+    done_by readable.text readable.items readable.right reads now out_before out_now key0 key1 in0 in1 out0 out1 log0 log1 disk0 disk1 status
     readable.few_ticks readable.few_bytes calm (subst (λ left. PrintsFrames reads left now out_before out_now status) readable.told h) input sinks
 
 -- the sinks' causes with a fault line that was written, or failed
@@ -106,3 +108,5 @@ sinks_after out_before out_now log_before log_mid log_now (Refused bad) h rises 
 sinks_after out_before out_now log_before log_mid log_now (TooLong what count) h rises same = (h.0, omega (arith, h.1, rises))
 sinks_after out_before out_now log_before log_mid log_now JournalFault h rises same = (h.0, omega (arith, h.1, rises))
 sinks_after out_before out_now log_before log_mid log_now (HasJournal floor) h rises same = (h.0, omega (arith, h.1, rises))
+sinks_after out_before out_now log_before log_mid log_now (BadKey place) h rises same = (h.0, omega (arith, h.1, rises))
+sinks_after out_before out_now log_before log_mid log_now (BadJournal a b) h rises same = (h.0, omega (arith, h.1, rises))

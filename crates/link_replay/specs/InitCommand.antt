@@ -5,7 +5,7 @@ use Rattle.yasir_io.specs.Disks.{Slots, NoMore, OneImage}
 use Rattle.sequence_journal.specs.Slots.{slot_bytes, floor_of}
 use Rattle.sequence_journal.specs.Journal.{told_with, MaySet}
 use Rattle.link_replay.specs.declared.status.Status.{Status}
-use Rattle.link_replay.specs.declared.status.Status.TheVariants.{Done, Usage, BadTicks, ReadFault, WriteFault, JournalFault, TooLong, HasJournal}
+use Rattle.link_replay.specs.declared.status.Status.TheVariants.{Done, Usage, BadTicks, ReadFault, WriteFault, JournalFault, TooLong, HasJournal, BadKey, BadJournal}
 
 -- Neither slot held a number; slot A holds number 0, slot B is as it was, and a crash leaves just this.
 pub record IsNewJournal (old new : Option Slots) (may_leave : Slots → Type 0) : Type 0 where
@@ -29,6 +29,8 @@ MakesJournal old new may_leave_old may_leave_new Usage = ⊥
 MakesJournal old new may_leave_old may_leave_new (BadTicks bad) = ⊥
 MakesJournal old new may_leave_old may_leave_new ReadFault = ⊥
 MakesJournal old new may_leave_old may_leave_new (TooLong what count) = ⊥
+MakesJournal old new may_leave_old may_leave_new (BadKey place) = ⊥
+MakesJournal old new may_leave_old may_leave_new (BadJournal a b) = ⊥
 
 -- The disk tells two slots that hold no number.
 abbrev pub IsBlank : Option Slots → Type 0

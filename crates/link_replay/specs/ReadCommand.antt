@@ -16,7 +16,7 @@ use Rattle.link_replay.specs.Lines.{frame_lines}
 use Rattle.link_replay.specs.declared.words.Proto.{Proto}
 use Rattle.link_replay.specs.declared.words.Proto.TheVariants.{Rtu}
 use Rattle.link_replay.specs.declared.status.Status.{Status}
-use Rattle.link_replay.specs.declared.status.Status.TheVariants.{Done, Usage, BadTicks, ReadFault, WriteFault, JournalFault, TooLong, HasJournal}
+use Rattle.link_replay.specs.declared.status.Status.TheVariants.{Done, Usage, BadTicks, ReadFault, WriteFault, JournalFault, TooLong, HasJournal, BadKey, BadJournal}
 
 -- what the device of a protocol reads of a line
 abbrev pub device_reads : Proto → List Tick → List FrameRead
@@ -44,14 +44,6 @@ DrivesFrames reads before now out_before out_now waits (Stopped stop) =
     (stop ≡ stops.WriteFault) × ((items : List Item) × Takes 0 before now items (Stopped stop)
     × ((n : ℕ) × GotPrefix out_before out_now (frame_lines (reads (take n (ticks_in items ++ silent 4))))))
 
--- the status of an end that no write caused
-abbrev pub status_of : End → Status
-status_of Whole = Done
-status_of (Refused bad) = BadTicks bad
-status_of (ends.TooLong what count) = TooLong what count
-status_of ends.ReadFault = ReadFault
-status_of (Stopped stop) = WriteFault
-
 -- What the run took of its input, and what `out` has got of it. Behind a whole input stand four silent ticks.
 abbrev pub PrintsFrames : (List Tick → List FrameRead) → Option (List ℕ) → Option (List ℕ) → Option (List ℕ) → Option (List ℕ) → Status → Type 0
 PrintsFrames reads before now out_before out_now Done =
@@ -69,6 +61,8 @@ PrintsFrames reads before now out_before out_now WriteFault =
 PrintsFrames reads before now out_before out_now Usage = ⊥
 PrintsFrames reads before now out_before out_now JournalFault = ⊥
 PrintsFrames reads before now out_before out_now (HasJournal floor) = ⊥
+PrintsFrames reads before now out_before out_now (BadKey place) = ⊥
+PrintsFrames reads before now out_before out_now (BadJournal a b) = ⊥
 
 -- The input tells a right text within the limits.
 pub record IsReadable (input : Option (List ℕ)) : Type 0 where

@@ -1,11 +1,12 @@
 -- The exit status and the fault line of each status.
 use Rattle.std.specs.Prelude.{ℕ, List, [], ◌++◌, codes, decimal}
+use Rattle.hex.specs.Hex.{encode_lower}
 use Rattle.yasir_ticks.specs.declared.fault.TickFault.{TickFault}
 use Rattle.yasir_ticks.specs.declared.fault.TickFault.TheVariants.{Char, Odd, Long, Count, Empty, Mark}
 use Rattle.tick_drive.specs.declared.end.TooMuch.{TooMuch}
 use Rattle.tick_drive.specs.declared.end.TooMuch.TheVariants.{Ticks, Bytes}
 use Rattle.link_replay.specs.declared.status.Status.{Status}
-use Rattle.link_replay.specs.declared.status.Status.TheVariants.{Done, Usage, BadTicks, ReadFault, WriteFault, JournalFault, TooLong, HasJournal}
+use Rattle.link_replay.specs.declared.status.Status.TheVariants.{Done, Usage, BadTicks, ReadFault, WriteFault, JournalFault, TooLong, HasJournal, BadKey, BadJournal}
 
 abbrev pub code_of : Status → ℕ
 code_of Done = 0
@@ -16,6 +17,8 @@ code_of WriteFault = 6
 code_of JournalFault = 7
 code_of (TooLong what count) = 10
 code_of (HasJournal floor) = 11
+code_of (BadKey place) = 3
+code_of (BadJournal a b) = 8
 
 abbrev pub fault_word : TickFault → List ℕ
 fault_word Char = codes "char"
@@ -39,3 +42,5 @@ fault_line WriteFault = []
 fault_line (TooLong what count) = codes "fault: too long " ++ decimal count ++ unit_word what ++ codes "\n"
 fault_line JournalFault = codes "fault: journal\n"
 fault_line (HasJournal floor) = codes "fault: journal stands at " ++ decimal floor ++ codes "\n"
+fault_line (BadKey place) = codes "fault: key at " ++ decimal place ++ codes "\n"
+fault_line (BadJournal a b) = codes "fault: bad journal " ++ encode_lower a ++ codes " " ++ encode_lower b ++ codes "\n"

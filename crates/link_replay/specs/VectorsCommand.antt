@@ -6,7 +6,7 @@ use Rattle.vectors.specs.Cases.{answer}
 use Rattle.vectors.specs.Tables.{crc_cases, hmac_cases, frames_cases}
 use Rattle.vectors.specs.declared.table.Miss.{Miss}
 use Rattle.link_replay.specs.declared.status.Status.{Status}
-use Rattle.link_replay.specs.declared.status.Status.TheVariants.{Done, Usage, BadTicks, ReadFault, WriteFault, JournalFault, TooLong, HasJournal}
+use Rattle.link_replay.specs.declared.status.Status.TheVariants.{Done, Usage, BadTicks, ReadFault, WriteFault, JournalFault, TooLong, HasJournal, BadKey, BadJournal}
 
 -- `NAME N ok`, or `NAME miss ROW` with the first row that isn't right
 abbrev pub table_line : List ℕ → ℕ → Result (Unit {0}) Miss → List ℕ
@@ -29,3 +29,5 @@ PrintsTables out_before out_now ReadFault = ⊥
 PrintsTables out_before out_now JournalFault = ⊥
 PrintsTables out_before out_now (TooLong what count) = ⊥
 PrintsTables out_before out_now (HasJournal floor) = ⊥
+PrintsTables out_before out_now (BadKey place) = ⊥
+PrintsTables out_before out_now (BadJournal a b) = ⊥

@@ -1,27 +1,37 @@
 -- The words of the program's commands.
 use Rattle.std.specs.Prelude.{◌≡◌, ◌≢◌, ℕ, List, [], ◌∷◌, Option, Some, None, codes}
+use Rattle.hmac_tag.specs.declared.dir.Dir.{Dir}
+use Rattle.hmac_tag.specs.declared.dir.Dir.TheVariants.{Ab, Ba}
 use Rattle.link_replay.specs.declared.words.Proto.{Proto}
 use Rattle.link_replay.specs.declared.words.Proto.TheVariants.{Rtu}
 use Rattle.link_replay.specs.declared.words.Command.{Command}
-use Rattle.link_replay.specs.declared.words.Command.TheVariants.{Init, Read, Vectors}
+use Rattle.link_replay.specs.declared.words.Command.TheVariants.{Init, Read, Vectors, Seal}
 
 abbrev pub proto_word : Proto → List ℕ
 proto_word Rtu = codes "rtu"
+
+abbrev pub dir_word : Dir → List ℕ
+dir_word Ab = codes "ab"
+dir_word Ba = codes "ba"
 
 -- These words ask for the command.
 abbrev pub IsCommand : List (List ℕ) → Command → Type 0
 IsCommand words Init = (path : List ℕ) × (path ≢ []) × (words ≡ codes "init" ∷ path ∷ [])
 IsCommand words (Read proto) = words ≡ codes "read" ∷ proto_word proto ∷ []
 IsCommand words Vectors = words ≡ codes "vectors" ∷ []
+IsCommand words (Seal proto dir) =
+    (key : List ℕ) × (path : List ℕ) × (key ≢ []) × (path ≢ []) × (words ≡ codes "seal" ∷ proto_word proto ∷ dir_word dir ∷ key ∷ path ∷ [])
 
 -- the place of the word that is the key file's path
 abbrev pub key_place : Command → Option ℕ
 key_place Init = None
 key_place (Read proto) = None
 key_place Vectors = None
+key_place (Seal proto dir) = Some 3
 
 -- the place of the word that is the journal's path
 abbrev pub journal_place : Command → Option ℕ
 journal_place Init = Some 1
 journal_place (Read proto) = None
 journal_place Vectors = None
+journal_place (Seal proto dir) = Some 4

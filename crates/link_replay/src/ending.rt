@@ -1,7 +1,9 @@
 ghost use Rattle.std.specs.Prelude.{◌≡◌, ◌⊎◌};
 ghost use Rattle.link_replay.specs.Causes.{SinkCause};
+ghost use Rattle.link_replay.specs.Endings.{status_of};
 
 use crate::Status;
+use tick_drive::{End, Stop};
 use yasir_io::{Failed, Sink};
 
 /// Flushes both sinks, on the way to `Done`.
@@ -18,4 +20,18 @@ pub fn flush_both<O: Sink, L: Sink>(out: &mut O, log: &mut L) -> Status
         return Status::WriteFault;
     }
     Status::Done
+}
+
+/// The status of a run that ended so, and whose last lines were written.
+pub fn status_of(end: End) -> Status
+    ensures { result ≡ status_of end }
+{
+    match end {
+        End::Whole => Status::Done,
+        End::Refused(bad) => Status::BadTicks(bad),
+        End::TooLong { what, count } => Status::TooLong { what, count },
+        End::ReadFault => Status::ReadFault,
+        End::Stopped(Stop::WriteFault) => Status::WriteFault,
+        End::Stopped(Stop::JournalFault) => Status::JournalFault,
+    }
 }

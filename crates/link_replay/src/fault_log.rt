@@ -3,9 +3,9 @@ ghost use Rattle.link_replay.specs.Statuses.{fault_line, fault_word, unit_word};
 ghost use Rattle.link_replay.specs.Causes.{LogsFault};
 
 use crate::Status;
-use crate::lines::{Line, push_decimal};
+use crate::lines::{Line, push_decimal, push_hex};
 use tick_drive::TooMuch;
-use yasir_io::{Sink, write_all};
+use yasir_io::{Sink, SlotBytes, write_all};
 use yasir_ticks::{BadTicks, TickFault};
 
 fn fault_word(why: TickFault) -> &'static [u8]
@@ -66,6 +66,28 @@ fn has_journal_line(floor: u64) -> Line
     line
 }
 
+fn bad_key_line(place: u32) -> Line
+    ensures { result.items ≡ fault_line (Status.BadKey place) }
+{
+    let mut line = Line::new();
+    line.try_extend_from_slice(b"fault: key at ").unwrap();
+    push_decimal(&mut line, u64::from(place));
+    line.push(b'\n');
+    line
+}
+
+fn bad_journal_line(a: &SlotBytes, b: &SlotBytes) -> Line
+    ensures { result.items ≡ fault_line (Status.BadJournal a.now b.now) }
+{
+    let mut line = Line::new();
+    line.try_extend_from_slice(b"fault: bad journal ").unwrap();
+    push_hex(&mut line, a);
+    line.push(b' ');
+    push_hex(&mut line, b);
+    line.push(b'\n');
+    line
+}
+
 // A line of a fixed text.
 fn fixed_line(text: &[u8]) -> Line
     requires { length text.now ≤ 20 }
@@ -88,6 +110,8 @@ fn fault_line(status: &Status) -> Line
         Status::BadTicks(bad) => bad_ticks_line(bad),
         Status::TooLong { what, count } => too_long_line(*what, *count),
         Status::HasJournal { floor } => has_journal_line(*floor),
+        Status::BadKey { place } => bad_key_line(*place),
+        Status::BadJournal { a, b } => bad_journal_line(a, b),
     }
 }
 

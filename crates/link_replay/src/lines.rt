@@ -10,8 +10,8 @@ use device_model::FrameAt;
 pub type Line = ArrayVec<u8, 640>;
 
 /// Appends the decimal digits of a number.
-pub fn push_decimal(line: &mut Line, n: u64)
-    requires { length line.old.items ≤ 620 }
+pub fn push_decimal<const CAP: usize>(line: &mut ArrayVec<u8, CAP>, n: u64)
+    requires { length line.old.items + 20 ≤ CAP }
     ensures digits { line.new.items ≡ line.old.items ++ decimal n }
     ensures short { length line.new.items ≤ length line.old.items + 20 }
 {
@@ -20,8 +20,8 @@ pub fn push_decimal(line: &mut Line, n: u64)
     line.try_extend_from_slice(text.as_bytes()).unwrap();
 }
 
-// Appends bytes as lower-case hex digits.
-fn push_hex(line: &mut Line, bytes: &[u8])
+/// Appends bytes as lower-case hex digits.
+pub fn push_hex(line: &mut Line, bytes: &[u8])
     requires room { length line.old.items + 2 * length bytes.now ≤ 640 }
     requires frame { length bytes.now ≤ 292 }
     ensures digits { line.new.items ≡ line.old.items ++ encode_lower bytes.now }

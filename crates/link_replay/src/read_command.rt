@@ -3,11 +3,11 @@ ghost use Rattle.yasir_io.specs.TextBuffer.{waiting_bytes};
 ghost use Rattle.tick_drive.specs.Input.{IsReadCause, is_read_fault};
 ghost use Rattle.tick_drive.specs.Consumers.{IsSinkCause};
 ghost use Rattle.tick_drive.specs.Drive.{is_write_stop};
-ghost use Rattle.link_replay.specs.ReadCommand.{DrivesFrames, PrintsFrames, status_of};
+ghost use Rattle.link_replay.specs.ReadCommand.{DrivesFrames, PrintsFrames};
 ghost use Rattle.link_replay.specs.Causes.{InputCause, SinkCause};
 
 use crate::Status;
-use crate::ending::flush_both;
+use crate::ending::{flush_both, status_of};
 use crate::frame_lines::FrameLines;
 use device_model::Device;
 use tick_drive::{End, drive_to_rest};
@@ -34,19 +34,6 @@ fn drive_frames<V: Device + Drop, S: Source, O: Sink, L: Sink>(
 {
     let mut no_disk = SteadySlots::new([0; 16], [0; 16]);
     drive_to_rest(0, REST, input, printer, out, log, &mut no_disk)
-}
-
-// The status of an end.
-fn status_of(end: End) -> Status
-    ensures { result ≡ status_of end }
-{
-    match end {
-        End::Whole => Status::Done,
-        End::Refused(bad) => Status::BadTicks(bad),
-        End::TooLong { what, count } => Status::TooLong { what, count },
-        End::ReadFault => Status::ReadFault,
-        End::Stopped(_) => Status::WriteFault,
-    }
 }
 
 /// Prints a line for each frame that a device reads from the input.

@@ -1,6 +1,7 @@
 ghost use Rattle.std.specs.Prelude.{◌≡◌};
 
 use tick_drive::TooMuch;
+use yasir_io::SlotBytes;
 use yasir_ticks::BadTicks;
 
 /// How a run of the program ended.
@@ -22,6 +23,10 @@ pub enum Status {
     TooLong { what: TooMuch, count: u64 },
     /// A journal stands already, at this floor.
     HasJournal { floor: u64 },
+    /// The key's text is no key; `place` is the length of its longest prefix that begins some key text.
+    BadKey { place: u32 },
+    /// The disk holds no journal; these are its slots as they were read.
+    BadJournal { a: SlotBytes, b: SlotBytes },
 }
 
 impl Status {
@@ -40,6 +45,8 @@ impl Status {
             Status::JournalFault => 7,
             Status::TooLong { .. } => 10,
             Status::HasJournal { .. } => 11,
+            Status::BadKey { .. } => 3,
+            Status::BadJournal { .. } => 8,
         }
     }
 }

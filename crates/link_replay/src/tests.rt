@@ -1,4 +1,4 @@
-use crate::{Status, journal_word, key_word, run};
+use crate::{Command, Dir, Proto, Status, journal_word, key_word, read_words, run};
 use std::alloc::{AllocError, Global};
 use std::process::Abort;
 use std::test::Fail;
@@ -345,7 +345,7 @@ fn writes_a_front_of_a_long_answer(rt: HostRuntime) -> Result<(), Fail> {
 
 #[test]
 fn refuses_words_of_no_command(rt: HostRuntime) -> Result<(), Fail> {
-    let rows: [&[&str]; 10] = [
+    let rows: [&[&str]; 16] = [
         &[],
         &["read"],
         &["read", "dnp3"],
@@ -353,6 +353,12 @@ fn refuses_words_of_no_command(rt: HostRuntime) -> Result<(), Fail> {
         &["read", "RTU"],
         &["rtu", "read"],
         &["seal", "rtu"],
+        &["seal", "rtu", "ab", "key"],
+        &["seal", "rtu", "ab", "", "journal"],
+        &["seal", "rtu", "ab", "key", ""],
+        &["seal", "rtu", "AB", "key", "journal"],
+        &["seal", "dnp3", "ab", "key", "journal"],
+        &["seal", "rtu", "ab", "key", "journal", "x"],
         &["init"],
         &["init", ""],
         &["vectors", "x"],
@@ -370,6 +376,15 @@ fn refuses_words_of_no_command(rt: HostRuntime) -> Result<(), Fail> {
     let words = strings(rt.alloc(), &["init", "journal"])?;
     assert_eq!(rt; key_word(words.as_slice()), None);
     assert_eq!(rt; journal_word(words.as_slice()), Some(1));
+    for (word, dir) in [("ab", Dir::Ab), ("ba", Dir::Ba)] {
+        let words = strings(rt.alloc(), &["seal", "rtu", word, "key", "journal"])?;
+        assert_eq!(rt;
+            read_words(words.as_slice()),
+            Ok(Command::Seal(Proto::Rtu, dir))
+        );
+        assert_eq!(rt; key_word(words.as_slice()), Some(3));
+        assert_eq!(rt; journal_word(words.as_slice()), Some(4));
+    }
     Ok(())
 }
 

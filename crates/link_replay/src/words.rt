@@ -1,8 +1,11 @@
 ghost use Rattle.std.specs.Prelude.{◌≡◌, [], ◌∷◌, None, IfOk, OnErr, map, codes};
 ghost use Rattle.std.specs.String.{string_bytes};
+ghost use Rattle.hmac_tag.specs.declared.dir.Dir.{Dir};
 ghost use Rattle.link_replay.specs.declared.words.Proto.{Proto};
 ghost use Rattle.link_replay.specs.declared.words.Command.{Command};
-ghost use Rattle.link_replay.specs.Words.{IsCommand, proto_word, key_place, journal_place};
+ghost use Rattle.link_replay.specs.Words.{IsCommand, proto_word, dir_word, key_place, journal_place};
+
+use hmac_tag::Dir;
 
 /// The protocol of a line.
 #[derive(Clone, Copy, Debug, PartialEq, Eq)]
@@ -19,6 +22,8 @@ pub enum Command {
     Read(Proto),
     /// Tries the tables of known answers.
     Vectors,
+    /// Seals the frames of a line on its way from one end to the other.
+    Seal(Proto, Dir),
 }
 
 /// The words name no command.
@@ -34,6 +39,18 @@ fn read_proto(word: &str) -> Result<Proto, Usage>
         Ok(Proto::Rtu)
     } else {
         Err(Usage)
+    }
+}
+
+// The direction that a word names.
+fn read_dir(word: &str) -> Result<Dir, Usage>
+    ensures ok { IfOk result (λ dir. word.now ≡ dir_word dir) }
+    ensures usage { OnErr result ((dir : Dir) → word.now ≡ dir_word dir → ⊥) }
+{
+    match word {
+        "ab" => Ok(Dir::Ab),
+        "ba" => Ok(Dir::Ba),
+        _ => Err(Usage),
     }
 }
 
@@ -79,6 +96,32 @@ fn read_init(first: &str, path: &str) -> Result<Command, Usage>
     }
 }
 
+// The command of five words: a box, and the paths of its key and its journal, which aren't empty.
+fn read_five(
+    first: &str,
+    second: &str,
+    third: &str,
+    key: &str,
+    path: &str,
+) -> Result<Command, Usage>
+    ensures ok { IfOk result (λ command. IsCommand (first.now ∷ second.now ∷ third.now ∷ key.now ∷ path.now ∷ []) command) }
+    ensures usage { OnErr result ((command : Command)
+        → IsCommand (first.now ∷ second.now ∷ third.now ∷ key.now ∷ path.now ∷ []) command → ⊥) }
+{
+    if first != "seal" {
+        return Err(Usage);
+    }
+    if key.is_empty() {
+        return Err(Usage);
+    }
+    if path.is_empty() {
+        return Err(Usage);
+    }
+    let proto = read_proto(second)?;
+    let dir = read_dir(third)?;
+    Ok(Command::Seal(proto, dir))
+}
+
 /// The command that the words after the program's name ask for, each word compared byte for byte.
 pub fn read_words(words: &[String]) -> Result<Command, Usage>
     ensures ok { IfOk result (λ command. IsCommand (map string_bytes words.now) command) }
@@ -87,6 +130,13 @@ pub fn read_words(words: &[String]) -> Result<Command, Usage>
     match words {
         [word] => read_one(word.as_str()),
         [first, second] => read_two(first.as_str(), second.as_str()),
+        [first, second, third, key, path] => read_five(
+            first.as_str(),
+            second.as_str(),
+            third.as_str(),
+            key.as_str(),
+            path.as_str(),
+        ),
         _ => Err(Usage),
     }
 }
@@ -98,6 +148,7 @@ pub fn key_word(words: &[String]) -> Option<usize>
 {
     match read_words(words) {
         Ok(Command::Init | Command::Read(_) | Command::Vectors) => None,
+        Ok(Command::Seal(_, _)) => Some(3),
         Err(Usage) => None,
     }
 }
@@ -109,6 +160,7 @@ pub fn journal_word(words: &[String]) -> Option<usize>
 {
     match read_words(words) {
         Ok(Command::Init) => Some(1),
+        Ok(Command::Seal(_, _)) => Some(4),
         Ok(Command::Read(_) | Command::Vectors) => None,
         Err(Usage) => None,
     }
