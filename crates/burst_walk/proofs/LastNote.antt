@@ -2,13 +2,13 @@
 use Rattle.std.proofs.Common.{◌≡◌, ◌∙◌, ◌==◌, ℕ, ◌+◌, ◌<◌, ◌≤◌, false, List, [], ◌∷◌, ◌++◌, length, refl, ap, subst, arith, length-append}
 use Rattle.std.proofs.lemmas.Bool.{cond-false}
 use Rattle.yasir_ticks.specs.Bursts.{Burst, bursts, end_of}
-use Rattle.yasir_ticks.specs.BurstsOf.{IsKnit, one, more}
+use Rattle.yasir_ticks.specs.BurstsOf.{IsContiguous, one, more}
 use Rattle.yasir_ticks.specs.declared.tick.Tick.{Tick}
 use Rattle.burst_walk.specs.Walk.{Walker, Noted, noted, walked, state_after, notes_at}
 use Rattle.burst_walk.specs.Causal.{IsCausal}
 use Rattle.burst_walk.proofs.Spread.{AreSpread, EndBy, bursts-spread, bursts-end}
 
-some_tick : (cut : ℕ) (x : List Tick) → IsKnit cut x → 1 ≤ length x
+some_tick : (cut : ℕ) (x : List Tick) → IsContiguous cut x → 1 ≤ length x
 some_tick cut x (one b) = omega arith
 some_tick cut x (more b gap rest few knit) = omega arith
 
@@ -19,7 +19,7 @@ last_starts n (e ∷ front) d spread =
     let here : n ≤ e.start = spread.0 in
     omega arith
 
-pub last_knit : (n : ℕ) (front : List Burst) (d : Burst) → AreSpread n (front ++ d ∷ []) → IsKnit 4 d.body
+pub last_knit : (n : ℕ) (front : List Burst) (d : Burst) → AreSpread n (front ++ d ∷ []) → IsContiguous 4 d.body
 last_knit n [] d spread = spread.1
 last_knit n (e ∷ front) d spread = last_knit (end_of e + 4) front d spread.2
 

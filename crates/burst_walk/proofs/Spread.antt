@@ -3,7 +3,7 @@ use Rattle.std.proofs.Common.{◌≡◌, ◌∙◌, ℕ, ◌+◌, ◌≤◌, Lis
 use Rattle.std.proofs.lemmas.List.{length-replicate}
 use Rattle.yasir_ticks.specs.Ticks.{silent}
 use Rattle.yasir_ticks.specs.Bursts.{Burst, bursts, end_of}
-use Rattle.yasir_ticks.specs.BurstsOf.{IsKnit, StartsFrom, AreBursts}
+use Rattle.yasir_ticks.specs.BurstsOf.{IsContiguous, StartsFrom, AreBursts}
 use Rattle.yasir_ticks.specs.declared.tick.Tick.{Tick}
 use Rattle.yasir_ticks.specs.declared.tick.Tick.TheVariants.{Silent}
 use Rattle.yasir_ticks.proofs.BurstsOfLaws.{bursts_from-are}
@@ -11,7 +11,7 @@ use Rattle.yasir_ticks.proofs.BurstsOfLaws.{bursts_from-are}
 -- These bursts start at tick n or later, four silent ticks apart.
 abbrev pub AreSpread : ℕ → List Burst → Type 0
 AreSpread n [] = Unit {0}
-AreSpread n (d ∷ ds) = (n ≤ d.start) × IsKnit 4 d.body × AreSpread (end_of d + 4) ds
+AreSpread n (d ∷ ds) = (n ≤ d.start) × IsContiguous 4 d.body × AreSpread (end_of d + 4) ds
 
 -- each of them ends by tick m
 abbrev pub EndBy : ℕ → List Burst → Type 0

@@ -2,7 +2,7 @@
 use Rattle.std.specs.Prelude.{◌≡◌, ℕ, ◌+◌, ◌-◌, ◌<◌, ◌≤◌, List, [], ◌∷◌, ◌++◌, length}
 use Rattle.yasir_ticks.specs.Ticks.{silent}
 use Rattle.yasir_ticks.specs.Bursts.{Burst, bursts, end_of}
-use Rattle.yasir_ticks.specs.BurstsOf.{IsKnit}
+use Rattle.yasir_ticks.specs.BurstsOf.{IsContiguous}
 use Rattle.yasir_ticks.specs.declared.tick.Tick.{Tick}
 use Rattle.yasir_ticks.specs.declared.tick.Tick.TheVariants.{Silent, Byte}
 use Rattle.burst_walk.specs.Laid.{tick_at}
@@ -14,19 +14,19 @@ going_on d m b = record { start = d.start; body = d.body ++ (silent (m - end_of 
 
 -- A burst is as bursts are, and tick m comes after its last byte, before four silent ticks.
 pub record MayGoOn (d : Burst) (m : ℕ) : Type 0 where
-  pub knit : IsKnit 4 d.body
+  pub knit : IsContiguous 4 d.body
   pub after : end_of d ≤ m
   pub near : m < end_of d + 4
 
 -- What a burst gives before tick m doesn't change where the burst goes on at tick m; it gives nothing before its first
 -- tick, and its note comes before another burst may start.
 pub record IsCausal {S N : Type 0} (w : Walker S N) : Type 0 where
-  pub not_before : (s : S) (d : Burst) → IsKnit 4 d.body → d.start ≤ w.tick s d
-  pub in_time : (s : S) (d : Burst) → IsKnit 4 d.body → w.tick s d < end_of d + 4
+  pub not_before : (s : S) (d : Burst) → IsContiguous 4 d.body → d.start ≤ w.tick s d
+  pub in_time : (s : S) (d : Burst) → IsContiguous 4 d.body → w.tick s d < end_of d + 4
   pub tick_stays : (s : S) (d : Burst) (m b : ℕ) → MayGoOn d m → w.tick s d < m → w.tick s (going_on d m b) ≡ w.tick s d
   pub note_stays : (s : S) (d : Burst) (m b : ℕ) → MayGoOn d m → w.tick s d < m → w.note s (going_on d m b) ≡ w.note s d
   pub waits : (s : S) (d : Burst) (m b : ℕ) → MayGoOn d m → m ≤ w.tick s d → m ≤ w.tick s (going_on d m b)
-  pub dark_before : (s : S) (d : Burst) (i : ℕ) → IsKnit 4 d.body → i < d.start → tick_at (w.image s d) i ≡ Silent
+  pub dark_before : (s : S) (d : Burst) (i : ℕ) → IsContiguous 4 d.body → i < d.start → tick_at (w.image s d) i ≡ Silent
   pub image_stays : (s : S) (d : Burst) (m b i : ℕ) → MayGoOn d m → i < m → tick_at (w.image s (going_on d m b)) i ≡ tick_at (w.image s d) i
 
 -- One more tick adds the notes that come in its step, and one tick of the other line.

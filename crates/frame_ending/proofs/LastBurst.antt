@@ -4,7 +4,7 @@ use Rattle.std.proofs.lemmas.Bool.{cases_lt, lt-ltb, le-ltb, cond-true, cond-fal
 use Rattle.std.proofs.lemmas.List.{length-replicate}
 use Rattle.yasir_ticks.specs.Ticks.{silent}
 use Rattle.yasir_ticks.specs.Bursts.{Burst, bursts_from, bursts, end_of}
-use Rattle.yasir_ticks.specs.BurstsOf.{IsKnit, AreBursts}
+use Rattle.yasir_ticks.specs.BurstsOf.{IsContiguous, AreBursts}
 use Rattle.yasir_ticks.specs.declared.tick.Tick.{Tick}
 use Rattle.yasir_ticks.specs.declared.tick.Tick.TheVariants.{Silent, Byte}
 use Rattle.yasir_ticks.proofs.BurstLaws.{alone, with_last, extended, extended-near, extended-far, bursts_from-byte, bursts_from-silent}
@@ -50,7 +50,7 @@ last_burst-nil = refl
 
 -- A burst begins and ends with a byte, and ends within the line.
 pub record IsWithin (m : ℕ) (d : Burst) : Type 0 where
-  pub knit : IsKnit 4 d.body
+  pub knit : IsContiguous 4 d.body
   pub within : end_of d ≤ m
 
 last_of-within : (n : ℕ) (line : List Tick) (ds : List Burst) (d : Burst) → AreBursts 4 n line ds → last_of ds ≡ Some d

@@ -4,13 +4,13 @@ use Rattle.line_rules.specs.Rules.{Rules}
 use Rattle.line_rules.specs.RulesLaws.{IsLawful}
 use Rattle.yasir_ticks.specs.Ticks.{bytes_in, silent}
 use Rattle.yasir_ticks.specs.Bursts.{Burst}
-use Rattle.yasir_ticks.specs.BurstsOf.{IsKnit, one, more}
+use Rattle.yasir_ticks.specs.BurstsOf.{IsContiguous, one, more}
 use Rattle.yasir_ticks.specs.declared.tick.Tick.{Tick}
 use Rattle.yasir_ticks.specs.declared.tick.Tick.TheVariants.{Byte}
 use Rattle.frame_ending.specs.LiveBytes.{before_pause, up_to_byte, within_room, live_bytes, live_end}
 use Rattle.frame_ending.proofs.Rooms.{FitFirst, within_room-fit}
 
-knit-begins : (cut : ℕ) (x : List Tick) → IsKnit cut x → (b : ℕ) × (l : List Tick) × (x ≡ Byte b ∷ l)
+knit-begins : (cut : ℕ) (x : List Tick) → IsContiguous cut x → (b : ℕ) × (l : List Tick) × (x ≡ Byte b ∷ l)
 knit-begins cut x (one b) = (b, [], refl)
 knit-begins cut x (more b gap rest few knit) = (b, silent gap ++ rest, refl)
 
@@ -40,7 +40,7 @@ module _ (rules : Rules) (lawful : IsLawful rules) where
       omega arith
 
   -- so its last live byte doesn't stand before its first byte
-  pub live_end-later : (d : Burst) → IsKnit 4 d.body → d.start < live_end rules d
+  pub live_end-later : (d : Burst) → IsContiguous 4 d.body → d.start < live_end rules d
   live_end-later d knit =
       let first = knit-begins 4 d.body knit in
       let some = some-live d.body first.0 first.1 first.2 in

@@ -3,7 +3,7 @@ use Rattle.std.proofs.Common.{◌≡◌, ℕ, zero, suc, ◌<◌, ◌≤◌, nat
 use Rattle.std.proofs.lemmas.Bool.{le-leb}
 use Rattle.std.proofs.lemmas.List.{append-nil}
 use Rattle.yasir_ticks.specs.Ticks.{bytes_in, silent}
-use Rattle.yasir_ticks.specs.BurstsOf.{IsKnit, one, more}
+use Rattle.yasir_ticks.specs.BurstsOf.{IsContiguous, one, more}
 use Rattle.yasir_ticks.specs.declared.tick.Tick.{Tick}
 use Rattle.yasir_ticks.specs.declared.tick.Tick.TheVariants.{Silent, Byte}
 use Rattle.frame_ending.specs.LiveBytes.{before_pause, has_pause, up_to_byte}
@@ -13,7 +13,7 @@ abbrev pub ended : List Tick → ℕ → List Tick
 ended w a = w ++ Byte a ∷ []
 
 -- knit ticks end with a byte
-pub knit-ends : (cut : ℕ) (x : List Tick) → IsKnit cut x → (w : List Tick) × (a : ℕ) × (x ≡ ended w a)
+pub knit-ends : (cut : ℕ) (x : List Tick) → IsContiguous cut x → (w : List Tick) × (a : ℕ) × (x ≡ ended w a)
 knit-ends cut x (one b) = ([], b, refl)
 knit-ends cut x (more b gap rest few knit) =
     let last = knit-ends cut rest knit in

@@ -9,7 +9,7 @@ use Rattle.yasir_ticks.specs.declared.tick.Tick.{Tick}
 use Rattle.yasir_ticks.specs.declared.writer.TickWriter.{TickWriter}
 use Rattle.sequence_journal.specs.declared.journal.Journal.{Journal}
 use Rattle.sequence_journal.specs.Slots.{floor_of}
-use Rattle.sequence_journal.specs.Journal.{journal_floor, Fits, IsSecured, HasFloorFrom, IsEitherFloor}
+use Rattle.sequence_journal.specs.Journal.{journal_floor, Fits, IsCrashSafe, HasFloorAtLeast, IsEitherFloor}
 use Rattle.sequence_journal.specs.FloorLaws.{kept_where_synced, floor_of_images}
 use Rattle.tick_drive.specs.Consumers.{Held, IsDiskCause}
 use Rattle.tick_drive.specs.Input.{Takes}
@@ -41,7 +41,7 @@ leaves_run box floor line told_before images_before images_now laws floor_before
   floor = floor;
   loads = subst (ToldFloor floor) is floor_before;
   rise = laws.rising line;
-  leaves = subst (λ n. HasFloorFrom n c) (sym (laws.last_is line)) (kept one c left);
+  leaves = subst (λ n. HasFloorAtLeast n c) (sym (laws.last_is line)) (kept one c left);
 }
 
 fronts_of_all : (box : Boxed) (out_before out_now log_before log_now : Option (List ℕ)) (line : List Tick)
@@ -206,7 +206,7 @@ module _ (boxed : ℕ → Boxed) (floor rest : ℕ) (in_before in_now : Option (
 
 -- as the journal was loaded, no image had a floor below its own, where a crash left the slots as read
 secured_of_load : (journal : Journal) (told_before told_now : Option Slots) (images_before images_now : Slots → Type 0) → told_now ≡ told_before
-    → NoMore images_before images_now → Fits journal told_now → OneImage told_before images_before → IsSecured journal told_now images_now
+    → NoMore images_before images_now → Fits journal told_now → OneImage told_before images_before → IsCrashSafe journal told_now images_now
 secured_of_load journal told_before told_now images_before images_now told images fits one =
     let synced : OneImage told_now images_now = λ c left. told ∙ one c (images c left) in
     let kept = kept_where_synced journal told_now images_now synced in
@@ -215,15 +215,15 @@ secured_of_load journal told_before told_now images_before images_now told image
 -- and at the end of the run none has
 pub keeps_floor : (loaded begun journal : Journal) (told_before told_loaded told_now : Option Slots) (images_before images_loaded images_now : Slots → Type 0)
     → begun ≡ loaded → told_loaded ≡ told_before → NoMore images_before images_loaded → Fits loaded told_loaded
-    → (IsSecured begun told_loaded images_loaded → IsSecured journal told_now images_now)
+    → (IsCrashSafe begun told_loaded images_loaded → IsCrashSafe journal told_now images_now)
     → KeepsFloor (journal_floor journal) told_before images_before images_now
 keeps_floor loaded begun journal told_before told_loaded told_now images_before images_loaded images_now same told images fits drive one =
-    (drive (subst (λ j. IsSecured j told_loaded images_loaded) (sym same)
+    (drive (subst (λ j. IsCrashSafe j told_loaded images_loaded) (sym same)
     (secured_of_load loaded told_before told_loaded images_before images_loaded told images fits one))).floors
 
 -- where the slots have this floor, so does the one image
 floor_of_one : (floor : ℕ) (told : Option Slots) (images : Slots → Type 0) → OneImage told images → IsSomeAnd told (λ slots. floor_of slots ≡ Some floor)
-    → (c : Slots) → images c → HasFloorFrom floor c
+    → (c : Slots) → images c → HasFloorAtLeast floor c
 floor_of_one floor told images one has c left =
     let is : floor_of c ≡ Some floor = subst (λ t. IsSomeAnd t (λ slots. floor_of slots ≡ Some floor)) (one c left) has in
     rw is (omega arith)
@@ -237,23 +237,23 @@ floor_of_journal floor journal (Some slots) fits has = cc
 module _ {D : Type 0} (moment : D → ℕ) (left_since : D → ℕ → Slots → Type 0) where
   -- a crash at any moment as the journal was loaded
   pub load_leaves : (told : Option Slots) (images : Slots → Type 0) (old new : D) → LeavesOnly moment left_since old new images
-      → OneImage told images → (floor : ℕ) → IsSomeAnd told (λ slots. floor_of slots ≡ Some floor) → LeavesOnly moment left_since old new (HasFloorFrom floor)
+      → OneImage told images → (floor : ℕ) → IsSomeAnd told (λ slots. floor_of slots ≡ Some floor) → LeavesOnly moment left_since old new (HasFloorAtLeast floor)
   load_leaves told images old new leaves one floor has =
-      leaves_weaker moment left_since old new images (HasFloorFrom floor) (floor_of_one floor told images one has) leaves
+      leaves_weaker moment left_since old new images (HasFloorAtLeast floor) (floor_of_one floor told images one has) leaves
 
   -- and then as the input was driven
   pub run_leaves : (loaded begun : Journal) (told_before told_loaded : Option Slots) (images_before images_loaded : Slots → Type 0) (old mid new : D)
       → begun ≡ loaded → told_loaded ≡ told_before → NoMore images_before images_loaded → Fits loaded told_loaded
       → LeavesOnly moment left_since old mid images_before
-      → (IsSecured begun told_loaded images_loaded → LeavesOnly moment left_since mid new (HasFloorFrom (journal_floor begun)))
+      → (IsCrashSafe begun told_loaded images_loaded → LeavesOnly moment left_since mid new (HasFloorAtLeast (journal_floor begun)))
       → OneImage told_before images_before → (floor : ℕ) → IsSomeAnd told_before (λ slots. floor_of slots ≡ Some floor)
-      → LeavesOnly moment left_since old new (HasFloorFrom floor)
+      → LeavesOnly moment left_since old new (HasFloorAtLeast floor)
   run_leaves loaded begun told_before told_loaded images_before images_loaded old mid new same told images fits load drive one floor has =
-      let secured = secured_of_load loaded told_before told_loaded images_before images_loaded told images fits one in
+      let crash_safe = secured_of_load loaded told_before told_loaded images_before images_loaded told images fits one in
       let is : journal_floor loaded ≡ floor = floor_of_journal floor loaded told_before (subst (ToldFloor (journal_floor loaded)) told fits.floor) has in
-      leaves_then moment left_since old mid new (HasFloorFrom floor) (load_leaves told_before images_before old mid load one floor has)
-      (subst (λ n. LeavesOnly moment left_since mid new (HasFloorFrom n)) (ap journal_floor same ∙ is)
-      (drive (subst (λ j. IsSecured j told_loaded images_loaded) (sym same) secured)))
+      leaves_then moment left_since old mid new (HasFloorAtLeast floor) (load_leaves told_before images_before old mid load one floor has)
+      (subst (λ n. LeavesOnly moment left_since mid new (HasFloorAtLeast n)) (ap journal_floor same ∙ is)
+      (drive (subst (λ j. IsCrashSafe j told_loaded images_loaded) (sym same) crash_safe)))
 
 -- ---- causes
 

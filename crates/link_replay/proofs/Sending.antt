@@ -12,7 +12,7 @@ use Rattle.yasir_ticks.specs.declared.run.Run.TheVariants.{Nothing, Bytes, Silen
 use Rattle.yasir_ticks.specs.declared.tick.Tick.{Tick}
 use Rattle.yasir_ticks.specs.declared.writer.TickWriter.{TickWriter}
 use Rattle.yasir_ticks.proofs.Writers.{finished_bytes, finished_silence, finished_nothing}
-use Rattle.sequence_journal.specs.Journal.{HasFloorFrom}
+use Rattle.sequence_journal.specs.Journal.{HasFloorAtLeast}
 use Rattle.sequence_journal.specs.Slots.{floor_of}
 use Rattle.yasir_io.specs.Disks.{Slots}
 use Rattle.tick_drive.proofs.ItemLaws.{ticks_in-append}
@@ -25,7 +25,7 @@ from_less m n None le has = has
 from_less m n (Some f) le has = omega arith
 
 -- a floor that isn't below a number isn't below a smaller one
-pub floor_from_less : (m n : ℕ) → m ≤ n → (c : Slots) → HasFloorFrom n c → HasFloorFrom m c
+pub floor_from_less : (m n : ℕ) → m ≤ n → (c : Slots) → HasFloorAtLeast n c → HasFloorAtLeast m c
 floor_from_less m n le c has = from_less m n (floor_of c) le has
 
 -- what a writer has answered begins the text of its ticks

@@ -6,7 +6,7 @@ use Rattle.yasir_ticks.specs.Ticks.{Item, ticks_in, silent}
 use Rattle.yasir_ticks.specs.TickText.{ended_items}
 use Rattle.yasir_ticks.specs.declared.tick.Tick.{Tick}
 use Rattle.sequence_journal.specs.Slots.{number_held, floor_of}
-use Rattle.sequence_journal.specs.Journal.{AreRead, HasFloorFrom, IsEitherFloor}
+use Rattle.sequence_journal.specs.Journal.{AreRead, HasFloorAtLeast, IsEitherFloor}
 use Rattle.sequence_journal.specs.Runs.{IsRun}
 use Rattle.tick_drive.specs.Consumers.{Held}
 use Rattle.tick_drive.specs.Input.{Takes}
@@ -24,7 +24,7 @@ use Rattle.link_replay.specs.declared.status.Status.TheVariants.{Done, Usage, Ba
 
 -- Where a crash before the run left the slots as read, none at its end leaves a floor below this number.
 abbrev pub KeepsFloor : ℕ → Option Slots → (Slots → Type 0) → (Slots → Type 0) → Type 0
-KeepsFloor n told_before images_before images_now = OneImage told_before images_before → (c : Slots) → images_now c → HasFloorFrom n c
+KeepsFloor n told_before images_before images_now = OneImage told_before images_before → (c : Slots) → images_now c → HasFloorAtLeast n c
 
 -- Where a crash before the run left the slots as read, each image that one leaves now makes the whole a run with these numbers.
 abbrev pub LeavesRun : List ℕ → Option Slots → (Slots → Type 0) → (Slots → Type 0) → Type 0

@@ -4,7 +4,7 @@ ghost use Rattle.yasir_io.specs.Disks.{OneImage, LeavesOnly};
 ghost use Rattle.yasir_ticks.specs.Writer.{HasWritten};
 ghost use Rattle.hmac_tag.specs.Tag.{direction_number};
 ghost use Rattle.sequence_journal.specs.Slots.{floor_of};
-ghost use Rattle.sequence_journal.specs.Journal.{journal_floor, Fits, IsSecured, HasFloorFrom};
+ghost use Rattle.sequence_journal.specs.Journal.{journal_floor, Fits, IsCrashSafe, HasFloorAtLeast};
 ghost use Rattle.tick_drive.specs.Input.{IsReadCause, is_read_fault};
 ghost use Rattle.tick_drive.specs.Consumers.{held_by, IsDiskCause, IsSinkCause};
 ghost use Rattle.tick_drive.specs.Drive.{is_write_stop, is_journal_stop};
@@ -40,10 +40,10 @@ fn drive_box<B: LineBox, S: Source, O: Sink, L: Sink, D: SlotDisk>(
         → DrivesLine (B.boxed key direction floor) rest (S.left input.old) (S.left input.new) (O.held out.old) (L.held log.old)
         (held_by (O.held out.new) (L.held log.new) (D.told disk.new))
         lines.new.journal lines.new.writer (waiting_bytes lines.new.ticks) (waiting_bytes lines.new.notes) result }
-    ensures secured { IsSecured lines.old.journal (D.told disk.old) (D.may_leave disk.old)
-        → IsSecured lines.new.journal (D.told disk.new) (D.may_leave disk.new) }
-    ensures any_moment { IsSecured lines.old.journal (D.told disk.old) (D.may_leave disk.old)
-        → LeavesOnly D.moment D.left_since disk.old disk.new (HasFloorFrom (journal_floor lines.old.journal)) }
+    ensures crash_safe { IsCrashSafe lines.old.journal (D.told disk.old) (D.may_leave disk.old)
+        → IsCrashSafe lines.new.journal (D.told disk.new) (D.may_leave disk.new) }
+    ensures any_moment { IsCrashSafe lines.old.journal (D.told disk.old) (D.may_leave disk.old)
+        → LeavesOnly D.moment D.left_since disk.old disk.new (HasFloorAtLeast (journal_floor lines.old.journal)) }
     ensures read { IsReadCause (S.faults input.old) (S.faults input.new) (is_read_fault result) }
     ensures disk { IsDiskCause (D.faults disk.old) (D.faults disk.new) (is_journal_stop result) }
     ensures sinks { IsSinkCause (O.faults out.old) (O.faults out.new) (L.faults log.old) (L.faults log.new) (is_write_stop result) }
@@ -77,7 +77,7 @@ pub fn replay_keyed<B: LineBox, S: Source, O: Sink, L: Sink, D: SlotDisk>(
         (D.may_leave disk.old) (D.may_leave disk.new) result }
     ensures any_moment { OneImage (D.told disk.old) (D.may_leave disk.old) → (floor : ℕ)
         → IsSomeAnd (D.told disk.old) (λ slots. floor_of slots ≡ Some floor)
-        → LeavesOnly D.moment D.left_since disk.old disk.new (HasFloorFrom floor) }
+        → LeavesOnly D.moment D.left_since disk.old disk.new (HasFloorAtLeast floor) }
     ensures input { InputCause (S.faults input.old) (S.faults input.new) result }
     ensures disk { BoxDiskCause (D.faults disk.old) (D.faults disk.new) result }
     ensures sinks { SinkCause (O.faults out.old) (O.faults out.new) (L.faults log.old) (L.faults log.new) result }
@@ -119,7 +119,7 @@ pub fn replay_box<B: LineBox, K: Source, S: Source, O: Sink, L: Sink, D: SlotDis
         (D.may_leave disk.old) (D.may_leave disk.new) result }
     ensures any_moment { OneImage (D.told disk.old) (D.may_leave disk.old) → (floor : ℕ)
         → IsSomeAnd (D.told disk.old) (λ slots. floor_of slots ≡ Some floor)
-        → LeavesOnly D.moment D.left_since disk.old disk.new (HasFloorFrom floor) }
+        → LeavesOnly D.moment D.left_since disk.old disk.new (HasFloorAtLeast floor) }
     ensures reads { ReadsCause (K.faults key.old) (K.faults key.new) (S.faults input.old) (S.faults input.new) result }
     ensures disk { BoxDiskCause (D.faults disk.old) (D.faults disk.new) result }
     ensures sinks { SinkCause (O.faults out.old) (O.faults out.new) (L.faults log.old) (L.faults log.new) result }

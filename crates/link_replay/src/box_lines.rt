@@ -8,7 +8,7 @@ ghost use Rattle.yasir_ticks.specs.Writer.{HasWritten};
 ghost use Rattle.yasir_ticks.specs.declared.tick.Tick.{Tick};
 ghost use Rattle.hmac_tag.specs.Tag.{direction_number};
 ghost use Rattle.sequence_journal.specs.declared.journal.Journal.{Journal};
-ghost use Rattle.sequence_journal.specs.Journal.{journal_floor, Fits, IsSecured, HasFloorFrom};
+ghost use Rattle.sequence_journal.specs.Journal.{journal_floor, Fits, IsCrashSafe, HasFloorAtLeast};
 ghost use Rattle.link_replay.specs.Boxes.{Boxed};
 ghost use Rattle.link_replay.specs.BoxLines.{WritesTicks, DrivesBox, StopsBox, SendsBoxed, HasSent, HasSentFronts};
 ghost use Rattle.link_replay.specs.NoteLines.{note_line, line_of_note};
@@ -174,9 +174,9 @@ impl<B: LineBox, O: Sink, L: Sink, D: SlotDisk> Consumer<O, L, D> for BoxLines<B
 
     ghost able = { λ self disk. Fits self.journal (D.told disk) };
 
-    ghost kept = { λ self disk. IsSecured self.journal (D.told disk) (D.may_leave disk) };
+    ghost kept = { λ self disk. IsCrashSafe self.journal (D.told disk) (D.may_leave disk) };
 
-    ghost safe = { λ self image. HasFloorFrom (journal_floor self.journal) image };
+    ghost safe = { λ self image. HasFloorAtLeast (journal_floor self.journal) image };
 
     // A note goes before the tick of its step.
     #[inline(always)]

@@ -4,7 +4,7 @@ ghost use Rattle.yasir_io.specs.Disks.{Slots, LeavesOnly};
 ghost use Rattle.yasir_ticks.specs.declared.tick.Tick.{Tick};
 ghost use Rattle.hmac_tag.specs.Tag.{direction_number};
 ghost use Rattle.sequence_journal.specs.declared.journal.Journal.{Journal};
-ghost use Rattle.sequence_journal.specs.Journal.{journal_floor, Fits, IsSecured, HasFloorFrom};
+ghost use Rattle.sequence_journal.specs.Journal.{journal_floor, Fits, IsCrashSafe, HasFloorAtLeast};
 ghost use Rattle.link_replay.specs.Boxes.{Boxed, IsBoxed, AnswersBox, FailsBox};
 ghost use Rattle.link_replay.specs.NoteLines.{line_of_note};
 
@@ -67,9 +67,9 @@ pub trait LineBox: Drop {
             → FailsBox (boxed key direction floor) line t (D.told disk.new)) }
         ensures err_floor { OnErr result (journal_floor journal.new ≡ journal_floor journal.old) }
         ensures rises { journal_floor journal.old ≤ journal_floor journal.new }
-        ensures secured { IsSecured journal.old (D.told disk.old) (D.may_leave disk.old) → IsSecured journal.new (D.told disk.new) (D.may_leave disk.new) }
-        ensures any_moment { IsSecured journal.old (D.told disk.old) (D.may_leave disk.old)
-            → LeavesOnly D.moment D.left_since disk.old disk.new (HasFloorFrom (journal_floor journal.old)) }
+        ensures crash_safe { IsCrashSafe journal.old (D.told disk.old) (D.may_leave disk.old) → IsCrashSafe journal.new (D.told disk.new) (D.may_leave disk.new) }
+        ensures any_moment { IsCrashSafe journal.old (D.told disk.old) (D.may_leave disk.old)
+            → LeavesOnly D.moment D.left_since disk.old disk.new (HasFloorAtLeast (journal_floor journal.old)) }
         ensures cause { HasCause (D.faults disk.old) (D.faults disk.new) result };
 
     ghost is_boxed: { (key : List ℕ) (direction floor : ℕ) → IsBoxed (boxed key direction floor) floor };

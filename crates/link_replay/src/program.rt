@@ -9,7 +9,7 @@ ghost use Rattle.hmac_tag.specs.declared.dir.Dir.{Dir};
 ghost use Rattle.hmac_tag.specs.Tag.{direction_number};
 ghost use Rattle.tick_drive.specs.Consumers.{held_by};
 ghost use Rattle.sequence_journal.specs.Slots.{floor_of};
-ghost use Rattle.sequence_journal.specs.Journal.{IsBeside, HasFloorFrom};
+ghost use Rattle.sequence_journal.specs.Journal.{IsBeside, HasFloorAtLeast};
 ghost use Rattle.link_replay.specs.InitCommand.{MakesJournal, IsBlank};
 ghost use Rattle.link_replay.specs.VectorsCommand.{PrintsTables};
 ghost use Rattle.link_replay.specs.ReadCommand.{PrintsFrames, device_reads, IsReadable};
@@ -69,7 +69,7 @@ fn answer<K: Source, S: Source, O: Sink, L: Sink, D: SlotDisk>(
         (D.may_leave disk.old) (D.may_leave disk.new) result }
     ensures seal_any_moment { IsSealing (map string_bytes words.now) → OneImage (D.told disk.old) (D.may_leave disk.old) → (floor : ℕ)
         → IsSomeAnd (D.told disk.old) (λ slots. floor_of slots ≡ Some floor)
-        → LeavesOnly D.moment D.left_since disk.old disk.new (HasFloorFrom floor) }
+        → LeavesOnly D.moment D.left_since disk.old disk.new (HasFloorAtLeast floor) }
     ensures log { (IsSealing (map string_bytes words.now) → ⊥) → L.held log.new ≡ L.held log.old }
     ensures reads { ReadsCause (K.faults key.old) (K.faults key.new) (S.faults input.old) (S.faults input.new) result }
     ensures input { (IsSealing (map string_bytes words.now) → ⊥) → InputCause (S.faults input.old) (S.faults input.new) result }
@@ -130,7 +130,7 @@ pub fn run<K: Source, S: Source, O: Sink, L: Sink, D: SlotDisk>(
         (D.may_leave disk.old) (D.may_leave disk.new) (L.faults log.old) (L.faults log.new) result }
     ensures seal_any_moment { IsSealing (map string_bytes words.now) → OneImage (D.told disk.old) (D.may_leave disk.old) → (floor : ℕ)
         → IsSomeAnd (D.told disk.old) (λ slots. floor_of slots ≡ Some floor)
-        → LeavesOnly D.moment D.left_since disk.old disk.new (HasFloorFrom floor) }
+        → LeavesOnly D.moment D.left_since disk.old disk.new (HasFloorAtLeast floor) }
 
     // Right words, right input and no fault outside give `Done`.
     ensures init_done { IsCommand (map string_bytes words.now) Command.Init → IsBlank (D.told disk.old)

@@ -2,7 +2,7 @@ ghost use Rattle.std.specs.Prelude.{◌≡◌, ℕ, List, Some, IsSomeAnd};
 ghost use Rattle.yasir_io.specs.Disks.{OneImage, LeavesOnly};
 ghost use Rattle.hmac_tag.specs.Tag.{direction_number};
 ghost use Rattle.sequence_journal.specs.Slots.{floor_of};
-ghost use Rattle.sequence_journal.specs.Journal.{HasFloorFrom};
+ghost use Rattle.sequence_journal.specs.Journal.{HasFloorAtLeast};
 ghost use Rattle.tick_drive.specs.Consumers.{held_by};
 ghost use Rattle.link_replay.specs.BoxCommand.{ReplaysBox, BoxDiskCause};
 ghost use Rattle.link_replay.specs.Causes.{ReadsCause, SinkCause};
@@ -33,7 +33,7 @@ pub fn seal<K: Source, S: Source, O: Sink, L: Sink, D: SlotDisk>(
         (D.may_leave disk.old) (D.may_leave disk.new) result }
     ensures any_moment { OneImage (D.told disk.old) (D.may_leave disk.old) → (floor : ℕ)
         → IsSomeAnd (D.told disk.old) (λ slots. floor_of slots ≡ Some floor)
-        → LeavesOnly D.moment D.left_since disk.old disk.new (HasFloorFrom floor) }
+        → LeavesOnly D.moment D.left_since disk.old disk.new (HasFloorAtLeast floor) }
     ensures reads { ReadsCause (K.faults key.old) (K.faults key.new) (S.faults input.old) (S.faults input.new) result }
     ensures disk { BoxDiskCause (D.faults disk.old) (D.faults disk.new) result }
     ensures sinks { SinkCause (O.faults out.old) (O.faults out.new) (L.faults log.old) (L.faults log.new) result }

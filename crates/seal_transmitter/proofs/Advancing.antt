@@ -3,7 +3,7 @@ use Rattle.std.proofs.Common.{◌≡◌, ◌∙◌, ℕ, ◌+◌, ◌<◌, ◌�
 use Rattle.std.proofs.lemmas.Bool.{cases_lt}
 use Rattle.std.specs.Int.{w64, to_be_bytes, bytes_high_first}
 use Rattle.yasir_ticks.specs.Bursts.{Burst, end_of}
-use Rattle.yasir_ticks.specs.BurstsOf.{IsKnit}
+use Rattle.yasir_ticks.specs.BurstsOf.{IsContiguous}
 use Rattle.yasir_ticks.specs.declared.tick.Tick.{Tick}
 use Rattle.yasir_ticks.specs.declared.tick.Tick.TheVariants.{Silent, Byte}
 use Rattle.yasir_ticks.proofs.BurstLaws.{alone, with_last}
@@ -31,7 +31,7 @@ use Rattle.seal_transmitter.proofs.LiveTicks.{live_ticks-whole}
 use Rattle.seal_transmitter.proofs.CutRunning.{IsRunning, running-is, silent-open, Closes, silent-closes, last-next, byte-starts, start-bytes, start-end, byte-lives, byte-over, passing-open, passing-byte}
 
 -- where all bytes are live, the last one ends the burst
-whole-end : (rules : Rules) (lawful : IsLawful rules) (d : Burst) → IsKnit 4 d.body → has_extra rules d ≡ false → live_end rules d ≡ end_of d
+whole-end : (rules : Rules) (lawful : IsLawful rules) (d : Burst) → IsContiguous 4 d.body → has_extra rules d ≡ false → live_end rules d ≡ end_of d
 whole-end rules lawful d knit none = ap (λ x. d.start + length x) (live_ticks-whole rules lawful d knit none)
 
 module _ {M : Type 0} (rules : Rules) (lawful : IsLawful rules) (code : List ℕ → List ℕ → List ℕ) (tag_len : ℕ)
@@ -91,7 +91,7 @@ module _ {M : Type 0} (rules : Rules) (lawful : IsLawful rules) (code : List ℕ
         let run : IsRunning line (Some (closes closed).burst) = subst P (closes closed).is runs in
         last_burst-silent line ∙ run.0
 
-    closed-knit : (closed : cut_of rules line Silent ≡ Closed) → IsKnit 4 (closes closed).burst.body
+    closed-knit : (closed : cut_of rules line Silent ≡ Closed) → IsContiguous 4 (closes closed).burst.body
     closed-knit closed = (last_burst-within (line ++ Silent ∷ []) (closes closed).burst (closed-last closed)).knit
 
     closed-judged : (closed : cut_of rules line Silent ≡ Closed) (j : Judgement) → IsJudged profile rules last free (line ++ Silent ∷ []) j

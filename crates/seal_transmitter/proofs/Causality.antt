@@ -4,7 +4,7 @@ use Rattle.std.proofs.lemmas.Bool.{cases_Bool, cases_lt}
 use Rattle.std.proofs.lemmas.List.{append-nil}
 use Rattle.yasir_ticks.specs.Ticks.{silent}
 use Rattle.yasir_ticks.specs.Bursts.{Burst, end_of}
-use Rattle.yasir_ticks.specs.BurstsOf.{IsKnit}
+use Rattle.yasir_ticks.specs.BurstsOf.{IsContiguous}
 use Rattle.yasir_ticks.specs.declared.tick.Tick.{Tick}
 use Rattle.yasir_ticks.specs.declared.tick.Tick.TheVariants.{Silent, Byte}
 use Rattle.yasir_ticks.proofs.BurstsOfLaws.{knit-more}
@@ -66,7 +66,7 @@ module _ (profile : Profile) (rules : Rules) (lawful : IsLawful rules) where
       tick_at-from (forwarded rules d []) i from ∙ ap (λ x. get_or x (i - d.start) Silent) (append-nil (live_ticks rules d))
 
   -- the trailer isn't shown before the burst is closed
-  sealed-shown : (d : Burst) (more : List Tick) (i : ℕ) → IsKnit 4 d.body → has_extra rules d ≡ false → i < end_of d + 3
+  sealed-shown : (d : Burst) (more : List Tick) (i : ℕ) → IsContiguous 4 d.body → has_extra rules d ≡ false → i < end_of d + 3
       → tick_at (forwarded rules d (silent 3 ++ more) ∷ []) i ≡ shown d i
   sealed-shown d more i knit none before =
       ⊎_elim
@@ -78,7 +78,7 @@ module _ (profile : Profile) (rules : Rules) (lawful : IsLawful rules) where
       ∙ (get_or-silence (live_ticks rules d) 3 (i - d.start) more few ∙ sym (shown-from d i from)))
       (cases_lt i d.start)
 
-  image-shown : (d : Burst) (i : ℕ) (j : Judgement) → IsKnit 4 d.body → (j ≡ unsealed Early → ⊥)
+  image-shown : (d : Burst) (i : ℕ) (j : Judgement) → IsContiguous 4 d.body → (j ≡ unsealed Early → ⊥)
       → ((n : ℕ) → j ≡ sealed_with n → has_extra rules d ≡ false) → i < end_of d + 3
       → tick_at (image_by profile rules d j) i ≡ shown d i
   unfolding shown
@@ -88,7 +88,7 @@ module _ (profile : Profile) (rules : Rules) (lawful : IsLawful rules) where
   image-shown d i (unsealed Form) knit not_early right before = refl
   image-shown d i (unsealed Spent) knit not_early right before = refl
 
-  pub image-judged : (s : SealState) (d : Burst) (i : ℕ) → IsKnit 4 d.body → nat_lt d.start s.free ≡ false → i < end_of d + 3
+  pub image-judged : (s : SealState) (d : Burst) (i : ℕ) → IsContiguous 4 d.body → nat_lt d.start s.free ≡ false → i < end_of d + 3
       → tick_at (image_by profile rules d (judged profile rules s d)) i ≡ shown d i
   image-judged s d i knit late before =
       let wrong : Bool = has_extra rules d || not (rules.is_frame (live_bytes rules d)) in
@@ -112,7 +112,7 @@ module _ (profile : Profile) (rules : Rules) (lawful : IsLawful rules) where
       let within : IsWithin m d = record { knit = may.knit; within = may.after } in
       let close : m < end_of d + 4 = may.near in
       let few : m - end_of d < 4 = omega arith in
-      let knit : IsKnit 4 (going_on d m b).body = knit-more 4 d.body (m - end_of d) b may.knit few in
+      let knit : IsContiguous 4 (going_on d m b).body = knit-more 4 d.body (m - end_of d) b may.knit few in
       ⊎_elim
       (λ dark. shown-before (going_on d m b) i dark ∙ sym (shown-before d i dark))
       (λ from.
@@ -127,7 +127,7 @@ module _ (profile : Profile) (rules : Rules) (lawful : IsLawful rules) where
       let within : IsWithin m d = record { knit = may.knit; within = may.after } in
       let close : m < end_of d + 4 = may.near in
       let few : m - end_of d < 4 = omega arith in
-      let knit : IsKnit 4 (going_on d m b).body = knit-more 4 d.body (m - end_of d) b may.knit few in
+      let knit : IsContiguous 4 (going_on d m b).body = knit-more 4 d.body (m - end_of d) b may.knit few in
       let end : end_of (going_on d m b) ≡ m + 1 = longer-end m b d within in
       let old : i < end_of d + 3 = omega arith in
       let new : i < end_of (going_on d m b) + 3 = omega arith in

@@ -3,7 +3,7 @@ use Rattle.std.proofs.Common.{◌≡◌, ◌∙◌, ℕ, suc, ◌+◌, ◌-◌, 
 use Rattle.std.proofs.lemmas.Bool.{cases_Bool, or_parts, ltb-false}
 use Rattle.yasir_ticks.specs.Ticks.{bytes_in, silent}
 use Rattle.yasir_ticks.specs.Bursts.{Burst, end_of}
-use Rattle.yasir_ticks.specs.BurstsOf.{IsKnit}
+use Rattle.yasir_ticks.specs.BurstsOf.{IsContiguous}
 use Rattle.yasir_ticks.specs.declared.tick.Tick.{Tick}
 use Rattle.yasir_ticks.specs.declared.tick.Tick.TheVariants.{Silent, Byte}
 use Rattle.line_rules.specs.Rules.{Rules, fills_room}
@@ -17,7 +17,7 @@ use Rattle.burst_walk.specs.Causal.{going_on}
 use Rattle.burst_walk.proofs.Images.{get_or-silence}
 
 -- where all bytes are live, the live ticks are all ticks
-pub live_ticks-all : (rules : Rules) (d : Burst) → IsKnit 4 d.body → length (live_bytes rules d) ≡ length (bytes_in d.body) → live_ticks rules d ≡ d.body
+pub live_ticks-all : (rules : Rules) (d : Burst) → IsContiguous 4 d.body → length (live_bytes rules d) ≡ length (bytes_in d.body) → live_ticks rules d ≡ d.body
 live_ticks-all rules d knit all =
     let last = knit-ends 4 d.body knit in
     let P : List Tick → Type 0 = λ x. up_to_byte (length (bytes_in x)) x ≡ x in
@@ -37,7 +37,7 @@ module _ (rules : Rules) (lawful : IsLawful rules) where
       omega arith
 
   -- so it is where none is extra
-  pub live_ticks-whole : (d : Burst) → IsKnit 4 d.body → has_extra rules d ≡ false → live_ticks rules d ≡ d.body
+  pub live_ticks-whole : (d : Burst) → IsContiguous 4 d.body → has_extra rules d ≡ false → live_ticks rules d ≡ d.body
   live_ticks-whole d knit none =
       let few = live-le d in
       let many : length (bytes_in d.body) ≤ length (live_bytes rules d) = ltb-false (length (live_bytes rules d)) (length (bytes_in d.body)) none in
@@ -65,13 +65,13 @@ module _ (rules : Rules) (lawful : IsLawful rules) where
     open_now : paused ≡ false → fills_room rules (live_bytes rules d) ≡ false → live_ticks rules d ≡ d.body
     open_now none room = live_ticks-all rules d within.knit (ap length (live-all none room))
 
-    open_then : paused ≡ false → fills_room rules (live_bytes rules d) ≡ false → IsKnit 4 (going_on d m b).body → live_ticks rules (going_on d m b) ≡ (going_on d m b).body
+    open_then : paused ≡ false → fills_room rules (live_bytes rules d) ≡ false → IsContiguous 4 (going_on d m b).body → live_ticks rules (going_on d m b) ≡ (going_on d m b).body
     open_then none room knit =
         live_ticks-all rules (going_on d m b) knit
         (ap length (live-more m b d within rules lawful none room
         ∙ (ap (λ h. h ++ b ∷ []) (live-all none room) ∙ sym (longer-bytes m b d within))))
 
-    pub live_ticks-before : IsKnit 4 (going_on d m b).body → (k : ℕ) → d.start + k < m
+    pub live_ticks-before : IsContiguous 4 (going_on d m b).body → (k : ℕ) → d.start + k < m
         → get_or (live_ticks rules (going_on d m b)) k Silent ≡ get_or (live_ticks rules d) k Silent
     live_ticks-before knit k before =
         let end = within.within in

@@ -7,7 +7,7 @@ use Rattle.std.specs.List.{filter_map}
 use Rattle.std.proofs.lemmas.List.Elements.{filter-append}
 use Rattle.yasir_ticks.specs.Ticks.{silent}
 use Rattle.yasir_ticks.specs.Bursts.{Burst, bursts, bursts_from, end_of, AreClosed}
-use Rattle.yasir_ticks.specs.BurstsOf.{IsKnit, one}
+use Rattle.yasir_ticks.specs.BurstsOf.{IsContiguous, one}
 use Rattle.yasir_ticks.specs.declared.tick.Tick.{Tick}
 use Rattle.yasir_ticks.specs.declared.tick.Tick.TheVariants.{Silent, Byte}
 use Rattle.yasir_ticks.proofs.BurstLaws.{alone, with_last, extended, extended-closed, extended-joins, bursts_from-byte, bursts_from-silent, AreClosed-later, AreClosed-more}
@@ -173,7 +173,7 @@ module _ (profile : Profile) (rules : Rules) (lawful : IsLawful rules) (tags : H
       }
 
   -- the image shows the live bytes up to the third silent tick
-  image-live : (d : Burst) (i : ℕ) → IsKnit 4 d.body → s.free ≤ d.start → d.start ≤ i → i < end_of d + 3
+  image-live : (d : Burst) (i : ℕ) → IsContiguous 4 d.body → s.free ≤ d.start → d.start ≤ i → i < end_of d + 3
       → tick_at (image_by profile rules d (judged profile rules s d)) i ≡ get_or (live_ticks rules d) (i - d.start) Silent
   image-live d i knit late from before =
       image-judged profile rules lawful s d i knit (le-ltb d.start s.free late) before ∙ shown-from profile rules lawful d i from
@@ -183,7 +183,7 @@ module _ (profile : Profile) (rules : Rules) (lawful : IsLawful rules) (tags : H
       ap (λ x. tick_at x i) (image-early profile rules lawful s d (lt-ltb d.start s.free early)) ∙ tick_at-none i
 
   -- behind the live bytes it is dark
-  image-past : (d : Burst) (i : ℕ) → IsKnit 4 d.body → d.start ≤ i → live_end rules d ≤ i → i < end_of d + 3
+  image-past : (d : Burst) (i : ℕ) → IsContiguous 4 d.body → d.start ≤ i → live_end rules d ≤ i → i < end_of d + 3
       → tick_at (image_by profile rules d (judged profile rules s d)) i ≡ Silent
   image-past d i knit from past before =
       ⊎_elim
@@ -377,7 +377,7 @@ module _ (profile : Profile) (rules : Rules) (lawful : IsLawful rules) (tags : H
   byte-starts None b so_far = omega arith
   byte-starts (Some d) b so_far = let within = running-within d so_far in let ends = within.within in omega arith
 
-  byte-knit : (running : Option Burst) (b : ℕ) → HasWalked profile rules floor line s left running → IsKnit 4 (with_byte_at (length line) b running).body
+  byte-knit : (running : Option Burst) (b : ℕ) → HasWalked profile rules floor line s left running → IsContiguous 4 (with_byte_at (length line) b running).body
   byte-knit None b so_far = one b
   byte-knit (Some d) b so_far =
       let within = running-within d so_far in

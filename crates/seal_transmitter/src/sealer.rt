@@ -10,7 +10,7 @@ ghost use Rattle.frame_ending.specs.Stands.{StandsFor as CutStandsFor};
 ghost use Rattle.hmac_tag.specs.Tag.{direction_number};
 ghost use Rattle.sequence_journal.specs.declared.journal.Journal.{Journal};
 ghost use Rattle.sequence_journal.specs.declared.numbers.TheConstants.{LIMIT};
-ghost use Rattle.sequence_journal.specs.Journal.{journal_floor, Fits, IsSecured, HasFloorFrom};
+ghost use Rattle.sequence_journal.specs.Journal.{journal_floor, Fits, IsCrashSafe, HasFloorAtLeast};
 ghost use Rattle.seal_transmitter.specs.Y18.{tagged_by, profile_by};
 ghost use Rattle.seal_transmitter.specs.Sealing.{sealed, last_number};
 ghost use Rattle.seal_transmitter.specs.Sealing.Judgement.{sealed_with, unsealed};
@@ -98,9 +98,9 @@ impl<R: LineRules, M: Mac> Sealer<R, M> {
 
         // A crash at any moment of the step leaves a floor that isn't below the one before it, and after it none below the
         // journal's, where a crash before the step did so.
-        ensures secured { IsSecured journal.old (D.told disk.old) (D.may_leave disk.old) → IsSecured journal.new (D.told disk.new) (D.may_leave disk.new) }
-        ensures any_moment { IsSecured journal.old (D.told disk.old) (D.may_leave disk.old)
-            → LeavesOnly D.moment D.left_since disk.old disk.new (HasFloorFrom (journal_floor journal.old)) }
+        ensures crash_safe { IsCrashSafe journal.old (D.told disk.old) (D.may_leave disk.old) → IsCrashSafe journal.new (D.told disk.new) (D.may_leave disk.new) }
+        ensures any_moment { IsCrashSafe journal.old (D.told disk.old) (D.may_leave disk.old)
+            → LeavesOnly D.moment D.left_since disk.old disk.new (HasFloorAtLeast (journal_floor journal.old)) }
 
         ensures cause { HasCause (D.faults disk.old) (D.faults disk.new) result }
     {
@@ -225,9 +225,9 @@ impl<R: LineRules, M: Mac> Sealer<R, M> {
         ensures err_seals { OnErr result ((key : List ℕ) (direction floor : ℕ) (line : List Tick)
             → IsBetween R.rules R.stands M.tag_of M.TAG M.stands self.old (journal_floor journal.old) key direction floor line Silent Closed
             → SealsWith (profile_by R.rules M.tag_of M.TAG key direction) R.rules floor line Silent (journal_floor journal.old + 1)) }
-        ensures secured { IsSecured journal.old (D.told disk.old) (D.may_leave disk.old) → IsSecured journal.new (D.told disk.new) (D.may_leave disk.new) }
-        ensures any_moment { IsSecured journal.old (D.told disk.old) (D.may_leave disk.old)
-            → LeavesOnly D.moment D.left_since disk.old disk.new (HasFloorFrom (journal_floor journal.old)) }
+        ensures crash_safe { IsCrashSafe journal.old (D.told disk.old) (D.may_leave disk.old) → IsCrashSafe journal.new (D.told disk.new) (D.may_leave disk.new) }
+        ensures any_moment { IsCrashSafe journal.old (D.told disk.old) (D.may_leave disk.old)
+            → LeavesOnly D.moment D.left_since disk.old disk.new (HasFloorAtLeast (journal_floor journal.old)) }
         ensures cause { HasCause (D.faults disk.old) (D.faults disk.new) result }
     {
         match self.unsealed_why(journal) {

@@ -2,7 +2,7 @@
 use Rattle.std.proofs.Common.{◌≡◌, ℕ, ◌<◌, ◌≤◌, List, [], ◌∷◌, ◌++◌, Some, None, IsSomeAnd, refl, subst, arith}
 use Rattle.yasir_io.specs.Disks.{Slots}
 use Rattle.sequence_journal.specs.Slots.{floor_of}
-use Rattle.sequence_journal.specs.Journal.{HasFloorFrom}
+use Rattle.sequence_journal.specs.Journal.{HasFloorAtLeast}
 use Rattle.sequence_journal.specs.Runs.{RiseFrom, last_from, Run, AreRuns, all_numbers}
 
 -- from a lower floor numbers rise too
@@ -19,12 +19,12 @@ runs-rise begins floor [] is are = tt
 runs-rise begins floor (run ∷ runs) is are =
     let same : are.0.floor ≡ floor = cc in
     let P : ℕ → Type 0 = λ n. RiseFrom n run.numbers in
-    let Q : ℕ → Type 0 = λ n. HasFloorFrom (last_from n run.numbers) run.image in
+    let Q : ℕ → Type 0 = λ n. HasFloorAtLeast (last_from n run.numbers) run.image in
     let next = next_floor (last_from floor run.numbers) run.image (subst Q same are.0.leaves) in
     rise-append floor run.numbers (all_numbers runs) (subst P same are.0.rise)
     (rise-lower (last_from floor run.numbers) next.0 (all_numbers runs) next.2 (runs-rise run.image next.0 runs next.1 are.1))
   where
-    next_floor : (n : ℕ) (image : Slots) → HasFloorFrom n image → (floor : ℕ) × (floor_of image ≡ Some floor) × (n ≤ floor)
+    next_floor : (n : ℕ) (image : Slots) → HasFloorAtLeast n image → (floor : ℕ) × (floor_of image ≡ Some floor) × (n ≤ floor)
     next_floor n image from = elim (floor_of image) as (λ o. floor_of image ≡ o → IsSomeAnd o (λ floor. n ≤ floor) → (floor : ℕ) × (floor_of image ≡ Some floor) × (n ≤ floor)) [
       | None ↦ λ is none. absurd none
       | Some floor ↦ λ is le. (floor, is, le)

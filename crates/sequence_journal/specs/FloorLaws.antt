@@ -7,7 +7,7 @@ use Rattle.yasir_io.specs.declared.disk.Slot.TheVariants.{A, B}
 use Rattle.yasir_io.specs.Disks.{Slots, slot_in, OneImage}
 use Rattle.sequence_journal.specs.declared.journal.Journal.{Journal}
 use Rattle.sequence_journal.specs.Slots.{number_held, greater, place_of_greater, floor_of, floor_slot}
-use Rattle.sequence_journal.specs.Journal.{journal_floor, kept_slot, Fits, HasSame, IsKept, HasFloorFrom}
+use Rattle.sequence_journal.specs.Journal.{journal_floor, kept_slot, Fits, HasSame, IsKept, HasFloorAtLeast}
 
 -- the one of two that stands in a slot
 abbrev chosen : Option ℕ → Option ℕ → Slot → Option ℕ
@@ -41,7 +41,7 @@ right_of_greater None n = omega arith
 right_of_greater (Some a) n = omega arith
 
 -- what a slot holds, the floor isn't below
-pub floor_from : (slot : Slot) (slots : Slots) (n : ℕ) → number_held (slot_in slots slot) ≡ Some n → HasFloorFrom n slots
+pub floor_from : (slot : Slot) (slots : Slots) (n : ℕ) → number_held (slot_in slots slot) ≡ Some n → HasFloorAtLeast n slots
 floor_from A slots n is = rw is (left_of_greater (number_held slots.b) n)
 floor_from B slots n is = rw is (right_of_greater (number_held slots.a) n)
 
@@ -50,7 +50,7 @@ pub kept_where_synced : (journal : Journal) (told : Option Slots) (images : Slot
 kept_where_synced journal told images synced c image = rw (synced c image) refl
 
 kept_floor : (journal : Journal) (told : Option Slots) (c : Slots) → Fits journal told → IsSomeAnd told (λ slots. HasSame (kept_slot journal) slots c)
-    → HasFloorFrom (journal_floor journal) c
+    → HasFloorAtLeast (journal_floor journal) c
 kept_floor journal None c fits same = absurd same
 kept_floor journal (Some slots) c fits same =
     floor_from (kept_slot journal) c (journal_floor journal)
@@ -58,5 +58,5 @@ kept_floor journal (Some slots) c fits same =
 
 -- then no image has a floor below the journal's
 pub floor_of_images : (journal : Journal) (told : Option Slots) (images : Slots → Type 0) → Fits journal told → IsKept journal told images
-    → (c : Slots) → images c → HasFloorFrom (journal_floor journal) c
+    → (c : Slots) → images c → HasFloorAtLeast (journal_floor journal) c
 floor_of_images journal told images fits kept c image = kept_floor journal told c fits (kept c image)

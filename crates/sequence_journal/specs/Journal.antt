@@ -43,8 +43,8 @@ abbrev pub IsBeside : Slot → (Slots → Type 0) → Slots → Type 0
 IsBeside slot images c = (d : Slots) × images d × HasSame slot d c
 
 -- slots whose floor isn't below n
-abbrev pub HasFloorFrom : ℕ → Slots → Type 0
-HasFloorFrom n slots = IsSomeAnd (floor_of slots) (λ floor. n ≤ floor)
+abbrev pub HasFloorAtLeast : ℕ → Slots → Type 0
+HasFloorAtLeast n slots = IsSomeAnd (floor_of slots) (λ floor. n ≤ floor)
 
 -- slots whose floor is one of two
 abbrev pub IsEitherFloor : ℕ → ℕ → Slots → Type 0
@@ -81,6 +81,6 @@ RefusesInit old new before now (Init.Stands floor) =
     IfSome old (λ slots. floor_of slots ≡ Some floor) × (new ≡ old) × (now ≡ before)
 
 -- The floor's slot is in every image as a read gives it, and no image has a floor below the journal's.
-pub record IsSecured (journal : Journal) (told : Option Slots) (images : Slots → Type 0) : Type 0 where
+pub record IsCrashSafe (journal : Journal) (told : Option Slots) (images : Slots → Type 0) : Type 0 where
   pub kept : IsKept journal told images
-  pub floors : (c : Slots) → images c → HasFloorFrom (journal_floor journal) c
+  pub floors : (c : Slots) → images c → HasFloorAtLeast (journal_floor journal) c

@@ -3,7 +3,7 @@
 use Rattle.std.specs.Prelude.{◌≡◌, ℕ, ◌<◌, List, [], ◌∷◌, ◌++◌, Some}
 use Rattle.yasir_io.specs.Disks.{Slots}
 use Rattle.sequence_journal.specs.Slots.{floor_of}
-use Rattle.sequence_journal.specs.Journal.{HasFloorFrom}
+use Rattle.sequence_journal.specs.Journal.{HasFloorAtLeast}
 
 -- Each number is greater than the one before it, and the first one than the floor.
 abbrev pub RiseFrom : ℕ → List ℕ → Type 0
@@ -20,7 +20,7 @@ pub record IsRun (begins : Slots) (numbers : List ℕ) (image : Slots) : Type 0 
   pub floor : ℕ
   pub loads : floor_of begins ≡ Some floor
   pub rise : RiseFrom floor numbers
-  pub leaves : HasFloorFrom (last_from floor numbers) image
+  pub leaves : HasFloorAtLeast (last_from floor numbers) image
 
 -- the numbers that a run has used, and the image that it left
 pub record Run : Type 0 where

@@ -48,7 +48,7 @@ impl Journal {
     ghost use Rattle.yasir_io.specs.Causes.{HasCause};
     ghost use Rattle.yasir_io.specs.Disks.{Slots, NoMore, OneImage, LeavesOnly, other_slot};
     ghost use Rattle.sequence_journal.specs.Slots.{slot_bytes, floor_of};
-    ghost use Rattle.sequence_journal.specs.Journal.{journal_floor, kept_slot, is_broken, Fits, IsKept, IsBeside, HasFloorFrom, IsEitherFloor, told_with, MaySet, RefusesLoad, RefusesInit};
+    ghost use Rattle.sequence_journal.specs.Journal.{journal_floor, kept_slot, is_broken, Fits, IsKept, IsBeside, HasFloorAtLeast, IsEitherFloor, told_with, MaySet, RefusesLoad, RefusesInit};
 
     /// Makes a new journal at floor 0, in slot A, where neither slot holds a number.
     pub fn init<D: SlotDisk>(disk: &mut D) -> Result<Journal, InitError>
@@ -152,7 +152,7 @@ impl Journal {
         // A crash at any moment leaves a floor that isn't below the one before, where a crash before the call did so.
         ensures kept { IsKept self.old (D.told disk.old) (D.may_leave disk.old) → IsKept self.new (D.told disk.new) (D.may_leave disk.new) }
         ensures any_moment { IsKept self.old (D.told disk.old) (D.may_leave disk.old)
-            → LeavesOnly D.moment D.left_since disk.old disk.new (HasFloorFrom (journal_floor self.old)) }
+            → LeavesOnly D.moment D.left_since disk.old disk.new (HasFloorAtLeast (journal_floor self.old)) }
 
         ensures cause { HasCause (D.faults disk.old) (D.faults disk.new) result }
     {

@@ -4,7 +4,7 @@ use Rattle.std.proofs.lemmas.Bool.{cases_lt}
 use Rattle.std.proofs.lemmas.List.{append_assoc, length-replicate}
 use Rattle.yasir_ticks.specs.Ticks.{silent}
 use Rattle.yasir_ticks.specs.Bursts.{Burst, with_byte, bursts_from, end_of}
-use Rattle.yasir_ticks.specs.BurstsOf.{IsKnit, one, more, StartsFrom, AreBursts}
+use Rattle.yasir_ticks.specs.BurstsOf.{IsContiguous, one, more, StartsFrom, AreBursts}
 use Rattle.yasir_ticks.specs.declared.tick.Tick.{Tick}
 use Rattle.yasir_ticks.specs.declared.tick.Tick.TheVariants.{Silent, Byte}
 use Rattle.yasir_ticks.proofs.BurstLaws.{alone, with_first, with_byte-near, with_byte-far}
@@ -32,7 +32,7 @@ module _ (cut : ℕ) where
   with_byte-alone n b (d ∷ ds) far = with_byte-far cut n b d ds far
 
   -- Knit ticks that `cut` or more silent ticks follow are a burst of their own.
-  pub bursts_from-knit : (n : ℕ) (x rest : List Tick) → IsKnit cut x
+  pub bursts_from-knit : (n : ℕ) (x rest : List Tick) → IsContiguous cut x
       → StartsFrom (n + length x + cut) (bursts_from cut (n + length x) rest)
       → bursts_from cut n (x ++ rest) ≡ record { start = n; body = x } ∷ bursts_from cut (n + length x) rest
   bursts_from-knit n x rest (one b) far =
@@ -132,9 +132,9 @@ module _ (cut : ℕ) where
       ∙ ap (λ i. let e : Burst = record { start = i; body = d.body } in e ∷ ds) (sym are.3))))
 
 -- Knit ticks that go on after fewer than `cut` silent ones stay knit.
-pub knit-more : (cut : ℕ) (x : List Tick) (gap b : ℕ) → IsKnit cut x → gap < cut → IsKnit cut (x ++ (silent gap ++ Byte b ∷ []))
+pub knit-more : (cut : ℕ) (x : List Tick) (gap b : ℕ) → IsContiguous cut x → gap < cut → IsContiguous cut (x ++ (silent gap ++ Byte b ∷ []))
 knit-more cut x gap b (one c) few = more c gap (Byte b ∷ []) few (one b)
 knit-more cut x gap b (more c g rest little knit) few =
-    let P : List Tick → Type 0 = λ y. IsKnit cut (Byte c ∷ y) in
+    let P : List Tick → Type 0 = λ y. IsContiguous cut (Byte c ∷ y) in
     subst P (sym (append_assoc (silent g) rest (silent gap ++ Byte b ∷ [])))
     (more c g (rest ++ (silent gap ++ Byte b ∷ [])) little (knit-more cut rest gap b knit few))

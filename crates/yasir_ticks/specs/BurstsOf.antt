@@ -6,9 +6,9 @@ use Rattle.yasir_ticks.specs.declared.tick.Tick.{Tick}
 use Rattle.yasir_ticks.specs.declared.tick.Tick.TheVariants.{Byte}
 
 -- Ticks that begin and end with a byte, fewer than `cut` silent ones standing between one byte and the next.
-pub data IsKnit (cut : ℕ) : List Tick → Type 0 where
-  one : (b : ℕ) → IsKnit cut (Byte b ∷ [])
-  more : (b gap : ℕ) (rest : List Tick) → gap < cut → IsKnit cut rest → IsKnit cut (Byte b ∷ (silent gap ++ rest))
+pub data IsContiguous (cut : ℕ) : List Tick → Type 0 where
+  one : (b : ℕ) → IsContiguous cut (Byte b ∷ [])
+  more : (b gap : ℕ) (rest : List Tick) → gap < cut → IsContiguous cut rest → IsContiguous cut (Byte b ∷ (silent gap ++ rest))
 
 -- the first of these bursts, if there is one, doesn't start before tick n
 abbrev pub StartsFrom : ℕ → List Burst → Type 0
@@ -21,4 +21,4 @@ abbrev pub AreBursts : ℕ → ℕ → List Tick → List Burst → Type 0
 AreBursts cut n line [] = line ≡ silent (length line)
 AreBursts cut n line (d ∷ ds) =
     (gap : ℕ) × (rest : List Tick) × (line ≡ silent gap ++ (d.body ++ rest)) × (d.start ≡ n + gap)
-    × IsKnit cut d.body × StartsFrom (end_of d + cut) ds × AreBursts cut (end_of d) rest ds
+    × IsContiguous cut d.body × StartsFrom (end_of d + cut) ds × AreBursts cut (end_of d) rest ds

@@ -17,7 +17,7 @@ returns-then-is_write_stop-clause-runs g c =
     (g.met.B.LineBox.is_boxed c.args.key.now (direction_number c.args.dir) (journal_floor c.in-Ok.journal))
     lines.journal lines.writer (waiting_bytes lines.ticks) (waiting_bytes lines.notes)
     (subst (ToldFloor (journal_floor c.in-Ok.journal)) c.in-Ok.ensures.told c.in-Ok.ensures.fits.floor)
-    (keeps_floor c.in-Ok.journal _ lines.journal _ _ _ _ _ _ c.new-lines.ensures.journal c.in-Ok.ensures.told c.in-Ok.ensures.images c.in-Ok.ensures.fits c.drive_box-end.ensures.secured)
+    (keeps_floor c.in-Ok.journal _ lines.journal _ _ _ _ _ _ c.new-lines.ensures.journal c.in-Ok.ensures.told c.in-Ok.ensures.images c.in-Ok.ensures.fits c.drive_box-end.ensures.crash_safe)
     c.drive_box-end.result write
     (c.drive_box-end.ensures.driven c.args.key.now (direction_number c.args.dir) (journal_floor c.in-Ok.journal) c.new-lines.ensures.stands)
 
@@ -30,7 +30,7 @@ returns-in-Err-clause-runs g c =
     (g.met.B.LineBox.is_boxed c.args.key.now (direction_number c.args.dir) (journal_floor c.in-Ok.journal))
     lines.journal lines.writer (waiting_bytes lines.ticks) (waiting_bytes lines.notes)
     (subst (ToldFloor (journal_floor c.in-Ok.journal)) c.in-Ok.ensures.told c.in-Ok.ensures.fits.floor)
-    (keeps_floor c.in-Ok.journal _ lines.journal _ _ _ _ _ _ c.new-lines.ensures.journal c.in-Ok.ensures.told c.in-Ok.ensures.images c.in-Ok.ensures.fits c.drive_box-end.ensures.secured)
+    (keeps_floor c.in-Ok.journal _ lines.journal _ _ _ _ _ _ c.new-lines.ensures.journal c.in-Ok.ensures.told c.in-Ok.ensures.images c.in-Ok.ensures.fits c.drive_box-end.ensures.crash_safe)
     refl c.drive_box-end.result other
     (c.drive_box-end.ensures.driven c.args.key.now (direction_number c.args.dir) (journal_floor c.in-Ok.journal) c.new-lines.ensures.stands)
     (λ line sends. c.in-Err.ensures.err _ _ _ line sends)
@@ -44,7 +44,7 @@ returns-in-Whole-clause-runs g c =
     (g.met.B.LineBox.is_boxed c.args.key.now (direction_number c.args.dir) (journal_floor c.in-Ok.journal))
     lines.journal lines.writer (waiting_bytes lines.ticks) (waiting_bytes lines.notes)
     (subst (ToldFloor (journal_floor c.in-Ok.journal)) c.in-Ok.ensures.told c.in-Ok.ensures.fits.floor)
-    (keeps_floor c.in-Ok.journal _ lines.journal _ _ _ _ _ _ c.new-lines.ensures.journal c.in-Ok.ensures.told c.in-Ok.ensures.images c.in-Ok.ensures.fits c.drive_box-end.ensures.secured)
+    (keeps_floor c.in-Ok.journal _ lines.journal _ _ _ _ _ _ c.new-lines.ensures.journal c.in-Ok.ensures.told c.in-Ok.ensures.images c.in-Ok.ensures.fits c.drive_box-end.ensures.crash_safe)
     refl c.flush_both.result c.flush_both.ensures.status
     (rw c.in-Whole.is at (c.drive_box-end.ensures.driven c.args.key.now (direction_number c.args.dir) (journal_floor c.in-Ok.journal) c.new-lines.ensures.stands))
     (λ line sends. c.in-Ok-finish.ensures.ok _ _ _ line sends)
@@ -59,7 +59,7 @@ returns-in_default g c =
           (g.met.B.LineBox.is_boxed c.args.key.now (direction_number c.args.dir) (journal_floor c.in-Ok.journal))
           lines.journal lines.writer (waiting_bytes lines.ticks) (waiting_bytes lines.notes)
           (subst (ToldFloor (journal_floor c.in-Ok.journal)) c.in-Ok.ensures.told c.in-Ok.ensures.fits.floor)
-          (keeps_floor c.in-Ok.journal _ lines.journal _ _ _ _ _ _ c.new-lines.ensures.journal c.in-Ok.ensures.told c.in-Ok.ensures.images c.in-Ok.ensures.fits c.drive_box-end.ensures.secured)
+          (keeps_floor c.in-Ok.journal _ lines.journal _ _ _ _ _ _ c.new-lines.ensures.journal c.in-Ok.ensures.told c.in-Ok.ensures.images c.in-Ok.ensures.fits c.drive_box-end.ensures.crash_safe)
           refl c.drive_box-end.result other c.in_default.not-Whole
           (c.drive_box-end.ensures.driven c.args.key.now (direction_number c.args.dir) (journal_floor c.in-Ok.journal) c.new-lines.ensures.stands)
           (λ line sends. c.in-Ok-finish.ensures.ok _ _ _ line sends);

@@ -22,7 +22,7 @@ returns-in-Err-clause-advances g c = record {
   );
   counted = tt;
   is_able = tt;
-  is_kept = c.step.ensures.secured;
+  is_kept = c.step.ensures.crash_safe;
   any_moment = c.step.ensures.any_moment;
   safer = floor_from_less _ _ c.step.ensures.rises;
 }
@@ -49,7 +49,7 @@ returns-in-Err-push_note_of_step-clause-advances g c = record {
       );
   counted = tt;
   is_able = tt;
-  is_kept = c.step.ensures.secured;
+  is_kept = c.step.ensures.crash_safe;
   any_moment = c.step.ensures.any_moment;
   safer = floor_from_less _ _ c.step.ensures.rises;
 }
@@ -73,7 +73,7 @@ returns-in-Ok-push_tick-clause-advances g c = record {
   ended = tt;
   counted = c.in-Ok.ensures.taken;
   is_able = c.in-Ok.ensures.fits;
-  is_kept = c.step.ensures.secured;
+  is_kept = c.step.ensures.crash_safe;
   any_moment = c.step.ensures.any_moment;
   safer = floor_from_less _ _ c.step.ensures.rises;
 }
@@ -100,7 +100,7 @@ returns-in-Err-push_tick-clause-advances g c = record {
       );
   counted = tt;
   is_able = tt;
-  is_kept = c.step.ensures.secured;
+  is_kept = c.step.ensures.crash_safe;
   any_moment = c.step.ensures.any_moment;
   safer = floor_from_less _ _ c.step.ensures.rises;
 }
