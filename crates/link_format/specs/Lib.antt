@@ -1,0 +1,5 @@
+pub mod Setup
+pub mod Profile
+pub mod Y18
+pub mod NumberedFrame
+pub mod Trailers

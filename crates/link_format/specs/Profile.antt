@@ -1,0 +1,62 @@
+-- A profile: what follows a frame on the link. A pause of three silent ticks, and then the trailer: the word, which is the low
+-- bytes of the frame's number, and its tag. This layout is the project's own.
+use Rattle.std.specs.Prelude.{◌≡◌, ℕ, ◌+◌, ◌^◌, ◌≤◌, Bool, true, false, List, ◌++◌, length, replicate}
+use Rattle.std.specs.Int.{bytes_high_first}
+use Rattle.byteorder.specs.Endian.{big_number}
+use Rattle.line_rules.specs.declared.line_rules.LineRules.{Ghosts as LineRules}
+use Rattle.hmac_tag.specs.declared.tag.Mac.{Ghosts as Mac}
+use Rattle.hmac_tag.specs.Tag.{tag}
+use Rattle.link_format.specs.Setup.{Setup}
+
+pub record Profile : Type 0 where
+  -- how many bytes a word has
+  pub word_len : ℕ
+  -- how many bytes a tag has, and the tag of a number and a frame
+  pub tag_len : ℕ
+  pub tag : ℕ → List ℕ → List ℕ
+  -- the greatest number
+  pub limit : ℕ
+
+-- the profile of a protocol and a code with words of so many bytes and numbers up to a limit, as a box is set up
+abbrev pub profile_of : {R M : Type 0} → LineRules R → Mac M → ℕ → ℕ → Setup → Profile
+profile_of proto code word_len limit setup = record {
+  word_len = word_len;
+  tag_len = code.TAG;
+  tag = λ number frame. tag code.tag_of setup.key proto.rules.label setup.direction frame number;
+  limit = limit;
+}
+
+-- a word has at least one byte, and at most four
+abbrev pub IsWordLen : ℕ → Type 0
+IsWordLen n = (1 ≤ n) × (n ≤ 4)
+
+-- a tag has its length
+pub record HasTags (profile : Profile) : Type 0 where
+  pub sized : (number : ℕ) (frame : List ℕ) → length (profile.tag number frame) ≡ profile.tag_len
+
+-- how many words there are: two numbers that are as far apart have the same word
+abbrev pub words : Profile → ℕ
+words profile = 256 ^ profile.word_len
+
+-- the word that a trailer of these bytes has
+abbrev pub word_of : Profile → List ℕ → ℕ
+word_of profile bytes = big_number profile.word_len bytes
+
+-- the trailer of a number and a frame: the low bytes of the number, high byte first, and the tag
+abbrev pub trailer : Profile → ℕ → List ℕ → List ℕ
+trailer profile number frame = bytes_high_first profile.word_len number ++ profile.tag number frame
+
+abbrev pub trailer_len : Profile → ℕ
+trailer_len profile = profile.word_len + profile.tag_len
+
+-- So many silent ticks stand between a frame and its trailer.
+abbrev pub pause_len : ℕ
+pause_len = 3
+
+-- what follows a frame: silence where false, a byte where true
+abbrev pub trailer_shape : Profile → List Bool
+trailer_shape profile = replicate pause_len false ++ replicate (trailer_len profile) true
+
+-- how many ticks the receiver holds a byte back: the whole trailer has then come, and the verdict is known
+abbrev pub delay : Profile → ℕ
+delay profile = trailer_len profile + 4

@@ -1,0 +1,14 @@
+-- What is still to be sent of a trailer.
+use Rattle.std.specs.Prelude.{ℕ, List, [], ◌∷◌, drop}
+use Rattle.yasir_ticks.specs.declared.tick.Tick.{Tick}
+use Rattle.yasir_ticks.specs.declared.tick.Tick.TheVariants.{Silent, Byte}
+use Rattle.link_format.specs.declared.trailer.Trailer.{Trailer}
+
+-- the bytes that aren't sent yet
+abbrev pub bytes_left : Trailer → List ℕ
+bytes_left trailer = drop trailer.sent trailer.bytes.items
+
+-- the first of some bytes as a tick, or silence
+abbrev pub first_of : List ℕ → Tick
+first_of [] = Silent
+first_of (b ∷ left) = Byte b

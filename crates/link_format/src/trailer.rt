@@ -1,0 +1,72 @@
+ghost use Rattle.std.specs.Prelude.{◌≡◌, [], ◌∷◌, ◌++◌, length, drop, IfSome, IfNone};
+ghost use Rattle.std.specs.Int.{bytes_high_first};
+ghost use Rattle.link_format.specs.Profile.{IsWordLen};
+ghost use Rattle.link_format.specs.Trailers.{bytes_left, first_of};
+
+use arrayvec::ArrayVec;
+use hmac_tag::TagBytes;
+use yasir_ticks::Tick;
+
+/// How many bytes a trailer has at most: a word of 4 and a tag of 16.
+const ROOM: usize = 20;
+
+/// How many bytes a number has.
+const NUMBER_LEN: usize = 8;
+
+/// The trailer of the last sealed frame: its word, high byte first, and its tag. The bytes that were sent stand in front of
+/// those that are left.
+#[derive(Drop)]
+pub struct Trailer {
+    bytes: ArrayVec<u8, ROOM>,
+    sent: usize,
+}
+
+impl Trailer {
+    /// No trailer: nothing is left to be sent.
+    pub fn none() -> Trailer
+        ensures { bytes_left result ≡ [] }
+    {
+        Trailer {
+            bytes: ArrayVec::new(),
+            sent: 0,
+        }
+    }
+
+    /// The trailer of a number and its tag, with a word of `B` bytes.
+    pub fn new<const B: usize>(number: u64, tag: &TagBytes) -> Trailer
+        requires word { IsWordLen B }
+        ensures { bytes_left result ≡ bytes_high_first B number ++ tag.now.items }
+    {
+        let digits = number.to_be_bytes();
+        let mut bytes = ArrayVec::new();
+        let _ = bytes.try_extend_from_slice(&digits[NUMBER_LEN - B..]);
+        let _ = bytes.try_extend_from_slice(tag.as_slice());
+        Trailer { bytes, sent: 0 }
+    }
+
+    // The next byte to be sent; none where all are.
+    #[inline]
+    fn next(&mut self) -> Option<u8>
+        ensures some { IfSome result (λ b. bytes_left self.old ≡ b ∷ bytes_left self.new) }
+        ensures none { IfNone result (bytes_left self.old ≡ []) }
+        ensures same { IfNone result (bytes_left self.new ≡ []) }
+    {
+        let next = self.bytes.as_slice().get(self.sent).copied();
+        if next.is_some() {
+            self.sent += 1;
+        }
+        next
+    }
+
+    /// The tick of the next byte to be sent; silence where all are.
+    #[inline]
+    pub fn next_tick(&mut self) -> Tick
+        ensures tick { result ≡ first_of (bytes_left self.old) }
+        ensures left { bytes_left self.new ≡ drop 1 (bytes_left self.old) }
+    {
+        match self.next() {
+            Some(byte) => Tick::Byte(byte),
+            None => Tick::Silent,
+        }
+    }
+}
