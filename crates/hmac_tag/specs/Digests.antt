@@ -5,7 +5,7 @@ use Rattle.std.proofs.Common.{arith}
 use Rattle.std.proofs.lemmas.List.{length-take-le}
 use Rattle.std.proofs.lemmas.List.Elements.{All-nil, All-cons, All-append, All-take}
 use Rattle.hmac_tag.specs.Hmac.{hmac}
-use Rattle.hmac_tag.specs.Tag.{hmac_cut}
+use Rattle.hmac_tag.specs.Tag.{IsTagSize, hmac_cut}
 use Rattle.sha1.specs.Sha1.{digest_bytes, sha1}
 
 -- a digest of SHA-1 has 20 bytes
@@ -30,6 +30,16 @@ All-digest_bytes hash (suc k) = All-append (λ b. b < 256) (digest_bytes hash k)
 pub All-sha1 : (message : List ℕ) → All (λ b. b < 256) (sha1 message)
 unfolding sha1
 All-sha1 message = All-digest_bytes _ 5
+
+-- it fits a block, and a tag has no more bytes
+pub sha1-fits_block : 20 ≤ 64
+sha1-fits_block = omega arith
+
+pub sha1-tag_size : IsTagSize 12
+sha1-tag_size = refl
+
+pub sha1-tag_within : 12 ≤ 20
+sha1-tag_within = omega arith
 
 module _ (hash : List ℕ → List ℕ) where
   -- a tag has its size, where digests have as many bytes

@@ -18,6 +18,12 @@ pub trait Mac: Drop {
     /// The length of a tag in bytes.
     ghost TAG: { ℕ };
 
+    ghost tag_size: { IsTagSize TAG };
+
+    ghost tag_len: { (key text : List ℕ) → length (tag_of key text) ≡ TAG };
+
+    ghost tag_bytes: { (key text : List ℕ) → All (λ b. b < 256) (tag_of key text) };
+
     /// The length of a tag in bytes.
     const TAG: usize;
 
@@ -38,10 +44,4 @@ pub trait Mac: Drop {
         ensures tag { (key text : List ℕ) → stands self.old key text → result.items ≡ tag_of key text }
         ensures len { array_vec_len result ≡ TAG }
         ensures begun { (key text : List ℕ) → stands self.old key text → stands self.new key [] };
-
-    ghost tag_size: { IsTagSize TAG };
-
-    ghost tag_len: { (key text : List ℕ) → length (tag_of key text) ≡ TAG };
-
-    ghost tag_bytes: { (key text : List ℕ) → All (λ b. b < 256) (tag_of key text) };
 }

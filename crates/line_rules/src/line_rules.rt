@@ -20,6 +20,20 @@ pub trait LineRules: Drop {
 
     ghost LABEL: { ℕ };
 
+    ghost lawful: { IsLawful rules };
+
+    ghost headed: { IsHeaded rules };
+
+    ghost framed: { IsFramed rules };
+
+    ghost numbers: { HasNumbers rules MAX LABEL };
+
+    ghost fullness: { (value : Self) (x : List ℕ) → stands value x → is_full value ≡ fills_room rules x };
+
+    ghost bytes: { (value : Self) (x : List ℕ) → stands value x → AreBytes x };
+
+    ghost within: { (value : Self) (x : List ℕ) → stands value x → length x ≤ rules.room x };
+
     /// How many bytes a frame has at most.
     const MAX: u16;
 
@@ -61,18 +75,4 @@ pub trait LineRules: Drop {
     /// How many bytes the frame still lacks that begins with a good header; 0 where there is none.
     fn left(&self) -> u16
         ensures { (x : List ℕ) → stands self.now x → result ≡ left_of rules x };
-
-    ghost lawful: { IsLawful rules };
-
-    ghost headed: { IsHeaded rules };
-
-    ghost framed: { IsFramed rules };
-
-    ghost numbers: { HasNumbers rules MAX LABEL };
-
-    ghost fullness: { (value : Self) (x : List ℕ) → stands value x → is_full value ≡ fills_room rules x };
-
-    ghost bytes: { (value : Self) (x : List ℕ) → stands value x → AreBytes x };
-
-    ghost within: { (value : Self) (x : List ℕ) → stands value x → length x ≤ rules.room x };
 }

@@ -4,24 +4,24 @@ use Rattle.frame_ending.proofs.burst_cut.BurstCut.wait.Goals as goal
 
 pub returns-then-self-ge-CUT-clause-stands : goal.returns-then-self-ge-CUT-clause-stands
 returns-then-self-ge-CUT-clause-stands g c = λ line old.
-    stands-rest g.R.LineRules.rules g.R.LineRules.stands g.met.R.LineRules.lawful c.args.self.now line old c.if-self-ge-CUT.true
+    stands-rest g.R.LineRules.rules g.R.LineRules.stands g.R.LineRules.lawful c.args.self.now line old c.if-self-ge-CUT.true
 
 pub returns-then-self-ge-CUT-clause-answer : goal.returns-then-self-ge-CUT-clause-answer
 returns-then-self-ge-CUT-clause-answer g c = λ line old.
-    cut-rest g.R.LineRules.rules g.R.LineRules.stands g.met.R.LineRules.lawful c.args.self.now line old c.if-self-ge-CUT.true
+    cut-rest g.R.LineRules.rules g.R.LineRules.stands g.R.LineRules.lawful c.args.self.now line old c.if-self-ge-CUT.true
 
 pub returns-then-self-lt-CUT-clause-stands : goal.returns-then-self-lt-CUT-clause-stands
 returns-then-self-lt-CUT-clause-stands g c = λ line old.
-    stands-wait g.R.LineRules.rules g.R.LineRules.stands g.met.R.LineRules.lawful c.args.self.now line old (omega arith)
+    stands-wait g.R.LineRules.rules g.R.LineRules.stands g.R.LineRules.lawful c.args.self.now line old (omega arith)
 
 pub returns-then-self-lt-CUT-clause-answer : goal.returns-then-self-lt-CUT-clause-answer
 returns-then-self-lt-CUT-clause-answer g c = λ line old.
-    cut-wait g.R.LineRules.rules g.R.LineRules.stands g.met.R.LineRules.lawful c.args.self.now line old (omega arith)
+    cut-wait g.R.LineRules.rules g.R.LineRules.stands g.R.LineRules.lawful c.args.self.now line old (omega arith)
 
 pub returns-else-self-lt-CUT-clause-stands : goal.returns-else-self-lt-CUT-clause-stands
 returns-else-self-lt-CUT-clause-stands g c = λ line old.
-    stands-wait g.R.LineRules.rules g.R.LineRules.stands g.met.R.LineRules.lawful c.args.self.now line old (omega arith)
+    stands-wait g.R.LineRules.rules g.R.LineRules.stands g.R.LineRules.lawful c.args.self.now line old (omega arith)
 
 pub returns-else-self-lt-CUT-clause-answer : goal.returns-else-self-lt-CUT-clause-answer
 returns-else-self-lt-CUT-clause-answer g c = λ line old.
-    cut-closed g.R.LineRules.rules g.R.LineRules.stands g.met.R.LineRules.lawful c.args.self.now line old (omega arith)
+    cut-closed g.R.LineRules.rules g.R.LineRules.stands g.R.LineRules.lawful c.args.self.now line old (omega arith)

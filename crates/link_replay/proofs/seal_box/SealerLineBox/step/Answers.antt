@@ -11,7 +11,7 @@ returns-in-Ok-clause-answer g c = λ key direction floor line stands.
     let rules = g.R.LineRules.rules in
     let P : ℕ → Type 0 = λ label. AnswersTick (tagged_by g.M.Mac.tag_of g.M.Mac.TAG key label direction) rules floor line c.args.t c.in-Ok.field-0 in
     sealing-answers (profile_by rules g.M.Mac.tag_of g.M.Mac.TAG key direction) rules floor line c.args.t c.in-Ok.field-0
-    c.box_note.result c.box_note.ensures (subst P (sym g.met.R.LineRules.numbers.label_is) (c.in-Ok.ensures.answer key direction floor line stands))
+    c.box_note.result c.box_note.ensures (subst P (sym g.R.LineRules.numbers.label_is) (c.in-Ok.ensures.answer key direction floor line stands))
 
 pub returns-in-Err-clause-err : goal.returns-in-Err-clause-err
 returns-in-Err-clause-err g c = λ key direction floor line stands.
@@ -20,6 +20,6 @@ returns-in-Err-clause-err g c = λ key direction floor line stands.
     sealing-fails (profile_by rules g.M.Mac.tag_of g.M.Mac.TAG key direction) rules floor line c.args.t (journal_floor c.args.journal.now)
     (g.D.SlotDisk.told c.step.new.disk)
     (sealing-floor rules g.R.LineRules.stands g.M.Mac.tag_of g.M.Mac.TAG g.M.Mac.stands c.args.self.now c.args.journal.now key direction floor line
-    g.met.R.LineRules.lawful g.met.M.Mac.tag_len stands)
-    (subst P (sym g.met.R.LineRules.numbers.label_is) (c.in-Err.ensures.err_seals key direction floor line stands))
+    g.R.LineRules.lawful g.M.Mac.tag_len stands)
+    (subst P (sym g.R.LineRules.numbers.label_is) (c.in-Err.ensures.err_seals key direction floor line stands))
     c.in-Err.ensures.err.floor_told

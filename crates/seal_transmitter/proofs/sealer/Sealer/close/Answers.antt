@@ -10,7 +10,7 @@ use Rattle.seal_transmitter.proofs.sealer.Sealer.close.Goals as goal
 
 pub returns-in_default-clause-err_seals : goal.returns-in_default-clause-err_seals
 returns-in_default-clause-err_seals g c = λ key direction floor line between.
-    seals-with g.R.LineRules.rules g.met.R.LineRules.lawful g.M.Mac.tag_of g.M.Mac.TAG g.met.M.Mac.tag_len g.M.Mac.stands key direction floor line
+    seals-with g.R.LineRules.rules g.R.LineRules.lawful g.M.Mac.tag_of g.M.Mac.TAG g.M.Mac.tag_len g.M.Mac.stands key direction floor line
     (journal_floor c.args.journal.now) c.args.self.now.free (bytes_left c.args.self.now.trailer) c.args.self.now.mac between.walks
     (journal_floor c.args.journal.now + 1) between.is_cut (c.in-None.ensures.judged key direction (line ++ Silent ∷ []) between.cuts)
 

@@ -16,6 +16,6 @@ returns-clause-stands g c = λ journal.
       direction_is = refl;
       cuts = c.new.ensures.stands;
       walks = subst P (sym c.none.ensures)
-          (walks-begun g.R.LineRules.rules g.met.R.LineRules.lawful g.M.Mac.tag_of g.M.Mac.TAG g.met.M.Mac.tag_len g.M.Mac.stands key direction floor
+          (walks-begun g.R.LineRules.rules g.R.LineRules.lawful g.M.Mac.tag_of g.M.Mac.TAG g.M.Mac.tag_len g.M.Mac.stands key direction floor
           c.with_key.result c.with_key.ensures);
     }

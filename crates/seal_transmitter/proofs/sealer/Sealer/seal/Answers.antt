@@ -16,7 +16,7 @@ returns-clause-stepped g c = λ last key direction floor line between judge.
     let free : c.ticks.result + (2 + c.TAG.result) + 3 ≡ length line + 1 + (2 + g.M.Mac.TAG) + 3 = omega arith in
     let live = c.rules.ensures line' between.cuts in
     let number : c.to_be_bytes.result ≡ to_be_bytes w64 c.args.number = c.to_be_bytes.ensures in
-    seal-stepped g.R.LineRules.rules g.met.R.LineRules.lawful g.R.LineRules.stands g.M.Mac.tag_of g.M.Mac.TAG g.met.M.Mac.tag_len g.M.Mac.stands
+    seal-stepped g.R.LineRules.rules g.R.LineRules.lawful g.R.LineRules.stands g.M.Mac.tag_of g.M.Mac.TAG g.M.Mac.tag_len g.M.Mac.stands
     c.args.self.now last key direction floor line c.finish-tag.new.self c.next_tick.new.self c.next_tick.result
     (c.ticks.result + (2 + c.TAG.result) + 3) c.args.number c.start.result c.len.result (bytes_left c.new-self.result)
     c.next_tick.ensures.left c.next_tick.ensures.tick between (c.start.ensures line' between.cuts)
