@@ -9,9 +9,10 @@ use Rattle.yasir_ticks.specs.Bursts.{Burst, end_of}
 use Rattle.yasir_ticks.specs.declared.tick.Tick.{Tick}
 use Rattle.yasir_ticks.specs.declared.tick.Tick.TheVariants.{Silent, Byte}
 use Rattle.yasir_ticks.proofs.BurstLaws.{alone, with_last}
+use Rattle.yasir_ticks.proofs.SilenceLaws.{bytes_in-append, bytes_in-silent}
 use Rattle.frame_ending.specs.LiveBytes.{before_pause, has_pause, up_to_byte, within_room, spelled, live_bytes, live_end, has_extra}
 use Rattle.frame_ending.proofs.LastBurst.{IsWithin}
-use Rattle.frame_ending.proofs.Pauses.{ended, knit-ends, has_pause-append, before_pause-paused, before_pause-goes_on, before_pause-whole, has_pause-silent, before_pause-silent_few, before_pause-silent_more, bytes_in-append, bytes_in-silent, bytes_before-le, up_to_byte-append, up_to_byte-all, up_to_byte-le}
+use Rattle.frame_ending.proofs.Pauses.{ended, knit-ends, has_pause-append, before_pause-paused, before_pause-goes_on, before_pause-whole, has_pause-silent, before_pause-silent_few, before_pause-silent_more, bytes_before-le, up_to_byte-append, up_to_byte-all, up_to_byte-le}
 use Rattle.frame_ending.proofs.Rooms.{within_room-open, within_room-more, within_room-full, within_room-one, within_room-le}
 
 -- so many silent ticks and a byte
@@ -39,6 +40,14 @@ spelled-open w a gap b none =
     let parts = or_parts (has_pause (ended w a)) (nat_le 2 gap) none in
     before_pause-goes_on w a (gap_byte gap b) parts.0
     ∙ ap (λ y. ended w a ++ y) (before_pause-silent_few gap b (leb-false 2 gap parts.1))
+
+-- no more bytes are live than there are
+pub live-le : (rules : Rules) → IsLawful rules → (d : Burst)
+    → length (live_bytes rules d) ≤ length (bytes_in d.body)
+live-le rules lawful d =
+    let room = within_room-le rules lawful (spelled d) in
+    let part = bytes_before-le d.body in
+    omega arith
 
 -- ---- a burst, and after it a byte at tick m
 
@@ -107,12 +116,6 @@ module _ (m b : ℕ) (d : Burst) (within : IsWithin m d) where
       omega arith
 
   module _ (rules : Rules) (lawful : IsLawful rules) where
-    live-le : length (live_bytes rules d) ≤ length (bytes_in d.body)
-    live-le =
-        let room = within_room-le rules lawful (spelled d) in
-        let part = bytes_before-le d.body in
-        omega arith
-
     -- No further byte is live after a pause, or where the room is full.
     pub live-over : (paused || fills_room rules (live_bytes rules d)) ≡ true → live_bytes rules longer ≡ live_bytes rules d
     live-over over =
@@ -127,13 +130,13 @@ module _ (m b : ℕ) (d : Burst) (within : IsWithin m d) where
     pub end-over : (paused || fills_room rules (live_bytes rules d)) ≡ true → live_end rules longer ≡ live_end rules d
     end-over over =
         ap (λ h. d.start + length (up_to_byte (length h) longer.body)) (live-over over)
-        ∙ ap (λ x. d.start + length x) (up_to_byte-append (length (live_bytes rules d)) d.body (gap_byte gap b) live-le)
+        ∙ ap (λ x. d.start + length x) (up_to_byte-append (length (live_bytes rules d)) d.body (gap_byte gap b) (live-le rules lawful d))
 
     pub extra-over : (paused || fills_room rules (live_bytes rules d)) ≡ true → has_extra rules longer ≡ true
     extra-over over =
         let live = ap length (live-over over) in
         let all = ap length longer-bytes ∙ length-append (bytes_in d.body) (b ∷ []) in
-        let le = live-le in
+        let le = live-le rules lawful d in
         lt-ltb (length (live_bytes rules longer)) (length (bytes_in longer.body)) (omega arith)
 
     -- the last live byte stands in the burst
@@ -149,7 +152,7 @@ module _ (m b : ℕ) (d : Burst) (within : IsWithin m d) where
     live-more none room =
         ap (λ x. within_room rules x) (longer-spelled_open none) ∙ within_room-more rules lawful (spelled d) b room
 
-    live-all : paused ≡ false → fills_room rules (live_bytes rules d) ≡ false → live_bytes rules d ≡ bytes_in d.body
+    pub live-all : paused ≡ false → fills_room rules (live_bytes rules d) ≡ false → live_bytes rules d ≡ bytes_in d.body
     live-all none room = within_room-open rules lawful (spelled d) room ∙ spelled-all none
 
     pub end-more : paused ≡ false → fills_room rules (live_bytes rules d) ≡ false → live_end rules longer ≡ m + 1

@@ -3,5 +3,8 @@ pub mod Rooms
 pub mod LastBurst
 pub mod BurstSteps
 pub mod LiveSome
+pub mod LiveTicks
+pub mod Running
+pub mod Dividing
 pub mod Cutting
 pub mod Rows

@@ -1,5 +1,6 @@
 -- Each burst has a live byte.
-use Rattle.std.proofs.Common.{◌≡◌, ℕ, zero, suc, ◌<◌, List, [], ◌∷◌, ◌++◌, length, arith, refl, ◌∙◌, ap, ⊎_elim}
+use Rattle.std.proofs.Common.{◌≡◌, ℕ, zero, suc, ◌<◌, List, [], ◌∷◌, ◌++◌, length, arith, refl, ◌∙◌}
+use Rattle.std.proofs.Common.{ap, ⊎_elim}
 use Rattle.line_rules.specs.Rules.{Rules}
 use Rattle.line_rules.specs.RulesLaws.{IsLawful}
 use Rattle.yasir_ticks.specs.Ticks.{bytes_in, silent}
@@ -7,10 +8,12 @@ use Rattle.yasir_ticks.specs.Bursts.{Burst}
 use Rattle.yasir_ticks.specs.BurstsOf.{IsContiguous, one, more}
 use Rattle.yasir_ticks.specs.declared.tick.Tick.{Tick}
 use Rattle.yasir_ticks.specs.declared.tick.Tick.TheVariants.{Byte}
-use Rattle.frame_ending.specs.LiveBytes.{before_pause, up_to_byte, within_room, live_bytes, live_end}
+use Rattle.frame_ending.specs.LiveBytes.{before_pause, up_to_byte, within_room, live_bytes}
+use Rattle.frame_ending.specs.LiveBytes.{live_end}
 use Rattle.frame_ending.proofs.Rooms.{FitFirst, within_room-fit}
 
-knit-begins : (cut : ℕ) (x : List Tick) → IsContiguous cut x → (b : ℕ) × (l : List Tick) × (x ≡ Byte b ∷ l)
+knit-begins : (cut : ℕ) (x : List Tick) → IsContiguous cut x
+    → (b : ℕ) × (l : List Tick) × (x ≡ Byte b ∷ l)
 knit-begins cut x (one b) = (b, [], refl)
 knit-begins cut x (more b gap rest few knit) = (b, silent gap ++ rest, refl)
 
@@ -34,17 +37,24 @@ module _ (rules : Rules) (lawful : IsLawful rules) where
   unfolding before_pause
   some-live body b l begins =
       let x : List ℕ = bytes_in (before_pause l) in
-      let same : length (within_room rules (bytes_in (before_pause body))) ≡ length (within_room rules (b ∷ x)) =
+      let same : length (within_room rules (bytes_in (before_pause body)))
+      ≡ length (within_room rules (b ∷ x)) =
       ap (λ y. length (within_room rules (bytes_in (before_pause y)))) begins in
       let some = some-fit (within_room rules (b ∷ x)) x b (within_room-fit rules lawful (b ∷ x)) in
       omega arith
+
+  pub live-some : (d : Burst) → IsContiguous 4 d.body → 0 < length (live_bytes rules d)
+  live-some d knit =
+      let first = knit-begins 4 d.body knit in
+      some-live d.body first.0 first.1 first.2
 
   -- so its last live byte doesn't stand before its first byte
   pub live_end-later : (d : Burst) → IsContiguous 4 d.body → d.start < live_end rules d
   live_end-later d knit =
       let first = knit-begins 4 d.body knit in
-      let some = some-live d.body first.0 first.1 first.2 in
+      let some = live-some d knit in
       let k : ℕ = length (live_bytes rules d) in
-      let long : length (up_to_byte k d.body) ≡ length (up_to_byte k (Byte first.0 ∷ first.1)) = ap (λ y. length (up_to_byte k y)) first.2 in
+      let long : length (up_to_byte k d.body) ≡ length (up_to_byte k (Byte first.0 ∷ first.1)) =
+      ap (λ y. length (up_to_byte k y)) first.2 in
       let ticks = up_to-first k first.0 first.1 some in
       omega arith

@@ -3,6 +3,7 @@ use Rattle.std.proofs.Common.{◌≡◌, ℕ, zero, suc, ◌<◌, ◌≤◌, nat
 use Rattle.std.proofs.lemmas.Bool.{le-leb}
 use Rattle.std.proofs.lemmas.List.{append-nil}
 use Rattle.yasir_ticks.specs.Ticks.{bytes_in, silent}
+pub use Rattle.yasir_ticks.proofs.SilenceLaws.{bytes_in-append, bytes_in-silent}
 use Rattle.yasir_ticks.specs.BurstsOf.{IsContiguous, one, more}
 use Rattle.yasir_ticks.specs.declared.tick.Tick.{Tick}
 use Rattle.yasir_ticks.specs.declared.tick.Tick.TheVariants.{Silent, Byte}
@@ -71,15 +72,6 @@ unfolding before_pause
 before_pause-silent_more zero b many = absurd (omega arith)
 before_pause-silent_more (suc zero) b many = absurd (omega arith)
 before_pause-silent_more (suc (suc gap)) b many = refl
-
-pub bytes_in-append : (x y : List Tick) → bytes_in (x ++ y) ≡ bytes_in x ++ bytes_in y
-bytes_in-append [] y = refl
-bytes_in-append (Silent ∷ x) y = bytes_in-append x y
-bytes_in-append (Byte b ∷ x) y = ap (λ z. b ∷ z) (bytes_in-append x y)
-
-pub bytes_in-silent : (j : ℕ) (y : List Tick) → bytes_in (silent j ++ y) ≡ bytes_in y
-bytes_in-silent zero y = refl
-bytes_in-silent (suc j) y = bytes_in-silent j y
 
 pub bytes_before-le : (x : List Tick) → length (bytes_in (before_pause x)) ≤ length (bytes_in x)
 unfolding before_pause

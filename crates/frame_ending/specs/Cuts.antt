@@ -33,3 +33,12 @@ silent_cut n (Some d) = silence_cut (suc n - end_of d)
 abbrev pub cut_of : Rules → List Tick → Tick → Cut
 cut_of rules line (Byte b) = byte_cut rules (length line) b (last_burst (line ++ Byte b ∷ []))
 cut_of rules line Silent = silent_cut (length line) (last_burst line)
+
+-- a tick that is neither a live byte nor closes a burst
+abbrev pub IsPassing : Cut → Type 0
+IsPassing (Start b) = ⊥
+IsPassing (Live b) = ⊥
+IsPassing (Extra b) = Unit {0}
+IsPassing (Pause n) = Unit {0}
+IsPassing Closed = ⊥
+IsPassing Quiet = Unit {0}

@@ -9,6 +9,7 @@ pub mod Completions
 pub mod Feeding
 pub mod ManyBytes
 pub mod BurstsOfLaws
+pub mod SilenceLaws
 pub mod HexValues
 pub mod Worked
 pub mod TextLaws
