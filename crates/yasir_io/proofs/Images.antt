@@ -1,5 +1,6 @@
 -- Lemmas on what a crash may leave of a disk in memory.
-use Rattle.std.proofs.Common.{◌≡◌, ◌∙◌, ℕ, ◌≤◌, ◌⊎◌, List, [], ◌∷◌, ◌++◌, Some, length, drop, true, false, refl, sym, ap, subst, inl, inr, arith, length-append}
+use Rattle.std.proofs.Common.{◌≡◌, ◌∙◌, ℕ, ◌≤◌, ◌⊎◌, List, [], ◌∷◌, ◌++◌, Some, length, drop, true}
+use Rattle.std.proofs.Common.{false, refl, sym, ap, subst, inl, inr, arith, length-append}
 use Rattle.std.proofs.lemmas.List.{drop-append-le}
 use Rattle.yasir_io.specs.declared.disk.Slot.{Slot}
 use Rattle.yasir_io.specs.declared.disk.TheConstants.{SLOT_LEN}
@@ -12,17 +13,21 @@ use Rattle.yasir_io.specs.MemSlots.{IsImage, IsImageOfAny, MayAdd, slots_at, is_
 abbrev pub Left : List Moment → Moment → ℕ → Slots → Type 0
 Left past present t c = IsImage present c ⊎ IsImageOfAny (drop t past) c
 
-any_or_last : (past : List Moment) (last : Moment) (c : Slots) → IsImageOfAny (past ++ last ∷ []) c → IsImage last c ⊎ IsImageOfAny past c
+any_or_last : (past : List Moment) (last : Moment) (c : Slots) → IsImageOfAny (past ++ last ∷ []) c
+    → IsImage last c ⊎ IsImageOfAny past c
 any_or_last [] last c (inl now) = inl now
 any_or_last [] last c (inr none) = absurd none
 any_or_last (m ∷ past) last c (inl now) = inr (inl now)
-any_or_last (m ∷ past) last c (inr had) = elim (any_or_last past last c had) [ inl now ↦ inl now | inr before ↦ inr (inr before) ]
+any_or_last (m ∷ past) last c (inr had) =
+    elim (any_or_last past last c had) [ inl now ↦ inl now | inr before ↦ inr (inr before) ]
 
-last_of_any : (past : List Moment) (last : Moment) (c : Slots) → IsImage last c → IsImageOfAny (past ++ last ∷ []) c
+last_of_any : (past : List Moment) (last : Moment) (c : Slots) → IsImage last c
+    → IsImageOfAny (past ++ last ∷ []) c
 last_of_any [] last c now = inl now
 last_of_any (m ∷ past) last c now = inr (last_of_any past last c now)
 
-more_of_any : (past : List Moment) (last : Moment) (c : Slots) → IsImageOfAny past c → IsImageOfAny (past ++ last ∷ []) c
+more_of_any : (past : List Moment) (last : Moment) (c : Slots) → IsImageOfAny past c
+    → IsImageOfAny (past ++ last ∷ []) c
 more_of_any [] last c had = absurd had
 more_of_any (m ∷ past) last c (inl now) = inl now
 more_of_any (m ∷ past) last c (inr had) = inr (more_of_any past last c had)
@@ -37,16 +42,19 @@ elapses_recorded past new before after added =
       later = omega (arith, ap length added, length-append past (before ∷ []));
       nothing_else = λ t c le left. elim left as (λ _. Left past before t c ⊎ IsImage after c) [
         | inl now ↦ inr now
-        | inr had ↦ inl (any_or_last (drop t past) before c (subst (λ l. IsImageOfAny l c) (at t le) had))
+        | inr had ↦ inl (any_or_last (drop t past) before c
+            (subst (λ l. IsImageOfAny l c) (at t le) had))
       ];
-      keeps = λ t c le left. inr (subst (λ l. IsImageOfAny l c) (sym (at t le)) (elim left as (λ _. IsImageOfAny (drop t past ++ before ∷ []) c) [
-        | inl now ↦ last_of_any (drop t past) before c now
-        | inr had ↦ more_of_any (drop t past) before c had
-      ]));
+      keeps = λ t c le left. inr (subst (λ l. IsImageOfAny l c) (sym (at t le))
+          (elim left as (λ _. IsImageOfAny (drop t past ++ before ∷ []) c) [
+            | inl now ↦ last_of_any (drop t past) before c now
+            | inr had ↦ more_of_any (drop t past) before c had
+          ]));
     }
 
 -- a call that isn't recorded, after which a crash may leave no less
-pub elapses_unrecorded : (past new : List Moment) (before after : Moment) → new ≡ past → ((c : Slots) → IsImage before c → IsImage after c)
+pub elapses_unrecorded : (past new : List Moment) (before after : Moment) → new ≡ past
+    → ((c : Slots) → IsImage before c → IsImage after c)
     → Elapses (length past) (length new) (Left past before) (Left new after) (IsImage after)
 elapses_unrecorded past new before after same more = record {
   later = omega (arith, ap length same);
@@ -61,7 +69,8 @@ elapses_unrecorded past new before after same more = record {
 }
 
 -- either
-pub elapses : (past new : List Moment) (before after : Moment) → MayAdd past before new → ((c : Slots) → IsImage before c → IsImage after c)
+pub elapses : (past new : List Moment) (before after : Moment) → MayAdd past before new
+    → ((c : Slots) → IsImage before c → IsImage after c)
     → Elapses (length past) (length new) (Left past before) (Left new after) (IsImage after)
 elapses past new before after (inl added) more = elapses_recorded past new before after added
 elapses past new before after (inr same) more = elapses_unrecorded past new before after same more
@@ -70,85 +79,128 @@ elapses past new before after (inr same) more = elapses_unrecorded past new befo
 pub record IsMarked (slot : Slot) (before after : Moment) : Type 0 where
   pub marked : is_written after slot ≡ true
   pub other_mark : is_written after (other_slot slot) ≡ is_written before (other_slot slot)
-  pub other_bytes : slot_in (slots_at after) (other_slot slot) ≡ slot_in (slots_at before) (other_slot slot)
+  pub other_bytes : slot_in (slots_at after) (other_slot slot)
+      ≡ slot_in (slots_at before) (other_slot slot)
 
 -- each image of after is one of before, but for the slot
-pub images_torn : (slot : Slot) (before after : Moment) → IsMarked slot before after → (c : Slots) → IsImage after c → (d : Slots) × IsImage before d × Torn slot d c
+pub images_torn : (slot : Slot) (before after : Moment) → IsMarked slot before after → (c : Slots)
+    → IsImage after c → (d : Slots) × IsImage before d × Torn slot d c
 images_torn A before after is c image =
     let d : Slots = record { a = before.a; b = c.b } in
     let was : IsImage before d = record {
-      size = λ slot. elim slot as (λ slot. length (slot_in d slot) ≡ SLOT_LEN) [ A ↦ before.a_size | B ↦ image.size B ];
-      synced = λ slot. elim slot as (λ slot. is_written before slot ≡ false → slot_in d slot ≡ slot_in (slots_at before) slot) [
-        | A ↦ λ h. refl
-        | B ↦ λ h. image.synced B (is.other_mark ∙ h) ∙ is.other_bytes
-      ];
+      size = λ slot. elim slot as (λ slot. length (slot_in d slot) ≡ SLOT_LEN)
+          [ A ↦ before.a_size | B ↦ image.size B ];
+      synced = λ slot. elim slot as (λ slot. is_written before slot ≡ false
+          → slot_in d slot ≡ slot_in (slots_at before) slot) [
+            | A ↦ λ h. refl
+            | B ↦ λ h. image.synced B (is.other_mark ∙ h) ∙ is.other_bytes
+          ];
     } in
     (d, was, (c.a, image.size A, refl))
 images_torn B before after is c image =
     let d : Slots = record { a = c.a; b = before.b } in
     let was : IsImage before d = record {
-      size = λ slot. elim slot as (λ slot. length (slot_in d slot) ≡ SLOT_LEN) [ A ↦ image.size A | B ↦ before.b_size ];
-      synced = λ slot. elim slot as (λ slot. is_written before slot ≡ false → slot_in d slot ≡ slot_in (slots_at before) slot) [
-        | A ↦ λ h. image.synced A (is.other_mark ∙ h) ∙ is.other_bytes
-        | B ↦ λ h. refl
-      ];
+      size = λ slot. elim slot as (λ slot. length (slot_in d slot) ≡ SLOT_LEN)
+          [ A ↦ image.size A | B ↦ before.b_size ];
+      synced = λ slot. elim slot as (λ slot. is_written before slot ≡ false
+          → slot_in d slot ≡ slot_in (slots_at before) slot) [
+            | A ↦ λ h. image.synced A (is.other_mark ∙ h) ∙ is.other_bytes
+            | B ↦ λ h. refl
+          ];
     } in
     (d, was, (c.b, image.size B, refl))
 
 -- each image of before is one of after
-pub images_more : (slot : Slot) (before after : Moment) → IsMarked slot before after → (c : Slots) → IsImage before c → IsImage after c
+pub images_more : (slot : Slot) (before after : Moment) → IsMarked slot before after → (c : Slots)
+    → IsImage before c → IsImage after c
 images_more A before after is c image = record {
   size = image.size;
-  synced = λ slot. elim slot as (λ slot. is_written after slot ≡ false → slot_in c slot ≡ slot_in (slots_at after) slot) [
-    | A ↦ λ h. cc
-    | B ↦ λ h. image.synced B (sym is.other_mark ∙ h) ∙ sym is.other_bytes
-  ];
+  synced = λ slot. elim slot as (λ slot. is_written after slot ≡ false
+      → slot_in c slot ≡ slot_in (slots_at after) slot) [
+        | A ↦ λ h. cc
+        | B ↦ λ h. image.synced B (sym is.other_mark ∙ h) ∙ sym is.other_bytes
+      ];
 }
 images_more B before after is c image = record {
   size = image.size;
-  synced = λ slot. elim slot as (λ slot. is_written after slot ≡ false → slot_in c slot ≡ slot_in (slots_at after) slot) [
-    | A ↦ λ h. image.synced A (sym is.other_mark ∙ h) ∙ sym is.other_bytes
-    | B ↦ λ h. cc
-  ];
+  synced = λ slot. elim slot as (λ slot. is_written after slot ≡ false
+      → slot_in c slot ≡ slot_in (slots_at after) slot) [
+        | A ↦ λ h. image.synced A (sym is.other_mark ∙ h) ∙ sym is.other_bytes
+        | B ↦ λ h. cc
+      ];
 }
 
--- where no slot was written since a sync, the one image is the slots
-pub only_image : (moment : Moment) → ((slot : Slot) → is_written moment slot ≡ false) → (c : Slots) → IsImage moment c → Some (slots_at moment) ≡ Some c
-only_image moment settled c image =
-    ap (λ (p : List ℕ × List ℕ). Some (record { a = p.0; b = p.1 })) (ap (λ a. (a, moment.b)) (sym (image.synced A (settled A))) ∙ ap (λ b. (c.a, b)) (sym (image.synced B (settled B))))
+-- whatever such a step makes of an image of before is an image of after
+pub images_reached : (slot : Slot) (before after : Moment) → IsMarked slot before after
+    → (d : Slots) → IsImage before d → (c : Slots) → Torn slot d c → IsImage after c
+images_reached A before after is d image c torn = subst (IsImage after) (sym torn.2) (record {
+  size = λ slot. elim slot as (λ slot. length (slot_in (with_slot d A torn.0) slot) ≡ SLOT_LEN)
+      [ A ↦ torn.1 | B ↦ image.size B ];
+  synced = λ slot. elim slot as (λ slot. is_written after slot ≡ false
+      → slot_in (with_slot d A torn.0) slot ≡ slot_in (slots_at after) slot) [
+        | A ↦ λ h. cc
+        | B ↦ λ h. image.synced B (sym is.other_mark ∙ h) ∙ sym is.other_bytes
+      ];
+})
+images_reached B before after is d image c torn = subst (IsImage after) (sym torn.2) (record {
+  size = λ slot. elim slot as (λ slot. length (slot_in (with_slot d B torn.0) slot) ≡ SLOT_LEN)
+      [ A ↦ image.size A | B ↦ torn.1 ];
+  synced = λ slot. elim slot as (λ slot. is_written after slot ≡ false
+      → slot_in (with_slot d B torn.0) slot ≡ slot_in (slots_at after) slot) [
+        | A ↦ λ h. image.synced A (sym is.other_mark ∙ h) ∙ sym is.other_bytes
+        | B ↦ λ h. cc
+      ];
+})
 
-untouched : (slot : Slot) (slots : Slots) (bytes : List ℕ) → slot_in (with_slot slots slot bytes) (other_slot slot) ≡ slot_in slots (other_slot slot)
+-- where no slot was written since a sync, the one image is the slots
+pub only_image : (moment : Moment) → ((slot : Slot) → is_written moment slot ≡ false) → (c : Slots)
+    → IsImage moment c → Some (slots_at moment) ≡ Some c
+only_image moment settled c image =
+    ap (λ (p : List ℕ × List ℕ). Some (record { a = p.0; b = p.1 }))
+    (ap (λ a. (a, moment.b)) (sym (image.synced A (settled A)))
+    ∙ ap (λ b. (c.a, b)) (sym (image.synced B (settled B))))
+
+untouched : (slot : Slot) (slots : Slots) (bytes : List ℕ)
+    → slot_in (with_slot slots slot bytes) (other_slot slot) ≡ slot_in slots (other_slot slot)
 untouched A slots bytes = refl
 untouched B slots bytes = refl
 
 -- what marking a slot does
-pub marks : (slot : Slot) (before middle after : Moment) → middle ≡ before → slots_at after ≡ slots_at middle
-    → is_written after slot ≡ true → is_written after (other_slot slot) ≡ is_written middle (other_slot slot) → IsMarked slot before after
+pub marks : (slot : Slot) (before middle after : Moment) → middle ≡ before
+    → slots_at after ≡ slots_at middle
+    → is_written after slot ≡ true → is_written after (other_slot slot)
+    ≡ is_written middle (other_slot slot) → IsMarked slot before after
 marks slot before middle after same slots marked other = record {
   marked = marked;
   other_mark = other ∙ ap (λ m. is_written m (other_slot slot)) same;
-  other_bytes = ap (λ s. slot_in s (other_slot slot)) slots ∙ ap (λ m. slot_in (slots_at m) (other_slot slot)) same;
+  other_bytes = ap (λ s. slot_in s (other_slot slot)) slots
+      ∙ ap (λ m. slot_in (slots_at m) (other_slot slot)) same;
 }
 
 -- what setting it does then
-pub sets : (slot : Slot) (before middle after : Moment) (bytes : List ℕ) → IsMarked slot before middle → slots_at after ≡ with_slot (slots_at middle) slot bytes
+pub sets : (slot : Slot) (before middle after : Moment) (bytes : List ℕ)
+    → IsMarked slot before middle → slots_at after ≡ with_slot (slots_at middle) slot bytes
     → ((slot : Slot) → is_written after slot ≡ is_written middle slot) → IsMarked slot before after
 sets slot before middle after bytes is slots marks = record {
   marked = marks slot ∙ is.marked;
   other_mark = marks (other_slot slot) ∙ is.other_mark;
-  other_bytes = ap (λ s. slot_in s (other_slot slot)) slots ∙ untouched slot (slots_at middle) bytes ∙ is.other_bytes;
+  other_bytes = ap (λ s. slot_in s (other_slot slot)) slots ∙ untouched slot (slots_at middle) bytes
+      ∙ is.other_bytes;
 }
 
 -- a call that changes nothing of the present moment
-pub elapses_unchanged : (past new : List Moment) (before after : Moment) → MayAdd past before new → after ≡ before
+pub elapses_unchanged : (past new : List Moment) (before after : Moment) → MayAdd past before new
+    → after ≡ before
     → Elapses (length past) (length new) (Left past before) (Left new after) (IsImage after)
 elapses_unchanged past new before after added same =
     elapses past new before after added (λ c image. subst (λ m. IsImage m c) (sym same) image)
 
-unwritten : (moment : Moment) → moment.a_written ≡ false → moment.b_written ≡ false → (slot : Slot) → is_written moment slot ≡ false
+unwritten : (moment : Moment) → moment.a_written ≡ false → moment.b_written ≡ false → (slot : Slot)
+    → is_written moment slot ≡ false
 unwritten moment a b A = a
 unwritten moment a b B = b
 
 -- the same, by the marks of both slots
-pub only_image_unmarked : (moment : Moment) (c : Slots) → IsImage moment c → moment.a_written ≡ false → moment.b_written ≡ false → Some (slots_at moment) ≡ Some c
+pub only_image_unmarked : (moment : Moment) (c : Slots) → IsImage moment c
+    → moment.a_written ≡ false → moment.b_written ≡ false → Some (slots_at moment) ≡ Some c
 only_image_unmarked moment c image a b = only_image moment (unwritten moment a b) c image

@@ -1,5 +1,7 @@
 -- Lemmas on what a sink has got of a text.
-use Rattle.std.proofs.Common.{◌≡◌, ℕ, List, [], ◌++◌, Option, None, Some, Result, Ok, Err, OnErr, take, drop, length, ◌-◌, arith, subst, refl, sym, ap, ◌∙◌, append_assoc, append-nil, take-append-drop}
+use Rattle.std.proofs.Common.{◌≡◌, ℕ, List, [], ◌++◌, Option, None, Some, Result, Ok, Err, OnErr}
+use Rattle.std.proofs.Common.{take, drop, length, ◌-◌, arith, subst, refl, sym, ap, ◌∙◌}
+use Rattle.std.proofs.Common.{append_assoc, append-nil, take-append-drop}
 use Rattle.std.proofs.lemmas.List.{take_all, length-drop}
 use Rattle.std.specs.Io.KnownBytes.{append_known}
 use Rattle.yasir_io.specs.Output.{Buffered, GotPrefix}
@@ -13,7 +15,8 @@ pub append_known-nil : (known : Option (List ℕ)) → append_known known [] ≡
 append_known-nil None = refl
 append_known-nil (Some xs) = ap Some (append-nil xs)
 
-pub append_known-twice : (known : Option (List ℕ)) (x y : List ℕ) → append_known (append_known known x) y ≡ append_known known (x ++ y)
+pub append_known-twice : (known : Option (List ℕ)) (x y : List ℕ)
+    → append_known (append_known known x) y ≡ append_known known (x ++ y)
 append_known-twice None x y = refl
 append_known-twice (Some xs) x y = ap Some (append_assoc xs x y)
 
@@ -23,25 +26,32 @@ nothing_written start text = record { front = []; got = sym (append_known-nil st
 
 -- a part of what waits is written
 pub part_written : (start now after : Option (List ℕ)) (part rest waits text : List ℕ)
-    → Buffered start now waits text → waits ≡ part ++ rest → after ≡ append_known now part → Buffered start after rest text
+    → Buffered start now waits text → waits ≡ part ++ rest → after ≡ append_known now part
+    → Buffered start after rest text
 part_written start now after part rest waits text so_far split written = record {
   front = so_far.front ++ part;
-  got = written ∙ ap (λ known. append_known known part) so_far.got ∙ append_known-twice start so_far.front part;
+  got = written ∙ ap (λ known. append_known known part) so_far.got
+      ∙ append_known-twice start so_far.front part;
   all = so_far.all ∙ ap (λ l. so_far.front ++ l) split ∙ sym (append_assoc so_far.front part rest);
 }
 
 -- a call wrote n bytes of what waits
 pub some_written : (start now after : Option (List ℕ)) (n : ℕ) (waits text : List ℕ)
-    → Buffered start now waits text → after ≡ append_known now (take n waits) → Buffered start after (drop n waits) text
+    → Buffered start now waits text → after ≡ append_known now (take n waits)
+    → Buffered start after (drop n waits) text
 some_written start now after n waits text so_far written =
-    part_written start now after (take n waits) (drop n waits) waits text so_far (sym (take-append-drop n waits)) written
+    part_written start now after (take n waits) (drop n waits) waits text so_far
+    (sym (take-append-drop n waits)) written
 
 -- the same, where the rest of a slice is spelled as code spells it
 pub some_written_of_slice : (start now after : Option (List ℕ)) (n : ℕ) (waits text : List ℕ)
-    → Buffered start now waits text → after ≡ append_known now (take n waits) → Buffered start after (take (length waits - n) (drop n waits)) text
+    → Buffered start now waits text → after ≡ append_known now (take n waits)
+    → Buffered start after (take (length waits - n) (drop n waits)) text
 some_written_of_slice start now after n waits text so_far written =
     let Waits : List ℕ → Type 0 = λ rest. Buffered start after rest text in
-    subst Waits (sym (take_all (length waits - n) (drop n waits) (omega (arith, length-drop n waits)))) (some_written start now after n waits text so_far written)
+    subst Waits (sym (take_all (length waits - n) (drop n waits)
+    (omega (arith, length-drop n waits))))
+    (some_written start now after n waits text so_far written)
 
 -- all that waits is written
 pub all_written : (start now after : Option (List ℕ)) (waits text : List ℕ)
@@ -57,7 +67,8 @@ prefix_written start now after waits text so_far got =
     record { front = more.front; rest = got.rest; got = more.got; all = more.all }
 
 -- of a longer text the sink has got a front, too
-pub prefix_of_more : (start now : Option (List ℕ)) (text more : List ℕ) → GotPrefix start now text → GotPrefix start now (text ++ more)
+pub prefix_of_more : (start now : Option (List ℕ)) (text more : List ℕ) → GotPrefix start now text
+    → GotPrefix start now (text ++ more)
 prefix_of_more start now text more got = record {
   front = got.front;
   rest = got.rest ++ more;
@@ -66,7 +77,8 @@ prefix_of_more start now text more got = record {
 }
 
 -- a text grows at its end by what waits behind it
-pub more_waits : (start now : Option (List ℕ)) (waits text more : List ℕ) → Buffered start now waits text → Buffered start now (waits ++ more) (text ++ more)
+pub more_waits : (start now : Option (List ℕ)) (waits text more : List ℕ)
+    → Buffered start now waits text → Buffered start now (waits ++ more) (text ++ more)
 more_waits start now waits text more so_far = record {
   front = so_far.front;
   got = so_far.got;
@@ -75,13 +87,20 @@ more_waits start now waits text more so_far = record {
 
 -- a piece behind a text that was written whole is written
 pub piece_written : (start now after : Option (List ℕ)) (text piece waits : List ℕ)
-    → Buffered start now [] text → after ≡ append_known now piece → waits ≡ [] → Buffered start after waits (text ++ piece)
+    → Buffered start now [] text → after ≡ append_known now piece → waits ≡ []
+    → Buffered start after waits (text ++ piece)
 piece_written start now after text piece waits so_far written none =
-    let more = all_written start now after piece (text ++ piece) (more_waits start now [] text piece so_far) written in
-    record { front = more.front; got = more.got; all = more.all ∙ ap (λ l. more.front ++ l) (sym none) }
+    let more = all_written start now after piece (text ++ piece)
+    (more_waits start now [] text piece so_far) written in
+    record {
+      front = more.front;
+      got = more.got;
+      all = more.all ∙ ap (λ l. more.front ++ l) (sym none);
+    }
 
 -- a piece behind a text that was written whole is written in part
 pub piece_prefix : (start now after : Option (List ℕ)) (text piece : List ℕ)
     → Buffered start now [] text → GotPrefix now after piece → GotPrefix start after (text ++ piece)
 piece_prefix start now after text piece so_far got =
-    prefix_written start now after piece (text ++ piece) (more_waits start now [] text piece so_far) got
+    prefix_written start now after piece (text ++ piece) (more_waits start now [] text piece so_far)
+    got

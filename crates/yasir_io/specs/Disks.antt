@@ -1,5 +1,5 @@
 -- A disk of two slots, and what a crash may leave of it.
-use Rattle.std.specs.Prelude.{◌≡◌, ℕ, ◌≤◌, ◌⊎◌, List, length, Option, Some}
+use Rattle.std.specs.Prelude.{◌≡◌, ℕ, ◌≤◌, ◌⊎◌, List, length, Option, Some, IsSomeAnd}
 use Rattle.yasir_io.specs.declared.disk.Slot.{Slot}
 use Rattle.yasir_io.specs.declared.disk.TheConstants.{SLOT_LEN}
 use Rattle.yasir_io.specs.declared.disk.Slot.TheVariants.{A, B}
@@ -34,6 +34,10 @@ Torn slot old new = (bytes : List ℕ) × (length bytes ≡ SLOT_LEN) × (new �
 abbrev pub Follows : (Slots → Slots → Type 0) → (Slots → Type 0) → (Slots → Type 0) → Type 0
 Follows step old new = (c : Slots) → new c → (d : Slots) × old d × step d c
 
+-- whatever the step makes of an old image is a new one
+abbrev pub Reaches : (Slots → Slots → Type 0) → (Slots → Type 0) → (Slots → Type 0) → Type 0
+Reaches step old new = (d : Slots) → old d → (c : Slots) → step d c → new c
+
 -- each new image is an old one
 abbrev pub NoMore : (Slots → Type 0) → (Slots → Type 0) → Type 0
 NoMore old new = (c : Slots) → new c → old c
@@ -42,14 +46,21 @@ NoMore old new = (c : Slots) → new c → old c
 abbrev pub OneImage : Option Slots → (Slots → Type 0) → Type 0
 OneImage told may_leave = (c : Slots) → may_leave c → told ≡ Some c
 
--- Time goes on: a crash since t might have left what it might have left before, or what it may leave now.
-pub record Elapses (before now : ℕ) (past since : ℕ → Slots → Type 0) (may_leave : Slots → Type 0) : Type 0 where
+-- where there was an image, the slots are told, and as they read they are one
+abbrev pub LeavesAsRead : (Slots → Type 0) → Option Slots → (Slots → Type 0) → Type 0
+LeavesAsRead old told new = (c : Slots) → old c → IsSomeAnd told new
+
+-- Time goes on: a crash since t might have left what it might have left before, or what it may
+-- leave now.
+pub record Elapses (before now : ℕ) (past since : ℕ → Slots → Type 0) (may_leave : Slots → Type 0) :
+    Type 0 where
   pub later : before ≤ now
   pub nothing_else : (t : ℕ) (c : Slots) → t ≤ before → since t c → past t c ⊎ may_leave c
   pub keeps : (t : ℕ) (c : Slots) → t ≤ before → past t c → since t c
 
 -- A crash at any moment since `old` leaves an image that has P.
-pub record LeavesOnly {D : Type 0} (moment : D → ℕ) (left_since : D → ℕ → Slots → Type 0) (old new : D) (P : Slots → Type 0) : Type 0 where
+pub record LeavesOnly {D : Type 0} (moment : D → ℕ) (left_since : D → ℕ → Slots → Type 0)
+    (old new : D) (P : Slots → Type 0) : Type 0 where
   pub later : moment old ≤ moment new
   pub each : (c : Slots) → left_since new (moment old) c → P c
   -- for a run that began earlier

@@ -1,14 +1,9 @@
 -- The faults of the readers, writers and files at the edge of the program.
-use Rattle.std.specs.Prelude.{ℕ, List, take, drop}
-use Rattle.yasir_io.specs.declared.edge.ReadAhead.{ReadAhead}
+use Rattle.std.specs.Prelude.{ℕ}
 use Rattle.yasir_io.specs.declared.edge.StdinSource.{StdinSource}
 use Rattle.yasir_io.specs.declared.edge.WriterSink.{WriterSink}
 use Rattle.yasir_io.specs.declared.files.FileSource.{FileSource}
 use Rattle.yasir_io.specs.declared.files.FileSlots.{FileSlots}
-
--- the bytes that were read ahead and not yet moved on
-abbrev pub bytes_ahead : ReadAhead → List ℕ
-bytes_ahead ahead = drop ahead.place (take ahead.end ahead.bytes)
 
 -- how often a read has failed
 abbrev pub reader_faults : {I : Type 0} → StdinSource I → ℕ

@@ -29,4 +29,5 @@ SinkFails sink = IsPlanned (sink_plan sink) (sink_calls sink)
 
 -- a write of the piece fails: its call is planned to, or the piece isn't empty and no room is left
 abbrev pub WriteFails : MemSink → List ℕ → Type 0
-WriteFails sink piece = SinkFails sink ⊎ ((0 < length piece) × (sink_room sink ≤ length (sink_bytes sink)))
+WriteFails sink piece = SinkFails sink ⊎ ((0 < length piece)
+    × (sink_room sink ≤ length (sink_bytes sink)))

@@ -17,10 +17,12 @@ abbrev pub is_written : Moment → Slot → Bool
 is_written moment A = moment.a_written
 is_written moment B = moment.b_written
 
--- What a crash at a moment may leave: any bytes in a slot that was written since the last sync, the other as it reads.
+-- What a crash at a moment may leave: any bytes in a slot that was written since the last sync, the
+-- other as it reads.
 pub record IsImage (moment : Moment) (image : Slots) : Type 0 where
   pub size : (slot : Slot) → length (slot_in image slot) ≡ SLOT_LEN
-  pub synced : (slot : Slot) → is_written moment slot ≡ false → slot_in image slot ≡ slot_in (slots_at moment) slot
+  pub synced : (slot : Slot) → is_written moment slot ≡ false
+      → slot_in image slot ≡ slot_in (slots_at moment) slot
 
 -- a crash at one of these moments may have left the image
 abbrev pub IsImageOfAny : List Moment → Slots → Type 0
@@ -53,7 +55,8 @@ MayAdd past moment new = (new ≡ past ++ moment ∷ []) ⊎ (new ≡ past)
 
 -- the next call fails: it is planned to, or no room is left for its record
 abbrev pub SlotsFail : MemSlots → Type 0
-SlotsFail disk = IsPlanned (slots_plan disk) (slots_calls disk) ⊎ (slots_room disk ≤ slots_recorded disk)
+SlotsFail disk = IsPlanned (slots_plan disk) (slots_calls disk)
+    ⊎ (slots_room disk ≤ slots_recorded disk)
 
 -- a crash now may leave the image
 abbrev pub MayLeave : MemSlots → Slots → Type 0

@@ -24,7 +24,8 @@ module _ {D : Type 0} (moment : D → ℕ) (left_since : D → ℕ → Slots →
 
   -- some calls, and then some more
   pub leaves_then : (old mid new : D) (P : Slots → Type 0)
-      → LeavesOnly moment left_since old mid P → LeavesOnly moment left_since mid new P → LeavesOnly moment left_since old new P
+      → LeavesOnly moment left_since old mid P → LeavesOnly moment left_since mid new P
+      → LeavesOnly moment left_since old new P
   leaves_then old mid new P first second =
       let later : moment old ≤ moment mid = first.later in
       record {
@@ -33,10 +34,11 @@ module _ {D : Type 0} (moment : D → ℕ) (left_since : D → ℕ → Slots →
           | inl past ↦ first.each c past
           | inr now ↦ now
         ];
-        before = λ t c le left. elim (second.before t c (omega (arith, le, later)) left) as (λ _. left_since old t c ⊎ P c) [
-          | inl past ↦ first.before t c le past
-          | inr now ↦ inr now
-        ];
+        before = λ t c le left. elim (second.before t c (omega (arith, le, later)) left)
+            as (λ _. left_since old t c ⊎ P c) [
+              | inl past ↦ first.before t c le past
+              | inr now ↦ inr now
+            ];
       }
 
   -- the same, of a weaker fact

@@ -13,7 +13,8 @@ pub type Plan = ArrayVec<u32, 8>;
 #[derive(Clone, Copy, Debug, PartialEq, Eq)]
 pub struct NoMemory;
 
-/// The calls made on an object in memory, of which a plan fails. The count stands still at its last value.
+/// The calls made on an object in memory, of which a plan fails. The count stands still at its last
+/// value.
 #[derive(Drop)]
 pub(crate) struct Calls {
     pub(crate) plan: Plan,

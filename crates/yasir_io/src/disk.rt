@@ -1,4 +1,5 @@
-ghost use Rattle.std.specs.Prelude.{◌≡◌, ℕ, ◌≤◌, Option, Some, option_map, OnOk, IfOk, OnErr, IfSome};
+ghost use Rattle.std.specs.Prelude.{◌≡◌, ℕ, ◌≤◌, Option, Some, option_map, OnOk, IfOk, OnErr};
+ghost use Rattle.std.specs.Prelude.{IfSome};
 ghost use Rattle.yasir_io.specs.Causes.{HasCause};
 
 use crate::Failed;
@@ -32,7 +33,8 @@ impl Slot {
 
 /// A disk of two slots.
 pub trait SlotDisk {
-    ghost use Rattle.yasir_io.specs.Disks.{Slots, slot_in, with_slot, Torn, Follows, NoMore, OneImage, Elapses};
+    ghost use Rattle.yasir_io.specs.Disks.{Slots, slot_in, with_slot, Torn, Follows, Reaches};
+    ghost use Rattle.yasir_io.specs.Disks.{NoMore, OneImage, LeavesAsRead, Elapses};
 
     /// The slots as a read gives them, where the disk tells them.
     ghost told: { Self → Option Slots };
@@ -50,34 +52,45 @@ pub trait SlotDisk {
     ghost faults: { Self → ℕ };
 
     fn read_slot(&mut self, slot: Slot) -> Result<SlotBytes, Failed>
-        ensures bytes { IfOk result (λ bytes. IfSome (told self.old) (λ slots. bytes ≡ slot_in slots slot)) }
+        ensures bytes { IfOk result (λ bytes. IfSome (told self.old)
+            (λ slots. bytes ≡ slot_in slots slot)) }
         ensures told { told self.new ≡ told self.old }
         ensures images { NoMore (may_leave self.old) (may_leave self.new) }
         ensures images_back { NoMore (may_leave self.new) (may_leave self.old) }
-        ensures time { Elapses (moment self.old) (moment self.new) (left_since self.old) (left_since self.new) (may_leave self.new) }
+        ensures time { Elapses (moment self.old) (moment self.new) (left_since self.old)
+            (left_since self.new) (may_leave self.new) }
         ensures cause { HasCause (faults self.old) (faults self.new) result };
 
     /// Sets a slot. After a failure it reads as before, but a crash may leave any bytes there.
     fn write_slot(&mut self, slot: Slot, bytes: &SlotBytes) -> Result<(), Failed>
-        ensures written { OnOk result (told self.new ≡ option_map (λ slots. with_slot slots slot bytes.now) (told self.old)) }
+        ensures written { OnOk result (told self.new
+            ≡ option_map (λ slots. with_slot slots slot bytes.now) (told self.old)) }
         ensures unwritten { OnErr result (told self.new ≡ told self.old) }
         ensures images { Follows (Torn slot) (may_leave self.old) (may_leave self.new) }
-        ensures time { Elapses (moment self.old) (moment self.new) (left_since self.old) (left_since self.new) (may_leave self.new) }
+        ensures images_back { Reaches (Torn slot) (may_leave self.old) (may_leave self.new) }
+        ensures time { Elapses (moment self.old) (moment self.new) (left_since self.old)
+            (left_since self.new) (may_leave self.new) }
         ensures cause { HasCause (faults self.old) (faults self.new) result };
 
     /// Makes what was written outlive a crash.
     fn sync(&mut self) -> Result<(), Failed>
         ensures durable { OnOk result (OneImage (told self.new) (may_leave self.new)) }
+        ensures as_read { OnOk result (LeavesAsRead (may_leave self.old) (told self.new)
+            (may_leave self.new)) }
         ensures told { told self.new ≡ told self.old }
         ensures images { NoMore (may_leave self.old) (may_leave self.new) }
         ensures images_back { OnErr result (NoMore (may_leave self.new) (may_leave self.old)) }
-        ensures time { Elapses (moment self.old) (moment self.new) (left_since self.old) (left_since self.new) (may_leave self.new) }
+        ensures time { Elapses (moment self.old) (moment self.new) (left_since self.old)
+            (left_since self.new) (may_leave self.new) }
         ensures cause { HasCause (faults self.old) (faults self.new) result };
 
     /// The slots as they read are one of the images, where there is any.
-    ghost reads_an_image: { (disk : Self) (s c : Slots) → told disk ≡ Some s → may_leave disk c → may_leave disk s };
+    ghost reads_an_image: { (disk : Self) (s c : Slots) → told disk ≡ Some s → may_leave disk c
+        → may_leave disk s };
 
-    ghost counts_now: { (disk : Self) (t : ℕ) (c : Slots) → t ≤ moment disk → may_leave disk c → left_since disk t c };
+    ghost counts_now: { (disk : Self) (t : ℕ) (c : Slots) → t ≤ moment disk → may_leave disk c
+        → left_since disk t c };
 
-    ghost only_now: { (disk : Self) (c : Slots) → left_since disk (moment disk) c → may_leave disk c };
+    ghost only_now: { (disk : Self) (c : Slots) → left_since disk (moment disk) c
+        → may_leave disk c };
 }

@@ -1,50 +1,20 @@
-//! The edge of the program: the runtime's readers and writers. What they move isn't told; their faults are counted.
+//! The edge of the program: the runtime's readers and writers. What they move isn't told; their
+//! faults are counted.
 ghost use Rattle.std.specs.Prelude.{◌≡◌, ◌≤◌, None};
 
 use crate::faults::Faults;
 use crate::{Failed, Sink, Source};
 use std::io::{Read, Write};
 
-/// How many bytes of a reader are read at most in one call of it.
-const READ_LEN: usize = 16_384;
-
-/// Bytes that were read ahead.
-#[derive(Drop)]
-struct ReadAhead {
-    bytes: [u8; READ_LEN],
-    place: usize,
-    end: usize,
-    ghost ordered: { place ≤ end },
-    ghost within: { end ≤ 16384 },
-}
-
-/// A reader, as standard input, as a source. It reads more at once than a source is asked for, so that there are few calls of the system.
+/// A reader, as standard input, as a source. It is read where the source is, so a caller with few
+/// bytes of room makes many calls of the system.
 #[derive(Drop)]
 pub struct StdinSource<I: Read + Drop> {
     reader: I,
     faults: Faults,
-    ahead: ReadAhead,
-}
-
-impl ReadAhead {
-    ghost use Rattle.std.specs.Prelude.{◌≡◌, ◌≤◌, min, take, drop, length};
-    ghost use Rattle.yasir_io.specs.Edge.{bytes_ahead};
-
-    // Moves the first bytes into the front of `buf`, and answers how many: all of them, unless `buf` is too short.
-    fn move_into(&mut self, buf: &mut [u8; 512]) -> usize
-        ensures count { result ≡ min (length (bytes_ahead self.old)) 512 }
-        ensures moved { take result buf.new ≡ take result (bytes_ahead self.old) }
-        ensures left { bytes_ahead self.new ≡ drop result (bytes_ahead self.old) }
-    {
-        let n = (self.end - self.place).min(buf.len());
-        buf[..n].copy_from_slice(&self.bytes[self.place..self.place + n]);
-        self.place += n;
-        n
-    }
 }
 
 impl<I: Read + Drop> StdinSource<I> {
-    ghost use Rattle.yasir_io.specs.Causes.{HasCause};
     ghost use Rattle.yasir_io.specs.Edge.{reader_faults};
 
     /// A source of what the reader gives.
@@ -54,28 +24,6 @@ impl<I: Read + Drop> StdinSource<I> {
         StdinSource {
             reader,
             faults: Faults::none(),
-            ahead: ReadAhead {
-                bytes: [0; READ_LEN],
-                place: 0,
-                end: 0,
-            },
-        }
-    }
-
-    // Reads where nothing is kept.
-    fn fill(&mut self) -> Result<(), Failed>
-        ensures { HasCause (reader_faults self.old) (reader_faults self.new) result }
-    {
-        if self.ahead.place < self.ahead.end {
-            return Ok(());
-        }
-        match self.reader.read(&mut self.ahead.bytes) {
-            Ok(n) => {
-                self.ahead.place = 0;
-                self.ahead.end = n;
-                Ok(())
-            }
-            Err(_) => Err(self.faults.add()),
         }
     }
 }
@@ -87,9 +35,11 @@ impl<I: Read + Drop> Source for StdinSource<I> {
 
     ghost faults = { λ source. reader_faults source };
 
-    fn read(&mut self, buf: &mut [u8; 512]) -> Result<usize, Failed> {
-        self.fill()?;
-        Ok(self.ahead.move_into(buf))
+    fn read(&mut self, buf: &mut [u8]) -> Result<usize, Failed> {
+        match self.reader.read(buf) {
+            Ok(n) => Ok(n),
+            Err(_) => Err(self.faults.add()),
+        }
     }
 }
 

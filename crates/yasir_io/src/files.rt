@@ -1,4 +1,5 @@
-//! Real files as a source and as a disk, opened at the first call. What stands in them isn't told; faults are counted.
+//! Real files as a source and as a disk, opened at the first call. What stands in them isn't told;
+//! faults are counted.
 ghost use Rattle.std.specs.Prelude.{◌≡◌, None};
 ghost use Rattle.std.specs.Io.{ReadsAtMost};
 ghost use Rattle.yasir_io.specs.Edge.{file_faults, slots_faults};
@@ -57,7 +58,7 @@ impl<'a, R: Files> FileSource<'a, R> {
     }
 }
 
-fn read_file<R: Files>(file: &mut LazyFile<'_, R>, buf: &mut [u8; 512]) -> io::Result<usize>
+fn read_file<R: Files>(file: &mut LazyFile<'_, R>, buf: &mut [u8]) -> io::Result<usize>
     ensures { ReadsAtMost result buf.new }
 {
     match file.open(OpenOptions::new().read(true)) {
@@ -71,7 +72,7 @@ impl<'a, R: Files> Source for FileSource<'a, R> {
 
     ghost faults = { λ source. file_faults source };
 
-    fn read(&mut self, buf: &mut [u8; 512]) -> Result<usize, Failed> {
+    fn read(&mut self, buf: &mut [u8]) -> Result<usize, Failed> {
         match read_file(&mut self.file, buf) {
             Ok(n) => Ok(n),
             Err(_) => Err(self.faults.add()),
@@ -79,8 +80,8 @@ impl<'a, R: Files> Source for FileSource<'a, R> {
     }
 }
 
-/// A file as a disk: slot A in bytes 0 to 15, slot B in bytes 16 to 31. Bytes past the end of the file read as 0.
-/// No path, a file that can't be opened, and a write cut short are faults.
+/// A file as a disk: slot A in bytes 0 to 15, slot B in bytes 16 to 31. Bytes past the end of the
+/// file read as 0. No path, a file that can't be opened, and a write cut short are faults.
 #[derive(Drop)]
 pub struct FileSlots<'a, R: Files> {
     file: LazyFile<'a, R>,
@@ -89,7 +90,8 @@ pub struct FileSlots<'a, R: Files> {
 }
 
 impl<'a, R: Files> FileSlots<'a, R> {
-    /// A disk in the file at a path, which isn't opened yet. A missing file is made where `create` says so.
+    /// A disk in the file at a path, which isn't opened yet. A missing file is made where `create`
+    /// says so.
     pub fn new(rt: &'a R, path: Option<String>, create: bool) -> FileSlots<'a, R>
         ensures { slots_faults result ≡ 0 }
     {

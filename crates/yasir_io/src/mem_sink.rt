@@ -18,10 +18,11 @@ pub struct MemSink {
 
 impl MemSink {
     ghost use Rattle.std.specs.Prelude.{◌≡◌, ◌≤◌, [], IfOk};
-    ghost use Rattle.yasir_io.specs.MemSink.{sink_bytes, sink_room, sink_plan, sink_calls, sink_piece};
+    ghost use Rattle.yasir_io.specs.MemSink.{sink_bytes, sink_room, sink_plan, sink_calls};
+    ghost use Rattle.yasir_io.specs.MemSink.{sink_piece};
 
-    /// An empty sink with room for so many bytes, which is taken at once. A call moves at most `piece` bytes;
-    /// those in `fail`, counted from 1, fail.
+    /// An empty sink with room for so many bytes, which is taken at once. A call moves at most
+    /// `piece` bytes; those in `fail`, counted from 1, fail.
     pub fn with_room(
         alloc: Global,
         room: usize,
@@ -56,10 +57,12 @@ impl MemSink {
 }
 
 impl Sink for MemSink {
-    ghost use Rattle.std.specs.Prelude.{◌≡◌, ◌+◌, ◌-◌, ◌^◌, ◌<◌, ◌≤◌, ◌↔◌, min, take, length, Some, IsErr, IfOk, OnErr};
+    ghost use Rattle.std.specs.Prelude.{◌≡◌, ◌+◌, ◌-◌, ◌^◌, ◌<◌, ◌≤◌, ◌↔◌, min, take, length, Some};
+    ghost use Rattle.std.specs.Prelude.{IsErr, IfOk, OnErr};
     ghost use Rattle.std.specs.Io.KnownBytes.{append_known};
     ghost use Rattle.yasir_io.specs.Causes.{HasCause};
-    ghost use Rattle.yasir_io.specs.MemSink.{sink_bytes, sink_room, sink_plan, sink_calls, sink_piece, SinkFails, WriteFails};
+    ghost use Rattle.yasir_io.specs.MemSink.{sink_bytes, sink_room, sink_plan, sink_calls};
+    ghost use Rattle.yasir_io.specs.MemSink.{sink_piece, SinkFails, WriteFails};
 
     ghost held = { λ sink. Some (sink_bytes sink) };
 
@@ -68,13 +71,17 @@ impl Sink for MemSink {
     fn write(&mut self, piece: &[u8]) -> Result<usize, Failed>
         ensures within { IfOk result (λ n. n ≤ length piece.now) }
         ensures some { IfOk result (λ n. 0 < length piece.now → 0 < n) }
-        ensures bytes { IfOk result (λ n. Some (sink_bytes self.new) ≡ append_known (Some (sink_bytes self.old)) (take n piece.now)) }
+        ensures bytes { IfOk result (λ n. Some (sink_bytes self.new)
+            ≡ append_known (Some (sink_bytes self.old)) (take n piece.now)) }
         ensures err { OnErr result (Some (sink_bytes self.new) ≡ Some (sink_bytes self.old)) }
         ensures cause { HasCause self.old.calls.faults.count self.new.calls.faults.count result }
 
-        // Exactly a planned call fails, and one that finds no room; any other moves as much as it may.
+        // Exactly a planned call fails, and one that finds no room; any other moves as much as it
+        // may.
         ensures fails { IsErr result ↔ WriteFails self.old piece.now }
-        ensures size { IfOk result (λ n. n ≡ min (min (length piece.now) (sink_piece self.old)) (sink_room self.old - length (sink_bytes self.old))) }
+        ensures size { IfOk result (λ n. n
+            ≡ min (min (length piece.now) (sink_piece self.old))
+            (sink_room self.old - length (sink_bytes self.old))) }
         ensures calls { sink_calls self.new ≡ min (sink_calls self.old + 1) (2 ^ 64 - 1) }
         ensures plan { sink_plan self.new ≡ sink_plan self.old }
         ensures piece { sink_piece self.new ≡ sink_piece self.old }

@@ -16,8 +16,8 @@ pub(crate) struct Moment {
     ghost b_size: { length b ≡ SLOT_LEN },
 }
 
-/// A disk in memory, which fails at chosen calls. It keeps a record of its calls, and so tells what a crash at any
-/// moment of them might have left.
+/// A disk in memory, which fails at chosen calls. It keeps a record of its calls, and so tells what
+/// a crash at any moment of them might have left.
 #[derive(Drop)]
 pub struct MemSlots {
     present: Moment,
@@ -57,7 +57,8 @@ impl Moment {
     fn mark(&mut self, which: Slot)
         ensures slots { slots_at self.new ≡ slots_at self.old }
         ensures marked { is_written self.new which ≡ true }
-        ensures other { is_written self.new (other_slot which) ≡ is_written self.old (other_slot which) }
+        ensures other { is_written self.new (other_slot which)
+            ≡ is_written self.old (other_slot which) }
     {
         match which {
             Slot::A => self.a_written = true,
@@ -75,13 +76,15 @@ impl Moment {
 }
 
 impl MemSlots {
-    ghost use Rattle.std.specs.Prelude.{◌≡◌, ◌+◌, ◌-◌, ◌^◌, ◌<◌, ◌≤◌, ◌↔◌, [], ◌∷◌, ◌++◌, min, Some, IfOk, OnOk, IsErr, IsTrue, if◌then◌else◌};
+    ghost use Rattle.std.specs.Prelude.{◌≡◌, ◌+◌, ◌-◌, ◌^◌, ◌<◌, ◌≤◌, ◌↔◌, [], ◌∷◌, ◌++◌, min};
+    ghost use Rattle.std.specs.Prelude.{Some, IfOk, OnOk, IsErr, IsTrue, if◌then◌else◌};
     ghost use Rattle.yasir_io.specs.Causes.{HasCause};
     ghost use Rattle.yasir_io.specs.Disks.{slot_in, OneImage};
-    ghost use Rattle.yasir_io.specs.MemSlots.{mem_slots, slots_plan, slots_calls, slots_room, slots_recorded, MayAdd, MayLeave, SlotsFail};
+    ghost use Rattle.yasir_io.specs.MemSlots.{mem_slots, slots_plan, slots_calls, slots_room};
+    ghost use Rattle.yasir_io.specs.MemSlots.{slots_recorded, MayAdd, MayLeave, SlotsFail};
 
-    /// A disk with these slots, both synced, and room to record so many calls, which is taken at once.
-    /// The calls in `fail`, counted from 1, fail, and so does each one past `calls`.
+    /// A disk with these slots, both synced, and room to record so many calls, which is taken at
+    /// once. The calls in `fail`, counted from 1, fail, and so does each one past `calls`.
     pub fn with_room(
         alloc: Global,
         a: SlotBytes,
@@ -119,11 +122,15 @@ impl MemSlots {
         self.present.slot(which)
     }
 
-    // Records a call and counts it. It fails where it is planned to, or where its record finds no room.
+    // Records a call and counts it. It fails where it is planned to, or where its record finds no
+    // room.
     fn begin(&mut self) -> Result<(), Failed>
         ensures present { self.new.present ≡ self.old.present }
-        ensures recorded { OnOk result (self.new.past.items ≡ self.old.past.items ++ self.old.present ∷ []) }
+        ensures recorded { OnOk result (self.new.past.items
+            ≡ self.old.past.items ++ self.old.present ∷ []) }
         ensures may_add { MayAdd self.old.past.items self.old.present self.new.past.items }
+        ensures count { slots_recorded self.new
+            ≡ min (slots_recorded self.old + 1) (slots_room self.old) }
         ensures fails { IsErr result ↔ SlotsFail self.old }
         ensures calls { slots_calls self.new ≡ min (slots_calls self.old + 1) (2 ^ 64 - 1) }
         ensures plan { slots_plan self.new ≡ slots_plan self.old }
@@ -144,7 +151,11 @@ impl MemSlots {
         ensures calls { self.new.calls ≡ self.old.calls }
         ensures room { self.new.room ≡ self.old.room }
         ensures full { IsTrue result ↔ (slots_recorded self.old < slots_room self.old) }
-        ensures past { self.new.past.items ≡ (if result then self.old.past.items ++ self.old.present ∷ [] else self.old.past.items) }
+        ensures count { slots_recorded self.new
+            ≡ min (slots_recorded self.old + 1) (slots_room self.old) }
+        ensures past { self.new.past.items
+            ≡ (if result then self.old.past.items ++ self.old.present ∷ []
+            else self.old.past.items) }
     {
         if self.past.len() >= self.room {
             return false;
@@ -155,11 +166,14 @@ impl MemSlots {
 }
 
 impl SlotDisk for MemSlots {
-    ghost use Rattle.std.specs.Prelude.{◌≡◌, ◌+◌, ◌-◌, ◌^◌, ◌≤◌, ◌↔◌, min, length, Some, option_map, IsErr, IfOk, IfSome, OnOk, OnErr};
+    ghost use Rattle.std.specs.Prelude.{◌≡◌, ◌+◌, ◌-◌, ◌^◌, ◌≤◌, ◌↔◌, min, length, Some};
+    ghost use Rattle.std.specs.Prelude.{option_map, IsErr, IfOk, IfSome, OnOk, OnErr};
     ghost use Rattle.std.proofs.Common.{inl};
     ghost use Rattle.yasir_io.specs.Causes.{HasCause};
-    ghost use Rattle.yasir_io.specs.Disks.{slot_in, with_slot, Torn, Follows, NoMore, OneImage, Elapses};
-    ghost use Rattle.yasir_io.specs.MemSlots.{mem_slots, MayLeave, LeftSince, slots_plan, slots_calls, slots_room, slots_recorded, SlotsFail};
+    ghost use Rattle.yasir_io.specs.Disks.{slot_in, with_slot, Torn, Follows, Reaches, NoMore};
+    ghost use Rattle.yasir_io.specs.Disks.{OneImage, LeavesAsRead, Elapses};
+    ghost use Rattle.yasir_io.specs.MemSlots.{mem_slots, MayLeave, LeftSince, slots_plan};
+    ghost use Rattle.yasir_io.specs.MemSlots.{slots_calls, slots_room, slots_recorded, SlotsFail};
     ghost use Rattle.yasir_io.specs.MemSlotsLaws.{reads_an_image_law, only_now_law};
 
     ghost told = { λ disk. Some (mem_slots disk) };
@@ -179,35 +193,42 @@ impl SlotDisk for MemSlots {
     ghost only_now = { λ disk c left. only_now_law disk c left };
 
     fn read_slot(&mut self, slot: Slot) -> Result<SlotBytes, Failed>
-        ensures bytes { IfOk result (λ bytes. IfSome (Some (mem_slots self.old)) (λ slots. bytes ≡ slot_in slots slot)) }
+        ensures bytes { IfOk result (λ bytes. IfSome (Some (mem_slots self.old))
+            (λ slots. bytes ≡ slot_in slots slot)) }
         ensures told { Some (mem_slots self.new) ≡ Some (mem_slots self.old) }
         ensures images { NoMore (MayLeave self.old) (MayLeave self.new) }
         ensures images_back { NoMore (MayLeave self.new) (MayLeave self.old) }
-        ensures time { Elapses (slots_recorded self.old) (slots_recorded self.new) (LeftSince self.old) (LeftSince self.new) (MayLeave self.new) }
+        ensures time { Elapses (slots_recorded self.old) (slots_recorded self.new)
+            (LeftSince self.old) (LeftSince self.new) (MayLeave self.new) }
         ensures cause { HasCause self.old.calls.faults.count self.new.calls.faults.count result }
 
         ensures fails { IsErr result ↔ SlotsFail self.old }
         ensures calls { slots_calls self.new ≡ min (slots_calls self.old + 1) (2 ^ 64 - 1) }
         ensures plan { slots_plan self.new ≡ slots_plan self.old }
         ensures room { slots_room self.new ≡ slots_room self.old }
-        ensures recorded { OnOk result (slots_recorded self.new ≡ slots_recorded self.old + 1) }
+        ensures recorded { slots_recorded self.new
+            ≡ min (slots_recorded self.old + 1) (slots_room self.old) }
     {
         self.begin()?;
         Ok(self.slot(slot))
     }
 
     fn write_slot(&mut self, slot: Slot, bytes: &SlotBytes) -> Result<(), Failed>
-        ensures written { OnOk result (Some (mem_slots self.new) ≡ option_map (λ slots. with_slot slots slot bytes.now) (Some (mem_slots self.old))) }
+        ensures written { OnOk result (Some (mem_slots self.new)
+            ≡ option_map (λ slots. with_slot slots slot bytes.now) (Some (mem_slots self.old))) }
         ensures unwritten { OnErr result (Some (mem_slots self.new) ≡ Some (mem_slots self.old)) }
         ensures images { Follows (Torn slot) (MayLeave self.old) (MayLeave self.new) }
-        ensures time { Elapses (slots_recorded self.old) (slots_recorded self.new) (LeftSince self.old) (LeftSince self.new) (MayLeave self.new) }
+        ensures images_back { Reaches (Torn slot) (MayLeave self.old) (MayLeave self.new) }
+        ensures time { Elapses (slots_recorded self.old) (slots_recorded self.new)
+            (LeftSince self.old) (LeftSince self.new) (MayLeave self.new) }
         ensures cause { HasCause self.old.calls.faults.count self.new.calls.faults.count result }
 
         ensures fails { IsErr result ↔ SlotsFail self.old }
         ensures calls { slots_calls self.new ≡ min (slots_calls self.old + 1) (2 ^ 64 - 1) }
         ensures plan { slots_plan self.new ≡ slots_plan self.old }
         ensures room { slots_room self.new ≡ slots_room self.old }
-        ensures recorded { OnOk result (slots_recorded self.new ≡ slots_recorded self.old + 1) }
+        ensures recorded { slots_recorded self.new
+            ≡ min (slots_recorded self.old + 1) (slots_room self.old) }
     {
         let begun = self.begin();
         self.present.mark(slot);
@@ -218,17 +239,21 @@ impl SlotDisk for MemSlots {
 
     fn sync(&mut self) -> Result<(), Failed>
         ensures durable { OnOk result (OneImage (Some (mem_slots self.new)) (MayLeave self.new)) }
+        ensures as_read { OnOk result (LeavesAsRead (MayLeave self.old) (Some (mem_slots self.new))
+            (MayLeave self.new)) }
         ensures told { Some (mem_slots self.new) ≡ Some (mem_slots self.old) }
         ensures images { NoMore (MayLeave self.old) (MayLeave self.new) }
         ensures images_back { OnErr result (NoMore (MayLeave self.new) (MayLeave self.old)) }
-        ensures time { Elapses (slots_recorded self.old) (slots_recorded self.new) (LeftSince self.old) (LeftSince self.new) (MayLeave self.new) }
+        ensures time { Elapses (slots_recorded self.old) (slots_recorded self.new)
+            (LeftSince self.old) (LeftSince self.new) (MayLeave self.new) }
         ensures cause { HasCause self.old.calls.faults.count self.new.calls.faults.count result }
 
         ensures fails { IsErr result ↔ SlotsFail self.old }
         ensures calls { slots_calls self.new ≡ min (slots_calls self.old + 1) (2 ^ 64 - 1) }
         ensures plan { slots_plan self.new ≡ slots_plan self.old }
         ensures room { slots_room self.new ≡ slots_room self.old }
-        ensures recorded { OnOk result (slots_recorded self.new ≡ slots_recorded self.old + 1) }
+        ensures recorded { slots_recorded self.new
+            ≡ min (slots_recorded self.old + 1) (slots_room self.old) }
     {
         self.begin()?;
         self.present.settle();

@@ -15,9 +15,11 @@ pub struct MemSource<'a> {
 
 impl<'a> MemSource<'a> {
     ghost use Rattle.std.specs.Prelude.{◌≡◌, ◌≤◌};
-    ghost use Rattle.yasir_io.specs.MemSource.{source_bytes, source_plan, source_calls, source_piece};
+    ghost use Rattle.yasir_io.specs.MemSource.{source_bytes, source_plan, source_calls};
+    ghost use Rattle.yasir_io.specs.MemSource.{source_piece};
 
-    /// A source of these bytes. A call moves at most `piece` of them; those in `fail`, counted from 1, fail.
+    /// A source of these bytes. A call moves at most `piece` of them; those in `fail`, counted from
+    /// 1, fail.
     pub fn new(bytes: &'a [u8], piece: u16, fail: Plan) -> MemSource<'a>
         requires some { 1 ≤ piece }
         requires within { piece ≤ 512 }
@@ -35,31 +37,36 @@ impl<'a> MemSource<'a> {
 }
 
 impl<'a> Source for MemSource<'a> {
-    ghost use Rattle.std.specs.Prelude.{◌≡◌, ◌+◌, ◌-◌, ◌^◌, ◌≤◌, ◌↔◌, min, take, length, Some, IsErr, IfOk, OnErr};
+    ghost use Rattle.std.specs.Prelude.{◌≡◌, ◌+◌, ◌-◌, ◌^◌, ◌<◌, ◌≤◌, ◌↔◌, min, take, length, Some};
+    ghost use Rattle.std.specs.Prelude.{IsErr, IfOk, OnErr};
     ghost use Rattle.std.specs.Io.KnownBytes.{prepend_known, IsAtEnd};
     ghost use Rattle.yasir_io.specs.Causes.{HasCause};
-    ghost use Rattle.yasir_io.specs.MemSource.{source_bytes, source_plan, source_calls, source_piece, SourceFails};
+    ghost use Rattle.yasir_io.specs.MemSource.{source_bytes, source_plan, source_calls};
+    ghost use Rattle.yasir_io.specs.MemSource.{source_piece, SourceFails};
 
     ghost left = { λ source. Some (source_bytes source) };
 
     ghost faults = { λ source. source.calls.faults.count };
 
-    fn read(&mut self, buf: &mut [u8; 512]) -> Result<usize, Failed>
-        ensures within { IfOk result (λ n. n ≤ 512) }
-        ensures bytes { IfOk result (λ n. Some (source_bytes self.old) ≡ prepend_known (take n buf.new) (Some (source_bytes self.new))) }
-        ensures end { IfOk result (λ n. n ≡ 0 → IsAtEnd (Some (source_bytes self.new))) }
+    fn read(&mut self, buf: &mut [u8]) -> Result<usize, Failed>
+        ensures within { IfOk result (λ n. n ≤ length buf.new) }
+        ensures bytes { IfOk result (λ n. Some (source_bytes self.old)
+            ≡ prepend_known (take n buf.new) (Some (source_bytes self.new))) }
+        ensures end { IfOk result (λ n. n ≡ 0 → 0 < length buf.new
+            → IsAtEnd (Some (source_bytes self.new))) }
         ensures err { OnErr result (Some (source_bytes self.new) ≡ Some (source_bytes self.old)) }
         ensures cause { HasCause self.old.calls.faults.count self.new.calls.faults.count result }
 
         // Exactly the planned calls fail, and any other moves as much as it may.
         ensures fails { IsErr result ↔ SourceFails self.old }
-        ensures size { IfOk result (λ n. n ≡ min (length (source_bytes self.old)) (source_piece self.old)) }
+        ensures size { IfOk result (λ n. n
+            ≡ min (min (length (source_bytes self.old)) (source_piece self.old)) (length buf.new)) }
         ensures calls { source_calls self.new ≡ min (source_calls self.old + 1) (2 ^ 64 - 1) }
         ensures plan { source_plan self.new ≡ source_plan self.old }
         ensures piece { source_piece self.new ≡ source_piece self.old }
     {
         self.calls.begin()?;
-        let n = self.bytes.len().min(self.piece);
+        let n = self.bytes.len().min(self.piece).min(buf.len());
         let (front, rest) = self.bytes.split_at(n);
         buf[..n].copy_from_slice(front);
         self.bytes = rest;

@@ -1,20 +1,26 @@
 ghost use Rattle.std.specs.Prelude.{◌≤◌};
+ghost use Rattle.yasir_io.specs.declared.pieces.TheConstants.{PIECE_LEN};
 
 use crate::{Failed, Source};
 
-/// The bytes of one source, one after the other; it reads them in pieces.
+/// How many bytes are read at most at once.
+const PIECE_LEN: usize = 16_384;
+
+/// The bytes of one source, one after the other; it reads them in pieces, so that there are few
+/// calls of the source.
 #[derive(Drop)]
 pub struct Pieces {
-    bytes: [u8; 512],
+    bytes: [u8; PIECE_LEN],
     place: usize,
     end: usize,
     ended: bool,
     ghost ordered: { place ≤ end },
-    ghost within: { end ≤ 512 },
+    ghost within: { end ≤ PIECE_LEN },
 }
 
 impl Pieces {
-    ghost use Rattle.std.specs.Prelude.{◌≡◌, ◌<◌, List, ℕ, [], ◌∷◌, length, take, drop, true, false, Ok, None, Some, OnErr, OnSome, IfOk};
+    ghost use Rattle.std.specs.Prelude.{◌≡◌, ◌<◌, List, ℕ, [], ◌∷◌, length, take, drop, true};
+    ghost use Rattle.std.specs.Prelude.{false, Ok, None, Some, OnErr, OnSome, IfOk};
     ghost use Rattle.std.specs.Option.{option_to_list};
     ghost use Rattle.std.specs.Io.KnownBytes.{prepend_known, IsAtEnd};
     ghost use Rattle.yasir_io.specs.Causes.{HasCause};
@@ -26,27 +32,30 @@ impl Pieces {
         ensures ended { has_ended result ≡ false }
     {
         Pieces {
-            bytes: [0; 512],
+            bytes: [0; PIECE_LEN],
             place: 0,
             end: 0,
             ended: false,
         }
     }
 
-    /// The next byte. None comes once nothing is kept and a read has answered 0, and from then on always.
+    /// The next byte. None comes once nothing is kept and a read has answered 0, and from then on
+    /// always.
     #[inline]
     pub fn next<S: Source>(&mut self, source: &mut S) -> Result<Option<u8>, Failed>
         // Each byte comes once, in its order, and none is lost.
         ensures next { IfOk result (λ next. to_come self.old (S.left source.old)
             ≡ prepend_known (option_to_list next) (to_come self.new (S.left source.new))) }
-        ensures err { OnErr result (to_come self.new (S.left source.new) ≡ to_come self.old (S.left source.old)) }
+        ensures err { OnErr result (to_come self.new (S.left source.new)
+            ≡ to_come self.old (S.left source.old)) }
 
         // A byte that is kept is answered without a read.
         ensures kept { (b : ℕ) (rest : List ℕ) → kept_bytes self.old ≡ b ∷ rest
             → (result ≡ Ok (Some b)) × (kept_bytes self.new ≡ rest) × (source.new ≡ source.old) }
 
         // Only the end ends it.
-        ensures still_open { IfOk result (λ next. OnSome next (has_ended self.new ≡ has_ended self.old)) }
+        ensures still_open { IfOk result
+            (λ next. OnSome next (has_ended self.new ≡ has_ended self.old)) }
         ensures err_open { OnErr result (has_ended self.new ≡ has_ended self.old) }
 
         // A read fails only where nothing is kept.
@@ -54,7 +63,8 @@ impl Pieces {
 
         // The end, and after it.
         ensures end { result ≡ Ok None → (has_ended self.new ≡ true) × (kept_bytes self.new ≡ []) }
-        ensures nothing_left { result ≡ Ok None → has_ended self.old ≡ false → IsAtEnd (S.left source.new) }
+        ensures nothing_left { result ≡ Ok None → has_ended self.old ≡ false
+            → IsAtEnd (S.left source.new) }
         ensures for_good { has_ended self.old ≡ true → kept_bytes self.old ≡ []
             → (result ≡ Ok None) × (self.new ≡ self.old) × (source.new ≡ source.old) }
 
@@ -75,12 +85,15 @@ impl Pieces {
         ensures next { IfOk result (λ next. S.left source.old
             ≡ prepend_known (option_to_list next) (to_come self.new (S.left source.new))) }
         ensures err { OnErr result (to_come self.new (S.left source.new) ≡ S.left source.old) }
-        ensures still_open { IfOk result (λ next. OnSome next (has_ended self.new ≡ has_ended self.old)) }
+        ensures still_open { IfOk result
+            (λ next. OnSome next (has_ended self.new ≡ has_ended self.old)) }
         ensures err_open { OnErr result (has_ended self.new ≡ has_ended self.old) }
         ensures err_kept { OnErr result (kept_bytes self.new ≡ []) }
         ensures end { result ≡ Ok None → (has_ended self.new ≡ true) × (kept_bytes self.new ≡ []) }
-        ensures nothing_left { result ≡ Ok None → has_ended self.old ≡ false → IsAtEnd (S.left source.new) }
-        ensures for_good { has_ended self.old ≡ true → (result ≡ Ok None) × (self.new ≡ self.old) × (source.new ≡ source.old) }
+        ensures nothing_left { result ≡ Ok None → has_ended self.old ≡ false
+            → IsAtEnd (S.left source.new) }
+        ensures for_good { has_ended self.old ≡ true
+            → (result ≡ Ok None) × (self.new ≡ self.old) × (source.new ≡ source.old) }
         ensures cause { HasCause (S.faults source.old) (S.faults source.new) result }
     {
         if !self.fill(source)? {
@@ -109,14 +122,16 @@ impl Pieces {
         self.place += n;
     }
 
-    /// Reads where nothing is kept. Answers whether a byte is kept then; none is once a read has answered 0, and from then on always.
+    /// Reads where nothing is kept. Answers whether a byte is kept then; none is once a read has
+    /// answered 0, and from then on always.
     pub fn fill<S: Source>(&mut self, source: &mut S) -> Result<bool, Failed>
         // No byte is lost.
         ensures same { to_come self.new (S.left source.new) ≡ to_come self.old (S.left source.old) }
         ensures some { result ≡ Ok true → 0 < length (kept_bytes self.new) }
 
         // Where a byte is kept nothing is read.
-        ensures kept { 0 < length (kept_bytes self.old) → (result ≡ Ok true) × (self.new ≡ self.old) × (source.new ≡ source.old) }
+        ensures kept { 0 < length (kept_bytes self.old)
+            → (result ≡ Ok true) × (self.new ≡ self.old) × (source.new ≡ source.old) }
 
         // Only the end ends it.
         ensures still_open { result ≡ Ok true → has_ended self.new ≡ has_ended self.old }
@@ -127,7 +142,8 @@ impl Pieces {
 
         // The end, and after it.
         ensures end { result ≡ Ok false → (has_ended self.new ≡ true) × (kept_bytes self.new ≡ []) }
-        ensures nothing_left { result ≡ Ok false → has_ended self.old ≡ false → IsAtEnd (S.left source.new) }
+        ensures nothing_left { result ≡ Ok false → has_ended self.old ≡ false
+            → IsAtEnd (S.left source.new) }
         ensures for_good { has_ended self.old ≡ true → kept_bytes self.old ≡ []
             → (result ≡ Ok false) × (self.new ≡ self.old) × (source.new ≡ source.old) }
 
@@ -150,7 +166,7 @@ impl Pieces {
 
     // Keeps the first bytes of what was read.
     fn keep(&mut self, n: usize)
-        requires { n ≤ 512 }
+        requires { n ≤ PIECE_LEN }
         ensures kept { kept_bytes self.new ≡ take n self.old.bytes }
         ensures count { length (kept_bytes self.new) ≡ n }
         ensures ended { has_ended self.new ≡ has_ended self.old }

@@ -1,4 +1,5 @@
-ghost use Rattle.std.specs.Prelude.{◌≡◌, ℕ, ◌≤◌, ◌<◌, Option, List, take, length, IfOk, OnOk, OnErr};
+ghost use Rattle.std.specs.Prelude.{◌≡◌, ℕ, ◌≤◌, ◌<◌, Option, List, take, length, IfOk, OnOk};
+ghost use Rattle.std.specs.Prelude.{OnErr};
 ghost use Rattle.std.specs.Io.KnownBytes.{append_known};
 ghost use Rattle.yasir_io.specs.Causes.{HasCause};
 ghost use Rattle.yasir_io.specs.Output.{GotPrefix};
@@ -13,11 +14,13 @@ pub trait Sink {
     /// How often a write or a flush has failed.
     ghost faults: { Self → ℕ };
 
-    /// Appends the first bytes of the piece, and answers how many: at least one, unless the piece is empty.
+    /// Appends the first bytes of the piece, and answers how many: at least one, unless the piece
+    /// is empty.
     fn write(&mut self, piece: &[u8]) -> Result<usize, Failed>
         ensures within { IfOk result (λ n. n ≤ length piece.now) }
         ensures some { IfOk result (λ n. 0 < length piece.now → 0 < n) }
-        ensures bytes { IfOk result (λ n. held self.new ≡ append_known (held self.old) (take n piece.now)) }
+        ensures bytes { IfOk result (λ n. held self.new
+            ≡ append_known (held self.old) (take n piece.now)) }
         ensures err { OnErr result (held self.new ≡ held self.old) }
         ensures cause { HasCause (faults self.old) (faults self.new) result };
 

@@ -4,7 +4,7 @@ ghost use Rattle.yasir_io.specs.Causes.{HasCause};
 
 use crate::Failed;
 
-/// Where bytes come from, at most 512 a call.
+/// Where bytes come from.
 pub trait Source {
     /// The bytes that are left, where the source tells them.
     ghost left: { Self → Option (List ℕ) };
@@ -12,11 +12,13 @@ pub trait Source {
     /// How often a read has failed.
     ghost faults: { Self → ℕ };
 
-    /// Moves the first bytes that are left into the front of `buf`, and answers how many; 0 only at the end.
-    fn read(&mut self, buf: &mut [u8; 512]) -> Result<usize, Failed>
-        ensures within { IfOk result (λ n. n ≤ 512) }
-        ensures bytes { IfOk result (λ n. left self.old ≡ prepend_known (take n buf.new) (left self.new)) }
-        ensures end { IfOk result (λ n. n ≡ 0 → IsAtEnd (left self.new)) }
+    /// Moves the first bytes that are left into the front of `buf`, and answers how many, which is
+    /// at most its length; 0 only at the end, or where `buf` has no room.
+    fn read(&mut self, buf: &mut [u8]) -> Result<usize, Failed>
+        ensures within { IfOk result (λ n. n ≤ length buf.new) }
+        ensures bytes { IfOk result (λ n.
+            left self.old ≡ prepend_known (take n buf.new) (left self.new)) }
+        ensures end { IfOk result (λ n. n ≡ 0 → 0 < length buf.new → IsAtEnd (left self.new)) }
         ensures err { OnErr result (left self.new ≡ left self.old) }
         ensures cause { HasCause (faults self.old) (faults self.new) result };
 }

@@ -24,8 +24,8 @@ impl<'a> Source for SteadySource<'a> {
 
     ghost faults = { λ _. 0 };
 
-    fn read(&mut self, buf: &mut [u8; 512]) -> Result<usize, Failed> {
-        let n = self.bytes.len().min(512);
+    fn read(&mut self, buf: &mut [u8]) -> Result<usize, Failed> {
+        let n = self.bytes.len().min(buf.len());
         let (front, rest) = self.bytes.split_at(n);
         buf[..n].copy_from_slice(front);
         self.bytes = rest;

@@ -113,7 +113,8 @@ fn steady_slots_hold_what_is_written(rt: HostRuntime) {
     }
 }
 
-// What stands outside: it moves a byte or two a call, its second call fails, and it takes six bytes.
+// What stands outside: it moves a byte or two a call, its second call fails, and it takes six
+// bytes.
 #[derive(Drop)]
 struct Outside {
     bytes: Vec<u8>,

@@ -1,7 +1,8 @@
 use crate::{Failed, Sink, write_all};
 use arrayvec::ArrayVec;
 
-/// A text on its way to a sink: up to 4,096 bytes wait here, so that a short piece costs no call of the sink.
+/// A text on its way to a sink: up to 4,096 bytes wait here, so that a short piece costs no call of
+/// the sink.
 ///
 /// After an error the sink has got a front of the text, and the buffer isn't to be used again.
 #[derive(Drop)]
@@ -18,7 +19,8 @@ impl TextBuffer {
     /// No text yet.
     pub fn new() -> TextBuffer
         ensures waits { waiting_bytes result ≡ [] }
-        ensures stands { (start : Option (List ℕ)) → Buffered start start (waiting_bytes result) [] }
+        ensures stands { (start : Option (List ℕ))
+            → Buffered start start (waiting_bytes result) [] }
     {
         TextBuffer {
             text: ArrayVec::new(),
