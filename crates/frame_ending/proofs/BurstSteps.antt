@@ -1,6 +1,9 @@
 -- What is said of a burst that goes on by one byte.
-use Rattle.std.proofs.Common.{◌≡◌, ℕ, suc, ◌+◌, ◌-◌, ◌<◌, ◌≤◌, nat_le, Bool, true, false, ◌||◌, List, [], ◌∷◌, ◌++◌, length, refl, arith, sym, ◌∙◌, ap, subst, ⊎_elim, append_assoc, length-append}
-use Rattle.std.proofs.lemmas.Bool.{cases_Bool, or_cases, or_parts, leb-true, leb-false, lt-ltb, le-ltb}
+use Rattle.std.proofs.Common.{◌≡◌, ℕ, suc, ◌+◌, ◌-◌, ◌<◌, ◌≤◌, nat_le, Bool, true, false, ◌||◌}
+use Rattle.std.proofs.Common.{List, [], ◌∷◌, ◌++◌, length, refl, arith, sym, ◌∙◌, ap, subst, ⊎_elim}
+use Rattle.std.proofs.Common.{append_assoc, length-append}
+use Rattle.std.proofs.lemmas.Bool.{cases_Bool, or_cases, or_parts, leb-true, leb-false, lt-ltb}
+use Rattle.std.proofs.lemmas.Bool.{le-ltb}
 use Rattle.std.proofs.lemmas.List.{append-nil, length-replicate}
 use Rattle.line_rules.specs.Rules.{Rules, fills_room}
 use Rattle.line_rules.specs.RulesLaws.{IsLawful}
@@ -10,10 +13,16 @@ use Rattle.yasir_ticks.specs.declared.tick.Tick.{Tick}
 use Rattle.yasir_ticks.specs.declared.tick.Tick.TheVariants.{Silent, Byte}
 use Rattle.yasir_ticks.proofs.BurstLaws.{alone, with_last}
 use Rattle.yasir_ticks.proofs.SilenceLaws.{bytes_in-append, bytes_in-silent}
-use Rattle.frame_ending.specs.LiveBytes.{before_pause, has_pause, up_to_byte, within_room, spelled, live_bytes, live_end, has_extra}
+use Rattle.frame_ending.specs.LiveBytes.{before_pause, has_pause, up_to_byte, within_room, spelled}
+use Rattle.frame_ending.specs.LiveBytes.{live_bytes, live_end, has_extra}
 use Rattle.frame_ending.proofs.LastBurst.{IsWithin}
-use Rattle.frame_ending.proofs.Pauses.{ended, knit-ends, has_pause-append, before_pause-paused, before_pause-goes_on, before_pause-whole, has_pause-silent, before_pause-silent_few, before_pause-silent_more, bytes_before-le, up_to_byte-append, up_to_byte-all, up_to_byte-le}
-use Rattle.frame_ending.proofs.Rooms.{within_room-open, within_room-more, within_room-full, within_room-one, within_room-le}
+use Rattle.frame_ending.proofs.Pauses.{ended, knit-ends, has_pause-append, before_pause-paused}
+use Rattle.frame_ending.proofs.Pauses.{before_pause-goes_on, before_pause-whole, has_pause-silent}
+use Rattle.frame_ending.proofs.Pauses.{before_pause-silent_few, before_pause-silent_more}
+use Rattle.frame_ending.proofs.Pauses.{bytes_before-le, up_to_byte-append, up_to_byte-all}
+use Rattle.frame_ending.proofs.Pauses.{up_to_byte-le}
+use Rattle.frame_ending.proofs.Rooms.{within_room-open, within_room-more, within_room-full}
+use Rattle.frame_ending.proofs.Rooms.{within_room-one, within_room-le}
 
 -- so many silent ticks and a byte
 abbrev gap_byte : ℕ → ℕ → List Tick
@@ -63,7 +72,8 @@ module _ (m b : ℕ) (d : Burst) (within : IsWithin m d) where
   paused = has_pause d.body || nat_le 2 (m - end_of d)
 
   pub longer-bytes : bytes_in longer.body ≡ bytes_in d.body ++ b ∷ []
-  longer-bytes = bytes_in-append d.body (gap_byte gap b) ∙ ap (λ y. bytes_in d.body ++ y) (bytes_in-silent gap (Byte b ∷ []))
+  longer-bytes = bytes_in-append d.body (gap_byte gap b)
+      ∙ ap (λ y. bytes_in d.body ++ y) (bytes_in-silent gap (Byte b ∷ []))
 
   pub longer-end : end_of longer ≡ m + 1
   longer-end =
@@ -76,7 +86,8 @@ module _ (m b : ℕ) (d : Burst) (within : IsWithin m d) where
   pub longer-has_pause : has_pause longer.body ≡ paused
   longer-has_pause =
       let last = knit-ends 4 d.body within.knit in
-      let P : List Tick → Type 0 = λ x. has_pause (x ++ gap_byte gap b) ≡ (has_pause x || nat_le 2 gap) in
+      let P : List Tick → Type 0 = λ x. has_pause (x ++ gap_byte gap b)
+      ≡ (has_pause x || nat_le 2 gap) in
       subst P (sym last.2)
       (has_pause-append last.0 last.1 (gap_byte gap b)
       ∙ ap (λ v. has_pause (ended last.0 last.1) || v) (has_pause-silent gap b))
@@ -84,7 +95,8 @@ module _ (m b : ℕ) (d : Burst) (within : IsWithin m d) where
   longer-spelled_paused : paused ≡ true → spelled longer ≡ spelled d
   longer-spelled_paused is =
       let last = knit-ends 4 d.body within.knit in
-      let P : List Tick → Type 0 = λ x. (has_pause x || nat_le 2 gap) ≡ true → bytes_in (before_pause (x ++ gap_byte gap b)) ≡ bytes_in (before_pause x) in
+      let P : List Tick → Type 0 = λ x. (has_pause x || nat_le 2 gap) ≡ true
+      → bytes_in (before_pause (x ++ gap_byte gap b)) ≡ bytes_in (before_pause x) in
       subst P (sym last.2) (λ yes. ap bytes_in (spelled-paused last.0 last.1 gap b yes)) is
 
   longer-spelled_open : paused ≡ false → spelled longer ≡ spelled d ++ b ∷ []
@@ -105,7 +117,8 @@ module _ (m b : ℕ) (d : Burst) (within : IsWithin m d) where
   spelled-all is =
       let last = knit-ends 4 d.body within.knit in
       let parts = or_parts (has_pause d.body) (nat_le 2 gap) is in
-      let P : List Tick → Type 0 = λ x. has_pause x ≡ false → bytes_in (before_pause x) ≡ bytes_in x in
+      let P : List Tick → Type 0 = λ x. has_pause x ≡ false
+      → bytes_in (before_pause x) ≡ bytes_in x in
       subst P (sym last.2) (λ none. ap bytes_in (before_pause-whole last.0 last.1 none)) parts.0
 
   pub later : d.start < m
@@ -117,22 +130,27 @@ module _ (m b : ℕ) (d : Burst) (within : IsWithin m d) where
 
   module _ (rules : Rules) (lawful : IsLawful rules) where
     -- No further byte is live after a pause, or where the room is full.
-    pub live-over : (paused || fills_room rules (live_bytes rules d)) ≡ true → live_bytes rules longer ≡ live_bytes rules d
+    pub live-over : (paused || fills_room rules (live_bytes rules d)) ≡ true
+        → live_bytes rules longer ≡ live_bytes rules d
     live-over over =
         ⊎_elim
         (λ yes. ap (λ x. within_room rules x) (longer-spelled_paused yes))
         (λ none. ⊎_elim
         (λ yes. ap (λ x. within_room rules x) (longer-spelled_paused yes))
-        (λ full. ap (λ x. within_room rules x) (longer-spelled_open none) ∙ within_room-full rules lawful (spelled d) b full)
+        (λ full. ap (λ x. within_room rules x) (longer-spelled_open none)
+        ∙ within_room-full rules lawful (spelled d) b full)
         (or_cases paused (fills_room rules (live_bytes rules d)) over))
         (cases_Bool paused)
 
-    pub end-over : (paused || fills_room rules (live_bytes rules d)) ≡ true → live_end rules longer ≡ live_end rules d
+    pub end-over : (paused || fills_room rules (live_bytes rules d)) ≡ true
+        → live_end rules longer ≡ live_end rules d
     end-over over =
         ap (λ h. d.start + length (up_to_byte (length h) longer.body)) (live-over over)
-        ∙ ap (λ x. d.start + length x) (up_to_byte-append (length (live_bytes rules d)) d.body (gap_byte gap b) (live-le rules lawful d))
+        ∙ ap (λ x. d.start + length x) (up_to_byte-append (length (live_bytes rules d)) d.body
+        (gap_byte gap b) (live-le rules lawful d))
 
-    pub extra-over : (paused || fills_room rules (live_bytes rules d)) ≡ true → has_extra rules longer ≡ true
+    pub extra-over : (paused || fills_room rules (live_bytes rules d)) ≡ true
+        → has_extra rules longer ≡ true
     extra-over over =
         let live = ap length (live-over over) in
         let all = ap length longer-bytes ∙ length-append (bytes_in d.body) (b ∷ []) in
@@ -150,25 +168,34 @@ module _ (m b : ℕ) (d : Burst) (within : IsWithin m d) where
     pub live-more : paused ≡ false → fills_room rules (live_bytes rules d) ≡ false
         → live_bytes rules longer ≡ live_bytes rules d ++ b ∷ []
     live-more none room =
-        ap (λ x. within_room rules x) (longer-spelled_open none) ∙ within_room-more rules lawful (spelled d) b room
+        ap (λ x. within_room rules x) (longer-spelled_open none)
+        ∙ within_room-more rules lawful (spelled d) b room
 
-    pub live-all : paused ≡ false → fills_room rules (live_bytes rules d) ≡ false → live_bytes rules d ≡ bytes_in d.body
+    pub live-all : paused ≡ false → fills_room rules (live_bytes rules d) ≡ false
+        → live_bytes rules d ≡ bytes_in d.body
     live-all none room = within_room-open rules lawful (spelled d) room ∙ spelled-all none
 
-    pub end-more : paused ≡ false → fills_room rules (live_bytes rules d) ≡ false → live_end rules longer ≡ m + 1
+    pub end-more : paused ≡ false → fills_room rules (live_bytes rules d) ≡ false
+        → live_end rules longer ≡ m + 1
     end-more none room =
         let x : List Tick = d.body ++ silent gap in
         let split : ended x b ≡ longer.body = append_assoc d.body (silent gap) (Byte b ∷ []) in
         let bytes : bytes_in x ≡ bytes_in d.body =
-        bytes_in-append d.body (silent gap) ∙ (ap (λ y. bytes_in d.body ++ y) (ap bytes_in (sym (append-nil (silent gap))) ∙ bytes_in-silent gap []) ∙ append-nil (bytes_in d.body)) in
+        bytes_in-append d.body (silent gap)
+        ∙ (ap (λ y. bytes_in d.body ++ y)
+        (ap bytes_in (sym (append-nil (silent gap))) ∙ bytes_in-silent gap [])
+        ∙ append-nil (bytes_in d.body)) in
         let live : length (live_bytes rules longer) ≡ suc (length (bytes_in x)) =
         ap length (live-more none room ∙ ap (λ h. h ++ b ∷ []) (live-all none room ∙ sym bytes))
-        ∙ (length-append (bytes_in x) (b ∷ []) ∙ (let one : length (bytes_in x) + 1 ≡ suc (length (bytes_in x)) = omega arith in one)) in
+        ∙ (length-append (bytes_in x) (b ∷ [])
+        ∙ (let one : length (bytes_in x) + 1 ≡ suc (length (bytes_in x)) = omega arith in
+        one)) in
         ap (λ k. d.start + length (up_to_byte k longer.body)) live
         ∙ (ap (λ y. d.start + length (up_to_byte (suc (length (bytes_in x))) y)) (sym split)
         ∙ (ap (λ y. d.start + length y) (up_to_byte-all x b ∙ split) ∙ longer-end))
 
-    pub extra-more : paused ≡ false → fills_room rules (live_bytes rules d) ≡ false → has_extra rules longer ≡ has_extra rules d
+    pub extra-more : paused ≡ false → fills_room rules (live_bytes rules d) ≡ false
+        → has_extra rules longer ≡ has_extra rules d
     extra-more none room =
         let live = ap length (live-more none room) ∙ length-append (live_bytes rules d) (b ∷ []) in
         let all = ap length longer-bytes ∙ length-append (bytes_in d.body) (b ∷ []) in
@@ -196,7 +223,8 @@ module _ (m b : ℕ) where
     alone-live = ap (λ x. within_room rules x) alone-spelled ∙ within_room-one rules lawful b
 
     pub alone-live_end : live_end rules (alone m b) ≡ m + 1
-    alone-live_end = ap (λ h. m + length (up_to_byte (length h) (Byte b ∷ []))) alone-live ∙ ap (λ x. m + length x) one_byte
+    alone-live_end = ap (λ h. m + length (up_to_byte (length h) (Byte b ∷ []))) alone-live
+        ∙ ap (λ x. m + length x) one_byte
 
     pub alone-extra : has_extra rules (alone m b) ≡ false
     alone-extra =

@@ -1,20 +1,31 @@
 -- The steps of a value that cuts a line, over the values that it has before and after.
-use Rattle.std.proofs.Common.{◌≡◌, ℕ, suc, ◌+◌, ◌-◌, ◌<◌, ◌≤◌, nat_le, Bool, true, false, ◌||◌, List, [], ◌∷◌, ◌++◌, length, refl, arith, sym, ◌∙◌, ap, subst, ⊎_elim, length-append, Option, Some, None}
-use Rattle.std.proofs.lemmas.Bool.{cases_Bool, or_from, le-leb, leb-true, lt-leb, le-ltb, lt-ltb, eq-eqb, ne_eqb, cond-true, cond-false}
+use Rattle.std.proofs.Common.{◌≡◌, ℕ, suc, ◌+◌, ◌-◌, ◌<◌, ◌≤◌, nat_le, Bool, true, false, ◌||◌}
+use Rattle.std.proofs.Common.{List, [], ◌∷◌, ◌++◌, length, refl, arith, sym, ◌∙◌, ap, subst, ⊎_elim}
+use Rattle.std.proofs.Common.{length-append, Option, Some, None}
+use Rattle.std.proofs.lemmas.Bool.{cases_Bool, or_from, le-leb, leb-true, lt-leb, le-ltb, lt-ltb}
+use Rattle.std.proofs.lemmas.Bool.{eq-eqb, ne_eqb, cond-true, cond-false}
 use Rattle.line_rules.specs.Rules.{Rules, fills_room}
+use Rattle.line_rules.specs.declared.line_rules.LineRules.{Ghosts as LineRules}
 use Rattle.line_rules.specs.RulesLaws.{IsLawful}
 use Rattle.yasir_ticks.specs.Bursts.{Burst, end_of}
 use Rattle.yasir_ticks.specs.declared.tick.Tick.{Tick}
 use Rattle.yasir_ticks.specs.declared.tick.Tick.TheVariants.{Silent, Byte}
 use Rattle.yasir_ticks.proofs.BurstLaws.{alone, with_last}
 use Rattle.frame_ending.specs.declared.burst_cut.BurstCut.{BurstCut}
-use Rattle.frame_ending.specs.declared.cut.Cut.TheVariants.{Start, Live, Extra, Pause, Closed, Quiet}
+use Rattle.frame_ending.specs.declared.cut.Cut.TheVariants.{Start, Live, Extra, Pause, Closed}
+use Rattle.frame_ending.specs.declared.cut.Cut.TheVariants.{Quiet}
 use Rattle.frame_ending.specs.LiveBytes.{has_pause, live_bytes, live_end}
-use Rattle.frame_ending.specs.SoFar.{last_burst, start_in, live_bytes_in, last_live_in, has_extra_in, has_paused_in, quiet_in, quiet_so_far, has_paused_so_far, live_bytes_so_far}
+use Rattle.frame_ending.specs.SoFar.{last_burst, start_in, live_bytes_in, last_live_in}
+use Rattle.frame_ending.specs.SoFar.{has_extra_in, has_paused_in, quiet_in, quiet_so_far}
+use Rattle.frame_ending.specs.SoFar.{has_paused_so_far, live_bytes_so_far}
 use Rattle.frame_ending.specs.Cuts.{cut_of, byte_cut, silence_cut, silent_cut}
 use Rattle.frame_ending.specs.Stands.{StandsFor}
-use Rattle.frame_ending.proofs.LastBurst.{grown, last_burst-byte, last_burst-silent, last_burst-nil, IsWithin, last_burst-within}
-use Rattle.frame_ending.proofs.BurstSteps.{paused, longer-end, longer-has_pause, later, live-over, end-over, extra-over, live_end-le, live-more, end-more, extra-more, alone-has_pause, alone-live, alone-live_end, alone-extra}
+use Rattle.frame_ending.proofs.LastBurst.{grown, last_burst-byte, last_burst-silent, last_burst-nil}
+use Rattle.frame_ending.proofs.LastBurst.{IsWithin, last_burst-within}
+use Rattle.frame_ending.proofs.BurstSteps.{paused, longer-end, longer-has_pause, later, live-over}
+use Rattle.frame_ending.proofs.BurstSteps.{end-over, extra-over, live_end-le, live-more, end-more}
+use Rattle.frame_ending.proofs.BurstSteps.{extra-more, alone-has_pause, alone-live, alone-live_end}
+use Rattle.frame_ending.proofs.BurstSteps.{alone-extra}
 
 longer-line : (line : List Tick) (t : Tick) → length (line ++ t ∷ []) ≡ length line + 1
 longer-line line t = length-append line (t ∷ [])
@@ -27,7 +38,8 @@ grown-alone m b (Some d) quiet =
     cond-false _ _ _ (le-ltb m (end_of d + 4) far)
 
 -- any other one joins the last burst
-grown-joins : (m b : ℕ) (d : Burst) → quiet_in m (Some d) < 4 → IsWithin m d → grown m b (Some d) ≡ with_last d m b
+grown-joins : (m b : ℕ) (d : Burst) → quiet_in m (Some d) < 4 → IsWithin m d
+    → grown m b (Some d) ≡ with_last d m b
 grown-joins m b d quiet within =
     let end = within.within in
     let near : m < end_of d + 4 = omega arith in
@@ -50,7 +62,8 @@ running line quiet = by_last (last_burst line) refl quiet
         let end = within.within in
         record { last = d; is_last = is; within = within; near = omega arith }
 
-or_more : (x : Bool) (gap : ℕ) → ((x || nat_le 2 gap) || nat_le 2 (gap + 1)) ≡ (x || nat_le 2 (gap + 1))
+or_more : (x : Bool) (gap : ℕ) → ((x || nat_le 2 gap) || nat_le 2 (gap + 1))
+    ≡ (x || nat_le 2 (gap + 1))
 or_more true gap = refl
 or_more false gap =
     ⊎_elim
@@ -63,27 +76,48 @@ or_false : (x : Bool) → (x || false) ≡ x
 or_false true = refl
 or_false false = refl
 
-quiet_later : (o : Option Burst) (m m' : ℕ) → m ≤ m' → 4 ≤ quiet_in m o → quiet_in m o ≡ quiet_in m' o
+quiet_later : (o : Option Burst) (m m' : ℕ) → m ≤ m' → 4 ≤ quiet_in m o
+    → quiet_in m o ≡ quiet_in m' o
 quiet_later None m m' le quiet = refl
 quiet_later (Some d) m m' le quiet = omega arith
 
-paused_later : (o : Option Burst) (m m' : ℕ) → m ≤ m' → 4 ≤ quiet_in m o → has_paused_in m o ≡ has_paused_in m' o
+paused_later : (o : Option Burst) (m m' : ℕ) → m ≤ m' → 4 ≤ quiet_in m o
+    → has_paused_in m o ≡ has_paused_in m' o
 paused_later None m m' le quiet = refl
 paused_later (Some d) m m' le quiet =
     let now : 2 ≤ m - end_of d = omega arith in
     let then' : 2 ≤ m' - end_of d = omega arith in
-    ap (λ x. has_pause d.body || x) (le-leb 2 (m - end_of d) now ∙ sym (le-leb 2 (m' - end_of d) then'))
+    ap (λ x. has_pause d.body || x) (le-leb 2 (m - end_of d) now
+    ∙ sym (le-leb 2 (m' - end_of d) then'))
 
 cut_later : (o : Option Burst) (m : ℕ) → 4 ≤ quiet_in m o → Quiet ≡ silent_cut m o
 cut_later None m quiet = refl
 cut_later (Some d) m quiet =
     let k : ℕ = suc m - end_of d in
     let far : 5 ≤ k = omega arith in
-    sym (cond-false _ _ _ (lt-leb k 3 (omega arith)) ∙ cond-false _ _ _ (ne_eqb k 4 (λ same. omega arith)))
+    sym (cond-false _ _ _ (le-ltb k 4 (omega arith))
+    ∙ cond-false _ _ _ (ne_eqb k 4 (λ same. omega arith)))
 
-module _ {R : Type 0} (rules : Rules) (stands : R → List ℕ → Type 0) (lawful : IsLawful rules) where
+module _ {R : Type 0} (proto : LineRules R) where
+  abbrev rules : Rules
+  rules = proto.rules
+
+  abbrev stands : R → List ℕ → Type 0
+  stands = proto.stands
+
+  lawful : IsLawful proto.rules
+  lawful = proto.lawful
+
   pub stands-fresh : (r : R) → stands r []
-      → StandsFor rules stands (record { taken = 0; quiet = 4; start = 0; last_live = 0; extra = false; paused = false; rules = r }) []
+      → StandsFor proto (record {
+        taken = 0;
+        quiet = 4;
+        start = 0;
+        last_live = 0;
+        extra = false;
+        paused = false;
+        rules = r;
+      }) []
   stands-fresh r fresh =
       let none = last_burst-nil in
       let P : Option Burst → Type 0 = λ o. stands r (live_bytes_in rules o) in
@@ -97,17 +131,26 @@ module _ {R : Type 0} (rules : Rules) (stands : R → List ℕ → Type 0) (lawf
         bytes = subst P (sym none) fresh;
       }
 
-  module _ (v : BurstCut R) (line : List Tick) (old : StandsFor rules stands v line) where
+  module _ (v : BurstCut R) (line : List Tick) (old : StandsFor proto v line) where
     -- ---- the first byte of a burst
 
     begun : (b : ℕ) → 4 ≤ v.quiet → last_burst (line ++ Byte b ∷ []) ≡ Some (alone (length line) b)
     begun b quiet =
         let is = old.quiet_is in
-        last_burst-byte line b ∙ ap Some (grown-alone (length line) b (last_burst line) (omega arith))
+        last_burst-byte line b ∙ ap Some
+        (grown-alone (length line) b (last_burst line) (omega arith))
 
     pub stands-begin : (r : R) (b : ℕ) → 4 ≤ v.quiet → stands r (b ∷ [])
-        → StandsFor rules stands
-        (record { taken = v.taken + 1; quiet = 0; start = v.taken; last_live = v.taken; extra = false; paused = false; rules = r })
+        → StandsFor proto
+        (record {
+          taken = v.taken + 1;
+          quiet = 0;
+          start = v.taken;
+          last_live = v.taken;
+          extra = false;
+          paused = false;
+          rules = r;
+        })
         (line ++ Byte b ∷ [])
     stands-begin r b quiet first =
         let n = longer-line line (Byte b) in
@@ -125,44 +168,54 @@ module _ {R : Type 0} (rules : Rules) (stands : R → List ℕ → Type 0) (lawf
           quiet_is = none ∙ sym (ap (λ o. quiet_in m' o) last);
           start_is = count ∙ sym (ap start_in last);
           last_live_is = tick ∙ sym (ap (λ o. last_live_in rules o) last);
-          extra_is = sym (ap (λ o. has_extra_in rules o) last ∙ alone-extra (length line) b rules lawful);
+          extra_is = sym (ap (λ o. has_extra_in rules o) last
+              ∙ alone-extra (length line) b rules lawful);
           paused_is = sym (ap (λ o. has_paused_in m' o) last
-              ∙ or_from _ _ (alone-has_pause (length line) b) (lt-leb 2 (m' - end_of (alone (length line) b)) few));
-          bytes = subst P (sym last) (subst Q (sym (alone-live (length line) b rules lawful)) first);
+              ∙ or_from _ _ (alone-has_pause (length line) b)
+              (lt-leb 2 (m' - end_of (alone (length line) b)) few));
+          bytes = subst P (sym last) (subst Q (sym (alone-live (length line) b rules lawful))
+              first);
         }
 
     pub cut-begin : (b : ℕ) → 4 ≤ v.quiet → Start b ≡ cut_of rules line (Byte b)
     cut-begin b quiet =
-        sym (ap (λ o. byte_cut rules (length line) b o) (begun b quiet) ∙ cond-true _ _ _ (eq-eqb (length line) (length line) refl))
+        sym (ap (λ o. byte_cut rules (length line) b o) (begun b quiet)
+        ∙ cond-true _ _ _ (eq-eqb (length line) (length line) refl))
 
     -- ---- a further byte
 
     is_running : v.quiet < 4 → Running line
     is_running quiet = let is = old.quiet_is in running line (omega arith)
 
-    grew : (b : ℕ) (run : Running line) → last_burst (line ++ Byte b ∷ []) ≡ Some (with_last run.last (length line) b)
+    grew : (b : ℕ) (run : Running line)
+        → last_burst (line ++ Byte b ∷ []) ≡ Some (with_last run.last (length line) b)
     grew b run =
         let near = run.near in
         let few : quiet_in (length line) (Some run.last) < 4 = omega arith in
         last_burst-byte line b
-        ∙ (ap (λ o. Some (grown (length line) b o)) run.is_last ∙ ap Some (grown-joins (length line) b run.last few run.within))
+        ∙ (ap (λ o. Some (grown (length line) b o)) run.is_last
+        ∙ ap Some (grown-joins (length line) b run.last few run.within))
 
     was_paused : (run : Running line) → v.paused ≡ paused (length line) 0 run.last run.within
     was_paused run = old.paused_is ∙ ap (λ o. has_paused_in (length line) o) run.is_last
 
     -- whether the room is full, as the rules say of the last burst
-    full_as : {full : Bool} (run : Running line) → full ≡ fills_room rules (live_bytes_so_far rules line)
+    full_as : {full : Bool} (run : Running line)
+        → full ≡ fills_room rules (live_bytes_so_far rules line)
         → full ≡ fills_room rules (live_bytes rules run.last)
     full_as run is = is ∙ ap (λ o. fills_room rules (live_bytes_in rules o)) run.is_last
 
-    is_over : (full : Bool) (run : Running line) → full ≡ fills_room rules (live_bytes_so_far rules line) → (v.paused || full) ≡ true
-        → (paused (length line) 0 run.last run.within || fills_room rules (live_bytes rules run.last)) ≡ true
+    is_over : (full : Bool) (run : Running line)
+        → full ≡ fills_room rules (live_bytes_so_far rules line) → (v.paused || full) ≡ true
+        → (paused (length line) 0 run.last run.within
+        || fills_room rules (live_bytes rules run.last)) ≡ true
     is_over full run is over =
         ap (λ x. x || fills_room rules (live_bytes rules run.last)) (sym (was_paused run))
         ∙ (ap (λ x. v.paused || x) (sym (full_as run is)) ∙ over)
 
     -- a byte makes no pause
-    paused_as_before : (b : ℕ) (run : Running line) → last_burst (line ++ Byte b ∷ []) ≡ Some (with_last run.last (length line) b)
+    paused_as_before : (b : ℕ) (run : Running line)
+        → last_burst (line ++ Byte b ∷ []) ≡ Some (with_last run.last (length line) b)
         → length (line ++ Byte b ∷ []) - end_of (with_last run.last (length line) b) < 2
         → v.paused ≡ has_paused_so_far (line ++ Byte b ∷ [])
     paused_as_before b run last few =
@@ -171,17 +224,28 @@ module _ {R : Type 0} (rules : Rules) (stands : R → List ℕ → Type 0) (lawf
         was_paused run
         ∙ (sym (longer-has_pause (length line) b run.last run.within)
         ∙ (sym (or_false (has_pause d'.body))
-        ∙ (ap (λ x. has_pause d'.body || x) (sym (lt-leb 2 (m' - end_of d') few)) ∙ sym (ap (λ o. has_paused_in m' o) last))))
+        ∙ (ap (λ x. has_pause d'.body || x) (sym (lt-leb 2 (m' - end_of d') few))
+        ∙ sym (ap (λ o. has_paused_in m' o) last))))
 
     quiet_gap : (run : Running line) → v.quiet < 4 → v.quiet ≡ length line - end_of run.last
     quiet_gap run few =
-        let is : v.quiet ≡ quiet_in (length line) (Some run.last) = old.quiet_is ∙ ap (λ o. quiet_in (length line) o) run.is_last in
+        let is : v.quiet ≡ quiet_in (length line) (Some run.last) =
+        old.quiet_is ∙ ap (λ o. quiet_in (length line) o) run.is_last in
         omega arith
 
     -- a byte that isn't live
-    pub stands-pass : (full : Bool) (b : ℕ) → v.quiet < 4 → full ≡ fills_room rules (live_bytes_so_far rules line) → (v.paused || full) ≡ true
-        → StandsFor rules stands
-        (record { taken = v.taken + 1; quiet = 0; start = v.start; last_live = v.last_live; extra = true; paused = v.paused; rules = v.rules })
+    pub stands-pass : (full : Bool) (b : ℕ) → v.quiet < 4
+        → full ≡ fills_room rules (live_bytes_so_far rules line) → (v.paused || full) ≡ true
+        → StandsFor proto
+        (record {
+          taken = v.taken + 1;
+          quiet = 0;
+          start = v.start;
+          last_live = v.last_live;
+          extra = true;
+          paused = v.paused;
+          rules = v.rules;
+        })
         (line ++ Byte b ∷ [])
     stands-pass full b quiet full_is over =
         let run = is_running quiet in
@@ -201,29 +265,45 @@ module _ {R : Type 0} (rules : Rules) (stands : R → List ℕ → Type 0) (lawf
           quiet_is = none ∙ sym (ap (λ o. quiet_in m' o) last);
           start_is = old.start_is ∙ (ap start_in run.is_last ∙ sym (ap start_in last));
           last_live_is = old.last_live_is ∙ (ap (λ o. last_live_in rules o) run.is_last
-              ∙ (ap (λ k. k - 1) (sym (end-over (length line) b d run.within rules lawful over')) ∙ sym (ap (λ o. last_live_in rules o) last)));
-          extra_is = sym (ap (λ o. has_extra_in rules o) last ∙ extra-over (length line) b d run.within rules lawful over');
+              ∙ (ap (λ k. k - 1) (sym (end-over (length line) b d run.within rules lawful over'))
+              ∙ sym (ap (λ o. last_live_in rules o) last)));
+          extra_is = sym (ap (λ o. has_extra_in rules o) last
+              ∙ extra-over (length line) b d run.within rules lawful over');
           paused_is = paused_as_before b run last few;
-          bytes = subst P (sym last) (subst Q (sym (live-over (length line) b d run.within rules lawful over')) (subst P run.is_last old.bytes));
+          bytes = subst P (sym last) (subst Q
+              (sym (live-over (length line) b d run.within rules lawful over'))
+              (subst P run.is_last old.bytes));
         }
 
-    pub cut-pass : (full : Bool) (b : ℕ) → v.quiet < 4 → full ≡ fills_room rules (live_bytes_so_far rules line) → (v.paused || full) ≡ true
+    pub cut-pass : (full : Bool) (b : ℕ) → v.quiet < 4
+        → full ≡ fills_room rules (live_bytes_so_far rules line) → (v.paused || full) ≡ true
         → Extra b ≡ cut_of rules line (Byte b)
     cut-pass full b quiet full_is over =
         let run = is_running quiet in
         let d : Burst = run.last in
         let before = later (length line) b d run.within in
-        let end = end-over (length line) b d run.within rules lawful (is_over full run full_is over) in
+        let end = end-over (length line) b d run.within rules lawful
+        (is_over full run full_is over) in
         let within = live_end-le (length line) b d run.within rules lawful in
         sym (ap (λ o. byte_cut rules (length line) b o) (grew b run)
         ∙ (cond-false _ _ _ (ne_eqb d.start (length line) (λ same. omega arith))
-        ∙ cond-false _ _ _ (ne_eqb (live_end rules (with_last d (length line) b)) (suc (length line)) (λ same. omega arith))))
+        ∙ cond-false _ _ _ (ne_eqb (live_end rules (with_last d (length line) b))
+        (suc (length line)) (λ same. omega arith))))
 
-    pub stands-go_on : (full : Bool) (r : R) (b : ℕ) → v.quiet < 4 → full ≡ fills_room rules (live_bytes_so_far rules line)
+    pub stands-go_on : (full : Bool) (r : R) (b : ℕ) → v.quiet < 4
+        → full ≡ fills_room rules (live_bytes_so_far rules line)
         → v.paused ≡ false → full ≡ false
         → ((x : List ℕ) → stands v.rules x → stands r (x ++ b ∷ []))
-        → StandsFor rules stands
-        (record { taken = v.taken + 1; quiet = 0; start = v.start; last_live = v.taken; extra = v.extra; paused = v.paused; rules = r })
+        → StandsFor proto
+        (record {
+          taken = v.taken + 1;
+          quiet = 0;
+          start = v.start;
+          last_live = v.taken;
+          extra = v.extra;
+          paused = v.paused;
+          rules = r;
+        })
         (line ++ Byte b ∷ [])
     stands-go_on full r b quiet full_is open' room takes =
         let run = is_running quiet in
@@ -248,29 +328,42 @@ module _ {R : Type 0} (rules : Rules) (stands : R → List ℕ → Type 0) (lawf
           start_is = old.start_is ∙ (ap start_in run.is_last ∙ sym (ap start_in last));
           last_live_is = tick ∙ sym (ap (λ o. last_live_in rules o) last);
           extra_is = old.extra_is ∙ (ap (λ o. has_extra_in rules o) run.is_last
-              ∙ (sym (extra-more (length line) b d run.within rules lawful none' room') ∙ sym (ap (λ o. has_extra_in rules o) last)));
+              ∙ (sym (extra-more (length line) b d run.within rules lawful none' room')
+              ∙ sym (ap (λ o. has_extra_in rules o) last)));
           paused_is = paused_as_before b run last few;
-          bytes = subst P (sym last) (subst Q (sym (live-more (length line) b d run.within rules lawful none' room'))
+          bytes = subst P (sym last) (subst Q
+              (sym (live-more (length line) b d run.within rules lawful none' room'))
               (takes (live_bytes rules d) (subst S run.is_last old.bytes)));
         }
 
-    pub cut-go_on : (full : Bool) (b : ℕ) → v.quiet < 4 → full ≡ fills_room rules (live_bytes_so_far rules line)
+    pub cut-go_on : (full : Bool) (b : ℕ) → v.quiet < 4
+        → full ≡ fills_room rules (live_bytes_so_far rules line)
         → v.paused ≡ false → full ≡ false → Live b ≡ cut_of rules line (Byte b)
     cut-go_on full b quiet full_is open' room =
         let run = is_running quiet in
         let d : Burst = run.last in
         let before = later (length line) b d run.within in
-        let live = end-more (length line) b d run.within rules lawful (sym (was_paused run) ∙ open') (sym (full_as run full_is) ∙ room) in
+        let live = end-more (length line) b d run.within rules lawful (sym (was_paused run) ∙ open')
+        (sym (full_as run full_is) ∙ room) in
         sym (ap (λ o. byte_cut rules (length line) b o) (grew b run)
         ∙ (cond-false _ _ _ (ne_eqb d.start (length line) (λ same. omega arith))
-        ∙ cond-true _ _ _ (eq-eqb (live_end rules (with_last d (length line) b)) (suc (length line)) (omega arith))))
+        ∙ cond-true _ _ _ (eq-eqb (live_end rules (with_last d (length line) b)) (suc (length line))
+        (omega arith))))
 
     -- ---- silence
 
     -- silence after silence
     pub stands-rest : 4 ≤ v.quiet
-        → StandsFor rules stands
-        (record { taken = v.taken + 1; quiet = v.quiet; start = v.start; last_live = v.last_live; extra = v.extra; paused = v.paused; rules = v.rules })
+        → StandsFor proto
+        (record {
+          taken = v.taken + 1;
+          quiet = v.quiet;
+          start = v.start;
+          last_live = v.last_live;
+          extra = v.extra;
+          paused = v.paused;
+          rules = v.rules;
+        })
         (line ++ Silent ∷ [])
     stands-rest quiet =
         let n = longer-line line Silent in
@@ -281,20 +374,25 @@ module _ {R : Type 0} (rules : Rules) (stands : R → List ℕ → Type 0) (lawf
         let P : Option Burst → Type 0 = λ o. stands v.rules (live_bytes_in rules o) in
         record {
           count = omega arith;
-          quiet_is = old.quiet_is ∙ (quiet_later (last_burst line) (length line) m' (omega arith) (omega arith) ∙ sym (ap (λ o. quiet_in m' o) last));
+          quiet_is = old.quiet_is
+              ∙ (quiet_later (last_burst line) (length line) m' (omega arith) (omega arith)
+              ∙ sym (ap (λ o. quiet_in m' o) last));
           start_is = old.start_is ∙ sym (ap start_in last);
           last_live_is = old.last_live_is ∙ sym (ap (λ o. last_live_in rules o) last);
           extra_is = old.extra_is ∙ sym (ap (λ o. has_extra_in rules o) last);
-          paused_is = old.paused_is ∙ (paused_later (last_burst line) (length line) m' (omega arith) (omega arith) ∙ sym (ap (λ o. has_paused_in m' o) last));
+          paused_is = old.paused_is
+              ∙ (paused_later (last_burst line) (length line) m' (omega arith) (omega arith)
+              ∙ sym (ap (λ o. has_paused_in m' o) last));
           bytes = subst P (sym last) old.bytes;
         }
 
     pub cut-rest : 4 ≤ v.quiet → Quiet ≡ cut_of rules line Silent
-    cut-rest quiet = let is = old.quiet_is in cut_later (last_burst line) (length line) (omega arith)
+    cut-rest quiet = let is = old.quiet_is in
+        cut_later (last_burst line) (length line) (omega arith)
 
     -- silence after a byte
     pub stands-wait : v.quiet < 4
-        → StandsFor rules stands
+        → StandsFor proto
         (record {
           taken = v.taken + 1;
           quiet = v.quiet + 1;
@@ -321,12 +419,16 @@ module _ {R : Type 0} (rules : Rules) (stands : R → List ℕ → Type 0) (lawf
           count = omega arith;
           quiet_is = more ∙ sym (ap (λ o. quiet_in m' o) last);
           start_is = old.start_is ∙ (ap start_in run.is_last ∙ sym (ap start_in last));
-          last_live_is = old.last_live_is ∙ (ap (λ o. last_live_in rules o) run.is_last ∙ sym (ap (λ o. last_live_in rules o) last));
-          extra_is = old.extra_is ∙ (ap (λ o. has_extra_in rules o) run.is_last ∙ sym (ap (λ o. has_extra_in rules o) last));
+          last_live_is = old.last_live_is
+              ∙ (ap (λ o. last_live_in rules o) run.is_last
+              ∙ sym (ap (λ o. last_live_in rules o) last));
+          extra_is = old.extra_is ∙ (ap (λ o. has_extra_in rules o) run.is_last
+              ∙ sym (ap (λ o. has_extra_in rules o) last));
           paused_is = ap (λ x. x || nat_le 2 (v.quiet + 1)) (was_paused run)
               ∙ (ap (λ k. (has_pause d.body || nat_le 2 k) || nat_le 2 (v.quiet + 1)) (sym gap)
               ∙ (or_more (has_pause d.body) v.quiet
-              ∙ (ap (λ k. has_pause d.body || nat_le 2 k) gap' ∙ sym (ap (λ o. has_paused_in m' o) last))));
+              ∙ (ap (λ k. has_pause d.body || nat_le 2 k) gap'
+              ∙ sym (ap (λ o. has_paused_in m' o) last))));
           bytes = subst P (sym last) (subst P run.is_last old.bytes);
         }
 
@@ -338,7 +440,7 @@ module _ {R : Type 0} (rules : Rules) (stands : R → List ℕ → Type 0) (lawf
         let end = run.within.within in
         let at : suc (length line) - end_of run.last ≡ v.quiet + 1 = omega arith in
         sym (ap (λ o. silent_cut (length line) o) run.is_last
-        ∙ (ap silence_cut at ∙ cond-true _ _ _ (le-leb (v.quiet + 1) 3 (omega arith))))
+        ∙ (ap silence_cut at ∙ cond-true _ _ _ (lt-ltb (v.quiet + 1) 4 (omega arith))))
 
     pub cut-closed : v.quiet + 1 ≡ 4 → Closed ≡ cut_of rules line Silent
     cut-closed quiet =

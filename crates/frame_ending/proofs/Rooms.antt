@@ -1,5 +1,7 @@
 -- The first bytes that there is room for, as the bytes go on.
-use Rattle.std.proofs.Common.{◌≡◌, ℕ, ◌<◌, ◌≤◌, true, false, List, [], ◌∷◌, ◌++◌, length, take, refl, arith, sym, ◌∙◌, ap, subst, inl, inr, ◌⊎◌, ⊎_elim, append_assoc, length-append}
+use Rattle.std.proofs.Common.{◌≡◌, ℕ, ◌<◌, ◌≤◌, true, false, List, [], ◌∷◌, ◌++◌, length, take}
+use Rattle.std.proofs.Common.{refl, arith, sym, ◌∙◌, ap, subst, inl, inr, ◌⊎◌, ⊎_elim, append_assoc}
+use Rattle.std.proofs.Common.{length-append}
 use Rattle.std.proofs.Math.Seq.{take-append_seam}
 use Rattle.std.proofs.lemmas.Bool.{cases_eq, eqb-true, eqb-false}
 use Rattle.std.proofs.lemmas.List.{append-nil, take_all}
@@ -7,7 +9,8 @@ use Rattle.line_rules.specs.Rules.{Rules, fills_room}
 use Rattle.line_rules.specs.RulesLaws.{IsLawful}
 use Rattle.frame_ending.specs.LiveBytes.{within_room}
 
--- These are the first of the bytes: all of them, and there is room for them, or as many as there is room for.
+-- These are the first of the bytes: all of them, and there is room for them, or as many as there is
+-- room for.
 pub record FitFirst (rules : Rules) (live x : List ℕ) : Type 0 where
   pub rest : List ℕ
   pub whole : x ≡ live ++ rest
@@ -20,24 +23,34 @@ module _ (rules : Rules) (lawful : IsLawful rules) where
   room-full (b ∷ rest) x full =
       let same = lawful.stays x b full in
       let longer = length-append x (b ∷ []) in
-      ap rules.room (sym (append_assoc x (b ∷ []) rest)) ∙ (room-full rest (x ++ b ∷ []) (omega arith) ∙ same)
+      ap rules.room (sym (append_assoc x (b ∷ []) rest))
+      ∙ (room-full rest (x ++ b ∷ []) (omega arith) ∙ same)
 
   pub FitFirst-live : (live x : List ℕ) → FitFirst rules live x → within_room rules x ≡ live
   FitFirst-live live x fit =
       ap (λ y. within_room rules y) fit.whole
       ∙ ⊎_elim
-      (λ all. ap (λ r. within_room rules (live ++ r)) all.0 ∙ (ap (λ y. within_room rules y) (append-nil live) ∙ take_all (rules.room live) live all.1))
-      (λ full. ap (λ n. take n (live ++ fit.rest)) (room-full fit.rest live (omega arith) ∙ full) ∙ take-append_seam live fit.rest)
+      (λ all. ap (λ r. within_room rules (live ++ r)) all.0
+      ∙ (ap (λ y. within_room rules y) (append-nil live)
+      ∙ take_all (rules.room live) live all.1))
+      (λ full. ap (λ n. take n (live ++ fit.rest)) (room-full fit.rest live (omega arith) ∙ full)
+      ∙ take-append_seam live fit.rest)
       fit.room
 
   -- one more byte
-  FitFirst-fits : (live : List ℕ) (b : ℕ) → length live < rules.room live → FitFirst rules (live ++ b ∷ []) (live ++ b ∷ [])
+  FitFirst-fits : (live : List ℕ) (b : ℕ) → length live < rules.room live
+      → FitFirst rules (live ++ b ∷ []) (live ++ b ∷ [])
   FitFirst-fits live b room =
       let longer = length-append live (b ∷ []) in
       let fits = lawful.fits live b room in
-      record { rest = []; whole = sym (append-nil (live ++ b ∷ [])); room = inl (refl, omega arith) }
+      record {
+        rest = [];
+        whole = sym (append-nil (live ++ b ∷ []));
+        room = inl (refl, omega arith);
+      }
 
-  FitFirst-full : (live x : List ℕ) (b : ℕ) → rules.room live ≡ length live → FitFirst rules live x → FitFirst rules live (x ++ b ∷ [])
+  FitFirst-full : (live x : List ℕ) (b : ℕ) → rules.room live ≡ length live → FitFirst rules live x
+      → FitFirst rules live (x ++ b ∷ [])
   FitFirst-full live x b full fit =
       record {
         rest = fit.rest ++ b ∷ [];
@@ -45,7 +58,8 @@ module _ (rules : Rules) (lawful : IsLawful rules) where
         room = inr full;
       }
 
-  FitFirst-more : (live x : List ℕ) (b : ℕ) → FitFirst rules live x → (live' : List ℕ) × FitFirst rules live' (x ++ b ∷ [])
+  FitFirst-more : (live x : List ℕ) (b : ℕ) → FitFirst rules live x
+      → (live' : List ℕ) × FitFirst rules live' (x ++ b ∷ [])
   FitFirst-more live x b fit =
       ⊎_elim
       (λ full. (live, FitFirst-full live x b full fit))
@@ -59,8 +73,10 @@ module _ (rules : Rules) (lawful : IsLawful rules) where
       fit.room)
       (cases_eq (rules.room live) (length live))
 
-  FitFirst-on : (y live x : List ℕ) → FitFirst rules live x → (live' : List ℕ) × FitFirst rules live' (x ++ y)
-  FitFirst-on [] live x fit = let P : List ℕ → Type 0 = λ z. FitFirst rules live z in (live, subst P (sym (append-nil x)) fit)
+  FitFirst-on : (y live x : List ℕ) → FitFirst rules live x
+      → (live' : List ℕ) × FitFirst rules live' (x ++ y)
+  FitFirst-on [] live x fit = let P : List ℕ → Type 0 = λ z. FitFirst rules live z in
+      (live, subst P (sym (append-nil x)) fit)
   FitFirst-on (b ∷ y) live x fit =
       let next = FitFirst-more live x b fit in
       let rest = FitFirst-on y next.0 (x ++ b ∷ []) next.1 in
@@ -78,11 +94,13 @@ module _ (rules : Rules) (lawful : IsLawful rules) where
       subst P (sym (FitFirst-live some.0 x some.1)) some.1
 
   -- Where the room isn't full, these are all the bytes,
-  pub within_room-open : (x : List ℕ) → fills_room rules (within_room rules x) ≡ false → within_room rules x ≡ x
+  pub within_room-open : (x : List ℕ) → fills_room rules (within_room rules x) ≡ false
+      → within_room rules x ≡ x
   within_room-open x room =
       let fit = within_room-fit x in
       ⊎_elim
-      (λ all. sym (fit.whole ∙ (ap (λ r. within_room rules x ++ r) all.0 ∙ append-nil (within_room rules x))))
+      (λ all. sym (fit.whole ∙ (ap (λ r. within_room rules x ++ r) all.0
+      ∙ append-nil (within_room rules x))))
       (λ full. absurd (eqb-false _ _ room (sym full)))
       fit.room
 
@@ -95,7 +113,8 @@ module _ (rules : Rules) (lawful : IsLawful rules) where
       let fit = within_room-fit x in
       let P : List ℕ → Type 0 = λ y. FitFirst rules (live ++ b ∷ []) (y ++ b ∷ []) in
       let open' : length live ≡ rules.room live → ⊥ = eqb-false _ _ room in
-      let short : length live ≤ rules.room live = ⊎_elim (λ all. all.1) (λ full. omega arith) fit.room in
+      let short : length live ≤ rules.room live =
+      ⊎_elim (λ all. all.1) (λ full. omega arith) fit.room in
       let some : length live < rules.room live = omega arith in
       FitFirst-live (live ++ b ∷ []) (x ++ b ∷ []) (subst P same (FitFirst-fits live b some))
 

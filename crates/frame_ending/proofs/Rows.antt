@@ -1,5 +1,6 @@
--- What ticks are, computed from the definition: bytes with one silent tick between them, two silent ticks inside a burst, three and
--- four silent ticks before a byte, and more bytes than there is room for.
+-- What ticks are, computed from the definition: bytes with one silent tick between them, two silent
+-- ticks inside a burst, three and four silent ticks before a byte, and more bytes than there is
+-- room for.
 use Rattle.std.proofs.Common.{◌≡◌, ℕ, true, false, List, [], ◌∷◌, ◌++◌, length, refl}
 use Rattle.line_rules.specs.Rules.{Rules}
 use Rattle.yasir_ticks.specs.Ticks.{silent}
@@ -7,9 +8,11 @@ use Rattle.yasir_ticks.specs.Bursts.{with_byte, bursts_from}
 use Rattle.yasir_ticks.specs.declared.tick.Tick.{Tick}
 use Rattle.yasir_ticks.specs.declared.tick.Tick.TheVariants.{Silent, Byte}
 use Rattle.frame_ending.specs.declared.cut.Cut.{Cut}
-use Rattle.frame_ending.specs.declared.cut.Cut.TheVariants.{Start, Live, Extra, Pause, Closed, Quiet}
+use Rattle.frame_ending.specs.declared.cut.Cut.TheVariants.{Start, Live, Extra, Pause, Closed}
+use Rattle.frame_ending.specs.declared.cut.Cut.TheVariants.{Quiet}
 use Rattle.frame_ending.specs.LiveBytes.{before_pause, has_pause, up_to_byte}
-use Rattle.frame_ending.specs.SoFar.{last_of, start_so_far, last_live_so_far, live_bytes_so_far, has_extra_so_far, is_over_so_far}
+use Rattle.frame_ending.specs.SoFar.{last_of, start_so_far, last_live_so_far, live_bytes_so_far}
+use Rattle.frame_ending.specs.SoFar.{has_extra_so_far, is_over_so_far}
 use Rattle.frame_ending.specs.Cuts.{cut_of}
 
 -- room for so many bytes, and no frames
@@ -29,22 +32,28 @@ pub cuts_after : Rules → List Tick → List Tick → List Cut
 cuts_after rules before [] = []
 cuts_after rules before (t ∷ l) = cut_of rules before t ∷ cuts_after rules (before ++ t ∷ []) l
 
-pub apart : cuts_after (with_room 256) [] (Silent ∷ Byte 1 ∷ Silent ∷ Byte 3 ∷ Silent ∷ Byte 64 ∷ [])
+pub apart : cuts_after (with_room 256) []
+    (Silent ∷ Byte 1 ∷ Silent ∷ Byte 3 ∷ Silent ∷ Byte 64 ∷ [])
     ≡ Quiet ∷ Start 1 ∷ Pause 1 ∷ Live 3 ∷ Pause 1 ∷ Live 64 ∷ []
 unfolding cuts_after with_byte bursts_from before_pause has_pause up_to_byte last_of
 apart = refl
 
-pub parted : cuts_after (with_room 256) [] (Byte 1 ∷ Byte 3 ∷ Silent ∷ Silent ∷ Byte 64 ∷ Byte 33 ∷ silent 5)
-    ≡ Start 1 ∷ Live 3 ∷ Pause 1 ∷ Pause 2 ∷ Extra 64 ∷ Extra 33 ∷ Pause 1 ∷ Pause 2 ∷ Pause 3 ∷ Closed ∷ Quiet ∷ []
+pub parted : cuts_after (with_room 256) []
+    (Byte 1 ∷ Byte 3 ∷ Silent ∷ Silent ∷ Byte 64 ∷ Byte 33 ∷ silent 5)
+    ≡ Start 1 ∷ Live 3 ∷ Pause 1 ∷ Pause 2 ∷ Extra 64 ∷ Extra 33 ∷ Pause 1 ∷ Pause 2 ∷ Pause 3
+    ∷ Closed ∷ Quiet ∷ []
 unfolding cuts_after with_byte bursts_from before_pause has_pause up_to_byte last_of
 parted = refl
 
-pub three_and_four : cuts_after (with_room 256) [] (Byte 1 ∷ Silent ∷ Silent ∷ Silent ∷ Byte 2 ∷ silent 4 ++ Byte 3 ∷ [])
-    ≡ Start 1 ∷ Pause 1 ∷ Pause 2 ∷ Pause 3 ∷ Extra 2 ∷ Pause 1 ∷ Pause 2 ∷ Pause 3 ∷ Closed ∷ Start 3 ∷ []
+pub three_and_four : cuts_after (with_room 256) []
+    (Byte 1 ∷ Silent ∷ Silent ∷ Silent ∷ Byte 2 ∷ silent 4 ++ Byte 3 ∷ [])
+    ≡ Start 1 ∷ Pause 1 ∷ Pause 2 ∷ Pause 3 ∷ Extra 2 ∷ Pause 1 ∷ Pause 2 ∷ Pause 3 ∷ Closed
+    ∷ Start 3 ∷ []
 unfolding cuts_after with_byte bursts_from before_pause has_pause up_to_byte last_of
 three_and_four = refl
 
-pub no_room : cuts_after (with_room 2) [] (Byte 1 ∷ Byte 2 ∷ Byte 3 ∷ []) ≡ Start 1 ∷ Live 2 ∷ Extra 3 ∷ []
+pub no_room : cuts_after (with_room 2) [] (Byte 1 ∷ Byte 2 ∷ Byte 3 ∷ [])
+    ≡ Start 1 ∷ Live 2 ∷ Extra 3 ∷ []
 unfolding cuts_after with_byte bursts_from before_pause has_pause up_to_byte last_of
 no_room = refl
 
@@ -52,8 +61,10 @@ no_room = refl
 abbrev parted_line : List Tick
 parted_line = silent 3 ++ Byte 1 ∷ Byte 3 ∷ Silent ∷ Silent ∷ Byte 64 ∷ []
 
-pub parted_burst : (start_so_far parted_line ≡ 3) × (live_bytes_so_far (with_room 256) parted_line ≡ 1 ∷ 3 ∷ [])
-    × (last_live_so_far (with_room 256) parted_line ≡ 4) × (has_extra_so_far (with_room 256) parted_line ≡ true)
+pub parted_burst : (start_so_far parted_line ≡ 3)
+    × (live_bytes_so_far (with_room 256) parted_line ≡ 1 ∷ 3 ∷ [])
+    × (last_live_so_far (with_room 256) parted_line ≡ 4)
+    × (has_extra_so_far (with_room 256) parted_line ≡ true)
     × (is_over_so_far (with_room 256) parted_line ≡ true)
 unfolding with_byte bursts_from before_pause has_pause up_to_byte last_of
 parted_burst = (refl, refl, refl, refl, refl)

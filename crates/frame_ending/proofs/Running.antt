@@ -1,5 +1,6 @@
 -- What a tick is, by the burst that runs.
-use Rattle.std.proofs.Common.{◌≡◌, ◌∙◌, ℕ, suc, ◌+◌, ◌-◌, ◌<◌, ◌≤◌, ◌==◌, nat_le, Bool, true, false}
+use Rattle.std.proofs.Common.{◌≡◌, ◌∙◌, ℕ, suc, ◌+◌, ◌-◌, ◌<◌, ◌≤◌, ◌==◌, nat_le, nat_lt, Bool}
+use Rattle.std.proofs.Common.{true, false}
 use Rattle.std.proofs.Common.{◌||◌, cond, ◌⊎◌, inl, inr, List, [], ◌∷◌, ◌++◌, length, refl, sym, ap}
 use Rattle.std.proofs.Common.{subst, arith, ⊎_elim, Option, Some, None, IfSome, append-nil}
 use Rattle.std.proofs.lemmas.Bool.{cases_Bool, cases_lt, or_parts, le-leb, lt-leb, eq-eqb, ne_eqb}
@@ -66,7 +67,7 @@ past-quiet m None past = refl
 past-quiet m (Some d) past =
     let k : ℕ = suc m - end_of d in
     let far : 5 ≤ k = omega arith in
-    cond-false _ _ _ (lt-leb k 3 (omega arith))
+    cond-false _ _ _ (le-ltb k 4 (omega arith))
     ∙ cond-false _ _ _ (ne_eqb k 4 (λ same. omega arith))
 
 module _ (rules : Rules) (line : List Tick) where
@@ -111,7 +112,7 @@ module _ (rules : Rules) (line : List Tick) where
         is = refl;
         at = ⊎_elim
             (λ few. let pause : silence_cut k
-            ≡ Pause k = cond-true _ _ _ (le-leb k 3 (omega arith)) in
+            ≡ Pause k = cond-true _ _ _ (lt-ltb k 4 (omega arith)) in
             let same = sym (silent-some d is.0) ∙ closed in
             absurd cc)
             (λ more. omega arith)
@@ -260,7 +261,7 @@ module _ (rules : Rules) (line : List Tick) where
       (λ four. open' (sym is ∙ (cond-false _ _ _ many ∙ cond-true _ _ _ four)))
       (λ other. loud (sym is ∙ (cond-false _ _ _ many ∙ cond-false _ _ _ other)))
       (cases_Bool (k == 4)))
-      (cases_Bool (nat_le k 3))
+      (cases_Bool (nat_lt k 4))
 
   -- what isn't silence, and isn't taken for it
   silent-not : (o : Option Burst) (cut : Cut) → silent_cut (length line) o ≡ cut

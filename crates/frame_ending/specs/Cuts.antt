@@ -1,15 +1,19 @@
 -- What a tick is, by the ticks of the line up to it.
-use Rattle.std.specs.Prelude.{ℕ, suc, ◌-◌, nat_le, ◌==◌, List, [], ◌∷◌, ◌++◌, length, Option, Some, None, if◌then◌else◌}
+use Rattle.std.specs.Prelude.{ℕ, suc, ◌-◌, nat_lt, ◌==◌, List, [], ◌∷◌, ◌++◌, length, Option, Some}
+use Rattle.std.specs.Prelude.{None, if◌then◌else◌}
 use Rattle.line_rules.specs.Rules.{Rules}
 use Rattle.yasir_ticks.specs.Bursts.{Burst, end_of}
+use Rattle.yasir_ticks.specs.declared.TheConstants.{T3_5_TICKS}
 use Rattle.yasir_ticks.specs.declared.tick.Tick.{Tick}
 use Rattle.yasir_ticks.specs.declared.tick.Tick.TheVariants.{Silent, Byte}
 use Rattle.frame_ending.specs.declared.cut.Cut.{Cut}
-use Rattle.frame_ending.specs.declared.cut.Cut.TheVariants.{Start, Live, Extra, Pause, Closed, Quiet}
+use Rattle.frame_ending.specs.declared.cut.Cut.TheVariants.{Start, Live, Extra, Pause, Closed}
+use Rattle.frame_ending.specs.declared.cut.Cut.TheVariants.{Quiet}
 use Rattle.frame_ending.specs.LiveBytes.{live_end}
 use Rattle.frame_ending.specs.SoFar.{last_burst}
 
--- A byte at tick n is the last one of the last burst: it is the first byte of that burst too, or its last live one, or neither.
+-- A byte at tick n is the last one of the last burst: it is the first byte of that burst too, or
+-- its last live one, or neither.
 abbrev pub byte_cut : Rules → ℕ → ℕ → Option Burst → Cut
 byte_cut rules n b None = Start b
 byte_cut rules n b (Some d) =
@@ -20,8 +24,8 @@ byte_cut rules n b (Some d) =
 -- the n-th silent tick in a row after a byte
 abbrev pub silence_cut : ℕ → Cut
 silence_cut n =
-    if nat_le n 3 then Pause n
-    else if n == 4 then Closed
+    if nat_lt n T3_5_TICKS then Pause n
+    else if n == T3_5_TICKS then Closed
     else Quiet
 
 -- a silent tick at tick n, after this burst

@@ -1,13 +1,15 @@
--- The live bytes of a burst: those before the first two silent ticks that stand together, cut to the room of these bytes.
--- Only they can be a frame.
-use Rattle.std.specs.Prelude.{ℕ, zero, suc, ◌+◌, nat_lt, Bool, true, false, List, [], ◌∷◌, length, take}
+-- The live bytes of a burst: those before the first two silent ticks that stand together, cut to
+-- the room of these bytes. Only they can be a frame.
+use Rattle.std.specs.Prelude.{ℕ, zero, suc, ◌+◌, nat_lt, Bool, true, false, List, [], ◌∷◌, length}
+use Rattle.std.specs.Prelude.{take}
 use Rattle.line_rules.specs.Rules.{Rules}
 use Rattle.yasir_ticks.specs.Ticks.{bytes_in}
 use Rattle.yasir_ticks.specs.Bursts.{Burst}
 use Rattle.yasir_ticks.specs.declared.tick.Tick.{Tick}
 use Rattle.yasir_ticks.specs.declared.tick.Tick.TheVariants.{Silent, Byte}
 
--- the ticks before the first two silent ones that stand together; silence follows the end of the list
+-- the ticks before the first two silent ones that stand together; silence follows the end of the
+-- list
 unfoldable pub before_pause : List Tick → List Tick
 before_pause [] = []
 before_pause (Byte b ∷ l) = Byte b ∷ before_pause l

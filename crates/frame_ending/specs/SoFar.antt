@@ -1,7 +1,10 @@
--- What is known of the burst of a line that is running or was the last, by the ticks of the line so far.
-use Rattle.std.specs.Prelude.{ℕ, ◌-◌, nat_le, min, Bool, false, ◌||◌, List, [], ◌∷◌, length, Option, Some, None}
+-- What is known of the burst of a line that is running or was the last, by the ticks of the line so
+-- far.
+use Rattle.std.specs.Prelude.{ℕ, ◌-◌, nat_le, min, Bool, false, ◌||◌, List, [], ◌∷◌, length, Option}
+use Rattle.std.specs.Prelude.{Some, None}
 use Rattle.line_rules.specs.Rules.{Rules, fills_room}
 use Rattle.yasir_ticks.specs.Bursts.{Burst, bursts, end_of}
+use Rattle.yasir_ticks.specs.declared.TheConstants.{T3_5_TICKS, T1_5_TICKS}
 use Rattle.yasir_ticks.specs.declared.tick.Tick.{Tick}
 use Rattle.frame_ending.specs.LiveBytes.{live_bytes, live_end, has_extra, has_pause}
 
@@ -35,12 +38,12 @@ has_extra_in rules (Some d) = has_extra rules d
 -- Two silent ticks stand together in the burst, or after it.
 abbrev pub has_paused_in : ℕ → Option Burst → Bool
 has_paused_in m None = false
-has_paused_in m (Some d) = has_pause d.body || nat_le 2 (m - end_of d)
+has_paused_in m (Some d) = has_pause d.body || nat_le T1_5_TICKS (m - end_of d)
 
 -- the silent ticks after the burst, counted up to the fourth, which closes it
 abbrev pub quiet_in : ℕ → Option Burst → ℕ
-quiet_in m None = 4
-quiet_in m (Some d) = min 4 (m - end_of d)
+quiet_in m None = T3_5_TICKS
+quiet_in m (Some d) = min T3_5_TICKS (m - end_of d)
 
 -- no further byte of the burst can be live
 abbrev pub is_over_in : Rules → ℕ → Option Burst → Bool

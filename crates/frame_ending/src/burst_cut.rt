@@ -1,21 +1,15 @@
 use crate::Cut;
 use line_rules::LineRules;
-use yasir_ticks::{MAX_TICKS, Tick};
+use yasir_ticks::{MAX_TICKS, T1_5_TICKS, T3_5_TICKS, Tick};
 
-// so many silent ticks end a burst
-const CUT: u8 = 4;
-
-// after so many silent ticks no byte of a burst is live
-const PAUSE: u8 = 2;
-
-/// Cuts a line into bursts, a tick at a time, and tells the live bytes of each by the rules `R`: those before the first two
-/// silent ticks that stand together, as many as there is room for.
+/// Cuts a line into bursts, a tick at a time, and tells the live bytes of each by the rules `R`:
+/// those before the first two silent ticks that stand together, as many as there is room for.
 ///
 /// What it tells of a burst is that of the one that is running or was the last.
 #[derive(Drop)]
 pub struct BurstCut<R> {
     taken: u64,
-    // silent ticks since the last byte, counted up to `CUT`
+    // silent ticks since the last byte, counted up to `T3_5_TICKS`
     quiet: u8,
     // the tick of the first byte, and that of the last live one
     start: u64,
@@ -29,21 +23,23 @@ pub struct BurstCut<R> {
 }
 
 impl<R: LineRules> BurstCut<R> {
-    ghost use Rattle.std.specs.Prelude.{◌≡◌, ℕ, ◌+◌, ◌<◌, ◌≤◌, false, true, ◌||◌, List, [], ◌∷◌, ◌++◌, length};
+    ghost use Rattle.std.specs.Prelude.{◌≡◌, ℕ, ◌+◌, ◌<◌, ◌≤◌, false, true, ◌||◌, List, [], ◌∷◌};
+    ghost use Rattle.std.specs.Prelude.{◌++◌, length};
     ghost use Rattle.yasir_ticks.specs.declared.tick.Tick.{Tick};
     ghost use Rattle.yasir_ticks.specs.declared.tick.Tick.TheVariants.{Silent, Byte};
-    ghost use Rattle.frame_ending.specs.SoFar.{start_so_far, live_bytes_so_far, last_live_so_far, has_extra_so_far, is_over_so_far};
+    ghost use Rattle.frame_ending.specs.SoFar.{start_so_far, live_bytes_so_far, last_live_so_far};
+    ghost use Rattle.frame_ending.specs.SoFar.{has_extra_so_far, is_over_so_far};
     ghost use Rattle.frame_ending.specs.Cuts.{cut_of};
     ghost use Rattle.frame_ending.specs.Stands.{StandsFor, ticks_taken};
 
     /// A value that has taken no tick.
     pub fn new() -> BurstCut<R>
         ensures taken { ticks_taken result ≡ 0 }
-        ensures stands { StandsFor R.rules R.stands result [] }
+        ensures stands { StandsFor R.LineRules result [] }
     {
         BurstCut {
             taken: 0,
-            quiet: CUT,
+            quiet: T3_5_TICKS,
             start: 0,
             last_live: 0,
             extra: false,
@@ -56,11 +52,12 @@ impl<R: LineRules> BurstCut<R> {
     #[inline]
     fn begin(&mut self, byte: u8) -> Cut
         requires room { self.old.taken < MAX_TICKS }
-        requires quiet { CUT ≤ self.old.quiet }
+        requires quiet { T3_5_TICKS ≤ self.old.quiet }
         ensures taken { self.new.taken ≡ self.old.taken + 1 }
-        ensures stands { (line : List Tick) → StandsFor R.rules R.stands self.old line
-            → StandsFor R.rules R.stands self.new (line ++ Byte byte ∷ []) }
-        ensures answer { (line : List Tick) → StandsFor R.rules R.stands self.old line → result ≡ cut_of R.rules line (Byte byte) }
+        ensures stands { (line : List Tick) → StandsFor R.LineRules self.old line
+            → StandsFor R.LineRules self.new (line ++ Byte byte ∷ []) }
+        ensures answer { (line : List Tick) → StandsFor R.LineRules self.old line
+            → result ≡ cut_of R.rules line (Byte byte) }
     {
         self.rules.restart();
         self.rules.take(byte);
@@ -77,13 +74,14 @@ impl<R: LineRules> BurstCut<R> {
     #[inline]
     fn go_on(&mut self, byte: u8) -> Cut
         requires room { self.old.taken < MAX_TICKS }
-        requires quiet { self.old.quiet < CUT }
+        requires quiet { self.old.quiet < T3_5_TICKS }
         requires open { self.old.paused ≡ false }
         requires fits { R.is_full self.old.rules ≡ false }
         ensures taken { self.new.taken ≡ self.old.taken + 1 }
-        ensures stands { (line : List Tick) → StandsFor R.rules R.stands self.old line
-            → StandsFor R.rules R.stands self.new (line ++ Byte byte ∷ []) }
-        ensures answer { (line : List Tick) → StandsFor R.rules R.stands self.old line → result ≡ cut_of R.rules line (Byte byte) }
+        ensures stands { (line : List Tick) → StandsFor R.LineRules self.old line
+            → StandsFor R.LineRules self.new (line ++ Byte byte ∷ []) }
+        ensures answer { (line : List Tick) → StandsFor R.LineRules self.old line
+            → result ≡ cut_of R.rules line (Byte byte) }
     {
         self.rules.take(byte);
         self.last_live = self.taken;
@@ -96,12 +94,13 @@ impl<R: LineRules> BurstCut<R> {
     #[inline]
     fn pass_over(&mut self, byte: u8) -> Cut
         requires room { self.old.taken < MAX_TICKS }
-        requires quiet { self.old.quiet < CUT }
+        requires quiet { self.old.quiet < T3_5_TICKS }
         requires over { (self.old.paused || R.is_full self.old.rules) ≡ true }
         ensures taken { self.new.taken ≡ self.old.taken + 1 }
-        ensures stands { (line : List Tick) → StandsFor R.rules R.stands self.old line
-            → StandsFor R.rules R.stands self.new (line ++ Byte byte ∷ []) }
-        ensures answer { (line : List Tick) → StandsFor R.rules R.stands self.old line → result ≡ cut_of R.rules line (Byte byte) }
+        ensures stands { (line : List Tick) → StandsFor R.LineRules self.old line
+            → StandsFor R.LineRules self.new (line ++ Byte byte ∷ []) }
+        ensures answer { (line : List Tick) → StandsFor R.LineRules self.old line
+            → result ≡ cut_of R.rules line (Byte byte) }
     {
         self.extra = true;
         self.quiet = 0;
@@ -113,11 +112,12 @@ impl<R: LineRules> BurstCut<R> {
     fn hear(&mut self, byte: u8) -> Cut
         requires { self.old.taken < MAX_TICKS }
         ensures taken { self.new.taken ≡ self.old.taken + 1 }
-        ensures stands { (line : List Tick) → StandsFor R.rules R.stands self.old line
-            → StandsFor R.rules R.stands self.new (line ++ Byte byte ∷ []) }
-        ensures answer { (line : List Tick) → StandsFor R.rules R.stands self.old line → result ≡ cut_of R.rules line (Byte byte) }
+        ensures stands { (line : List Tick) → StandsFor R.LineRules self.old line
+            → StandsFor R.LineRules self.new (line ++ Byte byte ∷ []) }
+        ensures answer { (line : List Tick) → StandsFor R.LineRules self.old line
+            → result ≡ cut_of R.rules line (Byte byte) }
     {
-        if self.quiet >= CUT {
+        if self.quiet >= T3_5_TICKS {
             return self.begin(byte);
         }
         if self.paused {
@@ -133,17 +133,18 @@ impl<R: LineRules> BurstCut<R> {
     fn wait(&mut self) -> Cut
         requires { self.old.taken < MAX_TICKS }
         ensures taken { self.new.taken ≡ self.old.taken + 1 }
-        ensures stands { (line : List Tick) → StandsFor R.rules R.stands self.old line
-            → StandsFor R.rules R.stands self.new (line ++ Silent ∷ []) }
-        ensures answer { (line : List Tick) → StandsFor R.rules R.stands self.old line → result ≡ cut_of R.rules line Silent }
+        ensures stands { (line : List Tick) → StandsFor R.LineRules self.old line
+            → StandsFor R.LineRules self.new (line ++ Silent ∷ []) }
+        ensures answer { (line : List Tick) → StandsFor R.LineRules self.old line
+            → result ≡ cut_of R.rules line Silent }
     {
         self.taken += 1;
-        if self.quiet >= CUT {
+        if self.quiet >= T3_5_TICKS {
             return Cut::Quiet;
         }
         self.quiet += 1;
-        self.paused |= self.quiet >= PAUSE;
-        if self.quiet < CUT {
+        self.paused |= self.quiet >= T1_5_TICKS;
+        if self.quiet < T3_5_TICKS {
             Cut::Pause(self.quiet)
         } else {
             Cut::Closed
@@ -155,9 +156,10 @@ impl<R: LineRules> BurstCut<R> {
     pub fn step(&mut self, t: Tick) -> Cut
         requires { ticks_taken self.old < MAX_TICKS }
         ensures taken { ticks_taken self.new ≡ ticks_taken self.old + 1 }
-        ensures stands { (line : List Tick) → StandsFor R.rules R.stands self.old line
-            → StandsFor R.rules R.stands self.new (line ++ t ∷ []) }
-        ensures answer { (line : List Tick) → StandsFor R.rules R.stands self.old line → result ≡ cut_of R.rules line t }
+        ensures stands { (line : List Tick) → StandsFor R.LineRules self.old line
+            → StandsFor R.LineRules self.new (line ++ t ∷ []) }
+        ensures answer { (line : List Tick) → StandsFor R.LineRules self.old line
+            → result ≡ cut_of R.rules line t }
     {
         match t {
             Tick::Silent => self.wait(),
@@ -168,7 +170,7 @@ impl<R: LineRules> BurstCut<R> {
     /// The live bytes.
     #[inline]
     pub fn rules(&self) -> &R
-        ensures { (line : List Tick) → StandsFor R.rules R.stands self.now line
+        ensures { (line : List Tick) → StandsFor R.LineRules self.now line
             → R.stands result.now (live_bytes_so_far R.rules line) }
     {
         &self.rules
@@ -177,7 +179,8 @@ impl<R: LineRules> BurstCut<R> {
     /// The tick of the burst's first byte; 0 before the first burst.
     #[inline]
     pub fn start(&self) -> u64
-        ensures { (line : List Tick) → StandsFor R.rules R.stands self.now line → result ≡ start_so_far line }
+        ensures { (line : List Tick) → StandsFor R.LineRules self.now line
+            → result ≡ start_so_far line }
     {
         self.start
     }
@@ -185,7 +188,8 @@ impl<R: LineRules> BurstCut<R> {
     /// The tick of the last live byte; 0 before the first burst.
     #[inline]
     pub fn last_live(&self) -> u64
-        ensures { (line : List Tick) → StandsFor R.rules R.stands self.now line → result ≡ last_live_so_far R.rules line }
+        ensures { (line : List Tick) → StandsFor R.LineRules self.now line
+            → result ≡ last_live_so_far R.rules line }
     {
         self.last_live
     }
@@ -193,15 +197,18 @@ impl<R: LineRules> BurstCut<R> {
     /// Whether a byte of the burst isn't live.
     #[inline]
     pub fn extra(&self) -> bool
-        ensures { (line : List Tick) → StandsFor R.rules R.stands self.now line → result ≡ has_extra_so_far R.rules line }
+        ensures { (line : List Tick) → StandsFor R.LineRules self.now line
+            → result ≡ has_extra_so_far R.rules line }
     {
         self.extra
     }
 
-    /// Whether no further byte of the burst can be live: two silent ticks stood together in it or after it, or the room is full.
+    /// Whether no further byte of the burst can be live: two silent ticks stood together in it or
+    /// after it, or the room is full.
     #[inline]
     pub fn live_over(&self) -> bool
-        ensures { (line : List Tick) → StandsFor R.rules R.stands self.now line → result ≡ is_over_so_far R.rules line }
+        ensures { (line : List Tick) → StandsFor R.LineRules self.now line
+            → result ≡ is_over_so_far R.rules line }
     {
         self.paused || self.rules.full()
     }
@@ -210,7 +217,8 @@ impl<R: LineRules> BurstCut<R> {
     #[inline]
     pub fn ticks(&self) -> u64
         ensures taken { result ≡ ticks_taken self.now }
-        ensures count { (line : List Tick) → StandsFor R.rules R.stands self.now line → result ≡ length line }
+        ensures count { (line : List Tick) → StandsFor R.LineRules self.now line
+            → result ≡ length line }
     {
         self.taken
     }

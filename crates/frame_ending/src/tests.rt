@@ -1,4 +1,5 @@
-ghost use Rattle.std.specs.Prelude.{◌≡◌, ℕ, ◌≤◌, ◌<◌, Bool, true, false, List, [], ◌∷◌, ◌++◌, length, All, nat_le, refl};
+ghost use Rattle.std.specs.Prelude.{◌≡◌, ℕ, ◌≤◌, ◌<◌, Bool, true, false, List, [], ◌∷◌, ◌++◌};
+ghost use Rattle.std.specs.Prelude.{length, All, nat_le, refl};
 ghost use Rattle.std.proofs.Common.{rules};
 
 use super::*;
@@ -34,11 +35,21 @@ impl LineRules for Counted {
 
     ghost LABEL = { 1 };
 
-    ghost lawful = { record { some_room = Prim.search rules; fits = λ x b short. short; stays = λ x b full. refl; bounded = λ x bytes. Prim.search rules } };
+    ghost lawful = { record {
+      some_room = Prim.search rules;
+      fits = λ x b short. short;
+      stays = λ x b full. refl;
+      bounded = λ x bytes. Prim.search rules;
+    } };
 
     ghost headed = { record { room_for_header = λ x. Prim.search rules } };
 
-    ghost framed = { record { some_byte = λ frame framed. Prim.search rules; good_header = λ frame framed. Prim.search rules; whole = λ frame framed. refl; has_room = λ frame framed. Prim.search rules } };
+    ghost framed = { record {
+      some_byte = λ frame framed. Prim.search rules;
+      good_header = λ frame framed. Prim.search rules;
+      whole = λ frame framed. refl;
+      has_room = λ frame framed. Prim.search rules;
+    } };
 
     ghost numbers = { record { longest_is = refl; label_is = refl } };
 
