@@ -1,5 +1,6 @@
 pub mod Spread
-pub mod Images
+pub mod Emissions
 pub mod Walks
 pub mod Longer
 pub mod LastNote
+pub mod Coming

@@ -5,13 +5,14 @@ use Rattle.std.proofs.lemmas.List.{append-nil}
 use Rattle.std.proofs.lemmas.List.Elements.{filter-append}
 use Rattle.yasir_ticks.specs.Bursts.{Burst, bursts, end_of}
 use Rattle.yasir_ticks.specs.BurstsOf.{one}
+use Rattle.yasir_ticks.specs.declared.TheConstants.{T3_5_TICKS}
 use Rattle.yasir_ticks.specs.declared.tick.Tick.{Tick}
 use Rattle.yasir_ticks.specs.declared.tick.Tick.TheVariants.{Silent, Byte}
 use Rattle.yasir_ticks.proofs.BurstLaws.{alone, extended, extended-nil, extended-near, extended-far, extended-cons, bursts_from-byte, bursts_from-silent}
 use Rattle.burst_walk.specs.Laid.{tick_at, laid}
-use Rattle.burst_walk.specs.Walk.{Walker, Noted, noted, walked, imaged, state_after, notes_before, notes_at, notes_of}
-use Rattle.burst_walk.specs.Causal.{IsCausal, MayGoOn, GoesOn, going_on}
-use Rattle.burst_walk.proofs.Images.{tick_at-none, tick_at-front, laid-more, laid-same}
+use Rattle.burst_walk.specs.Walk.{Walker, Noted, noted, walked, emitted, state_after, notes_before, notes_at, notes_of}
+use Rattle.burst_walk.specs.Causal.{IsCausal, MayGoOn, AddsOneTick, going_on}
+use Rattle.burst_walk.proofs.Emissions.{tick_at-none, tick_at-front, laid-more, laid-same}
 use Rattle.burst_walk.proofs.Spread.{AreSpread, EndBy, bursts-spread, bursts-end}
 
 -- ---- walks in two parts
@@ -21,11 +22,11 @@ module _ {S N : Type 0} (w : Walker S N) where
   walked-append s [] b = refl
   walked-append s (d ∷ a) b = ap (λ l. noted w s d ∷ l) (walked-append (w.next s d) a b)
 
-  pub imaged-append : (s : S) (a b : List Burst) → imaged w s (a ++ b) ≡ imaged w s a ++ imaged w (state_after w s a) b
-  imaged-append s [] b = refl
-  imaged-append s (d ∷ a) b =
-      ap (λ l. w.image s d ++ l) (imaged-append (w.next s d) a b)
-      ∙ sym (append_assoc (w.image s d) (imaged w (w.next s d) a) (imaged w (state_after w (w.next s d) a) b))
+  pub emitted-append : (s : S) (a b : List Burst) → emitted w s (a ++ b) ≡ emitted w s a ++ emitted w (state_after w s a) b
+  emitted-append s [] b = refl
+  emitted-append s (d ∷ a) b =
+      ap (λ l. w.emission s d ++ l) (emitted-append (w.next s d) a b)
+      ∙ sym (append_assoc (w.emission s d) (emitted w (w.next s d) a) (emitted w (state_after w (w.next s d) a) b))
 
   pub state_after-append : (s : S) (a b : List Burst) → state_after w s (a ++ b) ≡ state_after w (state_after w s a) b
   state_after-append s [] b = refl
@@ -56,23 +57,23 @@ module _ {N : Type 0} where
 
 module _ {S N : Type 0} (w : Walker S N) (causal : IsCausal w) where
   -- bursts that start late have late notes
-  pub none_before : (s : S) (n m : ℕ) (ds : List Burst) → AreSpread n ds → m ≤ n → notes_before m (walked w s ds) ≡ []
+  pub none_before : (s : S) (n m : ℕ) (ds : List Burst) → AreSpread T3_5_TICKS n ds → m ≤ n → notes_before m (walked w s ds) ≡ []
   none_before s n m [] spread late = refl
   none_before s n m (d ∷ ds) spread late =
       let begun : d.start ≤ w.tick s d = causal.not_before s d spread.1 in
       let h : m ≤ w.tick s d = omega arith in
-      let next : m ≤ end_of d + 4 = omega arith in
+      let next : m ≤ end_of d + T3_5_TICKS = omega arith in
       before-late m (noted w s d) (walked w (w.next s d) ds) h
-      ∙ none_before (w.next s d) (end_of d + 4) m ds spread.2 next
+      ∙ none_before (w.next s d) (end_of d + T3_5_TICKS) m ds spread.2 next
 
   -- Notes come in the order of their ticks.
-  notes_split : (s : S) (n m : ℕ) (ds : List Burst) → AreSpread n ds
+  notes_split : (s : S) (n m : ℕ) (ds : List Burst) → AreSpread T3_5_TICKS n ds
       → notes_before (m + 1) (walked w s ds) ≡ notes_before m (walked w s ds) ++ notes_at m (walked w s ds)
   notes_split s n m [] spread = refl
   notes_split s n m (d ∷ ds) spread =
       let rest : notes_before (m + 1) (walked w (w.next s d) ds) ≡ notes_before m (walked w (w.next s d) ds) ++ notes_at m (walked w (w.next s d) ds) =
-      notes_split (w.next s d) (end_of d + 4) m ds spread.2 in
-      let soon : w.tick s d < end_of d + 4 = causal.in_time s d spread.1 in
+      notes_split (w.next s d) (end_of d + T3_5_TICKS) m ds spread.2 in
+      let soon : w.tick s d < end_of d + T3_5_TICKS = causal.in_time s d spread.1 in
       ⊎_elim
       (λ early.
       let h : w.tick s d < m + 1 = omega arith in
@@ -82,8 +83,8 @@ module _ {S N : Type 0} (w : Walker S N) (causal : IsCausal w) where
       ∙ sym (ap (λ l. l ++ notes_at m (noted w s d ∷ walked w (w.next s d) ds)) (before-early m (noted w s d) (walked w (w.next s d) ds) early)
       ∙ ap (λ l. (noted w s d ∷ notes_before m (walked w (w.next s d) ds)) ++ l) (at-other m (noted w s d) (walked w (w.next s d) ds) other))))
       (λ late.
-      let later : m ≤ end_of d + 4 = omega arith in
-      let none : notes_before m (walked w (w.next s d) ds) ≡ [] = none_before (w.next s d) (end_of d + 4) m ds spread.2 later in
+      let later : m ≤ end_of d + T3_5_TICKS = omega arith in
+      let none : notes_before m (walked w (w.next s d) ds) ≡ [] = none_before (w.next s d) (end_of d + T3_5_TICKS) m ds spread.2 later in
       let front : notes_before m (noted w s d ∷ walked w (w.next s d) ds) ≡ [] = before-late m (noted w s d) (walked w (w.next s d) ds) late ∙ none in
       let rest_at : notes_before (m + 1) (walked w (w.next s d) ds) ≡ notes_at m (walked w (w.next s d) ds) =
       rest ∙ ap (λ l. l ++ notes_at m (walked w (w.next s d) ds)) none in
@@ -120,78 +121,78 @@ module _ {S N : Type 0} (w : Walker S N) (causal : IsCausal w) where
   alone_before s m b = before-late m (noted w s (alone m b)) [] (causal.not_before s (alone m b) (one b))
 
   -- the notes before a byte at tick m are those without the byte
-  notes_stay : (s : S) (n m b : ℕ) (ds : List Burst) → AreSpread n ds → EndBy m ds
-      → notes_before m (walked w s (extended 4 m b ds)) ≡ notes_before m (walked w s ds)
-  notes_stay s n m b [] spread ends = ap (λ ds. notes_before m (walked w s ds)) (extended-nil 4 m b) ∙ alone_before s m b
+  notes_stay : (s : S) (n m b : ℕ) (ds : List Burst) → AreSpread T3_5_TICKS n ds → EndBy m ds
+      → notes_before m (walked w s (extended T3_5_TICKS m b ds)) ≡ notes_before m (walked w s ds)
+  notes_stay s n m b [] spread ends = ap (λ ds. notes_before m (walked w s ds)) (extended-nil T3_5_TICKS m b) ∙ alone_before s m b
   notes_stay s n m b (d ∷ []) spread ends =
       ⊎_elim
-      (λ near. let may : MayGoOn d m = record { knit = spread.1; after = ends.0; near = near } in
-      ap (λ ds. notes_before m (walked w s ds)) (extended-near 4 m b d near) ∙ same_before s d m b may)
-      (λ far. ap (λ ds. notes_before m (walked w s ds)) (extended-far 4 m b d far)
+      (λ near. let may : MayGoOn d m = record { contiguous = spread.1; after = ends.0; near = near } in
+      ap (λ ds. notes_before m (walked w s ds)) (extended-near T3_5_TICKS m b d near) ∙ same_before s d m b may)
+      (λ far. ap (λ ds. notes_before m (walked w s ds)) (extended-far T3_5_TICKS m b d far)
       ∙ (filter-append (λ n. nat_lt n.tick m) (noted w s d ∷ []) (noted w (w.next s d) (alone m b) ∷ [])
       ∙ (ap (λ l. notes_before m (noted w s d ∷ []) ++ l) (alone_before (w.next s d) m b)
       ∙ append-nil (notes_before m (noted w s d ∷ [])))))
-      (cases_lt m (end_of d + 4))
+      (cases_lt m (end_of d + T3_5_TICKS))
   notes_stay s n m b (d ∷ e ∷ ds) spread ends =
-      ap (λ x. notes_before m (walked w s x)) (extended-cons 4 m b d e ds)
-      ∙ (filter-append (λ n. nat_lt n.tick m) (noted w s d ∷ []) (walked w (w.next s d) (extended 4 m b (e ∷ ds)))
-      ∙ (ap (λ l. notes_before m (noted w s d ∷ []) ++ l) (notes_stay (w.next s d) (end_of d + 4) m b (e ∷ ds) spread.2 ends.1)
+      ap (λ x. notes_before m (walked w s x)) (extended-cons T3_5_TICKS m b d e ds)
+      ∙ (filter-append (λ n. nat_lt n.tick m) (noted w s d ∷ []) (walked w (w.next s d) (extended T3_5_TICKS m b (e ∷ ds)))
+      ∙ (ap (λ l. notes_before m (noted w s d ∷ []) ++ l) (notes_stay (w.next s d) (end_of d + T3_5_TICKS) m b (e ∷ ds) spread.2 ends.1)
       ∙ sym (filter-append (λ n. nat_lt n.tick m) (noted w s d ∷ []) (walked w (w.next s d) (e ∷ ds)))))
 
   -- nor does the other line change before tick m
-  alone_dark : (s : S) (m b i : ℕ) → i < m → tick_at (w.image s (alone m b) ++ []) i ≡ Silent
-  alone_dark s m b i before = ap (λ x. tick_at x i) (append-nil (w.image s (alone m b))) ∙ causal.dark_before s (alone m b) i (one b) before
+  alone_dark : (s : S) (m b i : ℕ) → i < m → tick_at (w.emission s (alone m b) ++ []) i ≡ Silent
+  alone_dark s m b i before = ap (λ x. tick_at x i) (append-nil (w.emission s (alone m b))) ∙ causal.dark_before s (alone m b) i (one b) before
 
-  ticks_stay : (s : S) (n m b i : ℕ) (ds : List Burst) → AreSpread n ds → EndBy m ds → i < m
-      → tick_at (imaged w s (extended 4 m b ds)) i ≡ tick_at (imaged w s ds) i
+  ticks_stay : (s : S) (n m b i : ℕ) (ds : List Burst) → AreSpread T3_5_TICKS n ds → EndBy m ds → i < m
+      → tick_at (emitted w s (extended T3_5_TICKS m b ds)) i ≡ tick_at (emitted w s ds) i
   ticks_stay s n m b i [] spread ends before =
-      ap (λ ds. tick_at (imaged w s ds) i) (extended-nil 4 m b) ∙ (alone_dark s m b i before ∙ sym (tick_at-none i))
+      ap (λ ds. tick_at (emitted w s ds) i) (extended-nil T3_5_TICKS m b) ∙ (alone_dark s m b i before ∙ sym (tick_at-none i))
   ticks_stay s n m b i (d ∷ []) spread ends before =
       ⊎_elim
-      (λ near. let may : MayGoOn d m = record { knit = spread.1; after = ends.0; near = near } in
-      ap (λ ds. tick_at (imaged w s ds) i) (extended-near 4 m b d near)
-      ∙ (ap (λ x. tick_at x i) (append-nil (w.image s (going_on d m b)))
-      ∙ (causal.image_stays s d m b i may before
-      ∙ sym (ap (λ x. tick_at x i) (append-nil (w.image s d))))))
-      (λ far. ap (λ ds. tick_at (imaged w s ds) i) (extended-far 4 m b d far)
-      ∙ tick_at-front (w.image s d) (w.image (w.next s d) (alone m b) ++ []) [] i
+      (λ near. let may : MayGoOn d m = record { contiguous = spread.1; after = ends.0; near = near } in
+      ap (λ ds. tick_at (emitted w s ds) i) (extended-near T3_5_TICKS m b d near)
+      ∙ (ap (λ x. tick_at x i) (append-nil (w.emission s (going_on d m b)))
+      ∙ (causal.emission_stays s d m b i may before
+      ∙ sym (ap (λ x. tick_at x i) (append-nil (w.emission s d))))))
+      (λ far. ap (λ ds. tick_at (emitted w s ds) i) (extended-far T3_5_TICKS m b d far)
+      ∙ tick_at-front (w.emission s d) (w.emission (w.next s d) (alone m b) ++ []) [] i
       (alone_dark (w.next s d) m b i before ∙ sym (tick_at-none i)))
-      (cases_lt m (end_of d + 4))
+      (cases_lt m (end_of d + T3_5_TICKS))
   ticks_stay s n m b i (d ∷ e ∷ ds) spread ends before =
-      ap (λ x. tick_at (imaged w s x) i) (extended-cons 4 m b d e ds)
-      ∙ tick_at-front (w.image s d) (imaged w (w.next s d) (extended 4 m b (e ∷ ds))) (imaged w (w.next s d) (e ∷ ds)) i
-      (ticks_stay (w.next s d) (end_of d + 4) m b i (e ∷ ds) spread.2 ends.1 before)
+      ap (λ x. tick_at (emitted w s x) i) (extended-cons T3_5_TICKS m b d e ds)
+      ∙ tick_at-front (w.emission s d) (emitted w (w.next s d) (extended T3_5_TICKS m b (e ∷ ds))) (emitted w (w.next s d) (e ∷ ds)) i
+      (ticks_stay (w.next s d) (end_of d + T3_5_TICKS) m b i (e ∷ ds) spread.2 ends.1 before)
 
   -- ---- one more tick
 
   notes_before_line : (s : S) (line : List Tick) (t : Tick)
       → notes_before (length line) (walked w s (bursts (line ++ t ∷ []))) ≡ notes_of w s line
-  notes_before_line s line Silent = ap (λ ds. notes_before (length line) (walked w s ds)) (bursts_from-silent 4 0 line)
+  notes_before_line s line Silent = ap (λ ds. notes_before (length line) (walked w s ds)) (bursts_from-silent T3_5_TICKS 0 line)
   notes_before_line s line (Byte b) =
       let here : 0 + length line ≡ length line = omega arith in
-      ap (λ ds. notes_before (length line) (walked w s ds)) (bursts_from-byte 4 0 (length line) b line here)
+      ap (λ ds. notes_before (length line) (walked w s ds)) (bursts_from-byte T3_5_TICKS 0 (length line) b line here)
       ∙ notes_stay s 0 (length line) b (bursts line) (bursts-spread line) (bursts-end line)
 
   ticks_before_line : (s : S) (line : List Tick) (t : Tick) (i : ℕ) → i < length line
-      → tick_at (imaged w s (bursts (line ++ t ∷ []))) i ≡ tick_at (imaged w s (bursts line)) i
-  ticks_before_line s line Silent i before = ap (λ ds. tick_at (imaged w s ds) i) (bursts_from-silent 4 0 line)
+      → tick_at (emitted w s (bursts (line ++ t ∷ []))) i ≡ tick_at (emitted w s (bursts line)) i
+  ticks_before_line s line Silent i before = ap (λ ds. tick_at (emitted w s ds) i) (bursts_from-silent T3_5_TICKS 0 line)
   ticks_before_line s line (Byte b) i before =
       let here : 0 + length line ≡ length line = omega arith in
-      ap (λ ds. tick_at (imaged w s ds) i) (bursts_from-byte 4 0 (length line) b line here)
+      ap (λ ds. tick_at (emitted w s ds) i) (bursts_from-byte T3_5_TICKS 0 (length line) b line here)
       ∙ ticks_stay s 0 (length line) b i (bursts line) (bursts-spread line) (bursts-end line) before
 
   -- One more tick adds the notes of its step and one tick of the other line: what stood there stays.
-  pub goes_on : (s : S) (line : List Tick) (t : Tick) → GoesOn w s line t
-  goes_on s line t =
+  pub adds_one_tick : (s : S) (line : List Tick) (t : Tick) → AddsOneTick w s line t
+  adds_one_tick s line t =
       let long : length (line ++ t ∷ []) ≡ length line + 1 = length-append line (t ∷ []) in
       let more : List Burst = bursts (line ++ t ∷ []) in
       record {
         notes = ap (λ m. notes_before m (walked w s more)) long
             ∙ (notes_split s 0 (length line) more (bursts-spread (line ++ t ∷ []))
             ∙ ap (λ l. l ++ notes_at (length line) (walked w s more)) (notes_before_line s line t));
-        ticks = ap (λ m. laid m (imaged w s more)) long
-            ∙ (laid-more (length line) (imaged w s more)
-            ∙ ap (λ l. l ++ tick_at (imaged w s more) (length line) ∷ [])
-            (laid-same 0 (length line) (λ i. tick_at (imaged w s more) i) (λ i. tick_at (imaged w s (bursts line)) i)
+        ticks = ap (λ m. laid m (emitted w s more)) long
+            ∙ (laid-more (length line) (emitted w s more)
+            ∙ ap (λ l. l ++ tick_at (emitted w s more) (length line) ∷ [])
+            (laid-same 0 (length line) (λ i. tick_at (emitted w s more) i) (λ i. tick_at (emitted w s (bursts line)) i)
             (λ i below. let h : i < length line = omega arith in ticks_before_line s line t i h)));
       }

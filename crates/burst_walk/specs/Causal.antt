@@ -3,33 +3,44 @@ use Rattle.std.specs.Prelude.{◌≡◌, ℕ, ◌+◌, ◌-◌, ◌<◌, ◌≤�
 use Rattle.yasir_ticks.specs.Ticks.{silent}
 use Rattle.yasir_ticks.specs.Bursts.{Burst, bursts, end_of}
 use Rattle.yasir_ticks.specs.BurstsOf.{IsContiguous}
+use Rattle.yasir_ticks.specs.declared.TheConstants.{T3_5_TICKS}
 use Rattle.yasir_ticks.specs.declared.tick.Tick.{Tick}
 use Rattle.yasir_ticks.specs.declared.tick.Tick.TheVariants.{Silent, Byte}
 use Rattle.burst_walk.specs.Laid.{tick_at}
-use Rattle.burst_walk.specs.Walk.{Walker, walked, imaged, notes_of, line_of, notes_at}
+use Rattle.burst_walk.specs.Walk.{Walker, walked, emitted, notes_of, line_of, notes_at}
 
 -- a burst that goes on with a byte at tick m
 abbrev pub going_on : Burst → ℕ → ℕ → Burst
 going_on d m b = record { start = d.start; body = d.body ++ (silent (m - end_of d) ++ (Byte b ∷ [])) }
 
--- A burst is as bursts are, and tick m comes after its last byte, before four silent ticks.
+-- A burst is as bursts are, and tick m comes after its last byte, before the silent ticks that would end it.
 pub record MayGoOn (d : Burst) (m : ℕ) : Type 0 where
-  pub knit : IsContiguous 4 d.body
+  pub contiguous : IsContiguous T3_5_TICKS d.body
   pub after : end_of d ≤ m
-  pub near : m < end_of d + 4
+  pub near : m < end_of d + T3_5_TICKS
 
 -- What a burst gives before tick m doesn't change where the burst goes on at tick m; it gives nothing before its first
--- tick, and its note comes before another burst may start.
+-- tick, and its note comes before another burst may start. Once it is noted, state and emission are settled.
 pub record IsCausal {S N : Type 0} (w : Walker S N) : Type 0 where
-  pub not_before : (s : S) (d : Burst) → IsContiguous 4 d.body → d.start ≤ w.tick s d
-  pub in_time : (s : S) (d : Burst) → IsContiguous 4 d.body → w.tick s d < end_of d + 4
-  pub tick_stays : (s : S) (d : Burst) (m b : ℕ) → MayGoOn d m → w.tick s d < m → w.tick s (going_on d m b) ≡ w.tick s d
-  pub note_stays : (s : S) (d : Burst) (m b : ℕ) → MayGoOn d m → w.tick s d < m → w.note s (going_on d m b) ≡ w.note s d
-  pub waits : (s : S) (d : Burst) (m b : ℕ) → MayGoOn d m → m ≤ w.tick s d → m ≤ w.tick s (going_on d m b)
-  pub dark_before : (s : S) (d : Burst) (i : ℕ) → IsContiguous 4 d.body → i < d.start → tick_at (w.image s d) i ≡ Silent
-  pub image_stays : (s : S) (d : Burst) (m b i : ℕ) → MayGoOn d m → i < m → tick_at (w.image s (going_on d m b)) i ≡ tick_at (w.image s d) i
+  pub not_before : (s : S) (d : Burst) → IsContiguous T3_5_TICKS d.body → d.start ≤ w.tick s d
+  pub in_time : (s : S) (d : Burst) → IsContiguous T3_5_TICKS d.body
+      → w.tick s d < end_of d + T3_5_TICKS
+  pub tick_stays : (s : S) (d : Burst) (m b : ℕ) → MayGoOn d m → w.tick s d < m
+      → w.tick s (going_on d m b) ≡ w.tick s d
+  pub note_stays : (s : S) (d : Burst) (m b : ℕ) → MayGoOn d m → w.tick s d < m
+      → w.note s (going_on d m b) ≡ w.note s d
+  pub next_stays : (s : S) (d : Burst) (m b : ℕ) → MayGoOn d m → w.tick s d < m
+      → w.next s (going_on d m b) ≡ w.next s d
+  pub emission_settles : (s : S) (d : Burst) (m b : ℕ) → MayGoOn d m → w.tick s d < m
+      → w.emission s (going_on d m b) ≡ w.emission s d
+  pub waits : (s : S) (d : Burst) (m b : ℕ) → MayGoOn d m → m ≤ w.tick s d
+      → m ≤ w.tick s (going_on d m b)
+  pub dark_before : (s : S) (d : Burst) (i : ℕ) → IsContiguous T3_5_TICKS d.body → i < d.start
+      → tick_at (w.emission s d) i ≡ Silent
+  pub emission_stays : (s : S) (d : Burst) (m b i : ℕ) → MayGoOn d m → i < m
+      → tick_at (w.emission s (going_on d m b)) i ≡ tick_at (w.emission s d) i
 
 -- One more tick adds the notes that come in its step, and one tick of the other line.
-pub record GoesOn {S N : Type 0} (w : Walker S N) (s : S) (line : List Tick) (t : Tick) : Type 0 where
+pub record AddsOneTick {S N : Type 0} (w : Walker S N) (s : S) (line : List Tick) (t : Tick) : Type 0 where
   pub notes : notes_of w s (line ++ t ∷ []) ≡ notes_of w s line ++ notes_at (length line) (walked w s (bursts (line ++ t ∷ [])))
-  pub ticks : line_of w s (line ++ t ∷ []) ≡ line_of w s line ++ tick_at (imaged w s (bursts (line ++ t ∷ []))) (length line) ∷ []
+  pub ticks : line_of w s (line ++ t ∷ []) ≡ line_of w s line ++ tick_at (emitted w s (bursts (line ++ t ∷ []))) (length line) ∷ []

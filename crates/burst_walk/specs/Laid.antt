@@ -1,11 +1,11 @@
--- Images on a line: each one is the ticks from its start on, and all else is silent.
+-- Emissions on a line: each one is the ticks from its start on, and all else is silent.
 use Rattle.std.specs.Prelude.{ℕ, ◌-◌, ◌&&◌, nat_lt, nat_le, List, [], ◌∷◌, map, slice_index_or, if◌then◌else◌}
 use Rattle.std.specs.List.{range_with_len}
 use Rattle.yasir_ticks.specs.Bursts.{Burst, end_of}
 use Rattle.yasir_ticks.specs.declared.tick.Tick.{Tick}
 use Rattle.yasir_ticks.specs.declared.tick.Tick.TheVariants.{Silent}
 
--- tick i of a line that carries these images: that of the first one that covers it, else silence
+-- tick i of a line that carries these emissions: that of the first one that covers it, else silence
 unfoldable pub tick_at : List Burst → ℕ → Tick
 tick_at [] i = Silent
 tick_at (d ∷ ds) i =
@@ -13,4 +13,4 @@ tick_at (d ∷ ds) i =
 
 -- the first m ticks of that line
 abbrev pub laid : ℕ → List Burst → List Tick
-laid m images = map (λ i. tick_at images i) (range_with_len 0 m)
+laid m emissions = map (λ i. tick_at emissions i) (range_with_len 0 m)

@@ -2,3 +2,5 @@ pub mod Laid
 pub mod Walk
 pub mod Causal
 pub mod Longer
+pub mod HasCome
+pub mod Answers

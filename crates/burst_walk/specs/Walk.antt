@@ -1,4 +1,4 @@
--- A walk over the bursts of a line, in order: a state, and from each burst a note with its tick, and an image.
+-- A walk over the bursts of a line, in order: a state, and from each burst a note with its tick, and an emission.
 use Rattle.std.specs.Prelude.{ℕ, ◌==◌, nat_lt, List, [], ◌∷◌, ◌++◌, length}
 use Rattle.std.specs.List.{filter}
 use Rattle.yasir_ticks.specs.Bursts.{Burst, bursts}
@@ -11,8 +11,8 @@ pub record Walker (S N : Type 0) : Type 0 where
   -- what is noted of a burst, and at which tick
   pub note : S → Burst → N
   pub tick : S → Burst → ℕ
-  -- the image of a burst on the other line: none or one
-  pub image : S → Burst → List Burst
+  -- what a burst emits on the other line: none or one burst
+  pub emission : S → Burst → List Burst
 
 -- a note, and the tick of the step that it comes in
 pub record Noted (N : Type 0) : Type 0 where
@@ -27,10 +27,10 @@ abbrev pub walked : {S N : Type 0} → Walker S N → S → List Burst → List 
 walked w s [] = []
 walked w s (d ∷ ds) = noted w s d ∷ walked w (w.next s d) ds
 
--- the images of these bursts
-abbrev pub imaged : {S N : Type 0} → Walker S N → S → List Burst → List Burst
-imaged w s [] = []
-imaged w s (d ∷ ds) = w.image s d ++ imaged w (w.next s d) ds
+-- the emissions of these bursts
+abbrev pub emitted : {S N : Type 0} → Walker S N → S → List Burst → List Burst
+emitted w s [] = []
+emitted w s (d ∷ ds) = w.emission s d ++ emitted w (w.next s d) ds
 
 -- the state after these bursts
 abbrev pub state_after : {S N : Type 0} → Walker S N → S → List Burst → S
@@ -51,4 +51,4 @@ abbrev pub notes_of : {S N : Type 0} → Walker S N → S → List Tick → List
 notes_of w s line = notes_before (length line) (walked w s (bursts line))
 
 abbrev pub line_of : {S N : Type 0} → Walker S N → S → List Tick → List Tick
-line_of w s line = laid (length line) (imaged w s (bursts line))
+line_of w s line = laid (length line) (emitted w s (bursts line))

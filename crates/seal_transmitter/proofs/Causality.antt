@@ -14,13 +14,13 @@ use Rattle.frame_ending.specs.LiveBytes.{live_bytes, live_ticks, has_extra}
 use Rattle.frame_ending.proofs.LastBurst.{IsWithin}
 use Rattle.frame_ending.proofs.BurstSteps.{longer-end}
 use Rattle.burst_walk.specs.Laid.{tick_at}
-use Rattle.burst_walk.specs.Causal.{IsCausal, MayGoOn, GoesOn, going_on}
+use Rattle.burst_walk.specs.Causal.{IsCausal, MayGoOn, AddsOneTick, going_on}
 use Rattle.burst_walk.specs.Longer.{Extends}
-use Rattle.burst_walk.proofs.Images.{tick_at-none, tick_at-before, tick_at-from, get_or-silence}
-use Rattle.burst_walk.proofs.Walks.{goes_on}
+use Rattle.burst_walk.proofs.Emissions.{tick_at-none, tick_at-before, tick_at-from, get_or-silence}
+use Rattle.burst_walk.proofs.Walks.{adds_one_tick}
 use Rattle.burst_walk.proofs.Longer.{extends}
 use Rattle.seal_transmitter.specs.Profile.{Profile, trailer}
-use Rattle.seal_transmitter.specs.Sealing.{SealState, Judgement, judged, forwarded, image_by, sealer}
+use Rattle.seal_transmitter.specs.Sealing.{SealState, Judgement, judged, forwarded, emission_by, sealer}
 use Rattle.seal_transmitter.specs.Sealing.Judgement.{sealed_with, unsealed}
 use Rattle.seal_transmitter.specs.declared.note.UnsealedWhy.TheVariants.{Early, Form, Spent}
 use Rattle.seal_transmitter.proofs.LiveTicks.{live_ticks-whole, live_ticks-before}
@@ -49,7 +49,7 @@ pub no_extra : (extra other : Bool) → (extra || other) ≡ false → extra ≡
 no_extra true other is = is
 no_extra false other is = refl
 
--- ---- images
+-- ---- emissions
 
 module _ (profile : Profile) (rules : Rules) (lawful : IsLawful rules) where
   -- the live bytes alone
@@ -78,41 +78,41 @@ module _ (profile : Profile) (rules : Rules) (lawful : IsLawful rules) where
       ∙ (get_or-silence (live_ticks rules d) 3 (i - d.start) more few ∙ sym (shown-from d i from)))
       (cases_lt i d.start)
 
-  image-shown : (d : Burst) (i : ℕ) (j : Judgement) → IsContiguous 4 d.body → (j ≡ unsealed Early → ⊥)
+  emission-shown : (d : Burst) (i : ℕ) (j : Judgement) → IsContiguous 4 d.body → (j ≡ unsealed Early → ⊥)
       → ((n : ℕ) → j ≡ sealed_with n → has_extra rules d ≡ false) → i < end_of d + 3
-      → tick_at (image_by profile rules d j) i ≡ shown d i
+      → tick_at (emission_by profile rules d j) i ≡ shown d i
   unfolding shown
-  image-shown d i (sealed_with n) knit not_early right before =
+  emission-shown d i (sealed_with n) knit not_early right before =
       sealed-shown d (map (λ b. Byte b) (trailer profile n (live_bytes rules d))) i knit (right n refl) before
-  image-shown d i (unsealed Early) knit not_early right before = absurd (not_early refl)
-  image-shown d i (unsealed Form) knit not_early right before = refl
-  image-shown d i (unsealed Spent) knit not_early right before = refl
+  emission-shown d i (unsealed Early) knit not_early right before = absurd (not_early refl)
+  emission-shown d i (unsealed Form) knit not_early right before = refl
+  emission-shown d i (unsealed Spent) knit not_early right before = refl
 
-  pub image-judged : (s : SealState) (d : Burst) (i : ℕ) → IsContiguous 4 d.body → nat_lt d.start s.free ≡ false → i < end_of d + 3
-      → tick_at (image_by profile rules d (judged profile rules s d)) i ≡ shown d i
-  image-judged s d i knit late before =
+  pub emission-judged : (s : SealState) (d : Burst) (i : ℕ) → IsContiguous 4 d.body → nat_lt d.start s.free ≡ false → i < end_of d + 3
+      → tick_at (emission_by profile rules d (judged profile rules s d)) i ≡ shown d i
+  emission-judged s d i knit late before =
       let wrong : Bool = has_extra rules d || not (rules.is_frame (live_bytes rules d)) in
       let is : judged profile rules s d ≡ judge_by false wrong (s.floor == profile.limit) (suc s.floor) =
       judged-is profile rules s d ∙ ap (λ e. judge_by e wrong (s.floor == profile.limit) (suc s.floor)) late in
-      image-shown d i (judged profile rules s d) knit
+      emission-shown d i (judged profile rules s d) knit
       (λ early. early-only wrong (s.floor == profile.limit) (suc s.floor) (sym is ∙ early))
       (λ n sealed. no_extra (has_extra rules d) (not (rules.is_frame (live_bytes rules d)))
       (sealed-right false wrong (s.floor == profile.limit) (suc s.floor) n (sym is ∙ sealed)))
       before
 
-  pub image-early : (s : SealState) (d : Burst) → nat_lt d.start s.free ≡ true → image_by profile rules d (judged profile rules s d) ≡ []
-  image-early s d early =
-      ap (λ j. image_by profile rules d j)
+  pub emission-early : (s : SealState) (d : Burst) → nat_lt d.start s.free ≡ true → emission_by profile rules d (judged profile rules s d) ≡ []
+  emission-early s d early =
+      ap (λ j. emission_by profile rules d j)
       (judged-is profile rules s d
       ∙ ap (λ e. judge_by e (has_extra rules d || not (rules.is_frame (live_bytes rules d))) (s.floor == profile.limit) (suc s.floor)) early)
 
   -- what is shown before tick m doesn't change where the burst goes on at tick m
   shown-stays : (d : Burst) (m b i : ℕ) → MayGoOn d m → i < m → shown (going_on d m b) i ≡ shown d i
   shown-stays d m b i may before =
-      let within : IsWithin m d = record { knit = may.knit; within = may.after } in
+      let within : IsWithin m d = record { knit = may.contiguous; within = may.after } in
       let close : m < end_of d + 4 = may.near in
       let few : m - end_of d < 4 = omega arith in
-      let knit : IsContiguous 4 (going_on d m b).body = knit-more 4 d.body (m - end_of d) b may.knit few in
+      let knit : IsContiguous 4 (going_on d m b).body = knit-more 4 d.body (m - end_of d) b may.contiguous few in
       ⊎_elim
       (λ dark. shown-before (going_on d m b) i dark ∙ sym (shown-before d i dark))
       (λ from.
@@ -121,31 +121,31 @@ module _ (profile : Profile) (rules : Rules) (lawful : IsLawful rules) where
       ∙ (live_ticks-before rules lawful m b d within knit (i - d.start) here ∙ sym (shown-from d i from)))
       (cases_lt i d.start)
 
-  image-stays : (s : SealState) (d : Burst) (m b i : ℕ) → MayGoOn d m → i < m
-      → tick_at ((sealer profile rules).image s (going_on d m b)) i ≡ tick_at ((sealer profile rules).image s d) i
-  image-stays s d m b i may before =
-      let within : IsWithin m d = record { knit = may.knit; within = may.after } in
+  emission-stays : (s : SealState) (d : Burst) (m b i : ℕ) → MayGoOn d m → i < m
+      → tick_at ((sealer profile rules).emission s (going_on d m b)) i ≡ tick_at ((sealer profile rules).emission s d) i
+  emission-stays s d m b i may before =
+      let within : IsWithin m d = record { knit = may.contiguous; within = may.after } in
       let close : m < end_of d + 4 = may.near in
       let few : m - end_of d < 4 = omega arith in
-      let knit : IsContiguous 4 (going_on d m b).body = knit-more 4 d.body (m - end_of d) b may.knit few in
+      let knit : IsContiguous 4 (going_on d m b).body = knit-more 4 d.body (m - end_of d) b may.contiguous few in
       let end : end_of (going_on d m b) ≡ m + 1 = longer-end m b d within in
       let old : i < end_of d + 3 = omega arith in
       let new : i < end_of (going_on d m b) + 3 = omega arith in
       ⊎_elim
-      (λ early. ap (λ images. tick_at images i) (image-early s (going_on d m b) early ∙ sym (image-early s d early)))
-      (λ late. image-judged s (going_on d m b) i knit late new
-      ∙ (shown-stays d m b i may before ∙ sym (image-judged s d i may.knit late old)))
+      (λ early. ap (λ emissions. tick_at emissions i) (emission-early s (going_on d m b) early ∙ sym (emission-early s d early)))
+      (λ late. emission-judged s (going_on d m b) i knit late new
+      ∙ (shown-stays d m b i may before ∙ sym (emission-judged s d i may.contiguous late old)))
       (cases_Bool (nat_lt d.start s.free))
 
-  image-dark : (d : Burst) (i : ℕ) (j : Judgement) → i < d.start → tick_at (image_by profile rules d j) i ≡ Silent
-  image-dark d i (sealed_with n) before =
+  emission-dark : (d : Burst) (i : ℕ) (j : Judgement) → i < d.start → tick_at (emission_by profile rules d j) i ≡ Silent
+  emission-dark d i (sealed_with n) before =
       tick_at-before (forwarded rules d (silent 3 ++ map (λ b. Byte b) (trailer profile n (live_bytes rules d)))) i before
-  image-dark d i (unsealed Early) before = tick_at-none i
-  image-dark d i (unsealed Form) before = tick_at-before (forwarded rules d []) i before
-  image-dark d i (unsealed Spent) before = tick_at-before (forwarded rules d []) i before
+  emission-dark d i (unsealed Early) before = tick_at-none i
+  emission-dark d i (unsealed Form) before = tick_at-before (forwarded rules d []) i before
+  emission-dark d i (unsealed Spent) before = tick_at-before (forwarded rules d []) i before
 
   longer : (d : Burst) (m b : ℕ) → MayGoOn d m → end_of (going_on d m b) ≡ m + 1
-  longer d m b may = let within : IsWithin m d = record { knit = may.knit; within = may.after } in longer-end m b d within
+  longer d m b may = let within : IsWithin m d = record { knit = may.contiguous; within = may.after } in longer-end m b d within
 
   -- The transmitter's walk is causal: so notes and link line of a longer device line begin with those of the line.
   pub sealer-causal : IsCausal (sealer profile rules)
@@ -154,13 +154,15 @@ module _ (profile : Profile) (rules : Rules) (lawful : IsLawful rules) where
     in_time = λ s d knit. omega arith;
     tick_stays = λ s d m b may early. let close : m < end_of d + 4 = may.near in absurd (omega arith);
     note_stays = λ s d m b may early. let close : m < end_of d + 4 = may.near in absurd (omega arith);
+    next_stays = λ s d m b may early. let close : m < end_of d + 4 = may.near in absurd (omega arith);
+    emission_settles = λ s d m b may early. let close : m < end_of d + 4 = may.near in absurd (omega arith);
     waits = λ s d m b may late. let end : end_of (going_on d m b) ≡ m + 1 = longer d m b may in omega arith;
-    dark_before = λ s d i knit before. image-dark d i (judged profile rules s d) before;
-    image_stays = λ s d m b i may before. image-stays s d m b i may before;
+    dark_before = λ s d i knit before. emission-dark d i (judged profile rules s d) before;
+    emission_stays = λ s d m b i may before. emission-stays s d m b i may before;
   }
 
-  pub sealer-goes_on : (s : SealState) (line : List Tick) (t : Tick) → GoesOn (sealer profile rules) s line t
-  sealer-goes_on s line t = goes_on (sealer profile rules) sealer-causal s line t
+  pub sealer-adds_one_tick : (s : SealState) (line : List Tick) (t : Tick) → AddsOneTick (sealer profile rules) s line t
+  sealer-adds_one_tick s line t = adds_one_tick (sealer profile rules) sealer-causal s line t
 
   pub sealer-extends : (s : SealState) (line more : List Tick) → Extends (sealer profile rules) s line more
   sealer-extends s line more = extends (sealer profile rules) sealer-causal s line more

@@ -14,7 +14,7 @@ use Rattle.frame_ending.proofs.Pauses.{ended, knit-ends, bytes_in-append, bytes_
 use Rattle.frame_ending.proofs.Rooms.{within_room-le, within_room-open}
 use Rattle.frame_ending.proofs.BurstSteps.{live-over, live-more, longer-bytes}
 use Rattle.burst_walk.specs.Causal.{going_on}
-use Rattle.burst_walk.proofs.Images.{get_or-silence}
+use Rattle.burst_walk.proofs.Emissions.{get_or-silence}
 
 -- where all bytes are live, the live ticks are all ticks
 pub live_ticks-all : (rules : Rules) (d : Burst) → IsContiguous 4 d.body → length (live_bytes rules d) ≡ length (bytes_in d.body) → live_ticks rules d ≡ d.body

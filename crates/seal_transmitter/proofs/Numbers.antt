@@ -4,6 +4,7 @@ use Rattle.std.specs.List.{filter_map, range_with_len}
 use Rattle.std.proofs.lemmas.Bool.{cases_lt}
 use Rattle.std.proofs.lemmas.List.Elements.{filter_map-append}
 use Rattle.yasir_ticks.specs.Bursts.{Burst, bursts, end_of}
+use Rattle.yasir_ticks.specs.declared.TheConstants.{T3_5_TICKS}
 use Rattle.yasir_ticks.specs.declared.tick.Tick.{Tick}
 use Rattle.line_rules.specs.Rules.{Rules}
 use Rattle.line_rules.specs.RulesLaws.{IsLawful}
@@ -42,7 +43,7 @@ module _ (profile : Profile) (rules : Rules) (lawful : IsLawful rules) where
       record { numbers = subst P next (ap (λ l. n ∷ l) rest.numbers) }
   one_more s d tick more (unsealed why) right rest = rest
 
-  numbered : (s : SealState) (n m : ℕ) (ds : List Burst) → AreSpread n ds
+  numbered : (s : SealState) (n m : ℕ) (ds : List Burst) → AreSpread T3_5_TICKS n ds
       → AreNumberedFrom s.floor (frames_in (notes_before m (walked (sealer profile rules) s ds)))
   numbered s n m [] spread = record { numbers = refl }
   numbered s n m (d ∷ ds) spread =

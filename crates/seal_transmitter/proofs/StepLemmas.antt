@@ -10,11 +10,11 @@ use Rattle.line_rules.specs.Rules.{Rules}
 use Rattle.frame_ending.specs.LiveBytes.{live_bytes, live_ticks, live_end}
 use Rattle.frame_ending.proofs.Pauses.{up_to_byte-le}
 use Rattle.burst_walk.specs.Laid.{tick_at}
-use Rattle.burst_walk.specs.Walk.{Noted, noted, walked, imaged, state_after, notes_before, notes_at}
-use Rattle.burst_walk.proofs.Images.{tick_at-none, tick_at-from}
+use Rattle.burst_walk.specs.Walk.{Noted, noted, walked, emitted, state_after, notes_before, notes_at}
+use Rattle.burst_walk.proofs.Emissions.{tick_at-none, tick_at-from}
 use Rattle.burst_walk.proofs.Walks.{before-early}
 use Rattle.seal_transmitter.specs.Profile.{Profile, trailer}
-use Rattle.seal_transmitter.specs.Sealing.{SealState, SealEntry, Judgement, judged, state_by, entry_by, image_by, forwarded, sealer, last_number}
+use Rattle.seal_transmitter.specs.Sealing.{SealState, SealEntry, Judgement, judged, state_by, entry_by, emission_by, forwarded, sealer, last_number}
 use Rattle.seal_transmitter.specs.Sealing.Judgement.{sealed_with, unsealed}
 use Rattle.seal_transmitter.specs.Trailers.{first_of}
 use Rattle.seal_transmitter.specs.Stands.{sent_at}
@@ -36,11 +36,11 @@ pub or_else-silent : (a : Tick) → or_else a Silent ≡ a
 or_else-silent Silent = refl
 or_else-silent (Byte x) = refl
 
--- where an image covers tick i, it has a byte there
+-- where an emission covers tick i, it has a byte there
 abbrev IsBright : Burst → ℕ → Type 0
 IsBright e i = e.start ≤ i → i < end_of e → (x : ℕ) × (get_or e.body (i - e.start) Silent ≡ Byte x)
 
--- in front of others these images hide tick i only by a byte
+-- in front of others these emissions hide tick i only by a byte
 abbrev pub Overlays : List Burst → ℕ → Type 0
 Overlays a i = (more : List Burst) → tick_at (a ++ more) i ≡ or_else (tick_at a i) (tick_at more i)
 
@@ -91,7 +91,7 @@ sent-later m (b ∷ left) i later =
     let one_less : i - m ≡ suc (i - (m + 1)) = omega arith in
     ap (λ k. get_or (map (λ x. Byte x) (b ∷ left)) k Silent) one_less
 
--- ---- images of closed bursts
+-- ---- emissions of closed bursts
 
 module _ (profile : Profile) (rules : Rules) where
   pub live_end-within : (d : Burst) → live_end rules d ≤ end_of d
@@ -111,7 +111,7 @@ module _ (profile : Profile) (rules : Rules) where
       let past : length (live_ticks rules d ++ []) ≤ i - d.start = omega arith in
       tick_at-from (forwarded rules d []) i from ∙ get_or_past (live_ticks rules d ++ []) (i - d.start) Silent past
 
-  -- a sealed image after three silent ticks: its trailer
+  -- a sealed emission after three silent ticks: its trailer
   pub sealed-from : (d : Burst) (bytes : List ℕ) (i : ℕ) → live_end rules d + 3 ≤ i
       → get_or (forwarded rules d (silent 3 ++ map (λ b. Byte b) bytes)).body (i - d.start) Silent ≡ sent_at (live_end rules d + 3) bytes i
   sealed-from d bytes i from =
@@ -131,23 +131,23 @@ module _ (profile : Profile) (rules : Rules) where
         sealed-from d bytes i from ∙ get_or-map (λ b. Byte b) bytes (i - (live_end rules d + 3)) 0 Silent few,
       )
 
-  image-overlays : (d : Burst) (i : ℕ) (j : Judgement) → end_of d + 3 ≤ i → Overlays (image_by profile rules d j) i
-  image-overlays d i (sealed_with n) later =
+  emission-overlays : (d : Burst) (i : ℕ) (j : Judgement) → end_of d + 3 ≤ i → Overlays (emission_by profile rules d j) i
+  emission-overlays d i (sealed_with n) later =
       let end = live_end-within d in
       let from : live_end rules d + 3 ≤ i = omega arith in
       overlays-one (forwarded rules d (silent 3 ++ map (λ b. Byte b) (trailer profile n (live_bytes rules d)))) i
       (sealed-bright d (trailer profile n (live_bytes rules d)) i from)
-  image-overlays d i (unsealed Early) later = overlays-none i
-  image-overlays d i (unsealed Form) later = let past : end_of d ≤ i = omega arith in overlays-outside (forwarded rules d []) i (inr (forwarded-dark d i past))
-  image-overlays d i (unsealed Spent) later = let past : end_of d ≤ i = omega arith in overlays-outside (forwarded rules d []) i (inr (forwarded-dark d i past))
+  emission-overlays d i (unsealed Early) later = overlays-none i
+  emission-overlays d i (unsealed Form) later = let past : end_of d ≤ i = omega arith in overlays-outside (forwarded rules d []) i (inr (forwarded-dark d i past))
+  emission-overlays d i (unsealed Spent) later = let past : end_of d ≤ i = omega arith in overlays-outside (forwarded rules d []) i (inr (forwarded-dark d i past))
 
-  pub closed-overlays : (s : SealState) (closed : List Burst) (m i : ℕ) → AreClosed 4 m closed → m ≤ i → Overlays (imaged (sealer profile rules) s closed) i
+  pub closed-overlays : (s : SealState) (closed : List Burst) (m i : ℕ) → AreClosed 4 m closed → m ≤ i → Overlays (emitted (sealer profile rules) s closed) i
   closed-overlays s [] m i are later = overlays-none i
   closed-overlays s (d ∷ closed) m i are later =
       let close = are.0 in
       let past : end_of d + 3 ≤ i = omega arith in
-      overlays-append (image_by profile rules d (judged profile rules s d)) (imaged (sealer profile rules) (state_by profile rules s d (judged profile rules s d)) closed) i
-      (image-overlays d i (judged profile rules s d) past)
+      overlays-append (emission_by profile rules d (judged profile rules s d)) (emitted (sealer profile rules) (state_by profile rules s d (judged profile rules s d)) closed) i
+      (emission-overlays d i (judged profile rules s d) past)
       (closed-overlays (state_by profile rules s d (judged profile rules s d)) closed m i are.1 later)
 
   -- ---- notes of closed bursts

@@ -8,6 +8,7 @@ use Rattle.std.proofs.lemmas.List.Elements.{filter-append}
 use Rattle.yasir_ticks.specs.Ticks.{silent}
 use Rattle.yasir_ticks.specs.Bursts.{Burst, bursts, bursts_from, end_of, AreClosed}
 use Rattle.yasir_ticks.specs.BurstsOf.{IsContiguous, one}
+use Rattle.yasir_ticks.specs.declared.TheConstants.{T3_5_TICKS}
 use Rattle.yasir_ticks.specs.declared.tick.Tick.{Tick}
 use Rattle.yasir_ticks.specs.declared.tick.Tick.TheVariants.{Silent, Byte}
 use Rattle.yasir_ticks.proofs.BurstLaws.{alone, with_last, extended, extended-closed, extended-joins, bursts_from-byte, bursts_from-silent, AreClosed-later, AreClosed-more}
@@ -18,14 +19,14 @@ use Rattle.frame_ending.specs.LiveBytes.{up_to_byte, live_bytes, live_ticks, liv
 use Rattle.frame_ending.proofs.LastBurst.{IsWithin}
 use Rattle.frame_ending.proofs.BurstSteps.{longer-end}
 use Rattle.burst_walk.specs.Laid.{tick_at}
-use Rattle.burst_walk.specs.Walk.{Noted, noted, walked, imaged, state_after, notes_before, notes_at}
-use Rattle.burst_walk.specs.Causal.{GoesOn}
-use Rattle.burst_walk.proofs.Images.{tick_at-none, tick_at-from}
+use Rattle.burst_walk.specs.Walk.{Noted, noted, walked, emitted, state_after, notes_before, notes_at}
+use Rattle.burst_walk.specs.Causal.{AddsOneTick}
+use Rattle.burst_walk.proofs.Emissions.{tick_at-none, tick_at-from}
 use Rattle.burst_walk.proofs.Spread.{AreSpread, EndBy, bursts-spread, bursts-end}
-use Rattle.burst_walk.proofs.LastNote.{last_knit, last_ends}
-use Rattle.burst_walk.proofs.Walks.{imaged-append, walked-append, state_after-append, before-late}
+use Rattle.burst_walk.proofs.LastNote.{last_contiguous, last_ends}
+use Rattle.burst_walk.proofs.Walks.{emitted-append, walked-append, state_after-append, before-late}
 use Rattle.seal_transmitter.specs.Profile.{Profile, HasTags, trailer, trailer_len}
-use Rattle.seal_transmitter.specs.Sealing.{SealState, SealEntry, judged, state_by, entry_by, image_by, forwarded, sealer, sealed_in, at_floor, seal_notes, link_line, sealed, last_number}
+use Rattle.seal_transmitter.specs.Sealing.{SealState, SealEntry, judged, state_by, entry_by, emission_by, forwarded, sealer, sealed_in, at_floor, seal_notes, link_line, sealed, last_number}
 use Rattle.seal_transmitter.specs.Sealing.Judgement.{sealed_with, unsealed}
 use Rattle.seal_transmitter.specs.Answers.{AnswersTick, SealsWith, note_of, answered_notes, note_in}
 use Rattle.seal_transmitter.specs.Trailers.{first_of, noteless}
@@ -34,7 +35,7 @@ use Rattle.seal_transmitter.specs.declared.note.SealNote.TheVariants.{Sealed, Un
 use Rattle.seal_transmitter.specs.declared.note.SealStep.{SealStep}
 use Rattle.seal_transmitter.specs.declared.note.UnsealedWhy.{UnsealedWhy}
 use Rattle.seal_transmitter.specs.declared.note.UnsealedWhy.TheVariants.{Early, Form, Spent}
-use Rattle.seal_transmitter.proofs.Causality.{judge_by, judged-is, sealed-right, no_extra, sealer-goes_on, image-judged, image-early, shown-from}
+use Rattle.seal_transmitter.proofs.Causality.{judge_by, judged-is, sealed-right, no_extra, sealer-adds_one_tick, emission-judged, emission-early, shown-from}
 use Rattle.seal_transmitter.proofs.LiveTicks.{live_ticks-whole}
 use Rattle.seal_transmitter.proofs.Profiles.{length-trailer}
 use Rattle.seal_transmitter.proofs.StepLemmas.{or_else, or_else-silent, sent-first, sent-later, closed-overlays, closed-quiet, closed-noted, closed-number, sealed-from, live_end-within, forwarded-past}
@@ -85,11 +86,11 @@ module _ (profile : Profile) (rules : Rules) (floor : ℕ) where
   walked-at : (line : List Tick) (s : SealState) (left : List ℕ) (running : Option Burst) (m : ℕ) (closed : List Burst)
       → length line ≡ m → bursts line ≡ closed ++ running_part running → AreClosed 4 m closed → IfSome running (λ d. m < end_of d + 4)
       → state_after (sealer profile rules) (at_floor floor) closed ≡ s
-      → ((i : ℕ) → m ≤ i → tick_at (imaged (sealer profile rules) (at_floor floor) closed) i ≡ sent_at m left i)
+      → ((i : ℕ) → m ≤ i → tick_at (emitted (sealer profile rules) (at_floor floor) closed) i ≡ sent_at m left i)
       → (0 < length left → m + length left + 4 ≤ s.free) → HasWalked profile rules floor line s left running
   walked-at line s left running m closed long is are near state sends in_time =
       let P : ℕ → Type 0 = λ k. AreClosed 4 k closed → IfSome running (λ d. k < end_of d + 4)
-      → ((i : ℕ) → k ≤ i → tick_at (imaged (sealer profile rules) (at_floor floor) closed) i ≡ sent_at k left i)
+      → ((i : ℕ) → k ≤ i → tick_at (emitted (sealer profile rules) (at_floor floor) closed) i ≡ sent_at k left i)
       → (0 < length left → k + length left + 4 ≤ s.free) → HasWalked profile rules floor line s left running in
       let Q : P (length line) = λ a b c d. record { closed = closed; is = is; are_closed = a; is_running = b; state = state; sends = c; in_time = d } in
       subst P long Q are near sends in_time
@@ -102,15 +103,15 @@ module _ (profile : Profile) (rules : Rules) (floor : ℕ) where
 module _ (profile : Profile) (rules : Rules) (lawful : IsLawful rules) (tags : HasTags profile) (floor : ℕ) (line : List Tick) (s : SealState) (left : List ℕ) where
   -- ---- what the walk so far says of a longer line
 
-  -- the images of closed bursts, and then these
+  -- the emissions of closed bursts, and then these
   link-more : (running : Option Burst) (so_far : HasWalked profile rules floor line s left running) (more : List Burst) (i : ℕ) → length line ≤ i
-      → tick_at (imaged (sealer profile rules) (at_floor floor) (so_far.closed ++ more)) i ≡ or_else (sent_at (length line) left i) (tick_at (imaged (sealer profile rules) s more) i)
+      → tick_at (emitted (sealer profile rules) (at_floor floor) (so_far.closed ++ more)) i ≡ or_else (sent_at (length line) left i) (tick_at (emitted (sealer profile rules) s more) i)
   link-more running so_far more i from =
-      ap (λ x. tick_at x i) (imaged-append (sealer profile rules) (at_floor floor) so_far.closed more)
+      ap (λ x. tick_at x i) (emitted-append (sealer profile rules) (at_floor floor) so_far.closed more)
       ∙ (closed-overlays profile rules (at_floor floor) so_far.closed (length line) i so_far.are_closed from
-      (imaged (sealer profile rules) (state_after (sealer profile rules) (at_floor floor) so_far.closed) more)
-      ∙ (ap (λ t. or_else t (tick_at (imaged (sealer profile rules) (state_after (sealer profile rules) (at_floor floor) so_far.closed) more) i)) (so_far.sends i from)
-      ∙ ap (λ x. or_else (sent_at (length line) left i) (tick_at (imaged (sealer profile rules) x more) i)) so_far.state))
+      (emitted (sealer profile rules) (state_after (sealer profile rules) (at_floor floor) so_far.closed) more)
+      ∙ (ap (λ t. or_else t (tick_at (emitted (sealer profile rules) (state_after (sealer profile rules) (at_floor floor) so_far.closed) more) i)) (so_far.sends i from)
+      ∙ ap (λ x. or_else (sent_at (length line) left i) (tick_at (emitted (sealer profile rules) x more) i)) so_far.state))
 
   notes-more : (running : Option Burst) (so_far : HasWalked profile rules floor line s left running) (more : List Burst)
       → notes_at (length line) (walked (sealer profile rules) (at_floor floor) (so_far.closed ++ more)) ≡ notes_at (length line) (walked (sealer profile rules) s more)
@@ -125,7 +126,7 @@ module _ (profile : Profile) (rules : Rules) (lawful : IsLawful rules) (tags : H
       → bursts (line ++ t ∷ []) ≡ so_far.closed ++ more
       → seal_notes profile rules floor (line ++ t ∷ []) ≡ seal_notes profile rules floor line ++ notes_at (length line) (walked (sealer profile rules) s more)
   step-notes running so_far t more is =
-      let on : GoesOn (sealer profile rules) (at_floor floor) line t = sealer-goes_on profile rules lawful (at_floor floor) line t in
+      let on : AddsOneTick (sealer profile rules) (at_floor floor) line t = sealer-adds_one_tick profile rules lawful (at_floor floor) line t in
       on.notes
       ∙ ap (λ x. seal_notes profile rules floor line ++ x)
       (ap (λ ds. notes_at (length line) (walked (sealer profile rules) (at_floor floor) ds)) is ∙ notes-more running so_far more)
@@ -133,16 +134,16 @@ module _ (profile : Profile) (rules : Rules) (lawful : IsLawful rules) (tags : H
   -- what a step answers, by the bursts that aren't closed
   answers : (running : Option Burst) (so_far : HasWalked profile rules floor line s left running) (t : Tick) (more : List Burst) (step : SealStep)
       → bursts (line ++ t ∷ []) ≡ so_far.closed ++ more
-      → or_else (sent_at (length line) left (length line)) (tick_at (imaged (sealer profile rules) s more) (length line)) ≡ step.tick
+      → or_else (sent_at (length line) left (length line)) (tick_at (emitted (sealer profile rules) s more) (length line)) ≡ step.tick
       → answered_notes (notes_at (length line) (walked (sealer profile rules) s more)) ≡ note_in (length line) step.note
       → AnswersTick profile rules floor line t step
   answers running so_far t more step is tick note =
-      let on : GoesOn (sealer profile rules) (at_floor floor) line t = sealer-goes_on profile rules lawful (at_floor floor) line t in
+      let on : AddsOneTick (sealer profile rules) (at_floor floor) line t = sealer-adds_one_tick profile rules lawful (at_floor floor) line t in
       let here : length line ≤ length line = omega arith in
       record {
         tick = on.ticks
             ∙ ap (λ x. link_line profile rules floor line ++ x ∷ [])
-            (ap (λ ds. tick_at (imaged (sealer profile rules) (at_floor floor) ds) (length line)) is
+            (ap (λ ds. tick_at (emitted (sealer profile rules) (at_floor floor) ds) (length line)) is
             ∙ (link-more running so_far more (length line) here ∙ tick));
         note = ap answered_notes (step-notes running so_far t more is)
             ∙ (map-append (λ n. record { tick = n.tick; note = note_of n.note }) (seal_notes profile rules floor line) (notes_at (length line) (walked (sealer profile rules) s more))
@@ -151,8 +152,8 @@ module _ (profile : Profile) (rules : Rules) (lawful : IsLawful rules) (tags : H
 
   -- ---- one burst that isn't closed
 
-  image-alone : (d : Burst) (i : ℕ) → tick_at (imaged (sealer profile rules) s (d ∷ [])) i ≡ tick_at (image_by profile rules d (judged profile rules s d)) i
-  image-alone d i = ap (λ x. tick_at x i) (append-nil (image_by profile rules d (judged profile rules s d)))
+  emission-alone : (d : Burst) (i : ℕ) → tick_at (emitted (sealer profile rules) s (d ∷ [])) i ≡ tick_at (emission_by profile rules d (judged profile rules s d)) i
+  emission-alone d i = ap (λ x. tick_at x i) (append-nil (emission_by profile rules d (judged profile rules s d)))
 
   note-other : (d : Burst) → (end_of d + 3 ≡ length line → ⊥) → notes_at (length line) (walked (sealer profile rules) s (d ∷ [])) ≡ []
   note-other d other = cond-false _ _ _ (not_now (length line) (end_of d + 3) other)
@@ -165,38 +166,38 @@ module _ (profile : Profile) (rules : Rules) (lawful : IsLawful rules) (tags : H
 
   running-within : (d : Burst) → HasWalked profile rules floor line s left (Some d) → IsWithin (length line) d
   running-within d so_far =
-      let P : List Burst → Type 0 = λ ds. AreSpread 0 ds in
+      let P : List Burst → Type 0 = λ ds. AreSpread T3_5_TICKS 0 ds in
       let Q : List Burst → Type 0 = λ ds. EndBy (length line) ds in
       record {
-        knit = last_knit 0 so_far.closed d (subst P so_far.is (bursts-spread line));
+        knit = last_contiguous 0 so_far.closed d (subst P so_far.is (bursts-spread line));
         within = last_ends (length line) so_far.closed d (subst Q so_far.is (bursts-end line));
       }
 
-  -- the image shows the live bytes up to the third silent tick
-  image-live : (d : Burst) (i : ℕ) → IsContiguous 4 d.body → s.free ≤ d.start → d.start ≤ i → i < end_of d + 3
-      → tick_at (image_by profile rules d (judged profile rules s d)) i ≡ get_or (live_ticks rules d) (i - d.start) Silent
-  image-live d i knit late from before =
-      image-judged profile rules lawful s d i knit (le-ltb d.start s.free late) before ∙ shown-from profile rules lawful d i from
+  -- the emission shows the live bytes up to the third silent tick
+  emission-live : (d : Burst) (i : ℕ) → IsContiguous 4 d.body → s.free ≤ d.start → d.start ≤ i → i < end_of d + 3
+      → tick_at (emission_by profile rules d (judged profile rules s d)) i ≡ get_or (live_ticks rules d) (i - d.start) Silent
+  emission-live d i knit late from before =
+      emission-judged profile rules lawful s d i knit (le-ltb d.start s.free late) before ∙ shown-from profile rules lawful d i from
 
-  image-nothing : (d : Burst) (i : ℕ) → d.start < s.free → tick_at (image_by profile rules d (judged profile rules s d)) i ≡ Silent
-  image-nothing d i early =
-      ap (λ x. tick_at x i) (image-early profile rules lawful s d (lt-ltb d.start s.free early)) ∙ tick_at-none i
+  emission-nothing : (d : Burst) (i : ℕ) → d.start < s.free → tick_at (emission_by profile rules d (judged profile rules s d)) i ≡ Silent
+  emission-nothing d i early =
+      ap (λ x. tick_at x i) (emission-early profile rules lawful s d (lt-ltb d.start s.free early)) ∙ tick_at-none i
 
   -- behind the live bytes it is dark
-  image-past : (d : Burst) (i : ℕ) → IsContiguous 4 d.body → d.start ≤ i → live_end rules d ≤ i → i < end_of d + 3
-      → tick_at (image_by profile rules d (judged profile rules s d)) i ≡ Silent
-  image-past d i knit from past before =
+  emission-past : (d : Burst) (i : ℕ) → IsContiguous 4 d.body → d.start ≤ i → live_end rules d ≤ i → i < end_of d + 3
+      → tick_at (emission_by profile rules d (judged profile rules s d)) i ≡ Silent
+  emission-past d i knit from past before =
       ⊎_elim
-      (λ early. image-nothing d i early)
+      (λ early. emission-nothing d i early)
       (λ late.
       let beyond : length (live_ticks rules d) ≤ i - d.start = omega arith in
-      image-live d i knit late from before ∙ get_or_past (live_ticks rules d) (i - d.start) Silent beyond)
+      emission-live d i knit late from before ∙ get_or_past (live_ticks rules d) (i - d.start) Silent beyond)
       (cases_lt d.start s.free)
 
-  image-unsealed : (d : Burst) (why : UnsealedWhy) (i : ℕ) → end_of d ≤ i → tick_at (image_by profile rules d (unsealed why)) i ≡ Silent
-  image-unsealed d Early i past = tick_at-none i
-  image-unsealed d Form i past = forwarded-past profile rules d i past
-  image-unsealed d Spent i past = forwarded-past profile rules d i past
+  emission-unsealed : (d : Burst) (why : UnsealedWhy) (i : ℕ) → end_of d ≤ i → tick_at (emission_by profile rules d (unsealed why)) i ≡ Silent
+  emission-unsealed d Early i past = tick_at-none i
+  emission-unsealed d Form i past = forwarded-past profile rules d i past
+  emission-unsealed d Spent i past = forwarded-past profile rules d i past
 
   -- ---- a silent tick that closes no burst
 
@@ -225,7 +226,7 @@ module _ (profile : Profile) (rules : Rules) (lawful : IsLawful rules) (tags : H
       let other : end_of d + 3 ≡ length line → ⊥ = λ same. omega arith in
       answers (Some d) so_far Silent (d ∷ []) (noteless (first_of left)) (bursts_from-silent 4 0 line ∙ so_far.is)
       (ap (λ t. or_else (sent_at (length line) left (length line)) t)
-      (image-alone d (length line) ∙ image-past d (length line) within.knit (omega arith) (omega arith) (omega arith))
+      (emission-alone d (length line) ∙ emission-past d (length line) within.knit (omega arith) (omega arith) (omega arith))
       ∙ (or_else-silent (sent_at (length line) left (length line)) ∙ sent-first (length line) left))
       (ap answered_notes (note-other d other))
 
@@ -238,7 +239,7 @@ module _ (profile : Profile) (rules : Rules) (lawful : IsLawful rules) (tags : H
 
   closes : (d : Burst) (next : SealState) (to_send : List ℕ) → HasWalked profile rules floor line s left (Some d) → length line + 1 ≡ end_of d + 4
       → state_by profile rules s d (judged profile rules s d) ≡ next
-      → ((i : ℕ) → length line ≤ i → or_else (sent_at (length line) left i) (tick_at (image_by profile rules d (judged profile rules s d)) i) ≡ sent_at (length line) to_send i)
+      → ((i : ℕ) → length line ≤ i → or_else (sent_at (length line) left i) (tick_at (emission_by profile rules d (judged profile rules s d)) i) ≡ sent_at (length line) to_send i)
       → (0 < length to_send → length line + length to_send + 4 ≤ next.free)
       → HasWalked profile rules floor (line ++ Silent ∷ []) next (drop 1 to_send) None
   closes d next to_send so_far closing state sends in_time =
@@ -253,18 +254,18 @@ module _ (profile : Profile) (rules : Rules) (lawful : IsLawful rules) (tags : H
       (λ i from.
       let before : length line ≤ i = omega arith in
       link-more (Some d) so_far (d ∷ []) i before
-      ∙ (ap (λ t. or_else (sent_at (length line) left i) t) (image-alone d i)
+      ∙ (ap (λ t. or_else (sent_at (length line) left i) t) (emission-alone d i)
       ∙ (sends i before ∙ sent-later (length line) to_send i from)))
       (left-in_time to_send (length line) next.free in_time)
 
   close-answers : (d : Burst) (to_send : List ℕ) (step : SealStep) → HasWalked profile rules floor line s left (Some d) → length line + 1 ≡ end_of d + 4
-      → or_else (sent_at (length line) left (length line)) (tick_at (image_by profile rules d (judged profile rules s d)) (length line)) ≡ step.tick
+      → or_else (sent_at (length line) left (length line)) (tick_at (emission_by profile rules d (judged profile rules s d)) (length line)) ≡ step.tick
       → Some (note_of (entry_by rules d (judged profile rules s d))) ≡ step.note
       → AnswersTick profile rules floor line Silent step
   close-answers d to_send step so_far closing tick note =
       let same : end_of d + 3 ≡ length line = omega arith in
       answers (Some d) so_far Silent (d ∷ []) step (bursts_from-silent 4 0 line ∙ so_far.is)
-      (ap (λ t. or_else (sent_at (length line) left (length line)) t) (image-alone d (length line)) ∙ tick)
+      (ap (λ t. or_else (sent_at (length line) left (length line)) t) (emission-alone d (length line)) ∙ tick)
       (ap answered_notes (note-now d same) ∙ ap (λ o. note_in (length line) o) note)
 
   pub walks-unsealed : (d : Burst) (why : UnsealedWhy) → HasWalked profile rules floor line s left (Some d) → length line + 1 ≡ end_of d + 4
@@ -272,10 +273,10 @@ module _ (profile : Profile) (rules : Rules) (lawful : IsLawful rules) (tags : H
       → HasWalked profile rules floor (line ++ Silent ∷ []) s (drop 1 left) None
       × AnswersTick profile rules floor line Silent (record { tick = first_of left; note = Some (Unsealed d.start why) })
   walks-unsealed d why so_far closing is =
-      let dark : (i : ℕ) → length line ≤ i → or_else (sent_at (length line) left i) (tick_at (image_by profile rules d (judged profile rules s d)) i) ≡ sent_at (length line) left i =
+      let dark : (i : ℕ) → length line ≤ i → or_else (sent_at (length line) left i) (tick_at (emission_by profile rules d (judged profile rules s d)) i) ≡ sent_at (length line) left i =
       λ i from.
       let past : end_of d ≤ i = omega arith in
-      ap (λ t. or_else (sent_at (length line) left i) t) (ap (λ j. tick_at (image_by profile rules d j) i) is ∙ image-unsealed d why i past)
+      ap (λ t. or_else (sent_at (length line) left i) t) (ap (λ j. tick_at (emission_by profile rules d j) i) is ∙ emission-unsealed d why i past)
       ∙ or_else-silent (sent_at (length line) left i) in
       let here : length line ≤ length line = omega arith in (
         closes d s left so_far closing (ap (λ j. state_by profile rules s d j) is) dark so_far.in_time,
@@ -303,14 +304,14 @@ module _ (profile : Profile) (rules : Rules) (lawful : IsLawful rules) (tags : H
   -- then the link is silent up to this step, and the trailer is sent from it on
   sealed-sends : (d : Burst) (number : ℕ) (bytes : List ℕ) → HasWalked profile rules floor line s left (Some d) → live_end rules d + 3 ≡ length line
       → judged profile rules s d ≡ sealed_with number → bytes ≡ trailer profile number (live_bytes rules d)
-      → (i : ℕ) → length line ≤ i → or_else (sent_at (length line) left i) (tick_at (image_by profile rules d (judged profile rules s d)) i) ≡ sent_at (length line) bytes i
+      → (i : ℕ) → length line ≤ i → or_else (sent_at (length line) left i) (tick_at (emission_by profile rules d (judged profile rules s d)) i) ≡ sent_at (length line) bytes i
   sealed-sends d number bytes so_far end is trailer_is i from =
       let late = seals-late d number is in
       let none : left ≡ [] = none_left left (length line) s.free so_far.in_time (omega arith) in
       let begun : d.start ≤ i = omega arith in
       let past : live_end rules d + 3 ≤ i = omega arith in
-      ap (λ l. or_else (sent_at (length line) l i) (tick_at (image_by profile rules d (judged profile rules s d)) i)) none
-      ∙ (ap (λ j. tick_at (image_by profile rules d j) i) is
+      ap (λ l. or_else (sent_at (length line) l i) (tick_at (emission_by profile rules d (judged profile rules s d)) i)) none
+      ∙ (ap (λ j. tick_at (emission_by profile rules d j) i) is
       ∙ (tick_at-from (forwarded rules d (silent 3 ++ map (λ b. Byte b) (trailer profile number (live_bytes rules d)))) i begun
       ∙ (sealed-from profile rules d (trailer profile number (live_bytes rules d)) i past
       ∙ (ap (λ k. sent_at k (trailer profile number (live_bytes rules d)) i) end
@@ -412,14 +413,14 @@ module _ (profile : Profile) (rules : Rules) (lawful : IsLawful rules) (tags : H
 
   byte-answers : (running : Option Burst) (b : ℕ) (t : Tick) → HasWalked profile rules floor line s left running
       → or_else (sent_at (length line) left (length line))
-      (tick_at (image_by profile rules (with_byte_at (length line) b running) (judged profile rules s (with_byte_at (length line) b running))) (length line)) ≡ t
+      (tick_at (emission_by profile rules (with_byte_at (length line) b running) (judged profile rules s (with_byte_at (length line) b running))) (length line)) ≡ t
       → AnswersTick profile rules floor line (Byte b) (noteless t)
   byte-answers running b t so_far is =
       let d : Burst = with_byte_at (length line) b running in
       let ends : end_of d ≡ length line + 1 = byte-ends running b so_far in
       let other : end_of d + 3 ≡ length line → ⊥ = λ same. omega arith in
       answers running so_far (Byte b) (d ∷ []) (noteless t) (byte-bursts running b so_far)
-      (ap (λ x. or_else (sent_at (length line) left (length line)) x) (image-alone d (length line)) ∙ is)
+      (ap (λ x. or_else (sent_at (length line) left (length line)) x) (emission-alone d (length line)) ∙ is)
       (ap answered_notes (note-other d other))
 
   pub walks-early : (running : Option Burst) (b : ℕ) → HasWalked profile rules floor line s left running
@@ -429,7 +430,7 @@ module _ (profile : Profile) (rules : Rules) (lawful : IsLawful rules) (tags : H
   walks-early running b so_far early = (
     goes_on_with running b so_far,
     byte-answers running b (first_of left) so_far
-        (ap (λ t. or_else (sent_at (length line) left (length line)) t) (image-nothing (with_byte_at (length line) b running) (length line) early)
+        (ap (λ t. or_else (sent_at (length line) left (length line)) t) (emission-nothing (with_byte_at (length line) b running) (length line) early)
         ∙ (or_else-silent (sent_at (length line) left (length line)) ∙ sent-first (length line) left)),
   )
 
@@ -449,12 +450,12 @@ module _ (profile : Profile) (rules : Rules) (lawful : IsLawful rules) (tags : H
 
   late-answers : (running : Option Burst) (b : ℕ) (t : Tick) → HasWalked profile rules floor line s left running
       → s.free ≤ (with_byte_at (length line) b running).start
-      → tick_at (image_by profile rules (with_byte_at (length line) b running) (judged profile rules s (with_byte_at (length line) b running))) (length line) ≡ t
+      → tick_at (emission_by profile rules (with_byte_at (length line) b running) (judged profile rules s (with_byte_at (length line) b running))) (length line) ≡ t
       → AnswersTick profile rules floor line (Byte b) (noteless t)
   late-answers running b t so_far late is =
       let d : Burst = with_byte_at (length line) b running in
       byte-answers running b t so_far
-      (ap (λ l. or_else (sent_at (length line) l (length line)) (tick_at (image_by profile rules d (judged profile rules s d)) (length line))) (byte-none_left running b so_far late)
+      (ap (λ l. or_else (sent_at (length line) l (length line)) (tick_at (emission_by profile rules d (judged profile rules s d)) (length line))) (byte-none_left running b so_far late)
       ∙ is)
 
   pub walks-live : (running : Option Burst) (b : ℕ) → HasWalked profile rules floor line s left running
@@ -470,7 +471,7 @@ module _ (profile : Profile) (rules : Rules) (lawful : IsLawful rules) (tags : H
         byte-none_left running b so_far late,
         goes_on_late running b so_far late,
         late-answers running b (Byte b) so_far late
-            (image-live d (length line) (byte-knit running b so_far) late begun before
+            (emission-live d (length line) (byte-knit running b so_far) late begun before
             ∙ (ap (λ x. get_or x (length line - d.start) Silent) (up_to_byte-full (length (live_bytes rules d)) d.body all)
             ∙ byte-last running b so_far)),
       )
@@ -486,7 +487,7 @@ module _ (profile : Profile) (rules : Rules) (lawful : IsLawful rules) (tags : H
         byte-none_left running b so_far late,
         goes_on_late running b so_far late,
         late-answers running b Silent so_far late
-            (image-past d (length line) (byte-knit running b so_far) (byte-starts running b so_far) extra before),
+            (emission-past d (length line) (byte-knit running b so_far) (byte-starts running b so_far) extra before),
       )
 
   -- ---- the last number

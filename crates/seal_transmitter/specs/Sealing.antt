@@ -51,12 +51,12 @@ abbrev pub forwarded : Rules → Burst → List Tick → Burst
 forwarded rules d more = record { start = d.start; body = live_ticks rules d ++ more }
 
 -- An early burst isn't forwarded. Of all others the live bytes are, and a sealed one has its trailer.
-abbrev pub image_by : Profile → Rules → Burst → Judgement → List Burst
-image_by profile rules d (sealed_with number) =
+abbrev pub emission_by : Profile → Rules → Burst → Judgement → List Burst
+emission_by profile rules d (sealed_with number) =
     forwarded rules d (silent 3 ++ map (λ b. Byte b) (trailer profile number (live_bytes rules d))) ∷ []
-image_by profile rules d (unsealed Early) = []
-image_by profile rules d (unsealed Form) = forwarded rules d [] ∷ []
-image_by profile rules d (unsealed Spent) = forwarded rules d [] ∷ []
+emission_by profile rules d (unsealed Early) = []
+emission_by profile rules d (unsealed Form) = forwarded rules d [] ∷ []
+emission_by profile rules d (unsealed Spent) = forwarded rules d [] ∷ []
 
 -- the transmitter as a walk over bursts: the note of a burst comes in the step of its fourth silent tick, which closes it
 abbrev pub sealer : Profile → Rules → Walker SealState SealEntry
@@ -64,7 +64,7 @@ sealer profile rules = record {
   next = λ s d. state_by profile rules s d (judged profile rules s d);
   note = λ s d. entry_by rules d (judged profile rules s d);
   tick = λ s d. end_of d + 3;
-  image = λ s d. image_by profile rules d (judged profile rules s d);
+  emission = λ s d. emission_by profile rules d (judged profile rules s d);
 }
 
 -- a transmitter at rest whose journal has this floor

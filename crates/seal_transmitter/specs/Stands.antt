@@ -7,7 +7,7 @@ use Rattle.line_rules.specs.Rules.{Rules}
 use Rattle.frame_ending.specs.LiveBytes.{live_bytes}
 use Rattle.frame_ending.specs.Stands.{StandsFor as CutStandsFor, ticks_taken as ticks_cut}
 use Rattle.burst_walk.specs.Laid.{tick_at}
-use Rattle.burst_walk.specs.Walk.{imaged, state_after}
+use Rattle.burst_walk.specs.Walk.{emitted, state_after}
 use Rattle.hmac_tag.specs.Tag.{direction_number}
 use Rattle.sequence_journal.specs.declared.journal.Journal.{Journal}
 use Rattle.sequence_journal.specs.Journal.{journal_floor}
@@ -27,14 +27,14 @@ abbrev pub sent_at : ℕ → List ℕ → ℕ → Tick
 sent_at m left i = slice_index_or (map (λ b. Byte b) left) (i - m) Silent
 
 -- The walk over a line has come so far: all its bursts are closed but for the running one. The closed ones leave this state,
--- and of their images these bytes are still to come, whose sending ends four ticks before a burst may be sealed again.
+-- and of their emissions these bytes are still to come, whose sending ends four ticks before a burst may be sealed again.
 pub record HasWalked (profile : Profile) (rules : Rules) (floor : ℕ) (line : List Tick) (s : SealState) (left : List ℕ) (running : Option Burst) : Type 0 where
   pub closed : List Burst
   pub is : bursts line ≡ closed ++ running_part running
   pub are_closed : AreClosed 4 (length line) closed
   pub is_running : IfSome running (λ d. length line < end_of d + 4)
   pub state : state_after (sealer profile rules) (at_floor floor) closed ≡ s
-  pub sends : (i : ℕ) → length line ≤ i → tick_at (imaged (sealer profile rules) (at_floor floor) closed) i ≡ sent_at (length line) left i
+  pub sends : (i : ℕ) → length line ≤ i → tick_at (emitted (sealer profile rules) (at_floor floor) closed) i ≡ sent_at (length line) left i
   pub in_time : 0 < length left → length line + length left + 4 ≤ s.free
 
 -- Begun with this key, direction and floor of its journal, a transmitter has come so far over a line: the last number that it

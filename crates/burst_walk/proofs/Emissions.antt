@@ -1,4 +1,4 @@
--- Images on a line, tick by tick.
+-- Emissions on a line, tick by tick.
 use Rattle.std.proofs.Common.{◌≡◌, ◌&&◌, ℕ, zero, suc, ◌+◌, ◌-◌, ◌<◌, ◌≤◌, nat_lt, nat_le, true, false, cond, List, [], ◌∷◌, ◌++◌, length, map, refl, sym, ap, arith, get_or, ⊎_elim}
 use Rattle.std.specs.List.{range_with_len}
 use Rattle.std.proofs.lemmas.Bool.{cases_lt}
@@ -14,15 +14,15 @@ pub tick_at-none : (i : ℕ) → tick_at [] i ≡ Silent
 unfolding tick_at
 tick_at-none i = refl
 
--- images in front of others hide the same ticks, whatever the others are
+-- emissions in front of others hide the same ticks, whatever the others are
 pub tick_at-front : (front a b : List Burst) (i : ℕ) → tick_at a i ≡ tick_at b i → tick_at (front ++ a) i ≡ tick_at (front ++ b) i
 unfolding tick_at
 tick_at-front [] a b i same = same
 tick_at-front (d ∷ front) a b i same =
     ap (λ t. cond (nat_le d.start i && nat_lt i (end_of d)) (get_or d.body (i - d.start) Silent) t) (tick_at-front front a b i same)
 
-pub laid-more : (m : ℕ) (images : List Burst) → laid (m + 1) images ≡ laid m images ++ tick_at images m ∷ []
-laid-more m images = map-range_with_len_more (λ i. tick_at images i) 0 m m (omega arith)
+pub laid-more : (m : ℕ) (emissions : List Burst) → laid (m + 1) emissions ≡ laid m emissions ++ tick_at emissions m ∷ []
+laid-more m emissions = map-range_with_len_more (λ i. tick_at emissions i) 0 m m (omega arith)
 
 pub laid-same : (a n : ℕ) (f g : ℕ → Tick) → ((i : ℕ) → i < a + n → f i ≡ g i) → map f (range_with_len a n) ≡ map g (range_with_len a n)
 laid-same a zero f g same = refl
@@ -31,7 +31,7 @@ laid-same a (suc n) f g same =
     rw (same a first)
     (ap (λ l. g a ∷ l) (laid-same (a + 1) n f g (λ i below. let h : i < a + suc n = omega arith in same i h)))
 
--- one image: silence before it, its ticks, and silence after it
+-- one emission: silence before it, its ticks, and silence after it
 pub tick_at-before : (d : Burst) (i : ℕ) → i < d.start → tick_at (d ∷ []) i ≡ Silent
 unfolding tick_at
 tick_at-before d i before = rw (outside d.start (end_of d) i before) refl
