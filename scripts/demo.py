@@ -1,0 +1,127 @@
+#!/usr/bin/env python3
+"""Proves the program crate by crate, runs it over the recorded exchange in examples/, and compares what it writes with examples/expected/.
+
+    python3 scripts/demo.py [JOBS]
+
+JOBS is how many crates are proved side by side (half the processors where it isn't given; each takes 1 to 4 GB of memory).
+What the prover says goes into out/demo.log. The exit status is 0 where everything is proved and nothing differs.
+"""
+import concurrent.futures, difflib, os, subprocess, sys, tempfile, threading, time
+
+ROOT = os.path.dirname(os.path.dirname(os.path.abspath(__file__)))
+LOG = os.path.join(ROOT, "out", "demo.log")
+PROGRAM = os.path.join(ROOT, "crates", "link_replay", "out", "link_replay")
+EXAMPLES = os.path.join(ROOT, "examples")
+log_lock = threading.Lock()
+
+
+def crates_below(name):
+    """The crates of this repository that the crate `name` stands on, lowest first, and `name` last; each with those below it."""
+    lines = [line.split("#")[0].strip() for line in open(os.path.join(ROOT, "crates.txt"))]
+    below = {line.split(":")[0].split()[0]: line.split(":")[1].split() for line in lines if line}
+    order = []
+
+    def visit(crate):
+        if crate in below and crate not in order:
+            for other in below[crate]:
+                visit(other)
+            order.append(crate)
+
+    visit(name)
+    return [(crate, [other for other in below[crate] if other in below]) for crate in order]
+
+
+def prove(crate):
+    """Proves one crate, over those below it; the program is built and run too. Answers the seconds that it took."""
+    began = time.monotonic()
+    words = ["rt", "run", "--", "vectors"] if crate == "link_replay" else ["rt", "lib"]
+    ran = subprocess.run(words, cwd=os.path.join(ROOT, "crates", crate), stdin=subprocess.DEVNULL,
+                         stdout=subprocess.PIPE, stderr=subprocess.STDOUT, text=True, errors="replace")
+    with log_lock, open(LOG, "a") as log:
+        log.write("== %s: %s\n%s\n" % (crate, " ".join(words), ran.stdout))
+    if ran.returncode != 0:
+        raise RuntimeError("%s is not proved; %s says why" % (crate, os.path.relpath(LOG, ROOT)))
+    return time.monotonic() - began
+
+
+def prove_all(jobs):
+    crates = crates_below("link_replay")
+    print("== Proving the program: %d crates, %d side by side" % (len(crates), jobs))
+    print("The first time this takes many minutes. Later only what changed is proved. What the prover says: %s\n" % os.path.relpath(LOG, ROOT), flush=True)
+    began, waiting, running, done = time.monotonic(), dict(crates), {}, set()
+    with concurrent.futures.ThreadPoolExecutor(jobs) as pool:
+        while waiting or running:
+            for crate in [c for c in waiting if all(below in done for below in waiting[c])][: jobs - len(running)]:
+                del waiting[crate]
+                running[pool.submit(prove, crate)] = crate
+            ended, _ = concurrent.futures.wait(running, return_when=concurrent.futures.FIRST_COMPLETED)
+            for future in ended:
+                crate = running.pop(future)
+                waiting_for = [c for c in waiting]
+                seconds = future.result()
+                done.add(crate)
+                print("%-18s %5.0f s   %2d left" % (crate, seconds, len(waiting_for) + len(running)), flush=True)
+    print("\nProved in %.0f s.\n" % (time.monotonic() - began), flush=True)
+
+
+def run(words, stdin=None):
+    """Runs the program; answers its standard output and standard error."""
+    with open(stdin or os.devnull) as given:
+        ran = subprocess.run([PROGRAM] + words, stdin=given, capture_output=True, text=True, timeout=120)
+    if ran.returncode != 0:
+        raise RuntimeError("`%s` ended with status %d: %s" % (" ".join(words), ran.returncode, ran.stderr.strip()))
+    return ran.stdout, ran.stderr
+
+
+def show(heading, text, expected=None):
+    """Prints a text under a heading. Answers whether it is the expected one, and prints where it differs."""
+    print("-- %s\n%s" % (heading, text), end="" if text.endswith("\n") or not text else "\n")
+    if expected is None:
+        print()
+        return True
+    wanted = open(os.path.join(EXAMPLES, "expected", expected)).read()
+    if text != wanted:
+        print("\nTHIS DIFFERS from examples/expected/%s:" % expected)
+        print("\n".join(difflib.unified_diff(wanted.splitlines(), text.splitlines(), "expected", "written", lineterm="", n=1)))
+    print()
+    return text == wanted
+
+
+def without_comments(path):
+    return "".join(line for line in open(path) if line.strip() and not line.startswith("#"))
+
+
+def show_side(side, direction, what, reader, folder):
+    """Shows one direction of the exchange: the line, what is read from it, the link, the notes, and the journal."""
+    line = os.path.join(EXAMPLES, side + ".ticks")
+    journal = os.path.join(folder, side + ".journal")
+    print("== %s (examples/%s.ticks)\n" % (what, side))
+    show("the line, without its comments", without_comments(line))
+    same = show("read rtu: the frames that the %s reads from it" % reader, run(["read", "rtu"], line)[0], side + ".read.txt")
+    run(["init", journal])
+    link, notes = run(["seal", "rtu", direction, os.path.join(EXAMPLES, "key.txt"), journal], line)
+    same &= show("seal rtu %s: the line of the link" % direction, link, side + ".link.ticks")
+    same &= show("the notes, on standard error", notes, side + ".notes.txt")
+    slots = open(journal, "rb").read(32).ljust(32, b"\0")
+    show("the journal's two slots, in hex", "%s\n%s\n" % (slots[:16].hex(), slots[16:].hex()))
+    return same
+
+
+def main():
+    jobs = int(sys.argv[1]) if len(sys.argv) > 1 else max(1, (os.cpu_count() or 2) // 2)
+    os.makedirs(os.path.dirname(LOG), exist_ok=True)
+    open(LOG, "w").close()
+    prove_all(jobs)
+    with tempfile.TemporaryDirectory(prefix="demo.") as folder:
+        same = show_side("requests", "ab", "From the control centre to the device", "device", folder)
+        same &= show_side("replies", "ba", "From the device to the control centre", "master", folder)
+    print("All of it is what examples/expected/ has." if same else "Something differs from examples/expected/.")
+    return 0 if same else 1
+
+
+try:
+    sys.exit(main())
+except FileNotFoundError as missing:
+    sys.exit("demo: %s isn't there. `rt` comes with the toolchain, and must be on the path." % missing.filename)
+except RuntimeError as why:
+    sys.exit("demo: %s" % why)
