@@ -1,3 +1,4 @@
+pub mod FileLemmas
 pub mod Images
 pub mod OutputLemmas
 pub mod PiecesLemmas

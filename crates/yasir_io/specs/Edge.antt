@@ -1,21 +1,48 @@
--- The faults of the readers, writers and files at the edge of the program.
+-- What the readers, writers and files at the edge of the program are, and how often they have
+-- failed.
 use Rattle.std.specs.Prelude.{ℕ}
 use Rattle.yasir_io.specs.declared.edge.StdinSource.{StdinSource}
 use Rattle.yasir_io.specs.declared.edge.WriterSink.{WriterSink}
 use Rattle.yasir_io.specs.declared.files.FileSource.{FileSource}
 use Rattle.yasir_io.specs.declared.files.FileSlots.{FileSlots}
+use Rattle.std.specs.Prelude.{Option, Bool}
+use Rattle.std.specs.declared.fs.OpenOptions.{OpenOptions}
+
+-- what is read
+abbrev pub reader_of : {I : Type 0} → StdinSource I → I
+reader_of source = source.reader
 
 -- how often a read has failed
 abbrev pub reader_faults : {I : Type 0} → StdinSource I → ℕ
 reader_faults source = source.faults.count
 
+-- what is written to
+abbrev pub writer_of : {W : Type 0} → WriterSink W → W
+writer_of sink = sink.writer
+
 -- how often a write or a flush has failed
 abbrev pub writer_faults : {W : Type 0} → WriterSink W → ℕ
 writer_faults sink = sink.faults.count
 
+-- the file, once it stands open
+abbrev pub file_of : {R F D : Type 0} → FileSource R F D → Option F
+file_of source = source.file.file
+
+-- how it is opened
+abbrev pub file_options : {R F D : Type 0} → FileSource R F D → OpenOptions
+file_options source = source.file.options
+
 -- how often a read of the file has failed
 abbrev pub file_faults : {R F D : Type 0} → FileSource R F D → ℕ
 file_faults source = source.faults.count
+
+-- the file of slots, once it stands open
+abbrev pub slots_file : {R F D : Type 0} → FileSlots R F D → Option F
+slots_file disk = disk.file.file
+
+-- how it is opened
+abbrev pub slots_options : {R F D : Type 0} → FileSlots R F D → OpenOptions
+slots_options disk = disk.file.options
 
 -- how often a call on the file of slots has failed
 abbrev pub slots_faults : {R F D : Type 0} → FileSlots R F D → ℕ

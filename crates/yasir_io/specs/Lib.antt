@@ -9,5 +9,6 @@ pub mod MemSource
 pub mod Moments
 pub mod Output
 pub mod Pieces
+pub mod SlotFiles
 pub mod Steady
 pub mod TextBuffer

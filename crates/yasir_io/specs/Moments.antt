@@ -16,7 +16,8 @@ module _ {D : Type 0} (moment : D → ℕ) (left_since : D → ℕ → Slots →
       | inl past ↦ from_before c (only_now c past)
       | inr now ↦ from_after c now
     ];
-    before = λ t c le left. elim (time.nothing_else t c le left) as (λ _. left_since old t c ⊎ P c) [
+    before = λ t c le left. elim (time.nothing_else t c le left)
+        as (λ _. left_since old t c ⊎ P c) [
       | inl past ↦ inl past
       | inr now ↦ inr (from_after c now)
     ];

@@ -1,6 +1,8 @@
 //! The edge of the program: the runtime's readers and writers. What they move isn't told; their
 //! faults are counted.
-ghost use Rattle.std.specs.Prelude.{◌≡◌, ◌≤◌, None};
+ghost use Rattle.std.specs.Prelude.{◌≡◌, ◌≤◌, ◌<◌, length, None, IfOk};
+ghost use Rattle.std.specs.Io.KnownBytes.{Keeps, ReadConsumes, WriteAppends};
+ghost use Rattle.yasir_io.specs.Causes.{HasCause};
 
 use crate::faults::Faults;
 use crate::{Failed, Sink, Source};
@@ -29,13 +31,18 @@ impl<I: Read + Drop> StdinSource<I> {
 }
 
 impl<I: Read + Drop> Source for StdinSource<I> {
-    ghost use Rattle.yasir_io.specs.Edge.{reader_faults};
+    ghost use Rattle.yasir_io.specs.Edge.{reader_of, reader_faults};
 
     ghost left = { λ _. None };
 
     ghost faults = { λ source. reader_faults source };
 
-    fn read(&mut self, buf: &mut [u8]) -> Result<usize, Failed> {
+    fn read(&mut self, buf: &mut [u8]) -> Result<usize, Failed>
+        ensures within { IfOk result (λ n. n ≤ length buf.new) }
+        ensures reads { ReadConsumes (I.remaining (reader_of self.old))
+            (I.remaining (reader_of self.new)) result buf.new }
+        ensures cause { HasCause (reader_faults self.old) (reader_faults self.new) result }
+    {
         match self.reader.read(buf) {
             Ok(n) => Ok(n),
             Err(_) => Err(self.faults.add()),
@@ -71,13 +78,19 @@ impl<W: Write + Drop> WriterSink<W> {
 }
 
 impl<W: Write + Drop> Sink for WriterSink<W> {
-    ghost use Rattle.yasir_io.specs.Edge.{writer_faults};
+    ghost use Rattle.yasir_io.specs.Edge.{writer_of, writer_faults};
 
     ghost held = { λ _. None };
 
     ghost faults = { λ sink. writer_faults sink };
 
-    fn write(&mut self, piece: &[u8]) -> Result<usize, Failed> {
+    fn write(&mut self, piece: &[u8]) -> Result<usize, Failed>
+        ensures within { IfOk result (λ n. n ≤ length piece.now) }
+        ensures some { IfOk result (λ n. 0 < length piece.now → 0 < n) }
+        ensures writes { WriteAppends (W.contents (writer_of self.old))
+            (W.contents (writer_of self.new)) result piece.now }
+        ensures cause { HasCause (writer_faults self.old) (writer_faults self.new) result }
+    {
         if piece.is_empty() {
             return Ok(0);
         }
@@ -87,7 +100,10 @@ impl<W: Write + Drop> Sink for WriterSink<W> {
         }
     }
 
-    fn flush(&mut self) -> Result<(), Failed> {
+    fn flush(&mut self) -> Result<(), Failed>
+        ensures writes { Keeps (W.contents (writer_of self.old)) (W.contents (writer_of self.new)) }
+        ensures cause { HasCause (writer_faults self.old) (writer_faults self.new) result }
+    {
         match self.writer.flush() {
             Ok(()) => Ok(()),
             Err(_) => Err(self.faults.add()),

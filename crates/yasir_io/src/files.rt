@@ -1,8 +1,13 @@
 //! Real files as a source and as a disk, opened at the first call. What stands in them isn't told;
 //! faults are counted.
-ghost use Rattle.std.specs.Prelude.{◌≡◌, None};
+ghost use Rattle.std.specs.Prelude.{◌≡◌, ◌<◌, ◌≤◌, length, take, Some, None, IsSome, OnOk, IfOk};
 ghost use Rattle.std.specs.Io.{ReadsAtMost};
-ghost use Rattle.yasir_io.specs.Edge.{file_faults, slots_faults};
+ghost use Rattle.std.specs.Io.KnownBytes.{Appends, Consumes, IsAtEnd, ReadConsumes};
+ghost use Rattle.yasir_io.specs.Causes.{HasCause};
+ghost use Rattle.yasir_io.specs.Edge.{file_of, file_options, file_faults, slots_file};
+ghost use Rattle.yasir_io.specs.Edge.{slots_options, slots_faults};
+ghost use Rattle.yasir_io.specs.SlotFiles.{for_reading, for_slots, slot_place, OnOpen, MovesTo};
+ghost use Rattle.yasir_io.specs.SlotFiles.{ReadsNext, ReadsSlot, WritesSlot};
 
 use crate::faults::Faults;
 use crate::{Failed, SLOT_LEN, Slot, SlotBytes, SlotDisk, Source};
@@ -15,28 +20,152 @@ use std::rt::Files;
 struct LazyFile<'a, R: Files> {
     rt: &'a R,
     path: Option<String>,
+    options: OpenOptions,
     file: Option<R::File>,
 }
 
 impl<'a, R: Files> LazyFile<'a, R> {
-    fn new(rt: &'a R, path: Option<String>) -> LazyFile<'a, R> {
+    fn new(rt: &'a R, path: Option<String>, options: OpenOptions) -> LazyFile<'a, R>
+        ensures options { result.options ≡ options }
+        ensures closed { result.file ≡ None }
+    {
         LazyFile {
             rt,
             path,
+            options,
             file: None,
         }
     }
 
-    fn open(&mut self, options: &OpenOptions) -> io::Result<&mut R::File> {
+    // Opens the file, unless it stands open.
+    fn open(&mut self) -> io::Result<()>
+        ensures opened { OnOk result (IsSome self.new.file) }
+        ensures same { IsSome self.old.file → self.new.file ≡ self.old.file }
+        ensures options { self.new.options ≡ self.old.options }
+    {
         if self.file.is_none() {
             let path = self.path.as_ref().ok_or(io::ErrorKind::NotFound)?;
-            self.file = Some(options.open(self.rt, path.as_str())?);
+            self.file = Some(self.options.open(self.rt, path.as_str())?);
         }
+        Ok(())
+    }
+
+    fn read(&mut self, buf: &mut [u8]) -> io::Result<usize>
+        ensures within { ReadsAtMost result buf.new }
+        ensures reads { OnOpen self.old.file self.new.file
+            (λ f g. ReadConsumes (R.File.remaining f) (R.File.remaining g) result buf.new) }
+        ensures options { self.new.options ≡ self.old.options }
+    {
+        self.open()?;
         match &mut self.file {
-            Some(file) => Ok(file),
+            Some(file) => file.read(buf),
             None => Err(io::ErrorKind::NotFound.into()),
         }
     }
+
+    fn read_slot(&mut self, slot: Slot) -> io::Result<SlotBytes>
+        ensures reads { OnOpen self.old.file self.new.file
+            (λ f g. IfOk result (ReadsSlot R.File.Seek R.File.Read slot f g)) }
+        ensures options { self.new.options ≡ self.old.options }
+    {
+        self.open()?;
+        match &mut self.file {
+            Some(file) => read_at(file, slot),
+            None => Err(io::ErrorKind::NotFound.into()),
+        }
+    }
+
+    fn write_slot(&mut self, slot: Slot, bytes: &SlotBytes) -> io::Result<()>
+        ensures writes { OnOpen self.old.file self.new.file
+            (λ f g. OnOk result (WritesSlot R.File.Seek R.File.Write slot f g bytes.now)) }
+        ensures options { self.new.options ≡ self.old.options }
+    {
+        self.open()?;
+        match &mut self.file {
+            Some(file) => write_at(file, slot, bytes),
+            None => Err(io::ErrorKind::NotFound.into()),
+        }
+    }
+
+    fn sync(&mut self) -> io::Result<()>
+        ensures file { IsSome self.old.file → self.new.file ≡ self.old.file }
+        ensures options { self.new.options ≡ self.old.options }
+    {
+        self.open()?;
+        match &self.file {
+            Some(file) => file.sync_all(),
+            None => Err(io::ErrorKind::NotFound.into()),
+        }
+    }
+}
+
+fn place_of(slot: Slot) -> u64
+    ensures { result ≡ slot_place slot }
+{
+    match slot {
+        Slot::A => 0,
+        Slot::B => SLOT_LEN as u64,
+    }
+}
+
+fn move_to<F: Seek>(file: &mut F, place: u64) -> io::Result<()>
+    ensures { OnOk result (MovesTo F.Seek place file.old file.new) }
+{
+    file.seek(SeekFrom::Start(place))?;
+    Ok(())
+}
+
+// ReadsNext until the buffer is full or the end is met, and answers how many bytes were read.
+fn read_up_to<F: Read>(file: &mut F, buf: &mut [u8]) -> io::Result<usize>
+    ensures within { IfOk result (λ n. n ≤ length buf.new) }
+    ensures taken { IfOk result (λ n.
+        Consumes (F.remaining file.old) (F.remaining file.new) (take n buf.new)) }
+    ensures end { IfOk result (λ n. n < length buf.new → IsAtEnd (F.remaining file.new)) }
+{
+    let mut len = 0;
+    while len < buf.len() {
+        let n = file.read(&mut buf[len..])?;
+        if n == 0 {
+            return Ok(len);
+        }
+        len += n;
+    }
+    Ok(len)
+}
+
+// The next bytes of a file, as many as a slot has; past its end they are 0.
+fn read_next<F: Read>(file: &mut F) -> io::Result<SlotBytes>
+    ensures { IfOk result (ReadsNext F.Read file.old file.new) }
+{
+    let mut read = [0; SLOT_LEN];
+    let n = read_up_to(file, &mut read)?;
+    let mut bytes = [0; SLOT_LEN];
+    bytes[..n].copy_from_slice(&read[..n]);
+    Ok(bytes)
+}
+
+fn read_at<F: Read + Seek>(file: &mut F, slot: Slot) -> io::Result<SlotBytes>
+    ensures { IfOk result (ReadsSlot F.Seek F.Read slot file.old file.new) }
+{
+    move_to(file, place_of(slot))?;
+    read_next(file)
+}
+
+// Writes all bytes of a slot. A write cut short is a fault.
+fn write_next<F: Write>(file: &mut F, bytes: &SlotBytes) -> io::Result<()>
+    ensures { OnOk result (Appends (F.contents file.old) (F.contents file.new) bytes.now) }
+{
+    if file.write(bytes)? < SLOT_LEN {
+        return Err(io::ErrorKind::WriteZero.into());
+    }
+    Ok(())
+}
+
+fn write_at<F: Write + Seek>(file: &mut F, slot: Slot, bytes: &SlotBytes) -> io::Result<()>
+    ensures { OnOk result (WritesSlot F.Seek F.Write slot file.old file.new bytes.now) }
+{
+    move_to(file, place_of(slot))?;
+    write_next(file, bytes)
 }
 
 /// A file as a source. No path, and a file that can't be opened, are faults.
@@ -49,21 +178,16 @@ pub struct FileSource<'a, R: Files> {
 impl<'a, R: Files> FileSource<'a, R> {
     /// A source of the file at a path, which isn't opened yet.
     pub fn new(rt: &'a R, path: Option<String>) -> FileSource<'a, R>
-        ensures { file_faults result ≡ 0 }
+        ensures faults { file_faults result ≡ 0 }
+        ensures closed { file_of result ≡ None }
+        ensures options { file_options result ≡ for_reading }
     {
+        let mut options = OpenOptions::new();
+        options.read(true);
         FileSource {
-            file: LazyFile::new(rt, path),
+            file: LazyFile::new(rt, path, options),
             faults: Faults::none(),
         }
-    }
-}
-
-fn read_file<R: Files>(file: &mut LazyFile<'_, R>, buf: &mut [u8]) -> io::Result<usize>
-    ensures { ReadsAtMost result buf.new }
-{
-    match file.open(OpenOptions::new().read(true)) {
-        Ok(file) => file.read(buf),
-        Err(e) => Err(e),
     }
 }
 
@@ -72,8 +196,14 @@ impl<'a, R: Files> Source for FileSource<'a, R> {
 
     ghost faults = { λ source. file_faults source };
 
-    fn read(&mut self, buf: &mut [u8]) -> Result<usize, Failed> {
-        match read_file(&mut self.file, buf) {
+    fn read(&mut self, buf: &mut [u8]) -> Result<usize, Failed>
+        ensures within { IfOk result (λ n. n ≤ length buf.new) }
+        ensures reads { OnOpen (file_of self.old) (file_of self.new)
+            (λ f g. ReadConsumes (R.File.remaining f) (R.File.remaining g) result buf.new) }
+        ensures options { file_options self.new ≡ file_options self.old }
+        ensures cause { HasCause (file_faults self.old) (file_faults self.new) result }
+    {
+        match self.file.read(buf) {
             Ok(n) => Ok(n),
             Err(_) => Err(self.faults.add()),
         }
@@ -85,7 +215,6 @@ impl<'a, R: Files> Source for FileSource<'a, R> {
 #[derive(Drop)]
 pub struct FileSlots<'a, R: Files> {
     file: LazyFile<'a, R>,
-    create: bool,
     faults: Faults,
 }
 
@@ -93,71 +222,17 @@ impl<'a, R: Files> FileSlots<'a, R> {
     /// A disk in the file at a path, which isn't opened yet. A missing file is made where `create`
     /// says so.
     pub fn new(rt: &'a R, path: Option<String>, create: bool) -> FileSlots<'a, R>
-        ensures { slots_faults result ≡ 0 }
+        ensures faults { slots_faults result ≡ 0 }
+        ensures closed { slots_file result ≡ None }
+        ensures options { slots_options result ≡ for_slots create }
     {
+        let mut options = OpenOptions::new();
+        options.read(true).write(true).create(create);
         FileSlots {
-            file: LazyFile::new(rt, path),
-            create,
+            file: LazyFile::new(rt, path, options),
             faults: Faults::none(),
         }
     }
-}
-
-fn place_of(slot: Slot) -> SeekFrom {
-    match slot {
-        Slot::A => SeekFrom::Start(0),
-        Slot::B => SeekFrom::Start(SLOT_LEN as u64),
-    }
-}
-
-fn open_slots<'b, R: Files>(
-    file: &'b mut LazyFile<'_, R>,
-    create: bool,
-) -> io::Result<&'b mut R::File> {
-    file.open(OpenOptions::new().read(true).write(true).create(create))
-}
-
-fn read_at<F: Read + Seek>(file: &mut F, slot: Slot) -> io::Result<SlotBytes> {
-    file.seek(place_of(slot))?;
-    let mut bytes = [0; SLOT_LEN];
-    let mut len = 0;
-    while len < SLOT_LEN {
-        let n = file.read(&mut bytes[len..])?;
-        if n == 0 {
-            break;
-        }
-        len += n;
-    }
-    Ok(bytes)
-}
-
-fn write_at<F: Write + Seek>(file: &mut F, slot: Slot, bytes: &SlotBytes) -> io::Result<()> {
-    file.seek(place_of(slot))?;
-    if file.write(bytes)? < SLOT_LEN {
-        return Err(io::ErrorKind::WriteZero.into());
-    }
-    Ok(())
-}
-
-fn read_slot_of<R: Files>(
-    file: &mut LazyFile<'_, R>,
-    create: bool,
-    slot: Slot,
-) -> io::Result<SlotBytes> {
-    read_at(open_slots(file, create)?, slot)
-}
-
-fn write_slot_of<R: Files>(
-    file: &mut LazyFile<'_, R>,
-    create: bool,
-    slot: Slot,
-    bytes: &SlotBytes,
-) -> io::Result<()> {
-    write_at(open_slots(file, create)?, slot, bytes)
-}
-
-fn sync_slots<R: Files>(file: &mut LazyFile<'_, R>, create: bool) -> io::Result<()> {
-    open_slots(file, create)?.sync_all()
 }
 
 impl<'a, R: Files> SlotDisk for FileSlots<'a, R> {
@@ -177,22 +252,36 @@ impl<'a, R: Files> SlotDisk for FileSlots<'a, R> {
 
     ghost only_now = { λ disk c image. image };
 
-    fn read_slot(&mut self, slot: Slot) -> Result<SlotBytes, Failed> {
-        match read_slot_of(&mut self.file, self.create, slot) {
+    fn read_slot(&mut self, slot: Slot) -> Result<SlotBytes, Failed>
+        ensures reads { OnOpen (slots_file self.old) (slots_file self.new)
+            (λ f g. IfOk result (ReadsSlot R.File.Seek R.File.Read slot f g)) }
+        ensures options { slots_options self.new ≡ slots_options self.old }
+        ensures cause { HasCause (slots_faults self.old) (slots_faults self.new) result }
+    {
+        match self.file.read_slot(slot) {
             Ok(bytes) => Ok(bytes),
             Err(_) => Err(self.faults.add()),
         }
     }
 
-    fn write_slot(&mut self, slot: Slot, bytes: &SlotBytes) -> Result<(), Failed> {
-        match write_slot_of(&mut self.file, self.create, slot, bytes) {
+    fn write_slot(&mut self, slot: Slot, bytes: &SlotBytes) -> Result<(), Failed>
+        ensures writes { OnOpen (slots_file self.old) (slots_file self.new)
+            (λ f g. OnOk result (WritesSlot R.File.Seek R.File.Write slot f g bytes.now)) }
+        ensures options { slots_options self.new ≡ slots_options self.old }
+        ensures cause { HasCause (slots_faults self.old) (slots_faults self.new) result }
+    {
+        match self.file.write_slot(slot, bytes) {
             Ok(()) => Ok(()),
             Err(_) => Err(self.faults.add()),
         }
     }
 
-    fn sync(&mut self) -> Result<(), Failed> {
-        match sync_slots(&mut self.file, self.create) {
+    fn sync(&mut self) -> Result<(), Failed>
+        ensures file { IsSome (slots_file self.old) → slots_file self.new ≡ slots_file self.old }
+        ensures options { slots_options self.new ≡ slots_options self.old }
+        ensures cause { HasCause (slots_faults self.old) (slots_faults self.new) result }
+    {
+        match self.file.sync() {
             Ok(()) => Ok(()),
             Err(_) => Err(self.faults.add()),
         }
