@@ -1,2 +1,3 @@
 pub mod CrcLaws
 pub mod CrcZero
+mod Taking

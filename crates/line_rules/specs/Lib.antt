@@ -2,3 +2,6 @@ pub mod Bytes
 pub mod Crc
 pub mod Rules
 pub mod RulesLaws
+pub mod Spoiling
+pub mod Headerless
+pub mod FourBytes

@@ -16,9 +16,16 @@ pub record Rules : Type 0 where
   pub is_good_header : List ℕ → Bool
   -- how many bytes the frame has that begins with these bytes, where they begin with a good header
   pub size : List ℕ → ℕ
+  -- whether the bytes end as a frame's do, in the check of what stands before it
+  pub has_right_ending : List ℕ → Bool
+  -- what is sent, after these bytes, in place of a last byte where all of them are to be no frame
+  pub spoil : List ℕ → ℕ → ℕ
 
 abbrev pub is_frame_of : Rules → List ℕ → Bool
 is_frame_of rules x = rules.is_frame x
+
+abbrev pub spoil_of : Rules → List ℕ → ℕ → ℕ
+spoil_of rules h c = rules.spoil h c
 
 -- the bytes have as many as there is room for
 abbrev pub fills_room : Rules → List ℕ → Bool

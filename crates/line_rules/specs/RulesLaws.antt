@@ -1,7 +1,7 @@
 -- The laws that each protocol's rules keep.
-use Rattle.std.specs.Prelude.{◌≡◌, ℕ, ◌<◌, ◌≤◌, true, List, [], ◌∷◌, ◌++◌, length}
+use Rattle.std.specs.Prelude.{◌≡◌, ℕ, ◌+◌, ◌-◌, ◌<◌, ◌≤◌, true, List, [], ◌∷◌, ◌++◌, length}
 use Rattle.line_rules.specs.Bytes.{AreBytes}
-use Rattle.line_rules.specs.Rules.{Rules, head_of}
+use Rattle.line_rules.specs.Rules.{Rules, head_of, left_of}
 use Rattle.line_rules.specs.declared.head.Head.TheVariants.{Good}
 
 -- There is room for a first byte; as long as the room isn't full, one more byte fits into the room that the bytes then have;
@@ -12,8 +12,9 @@ pub record IsLawful (rules : Rules) : Type 0 where
   pub stays : (x : List ℕ) (b : ℕ) → rules.room x ≤ length x → rules.room (x ++ b ∷ []) ≡ rules.room x
   pub bounded : (x : List ℕ) → AreBytes x → rules.room x ≤ rules.longest
 
--- A header fits every room.
+-- A header is short, and fits every room.
 pub record IsHeaded (rules : Rules) : Type 0 where
+  pub short : rules.header_len ≤ 10
   pub room_for_header : (x : List ℕ) → rules.header_len ≤ rules.room x
 
 -- A frame has a byte, a good header, and the size that it says, for which there is room.
@@ -22,6 +23,14 @@ pub record IsFramed (rules : Rules) : Type 0 where
   pub good_header : (frame : List ℕ) → rules.is_frame frame ≡ true → head_of rules frame ≡ Good
   pub whole : (frame : List ℕ) → rules.is_frame frame ≡ true → rules.size frame ≡ length frame
   pub has_room : (frame : List ℕ) → rules.is_frame frame ≡ true → length frame ≤ rules.room frame
+
+-- What a frame still lacks that begins with a good header has room, and from a whole header on it
+-- lessens by each byte that comes.
+pub record IsFilling (rules : Rules) : Type 0 where
+  pub has_room : (x : List ℕ) → length x ≤ rules.room x
+      → length x + left_of rules x ≤ rules.room x
+  pub lessens : (x more : List ℕ) → rules.header_len ≤ length x
+      → left_of rules (x ++ more) ≡ left_of rules x - length more
 
 -- The numbers of the protocol: its longest frame and its label.
 pub record HasNumbers (rules : Rules) (longest label : ℕ) : Type 0 where

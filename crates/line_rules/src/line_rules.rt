@@ -1,7 +1,8 @@
-ghost use Rattle.std.specs.Prelude.{◌≡◌, ℕ, ◌≤◌, Bool, false, List, [], ◌∷◌, ◌++◌, length};
+ghost use Rattle.std.specs.Prelude.{◌≡◌, ℕ, ◌<◌, ◌≤◌, Bool, true, false, List, [], ◌∷◌, ◌++◌, length, take};
 ghost use Rattle.line_rules.specs.Bytes.{AreBytes};
 ghost use Rattle.line_rules.specs.Rules.{Rules, fills_room, is_frame_of, head_of, left_of};
-ghost use Rattle.line_rules.specs.RulesLaws.{IsLawful, IsHeaded, IsFramed, HasNumbers};
+ghost use Rattle.line_rules.specs.RulesLaws.{IsLawful, IsHeaded, IsFramed, IsFilling, HasNumbers};
+ghost use Rattle.line_rules.specs.Spoiling.{IsSpoiling};
 
 use crate::Head;
 
@@ -25,6 +26,10 @@ pub trait LineRules: Drop {
     ghost headed: { IsHeaded rules };
 
     ghost framed: { IsFramed rules };
+
+    ghost filling: { IsFilling rules };
+
+    ghost spoiling: { IsSpoiling rules };
 
     ghost numbers: { HasNumbers rules MAX LABEL };
 
@@ -63,6 +68,26 @@ pub trait LineRules: Drop {
     fn take(&mut self, b: u8)
         requires { is_full self.old ≡ false }
         ensures { (x : List ℕ) → stands self.old x → stands self.new (x ++ b ∷ []) };
+
+    /// Appends of these bytes as many as there is room for, and says how many.
+    fn take_some(&mut self, part: &[u8]) -> usize
+        ensures within { result ≤ length part.now }
+        ensures stands { (x : List ℕ) → stands self.old x
+            → stands self.new (x ++ take result part.now) }
+        ensures all { result < length part.now → is_full self.new ≡ true }
+        ensures room { (x : List ℕ) (n : ℕ) → stands self.old x → n < result
+            → fills_room rules (x ++ take n part.now) ≡ false }
+    {
+        let mut taken = 0;
+        for byte in part {
+            if self.full() {
+                return taken;
+            }
+            self.take(*byte);
+            taken += 1;
+        }
+        taken
+    }
 
     /// Whether the bytes are a frame.
     fn good(&self) -> bool

@@ -7,7 +7,7 @@ use Rattle.std.proofs.lemmas.Bool.{and_parts, and_from, eqb-true, eq-eqb, leb-tr
 use Rattle.std.specs.Int.{to_le_bytes, w16}
 use Rattle.std.proofs.Math.Nat.{mod-eq_of_lt}
 use Rattle.rtu_frame.specs.Crc.{crc_rtu}
-use Rattle.rtu_frame.specs.Frame.{IsFrame, is_frame, body_of}
+use Rattle.rtu_frame.specs.Frame.{IsFrame, is_frame, has_right_ending, body_of}
 
 -- a list of two elements or more ends in its last two
 pub last_two : (f : List ℕ) → 2 ≤ length f
@@ -63,23 +63,26 @@ IsFrame-from f long short ends =
     }
 
 pub is_frame-true : (f : List ℕ) → is_frame f ≡ true → IsFrame f
-unfolding is_frame
+unfolding is_frame has_right_ending
 is_frame-true f decided =
-    let p = and_parts _ _ decided in
-    let q = and_parts _ _ p.0 in
-    let r = and_parts _ _ q.0 in
-    IsFrame-from f (leb-true 4 (length f) r.0) (leb-true (length f) 256 r.1)
-    (record { low = eqb-true _ _ q.1; high = eqb-true _ _ p.1 })
+    let parts = and_parts _ _ decided in
+    let lengths = and_parts _ _ parts.0 in
+    let last = and_parts _ _ parts.1 in
+    let both = and_parts _ _ last.0 in
+    IsFrame-from f (leb-true 4 (length f) lengths.0) (leb-true (length f) 256 lengths.1)
+    (record { low = eqb-true _ _ both.1; high = eqb-true _ _ last.1 })
 
 pub is_frame-from : (f : List ℕ) → IsFrame f → is_frame f ≡ true
-unfolding is_frame
+unfolding is_frame has_right_ending
 is_frame-from f frame =
     let ends = IsFrame-ends f frame in
+    let long : 4 ≤ length f = frame.at_least in
+    let two : 2 ≤ length f = omega arith in
     and_from _ _
-    (and_from _ _
     (and_from _ _ (le-leb 4 (length f) frame.at_least) (le-leb (length f) 256 frame.at_most))
-    (eq-eqb _ _ ends.low))
-    (eq-eqb _ _ ends.high)
+    (and_from _ _
+    (and_from _ _ (le-leb 2 (length f) two) (eq-eqb _ _ ends.low))
+    (eq-eqb _ _ ends.high))
 
 -- a test that holds exactly of frames is `is_frame`
 pub is_frame_lem : (f : List ℕ) (answer : Bool) → (IsTrue answer → IsFrame f) × (IsFrame f → IsTrue answer) → answer ≡ is_frame f

@@ -2,7 +2,7 @@
 use Rattle.std.proofs.Common.{◌≡◌, [], ◌∷◌, true, false, refl, codes}
 use Rattle.line_rules.specs.Crc.{bit_step, bit_steps, byte_step, crc}
 use Rattle.rtu_frame.specs.Crc.{crc_rtu}
-use Rattle.rtu_frame.specs.Frame.{is_frame}
+use Rattle.rtu_frame.specs.Frame.{is_frame, has_right_ending}
 
 pub crc_of_two_bytes : crc_rtu (0x01 ∷ 0x03 ∷ []) ≡ 0x2140
 unfolding bit_step bit_steps byte_step crc
@@ -26,5 +26,5 @@ pub frames : (is_frame (0x01 ∷ 0x03 ∷ 0x00 ∷ 0x00 ∷ 0x00 ∷ 0x0A ∷ 0x
     × (is_frame (0x11 ∷ 0x03 ∷ 0x00 ∷ 0x6B ∷ 0x00 ∷ 0x03 ∷ 0x76 ∷ 0x87 ∷ []) ≡ true)
     × (is_frame (0x01 ∷ 0x03 ∷ 0x40 ∷ 0x21 ∷ []) ≡ true)
     × (is_frame (0x01 ∷ 0x03 ∷ 0x00 ∷ 0x00 ∷ 0x00 ∷ 0x0A ∷ 0xC5 ∷ 0xCC ∷ []) ≡ false)
-unfolding bit_step bit_steps byte_step crc is_frame
+unfolding bit_step bit_steps byte_step crc is_frame has_right_ending
 frames = (refl, refl, refl, refl, refl)

@@ -19,9 +19,14 @@ pub record HasRightEnding (bytes : List ℕ) : Type 0 where
 abbrev pub body_of : List ℕ → List ℕ
 body_of frame = take (length frame - 2) frame
 
+-- the decision of `HasRightEnding`
+unfoldable pub has_right_ending : List ℕ → Bool
+has_right_ending bytes =
+    nat_le 2 (length bytes)
+    && slice_index bytes (length bytes - 2) == crc_rtu (body_of bytes) % 256
+    && slice_index bytes (length bytes - 1) == crc_rtu (body_of bytes) / 256
+
 -- the decision of `IsFrame`
 unfoldable pub is_frame : List ℕ → Bool
 is_frame frame =
-    nat_le 4 (length frame) && nat_le (length frame) 256
-    && slice_index frame (length frame - 2) == crc_rtu (body_of frame) % 256
-    && slice_index frame (length frame - 1) == crc_rtu (body_of frame) / 256
+    nat_le 4 (length frame) && nat_le (length frame) 256 && has_right_ending frame

@@ -1,49 +1,77 @@
 -- Modbus RTU as the rules of a line: any burst has room for 256 bytes, and there is no header.
-use Rattle.std.specs.Prelude.{◌≡◌, ℕ, ◌≤◌, nat_lt, true, List, length, refl}
-use Rattle.std.proofs.Common.{arith}
-use Rattle.std.proofs.lemmas.Bool.{and_parts, leb-true, cond-false, le-ltb}
+use Rattle.std.specs.Prelude.{◌≡◌, ℕ, ◌-◌, ◌/◌, ◌<◌, ◌≤◌, ◌&&◌, nat_le, true, false, List, [], ◌∷◌, ◌++◌, length, take, get_or, bit_xor, refl}
+use Rattle.std.specs.Int.Bits.{xor_assoc, xor_self}
+use Rattle.std.proofs.Common.{arith, ◌∙◌, sym, ap, length-append}
+use Rattle.std.proofs.lemmas.List.{get_or_push, take-append-le}
+use Rattle.std.proofs.lemmas.Bool.{and_parts, and_right, leb-true, eqb-true, ne_eqb}
 use Rattle.line_rules.specs.Rules.{Rules}
-use Rattle.line_rules.specs.RulesLaws.{IsLawful, IsHeaded, IsFramed, HasNumbers}
-use Rattle.rtu_frame.specs.Frame.{is_frame}
+use Rattle.line_rules.specs.RulesLaws.{IsLawful, IsHeaded, IsFramed, IsFilling, HasNumbers}
+use Rattle.line_rules.specs.Headerless.{headerless, headerless-lawful, headerless-headed, headerless-framed, headerless-filling}
+use Rattle.line_rules.specs.Spoiling.{IsSpoiling, spoiling_by_ending}
+use Rattle.rtu_frame.specs.Crc.{crc_rtu}
+use Rattle.rtu_frame.specs.Frame.{is_frame, has_right_ending, body_of}
 
 abbrev pub rtu_rules : Rules
-rtu_rules = record {
-  label = 1;
-  longest = 256;
-  room = λ x. 256;
-  is_frame = is_frame;
-  header_len = 0;
-  is_good_header = λ x. true;
-  size = length;
-}
+rtu_rules = headerless 1 256 is_frame has_right_ending
 
 -- the length of a frame
 is_frame-length : (frame : List ℕ) → is_frame frame ≡ true → (4 ≤ length frame) × (length frame ≤ 256)
 unfolding is_frame
 is_frame-length frame framed =
     let ends = and_parts _ _ framed in
-    let low = and_parts _ _ ends.0 in
-    let lengths = and_parts _ _ low.0 in
+    let lengths = and_parts _ _ ends.0 in
     (leb-true 4 (length frame) lengths.0, leb-true (length frame) 256 lengths.1)
 
+-- no frame has a wrong ending
+is_frame-wrong : (x : List ℕ) → has_right_ending x ≡ false → is_frame x ≡ false
+unfolding is_frame
+is_frame-wrong x wrong =
+    and_right (nat_le 4 (length x) && nat_le (length x) 256) (has_right_ending x) wrong
+
+-- the body and the last byte, where a byte was appended
+push-body : (h : List ℕ) (c : ℕ) → body_of (h ++ c ∷ []) ≡ take (length h - 1) h
+push-body h c =
+    let front : length (h ++ c ∷ []) - 2 ≡ length h - 1 =
+        omega (arith, length-append h (c ∷ [])) in
+    ap (λ n. take n (h ++ c ∷ [])) front ∙ take-append-le (length h - 1) h (c ∷ []) (omega arith)
+
+push-last : (h : List ℕ) (c : ℕ) → get_or (h ++ c ∷ []) (length (h ++ c ∷ []) - 1) 0 ≡ c
+push-last h c = get_or_push h c 0 _ (omega (arith, length-append h (c ∷ [])))
+
+-- a byte whose lowest bit is turned is another one
+turned-other : (c : ℕ) → bit_xor c 1 ≡ c → ⊥
+turned-other c same =
+    let back : bit_xor c (bit_xor c 1) ≡ 1 =
+        sym (xor_assoc c c 1) ∙ ap (λ n. bit_xor n 1) (xor_self c) in
+    let none : bit_xor c (bit_xor c 1) ≡ 0 = ap (bit_xor c) same ∙ xor_self c in
+    omega arith
+
+-- the last byte of a right ending can't be another one
+has_right_ending-turned : (h : List ℕ) (c : ℕ) → has_right_ending (h ++ c ∷ []) ≡ true
+    → has_right_ending (h ++ bit_xor c 1 ∷ []) ≡ false
+unfolding has_right_ending
+has_right_ending-turned h c right =
+    let last = eqb-true _ _ (and_parts _ _ right).1 in
+    let before : c ≡ crc_rtu (body_of (h ++ c ∷ [])) / 256 = sym (push-last h c) ∙ last in
+    and_right _ _ (ne_eqb _ _ (λ same. turned-other c
+        (sym (push-last h (bit_xor c 1)) ∙ same
+        ∙ ap (λ x. crc_rtu x / 256) (push-body h (bit_xor c 1) ∙ sym (push-body h c)) ∙ sym before)))
+
 pub rtu_lawful : IsLawful rtu_rules
-rtu_lawful = record {
-  some_room = omega arith;
-  fits = λ x b short. short;
-  stays = λ x b full. refl;
-  bounded = λ x bytes. omega arith;
-}
+rtu_lawful = headerless-lawful 1 256 is_frame has_right_ending (omega arith)
 
 pub rtu_headed : IsHeaded rtu_rules
-rtu_headed = record { room_for_header = λ x. omega arith }
+rtu_headed = headerless-headed 1 256 is_frame has_right_ending
 
 pub rtu_framed : IsFramed rtu_rules
-rtu_framed = record {
-  some_byte = λ frame framed. let lengths = is_frame-length frame framed in omega arith;
-  good_header = λ frame framed. cond-false (nat_lt (length frame) 0) _ _ (le-ltb (length frame) 0 (omega arith));
-  whole = λ frame framed. refl;
-  has_room = λ frame framed. let lengths = is_frame-length frame framed in omega arith;
-}
+rtu_framed = headerless-framed 1 256 is_frame has_right_ending
+    (λ frame framed. let lengths = is_frame-length frame framed in (omega arith, lengths.1))
+
+pub rtu_filling : IsFilling rtu_rules
+rtu_filling = headerless-filling 1 256 is_frame has_right_ending
+
+pub rtu_spoiling : IsSpoiling rtu_rules
+rtu_spoiling = spoiling_by_ending rtu_rules (λ h c. refl) is_frame-wrong has_right_ending-turned
 
 pub rtu_numbers : HasNumbers rtu_rules 256 1
 rtu_numbers = record { longest_is = refl; label_is = refl }

@@ -14,7 +14,8 @@ pub struct Rtu {
 
 impl LineRules for Rtu {
     ghost use Rattle.std.specs.Prelude.{ℕ};
-    ghost use Rattle.rtu_frame.specs.Rules.{rtu_rules, rtu_lawful, rtu_headed, rtu_framed, rtu_numbers};
+    ghost use Rattle.rtu_frame.specs.Rules.{rtu_rules, rtu_lawful, rtu_headed, rtu_framed, rtu_filling};
+    ghost use Rattle.rtu_frame.specs.Rules.{rtu_spoiling, rtu_numbers};
     ghost use Rattle.rtu_frame.specs.Rtu.{RtuStandsFor, is_full_rtu, rtu_fullness, rtu_bytes, rtu_within};
 
     ghost rules = { rtu_rules };
@@ -32,6 +33,10 @@ impl LineRules for Rtu {
     ghost headed = { rtu_headed };
 
     ghost framed = { rtu_framed };
+
+    ghost filling = { rtu_filling };
+
+    ghost spoiling = { rtu_spoiling };
 
     ghost numbers = { rtu_numbers };
 
