@@ -3,6 +3,7 @@
 -- room for.
 use Rattle.std.proofs.Common.{◌≡◌, ℕ, true, false, List, [], ◌∷◌, ◌++◌, length, refl}
 use Rattle.line_rules.specs.Rules.{Rules}
+use Rattle.line_rules.specs.Headerless.{headerless}
 use Rattle.yasir_ticks.specs.Ticks.{silent}
 use Rattle.yasir_ticks.specs.Bursts.{with_byte, bursts_from}
 use Rattle.yasir_ticks.specs.declared.tick.Tick.{Tick}
@@ -17,15 +18,7 @@ use Rattle.frame_ending.specs.Cuts.{cut_of}
 
 -- room for so many bytes, and no frames
 abbrev with_room : ℕ → Rules
-with_room n = record {
-  label = 1;
-  longest = n;
-  room = λ x. n;
-  is_frame = λ x. false;
-  header_len = 0;
-  is_good_header = λ x. true;
-  size = length;
-}
+with_room n = headerless 1 n (λ x. false) (λ x. false)
 
 -- what these ticks are, after those before
 pub cuts_after : Rules → List Tick → List Tick → List Cut

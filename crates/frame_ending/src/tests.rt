@@ -1,100 +1,10 @@
-ghost use Rattle.std.specs.Prelude.{◌≡◌, ℕ, ◌≤◌, ◌<◌, Bool, true, false, List, [], ◌∷◌, ◌++◌};
-ghost use Rattle.std.specs.Prelude.{length, All, nat_le, refl};
-ghost use Rattle.std.proofs.Common.{rules};
+ghost use Rattle.std.specs.Prelude.{◌<◌, length};
 
 use super::*;
-use line_rules::{Head, LineRules};
+use line_rules::{FourBytes, LineRules};
 use std::alloc::{AllocError, Global};
 use std::test::Fail;
 use yasir_ticks::Tick;
-
-// Rules with the room of Modbus RTU, by which nothing is a frame.
-#[derive(Drop)]
-struct Counted {
-    len: u16,
-}
-
-impl LineRules for Counted {
-    ghost use Rattle.line_rules.specs.Rules.{Rules};
-
-    ghost rules = { record {
-      label = 1;
-      longest = 256;
-      room = λ x. 256;
-      is_frame = λ x. false;
-      header_len = 0;
-      is_good_header = λ x. true;
-      size = length;
-    } };
-
-    ghost stands = { λ v x. (v.len ≡ length x) × (length x ≤ 256) × All (λ b. b < 256) x };
-
-    ghost is_full = { λ v. nat_le 256 v.len };
-
-    ghost MAX = { 256 };
-
-    ghost LABEL = { 1 };
-
-    ghost lawful = { record {
-      some_room = Prim.search rules;
-      fits = λ x b short. short;
-      stays = λ x b full. refl;
-      bounded = λ x bytes. Prim.search rules;
-    } };
-
-    ghost headed = { record { room_for_header = λ x. Prim.search rules } };
-
-    ghost framed = { record {
-      some_byte = λ frame framed. Prim.search rules;
-      good_header = λ frame framed. Prim.search rules;
-      whole = λ frame framed. refl;
-      has_room = λ frame framed. Prim.search rules;
-    } };
-
-    ghost numbers = { record { longest_is = refl; label_is = refl } };
-
-    ghost fullness = { λ v x stands. Prim.search rules };
-
-    ghost bytes = { λ v x stands. stands.2 };
-
-    ghost within = { λ v x stands. stands.1 };
-
-    const MAX: u16 = 256;
-
-    const LABEL: u8 = 1;
-
-    fn fresh() -> Counted {
-        Counted { len: 0 }
-    }
-
-    fn restart(&mut self) {
-        self.len = 0;
-    }
-
-    fn len(&self) -> u16 {
-        self.len
-    }
-
-    fn full(&self) -> bool {
-        self.len >= Self::MAX
-    }
-
-    fn take(&mut self, _b: u8) {
-        self.len += 1;
-    }
-
-    fn good(&self) -> bool {
-        false
-    }
-
-    fn head(&self) -> Head {
-        Head::Good
-    }
-
-    fn left(&self) -> u16 {
-        0
-    }
-}
 
 // A part of a line.
 #[derive(Drop)]
@@ -179,7 +89,7 @@ fn letters_and_burst(alloc: Global, parts: &[Part]) -> Result<(Vec<u8>, Told), F
     if line.len() >= 1000 {
         return Err("a long line".into());
     }
-    let (kinds, cut) = cuts::<Counted>(alloc, line.as_slice())?;
+    let (kinds, cut) = cuts::<FourBytes>(alloc, line.as_slice())?;
     let mut letters = Vec::new(alloc);
     for kind in &kinds {
         letters.push(letter(*kind))?;

@@ -1,7 +1,7 @@
 -- The definitions, computed at the tables: every case is right.
 use Rattle.std.proofs.Common.{◌≡◌, Ok, length, refl}
 use Rattle.rtu_frame.specs.Crc.{bit_step, bit_steps, byte_step, crc}
-use Rattle.rtu_frame.specs.Frame.{is_frame}
+use Rattle.rtu_frame.specs.Frame.{is_frame, has_right_ending}
 use Rattle.hmac_tag.proofs.StandardFacts.{hmac_of_hi_there, hmac_of_jefe, hmac_of_fifty_bytes, tag_of_test_with_truncation, hmac_under_a_long_key}
 use Rattle.vectors.specs.Cases.{answer}
 use Rattle.vectors.specs.Tables.{crc_cases, hmac_cases, frames_cases}
@@ -16,5 +16,5 @@ hmac_rows =
     (refl, rw (hmac_of_hi_there, hmac_of_jefe, hmac_of_fifty_bytes, tag_of_test_with_truncation, hmac_under_a_long_key))
 
 pub frames_rows : (length frames_cases ≡ 5) × (answer frames_cases ≡ Ok tt)
-unfolding bit_step bit_steps byte_step crc is_frame answer frames_cases
+unfolding bit_step bit_steps byte_step crc is_frame has_right_ending answer frames_cases
 frames_rows = (refl, refl)
