@@ -1,18 +1,60 @@
--- Words that ask for one command and no other.
-use Rattle.std.proofs.Common.{◌≡◌, ◌∙◌, ℕ, List, [], ◌∷◌, refl, sym}
+-- Words ask for one thing and no other.
+use Rattle.std.proofs.Common.{◌≡◌, ◌∙◌, ℕ, zero, suc, ◌+◌, ◌*◌, Bool, List, [], ◌∷◌, Option, Some, None, cond, nat_eq, refl, sym, ap}
 use Rattle.std.specs.Prelude.{codes}
-use Rattle.link_replay.specs.Words.{IsCommand, proto_word, dir_word}
-use Rattle.link_replay.specs.SealCommand.{IsSealing}
+use Rattle.hmac_tag.specs.declared.dir.Dir.{Dir}
+use Rattle.hmac_tag.specs.declared.dir.Dir.TheVariants.{Ab, Ba}
+use Rattle.link_replay.specs.Words.{IsCommand, Asks, proto_word, dir_word}
 use Rattle.link_replay.specs.declared.words.Proto.{Proto}
 use Rattle.link_replay.specs.declared.words.Proto.TheVariants.{Rtu}
-use Rattle.link_replay.specs.declared.words.Command.TheVariants.{Read}
+use Rattle.link_replay.specs.declared.words.Command.{Command}
+use Rattle.link_replay.specs.declared.words.Command.TheVariants.{Init, Read, Vectors, Seal}
 
 -- there is one protocol
 pub proto-is-rtu : (proto : Proto) → proto ≡ Rtu
 proto-is-rtu Rtu = refl
 
-pub read-seals-not : (words : List (List ℕ)) (proto : Proto) → IsCommand words (Read proto) → IsSealing words → ⊥
-read-seals-not words proto asks sealing =
-    let both : codes "read" ∷ proto_word proto ∷ [] ≡ codes "seal" ∷ proto_word sealing.0 ∷ dir_word sealing.1 ∷ sealing.2.0 ∷ sealing.2.1 ∷ [] =
-    sym asks ∙ sealing.2.4 in
-    cc
+-- A word as one number, so that two words are told apart by a test.
+abbrev number_of : List ℕ → ℕ
+number_of [] = 0
+number_of (byte ∷ word) = byte + 256 * number_of word
+
+abbrev is_word : List ℕ → List ℕ → Bool
+is_word expected word = nat_eq (number_of word) (number_of expected)
+
+abbrev proto_by : List ℕ → Proto
+proto_by word = Rtu
+
+abbrev dir_by : List ℕ → Dir
+dir_by word = cond (is_word (codes "ab") word) Ab Ba
+
+-- the command whose first word this is, with the two words behind it
+abbrev command_by : List ℕ → List ℕ → List ℕ → Command
+command_by verb first second =
+    cond (is_word (codes "init") verb) Init
+    (cond (is_word (codes "read") verb) (Read (proto_by first))
+    (cond (is_word (codes "vectors") verb) Vectors
+    (Seal (proto_by first) (dir_by second))))
+
+abbrev word_at : ℕ → List (List ℕ) → List ℕ
+word_at zero [] = []
+word_at zero (word ∷ words) = word
+word_at (suc n) [] = []
+word_at (suc n) (word ∷ words) = word_at n words
+
+abbrev command_in : List (List ℕ) → Command
+command_in words = command_by (word_at 0 words) (word_at 1 words) (word_at 2 words)
+
+command-in : (words : List (List ℕ)) (command : Command) → IsCommand words command
+    → command_in words ≡ command
+command-in words Init h = ap command_in h.2
+command-in words (Read Rtu) h = ap command_in h
+command-in words Vectors h = ap command_in h
+command-in words (Seal Rtu Ab) h = ap command_in h.4
+command-in words (Seal Rtu Ba) h = ap command_in h.4
+
+pub asks-one : (words : List (List ℕ)) (a b : Option Command) → Asks words a → Asks words b → a ≡ b
+asks-one words None None ha hb = refl
+asks-one words None (Some b) ha hb = absurd (ha b hb)
+asks-one words (Some a) None ha hb = absurd (hb a ha)
+asks-one words (Some a) (Some b) ha hb =
+    ap (λ command. Some command) (sym (command-in words a ha) ∙ command-in words b hb)

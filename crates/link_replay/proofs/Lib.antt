@@ -9,5 +9,6 @@ pub mod KeyLemmas
 pub mod Sealings
 pub mod Logging
 pub mod Commands
+pub mod Outcomes
 pub mod Replayable
 pub mod WholeLines

@@ -1,11 +1,14 @@
 -- The command `init`: what it leaves on the disk, and when each status comes.
 use Rattle.std.specs.Prelude.{◌≡◌, ℕ, Option, Some, None, IfSome}
+use Rattle.yasir_io.specs.declared.sink.Sink.{Ghosts as Sink}
+use Rattle.yasir_io.specs.declared.disk.SlotDisk.{Ghosts as SlotDisk}
 use Rattle.yasir_io.specs.declared.disk.Slot.TheVariants.{A}
 use Rattle.yasir_io.specs.Disks.{Slots, NoMore, OneImage}
 use Rattle.sequence_journal.specs.Slots.{slot_bytes, floor_of}
 use Rattle.sequence_journal.specs.Journal.{told_with, MaySet}
+use Rattle.link_replay.specs.Outside.{Outside}
 use Rattle.link_replay.specs.declared.status.Status.{Status}
-use Rattle.link_replay.specs.declared.status.Status.TheVariants.{Done, Usage, BadTicks, ReadFault, WriteFault, JournalFault, TooLong, HasJournal, BadKey, BadJournal}
+use Rattle.link_replay.specs.declared.status.Status.TheVariants.{Done, WriteFault, JournalFault, HasJournal}
 
 -- Neither slot held a number; slot A holds number 0, slot B is as it was, and a crash leaves just this.
 pub record IsNewJournal (old new : Option Slots) (may_leave : Slots → Type 0) : Type 0 where
@@ -20,18 +23,26 @@ pub record IsOldJournal (old new : Option Slots) (may_leave_old may_leave_new : 
   pub images : NoMore may_leave_old may_leave_new
   pub images_back : NoMore may_leave_new may_leave_old
 
-abbrev pub MakesJournal : Option Slots → Option Slots → (Slots → Type 0) → (Slots → Type 0) → Status → Type 0
+-- What each status says of the disk.
+abbrev pub MakesJournal : Option Slots → Option Slots → (Slots → Type 0) → (Slots → Type 0)
+    → Status → Type 0
 MakesJournal old new may_leave_old may_leave_new Done = IsNewJournal old new may_leave_new
 MakesJournal old new may_leave_old may_leave_new WriteFault = IsNewJournal old new may_leave_new
-MakesJournal old new may_leave_old may_leave_new (HasJournal floor) = IsOldJournal old new may_leave_old may_leave_new floor
+MakesJournal old new may_leave_old may_leave_new (HasJournal floor) =
+    IsOldJournal old new may_leave_old may_leave_new floor
 MakesJournal old new may_leave_old may_leave_new JournalFault = MaySet old A (slot_bytes 0) new
-MakesJournal old new may_leave_old may_leave_new Usage = ⊥
-MakesJournal old new may_leave_old may_leave_new (BadTicks bad) = ⊥
-MakesJournal old new may_leave_old may_leave_new ReadFault = ⊥
-MakesJournal old new may_leave_old may_leave_new (TooLong what count) = ⊥
-MakesJournal old new may_leave_old may_leave_new (BadKey place) = ⊥
-MakesJournal old new may_leave_old may_leave_new (BadJournal a b) = ⊥
+MakesJournal old new may_leave_old may_leave_new status = ⊥
 
 -- The disk tells two slots that hold no number.
 abbrev pub IsBlank : Option Slots → Type 0
 IsBlank told = (slots : Slots) × (told ≡ Some slots) × (floor_of slots ≡ None)
+
+-- What `init` does: the sinks get nothing but a flush, and neither the key nor the input is read.
+pub record Inits {K S O L D : Type 0} (o : Sink O) (l : Sink L) (d : SlotDisk D)
+    (before after : Outside K S O L D) (status : Status) : Type 0 where
+  pub journal : MakesJournal (d.told before.disk) (d.told after.disk)
+      (d.may_leave before.disk) (d.may_leave after.disk) status
+  pub out : o.held after.out ≡ o.held before.out
+  pub log : l.held after.log ≡ l.held before.log
+  pub key : after.key ≡ before.key
+  pub input : after.input ≡ before.input

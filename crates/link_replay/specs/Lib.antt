@@ -15,4 +15,7 @@ pub mod InitCommand
 pub mod VectorsCommand
 pub mod SealBox
 pub mod SealBoxLaws
+pub mod Outside
+pub mod Reading
 pub mod SealCommand
+pub mod Commands

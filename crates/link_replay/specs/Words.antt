@@ -20,7 +20,13 @@ IsCommand words Init = (path : List ℕ) × (path ≢ []) × (words ≡ codes "i
 IsCommand words (Read proto) = words ≡ codes "read" ∷ proto_word proto ∷ []
 IsCommand words Vectors = words ≡ codes "vectors" ∷ []
 IsCommand words (Seal proto dir) =
-    (key : List ℕ) × (path : List ℕ) × (key ≢ []) × (path ≢ []) × (words ≡ codes "seal" ∷ proto_word proto ∷ dir_word dir ∷ key ∷ path ∷ [])
+    (key : List ℕ) × (path : List ℕ) × (key ≢ []) × (path ≢ [])
+    × (words ≡ codes "seal" ∷ proto_word proto ∷ dir_word dir ∷ key ∷ path ∷ [])
+
+-- what the words ask for: a command, or none where they fit no command
+abbrev pub Asks : List (List ℕ) → Option Command → Type 0
+Asks words None = (command : Command) → IsCommand words command → ⊥
+Asks words (Some command) = IsCommand words command
 
 -- the place of the word that is the key file's path
 abbrev pub key_place : Command → Option ℕ

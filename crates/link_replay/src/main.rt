@@ -15,6 +15,7 @@ mod lines;
 mod note_lines;
 mod program;
 mod read_command;
+mod read_line;
 mod seal_box;
 mod seal_command;
 #[cfg(test)]
@@ -32,7 +33,7 @@ pub use status::Status;
 use std::alloc::{AllocError, Global};
 use std::env::Args;
 use std::process::ExitCode;
-pub use words::{Command, Proto, Usage, journal_word, key_word, read_words};
+pub use words::{Command, Proto, Usage, journal_word, key_word, makes_journal, read_words};
 use yasir_io::{FileSlots, FileSource, StderrSink, StdinSource, StdoutSink};
 
 /// The exit status where no memory is found for a path.
@@ -72,7 +73,6 @@ fn main(rt: HostRuntime) -> ExitCode {
     let Ok(journal_path) = path_at(words, journal_word(words)) else {
         return ExitCode::from(NO_MEMORY);
     };
-    let makes_journal = matches!(read_words(words), Ok(Command::Init));
     let status = run(
         rt.alloc(),
         words,
@@ -80,7 +80,7 @@ fn main(rt: HostRuntime) -> ExitCode {
         &mut StdinSource::new(rt.stdin()),
         &mut StdoutSink::new(rt.stdout()),
         &mut StderrSink::new(rt.stderr()),
-        &mut FileSlots::new(&rt, journal_path, makes_journal),
+        &mut FileSlots::new(&rt, journal_path, makes_journal(words)),
     );
     ExitCode::from(status.code())
 }

@@ -1,9 +1,9 @@
-ghost use Rattle.std.specs.Prelude.{◌≡◌, [], ◌∷◌, None, IfOk, OnErr, map, codes};
+ghost use Rattle.std.specs.Prelude.{◌≡◌, ◌↔◌, [], ◌∷◌, None, IfOk, OnErr, IsTrue, map, codes};
 ghost use Rattle.std.specs.String.{string_bytes};
 ghost use Rattle.hmac_tag.specs.declared.dir.Dir.{Dir};
 ghost use Rattle.link_replay.specs.declared.words.Proto.{Proto};
 ghost use Rattle.link_replay.specs.declared.words.Command.{Command};
-ghost use Rattle.link_replay.specs.Words.{IsCommand, proto_word, dir_word, key_place, journal_place};
+ghost use Rattle.link_replay.specs.Words.{IsCommand, Asks, proto_word, dir_word, key_place, journal_place};
 
 use hmac_tag::Dir;
 
@@ -104,7 +104,8 @@ fn read_five(
     key: &str,
     path: &str,
 ) -> Result<Command, Usage>
-    ensures ok { IfOk result (λ command. IsCommand (first.now ∷ second.now ∷ third.now ∷ key.now ∷ path.now ∷ []) command) }
+    ensures ok { IfOk result (λ command.
+        IsCommand (first.now ∷ second.now ∷ third.now ∷ key.now ∷ path.now ∷ []) command) }
     ensures usage { OnErr result ((command : Command)
         → IsCommand (first.now ∷ second.now ∷ third.now ∷ key.now ∷ path.now ∷ []) command → ⊥) }
 {
@@ -125,7 +126,8 @@ fn read_five(
 /// The command that the words after the program's name ask for, each word compared byte for byte.
 pub fn read_words(words: &[String]) -> Result<Command, Usage>
     ensures ok { IfOk result (λ command. IsCommand (map string_bytes words.now) command) }
-    ensures usage { OnErr result ((command : Command) → IsCommand (map string_bytes words.now) command → ⊥) }
+    ensures usage { OnErr result ((command : Command)
+        → IsCommand (map string_bytes words.now) command → ⊥) }
 {
     match words {
         [word] => read_one(word.as_str()),
@@ -143,8 +145,9 @@ pub fn read_words(words: &[String]) -> Result<Command, Usage>
 
 /// The place of the word that is the key file's path, counted from 0; none where the words have none.
 pub fn key_word(words: &[String]) -> Option<usize>
-    ensures place { (command : Command) → IsCommand (map string_bytes words.now) command → result ≡ key_place command }
-    ensures none { ((command : Command) → IsCommand (map string_bytes words.now) command → ⊥) → result ≡ None }
+    ensures place { (command : Command) → IsCommand (map string_bytes words.now) command
+        → result ≡ key_place command }
+    ensures none { Asks (map string_bytes words.now) None → result ≡ None }
 {
     match read_words(words) {
         Ok(Command::Init | Command::Read(_) | Command::Vectors) => None,
@@ -155,13 +158,25 @@ pub fn key_word(words: &[String]) -> Option<usize>
 
 /// The place of the word that is the journal's path, counted from 0; none where the words have none.
 pub fn journal_word(words: &[String]) -> Option<usize>
-    ensures place { (command : Command) → IsCommand (map string_bytes words.now) command → result ≡ journal_place command }
-    ensures none { ((command : Command) → IsCommand (map string_bytes words.now) command → ⊥) → result ≡ None }
+    ensures place { (command : Command) → IsCommand (map string_bytes words.now) command
+        → result ≡ journal_place command }
+    ensures none { Asks (map string_bytes words.now) None → result ≡ None }
 {
     match read_words(words) {
         Ok(Command::Init) => Some(1),
         Ok(Command::Seal(_, _)) => Some(4),
         Ok(Command::Read(_) | Command::Vectors) => None,
         Err(Usage) => None,
+    }
+}
+
+/// Whether a journal's file that is missing is made: by the command that makes a journal, and by no other.
+pub fn makes_journal(words: &[String]) -> bool
+    ensures { IsTrue result ↔ IsCommand (map string_bytes words.now) Command.Init }
+{
+    match read_words(words) {
+        Ok(Command::Init) => true,
+        Ok(Command::Read(_) | Command::Vectors | Command::Seal(_, _)) => false,
+        Err(Usage) => false,
     }
 }

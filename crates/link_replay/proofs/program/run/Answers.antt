@@ -1,37 +1,51 @@
-use Rattle.std.proofs.Common.{ap, subst}
-use Rattle.link_replay.specs.Causes.{LogsFault}
-use Rattle.link_replay.specs.ReadCommand.{device_reads}
-use Rattle.hmac_tag.specs.Tag.{direction_number}
-use Rattle.link_replay.specs.SealCommand.{seal_boxed, seal_rest}
-use Rattle.link_replay.proofs.Replayable.{replayable_done}
-use Rattle.link_replay.proofs.Readable.{readable_done, sinks_after}
-use Rattle.link_replay.proofs.Commands.{read-seals-not}
+use Rattle.std.proofs.Common.{subst, sym}
+use Rattle.std.specs.Prelude.{map}
+use Rattle.std.specs.String.{string_bytes}
+use Rattle.link_replay.specs.Outside.{outside}
+use Rattle.link_replay.specs.Words.{Asks}
+use Rattle.link_replay.specs.Commands.{Runs, KeepsDisk, HasCauses, MayDo}
+use Rattle.link_replay.proofs.Commands.{asks-one}
 use Rattle.link_replay.proofs.Logging.{logs-from}
+use Rattle.link_replay.proofs.Outcomes.{causes_after, asked_done}
 use Rattle.link_replay.proofs.program.run.Goals as goal
 
-pub returns-clause-read_done : goal.returns-clause-read_done
-returns-clause-read_done g c = λ proto asks readable calm.
-    readable_done (device_reads proto) _ _ _ _ _ _ _ _ _ _ _ _ _ _ c.answer-status.result readable calm (c.answer-status.ensures.read proto asks)
-    (c.answer-status.ensures.input (read-seals-not _ proto asks))
-    (sinks_after _ _ _ _ _ c.answer-status.result c.answer-status.ensures.sinks c.write_fault.ensures.never_falls
-    (λ empty. ap g.L.Sink.faults (c.write_fault.ensures.same empty)))
+pub returns-clause-usage : goal.returns-clause-usage
+returns-clause-usage g c = (
+    λ is. subst (Asks (map string_bytes c.args.words.now)) (c.answer-status.ensures.usage.0 is) c.asked_by-asked.ensures,
+    λ none. c.answer-status.ensures.usage.1 (asks-one _ _ _ c.asked_by-asked.ensures none),
+  )
 
-pub returns-clause-log : goal.returns-clause-log
-returns-clause-log g c = λ other.
-    subst (λ before. LogsFault before (g.L.Sink.held c.write_fault.new.log) (g.L.Sink.faults c.args.log.now) (g.L.Sink.faults c.write_fault.new.log) c.answer-status.result)
-    (c.answer-status.ensures.log other)
-    (logs-from _ _ _ _ _ _ _ c.answer-status.result c.answer-status.ensures.sinks c.write_fault.ensures.logs)
+pub returns-clause-runs : goal.returns-clause-runs
+returns-clause-runs g c = λ asked asks.
+    let same = asks-one _ _ _ c.asked_by-asked.ensures asks in
+    let before = outside c.args.key.now c.args.input.now c.args.out.now c.args.log.now c.args.disk.now in
+    let after = outside c.answer-status.new.key c.answer-status.new.input c.answer-status.new.out c.write_fault.new.log c.answer-status.new.disk in
+    subst (λ a. Runs g.K.Source g.S.Source g.O.Sink g.L.Sink g.D.SlotDisk a before after c.answer-status.result) same (record {
+      noted = c.answer-status.new.log;
+      does = c.answer-status.ensures.does;
+      faults = logs-from _ _ _ _ _ _ _ c.answer-status.result c.answer-status.ensures.causes.sinks c.write_fault.ensures.logs;
+    })
 
-pub returns-clause-seal : goal.returns-clause-seal
-returns-clause-seal g c = λ proto dir asks. record {
-  noted = g.L.Sink.held c.answer-status.new.log;
-  replays = c.answer-status.ensures.seal proto dir asks;
-  faults = logs-from _ _ _ _ _ _ _ c.answer-status.result c.answer-status.ensures.sinks c.write_fault.ensures.logs;
-}
+pub returns-clause-any_moment : goal.returns-clause-any_moment
+returns-clause-any_moment g c = λ asked asks.
+    subst (λ a. KeepsDisk g.D.SlotDisk a c.args.disk.now c.answer-status.new.disk) (asks-one _ _ _ c.asked_by-asked.ensures asks) c.answer-status.ensures.any_moment
 
-pub returns-clause-seal_done : goal.returns-clause-seal_done
-returns-clause-seal_done g c = λ proto dir asks replayable calm.
-    replayable_done (seal_boxed proto) (direction_number dir) seal_rest _ _ _ _ _ _ _ _ _ _ _ _ _ _ _ _ _ replayable calm c.answer-status.result
-    (c.answer-status.ensures.seal proto dir asks) c.answer-status.ensures.reads (c.answer-status.ensures.seal_disk (proto, dir, asks))
-    (sinks_after _ _ _ _ _ c.answer-status.result c.answer-status.ensures.sinks c.write_fault.ensures.never_falls
-    (λ empty. ap g.L.Sink.faults (c.write_fault.ensures.same empty)))
+pub returns-clause-causes : goal.returns-clause-causes
+returns-clause-causes g c = λ asked asks.
+    let same = asks-one _ _ _ c.asked_by-asked.ensures asks in
+    let before = outside c.args.key.now c.args.input.now c.args.out.now c.args.log.now c.args.disk.now in
+    let after = outside c.answer-status.new.key c.answer-status.new.input c.answer-status.new.out c.write_fault.new.log c.answer-status.new.disk in
+    subst (λ a. HasCauses g.K.Source g.S.Source g.O.Sink g.L.Sink g.D.SlotDisk a before after c.answer-status.result) same
+    (causes_after g.K.Source g.S.Source g.O.Sink g.L.Sink g.D.SlotDisk c.asked_by-asked.result before after c.answer-status.new.log c.answer-status.result
+    c.answer-status.ensures.causes c.write_fault.ensures.never_falls c.write_fault.ensures.same)
+
+pub returns-clause-done : goal.returns-clause-done
+returns-clause-done g c = λ asked asks may calm.
+    let same = asks-one _ _ _ c.asked_by-asked.ensures asks in
+    let before = outside c.args.key.now c.args.input.now c.args.out.now c.args.log.now c.args.disk.now in
+    let after = outside c.answer-status.new.key c.answer-status.new.input c.answer-status.new.out c.write_fault.new.log c.answer-status.new.disk in
+    let right = subst (λ a. MayDo g.K.Source g.S.Source g.O.Sink g.L.Sink g.D.SlotDisk a before) (sym same) may in
+    asked_done g.K.Source g.S.Source g.O.Sink g.L.Sink g.D.SlotDisk c.asked_by-asked.result before after c.answer-status.new.log c.answer-status.result
+    right calm c.answer-status.ensures.does
+    (causes_after g.K.Source g.S.Source g.O.Sink g.L.Sink g.D.SlotDisk c.asked_by-asked.result before after c.answer-status.new.log c.answer-status.result
+    c.answer-status.ensures.causes c.write_fault.ensures.never_falls c.write_fault.ensures.same)

@@ -1,0 +1,84 @@
+-- Right words, right input and no fault outside give `Done`, whatever the command is.
+use Rattle.std.proofs.Common.{◌≡◌, ◌∙◌, ℕ, ◌≤◌, List, [], Option, Some, None, IfSome, inl, inr, refl, sym, ap, subst}
+use Rattle.yasir_io.specs.declared.source.Source.{Ghosts as Source}
+use Rattle.yasir_io.specs.declared.sink.Sink.{Ghosts as Sink}
+use Rattle.yasir_io.specs.declared.disk.SlotDisk.{Ghosts as SlotDisk}
+use Rattle.yasir_io.specs.Disks.{Slots}
+use Rattle.hmac_tag.specs.Tag.{direction_number}
+use Rattle.sequence_journal.specs.Slots.{floor_of}
+use Rattle.link_replay.specs.Outside.{Outside}
+use Rattle.link_replay.specs.Causes.{SinkCause, DiskCause, NoneRose}
+use Rattle.link_replay.specs.Statuses.{fault_line}
+use Rattle.link_replay.specs.Commands.{Does, MayDo, IsCalm, HasOwnCauses, HasCauses}
+use Rattle.link_replay.specs.InitCommand.{MakesJournal, IsBlank}
+use Rattle.link_replay.specs.ReadCommand.{device_reads}
+use Rattle.link_replay.specs.VectorsCommand.{PrintsTables}
+use Rattle.link_replay.specs.SealCommand.{seal_boxed, seal_rest}
+use Rattle.link_replay.specs.declared.status.Status.{Status}
+use Rattle.link_replay.specs.declared.status.Status.TheVariants.{Done, Usage, BadTicks, ReadFault, WriteFault, JournalFault, TooLong, HasJournal, BadKey, BadJournal}
+use Rattle.link_replay.specs.declared.words.Command.{Command}
+use Rattle.link_replay.specs.declared.words.Command.TheVariants.{Init, Read, Vectors, Seal}
+use Rattle.link_replay.proofs.Readable.{readable_done, sinks_after}
+use Rattle.link_replay.proofs.Replayable.{replayable_done}
+
+module _ (key0 key1 in0 in1 out0 out1 log0 log1 disk0 disk1 : ℕ)
+    (calm : NoneRose key0 key1 in0 in1 out0 out1 log0 log1 disk0 disk1) where
+  journal_done : (old new : Option Slots) (images_old images_new : Slots → Type 0) (status : Status)
+      → IsBlank old → MakesJournal old new images_old images_new status
+      → SinkCause out0 out1 log0 log1 status → DiskCause disk0 disk1 status → status ≡ Done
+  journal_done old new images_old images_new Done blank h sinks disk = refl
+  journal_done old new images_old images_new WriteFault blank h sinks disk =
+      elim sinks [ inl out ↦ absurd (calm.out out) | inr log ↦ absurd (calm.log log) ]
+  journal_done old new images_old images_new JournalFault blank h sinks disk = absurd (calm.disk disk)
+  journal_done old new images_old images_new (HasJournal floor) blank h sinks disk =
+      let stands : floor_of blank.0 ≡ Some floor =
+      subst (λ told. IfSome told (λ slots. floor_of slots ≡ Some floor)) blank.1 h.stands in
+      let both : None ≡ Some floor = sym blank.2 ∙ stands in
+      cc
+  journal_done old new images_old images_new status blank h sinks disk = absurd h
+
+  tables_done : (out_before out_now : Option (List ℕ)) (status : Status)
+      → PrintsTables out_before out_now status → SinkCause out0 out1 log0 log1 status → status ≡ Done
+  tables_done out_before out_now Done h sinks = refl
+  tables_done out_before out_now WriteFault h sinks =
+      elim sinks [ inl out ↦ absurd (calm.out out) | inr log ↦ absurd (calm.log log) ]
+  tables_done out_before out_now status h sinks = absurd h
+
+module _ {K S O L D : Type 0} (k : Source K) (s : Source S) (o : Sink O) (l : Sink L)
+    (d : SlotDisk D) where
+  own-after : (asked : Option Command) (before after : Outside K S O L D) (noted : L) (status : Status)
+      → HasOwnCauses k s o l d asked before (record after { log = noted }) status
+      → HasOwnCauses k s o l d asked before after status
+  own-after (Some (Seal proto dir)) before after noted status h = h
+  own-after None before after noted status h = h
+  own-after (Some Init) before after noted status h = h
+  own-after (Some (Read proto)) before after noted status h = h
+  own-after (Some Vectors) before after noted status h = h
+
+  -- the causes with a fault line that was written, or failed
+  pub causes_after : (asked : Option Command) (before after : Outside K S O L D) (noted : L)
+      (status : Status) → HasCauses k s o l d asked before (record after { log = noted }) status
+      → l.faults noted ≤ l.faults after.log → (fault_line status ≡ [] → after.log ≡ noted)
+      → HasCauses k s o l d asked before after status
+  causes_after asked before after noted status h rises same = record {
+    reads = h.reads;
+    sinks = sinks_after (o.faults before.out) (o.faults after.out) (l.faults before.log)
+        (l.faults noted) (l.faults after.log) status h.sinks rises (λ empty. ap l.faults (same empty));
+    own = own-after asked before after noted status h.own;
+  }
+
+  pub asked_done : (asked : Option Command) (before after : Outside K S O L D) (noted : L)
+      (status : Status) → MayDo k s o l d asked before → IsCalm k s o l d before after
+      → Does k s o l d asked before (record after { log = noted }) status
+      → HasCauses k s o l d asked before after status → status ≡ Done
+  asked_done None before after noted status may calm does causes = absurd may
+  asked_done (Some Init) before after noted status may calm does causes =
+      journal_done _ _ _ _ _ _ _ _ _ _ calm _ _ _ _ status may does.journal causes.sinks causes.own.1
+  asked_done (Some (Read proto)) before after noted status may calm does causes =
+      readable_done (device_reads proto) _ _ _ _ _ _ _ _ _ _ _ _ _ _ status may calm
+      does.frames causes.own.0 causes.sinks
+  asked_done (Some Vectors) before after noted status may calm does causes =
+      tables_done _ _ _ _ _ _ _ _ _ _ calm _ _ status does.tables causes.sinks
+  asked_done (Some (Seal proto dir)) before after noted status may calm does causes =
+      replayable_done (seal_boxed proto) (direction_number dir) seal_rest _ _ _ _ _ _ _ _ _ _ _ _ _
+      _ _ _ _ may calm status does.replays causes.reads causes.own causes.sinks

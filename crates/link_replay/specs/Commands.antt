@@ -1,0 +1,81 @@
+-- What the program does for each thing that its words may ask for.
+use Rattle.std.specs.Prelude.{◌≡◌, ℕ, Option, Some, None, IsSomeAnd}
+use Rattle.yasir_io.specs.declared.source.Source.{Ghosts as Source}
+use Rattle.yasir_io.specs.declared.sink.Sink.{Ghosts as Sink}
+use Rattle.yasir_io.specs.declared.disk.SlotDisk.{Ghosts as SlotDisk}
+use Rattle.yasir_io.specs.declared.disk.Slot.TheVariants.{B}
+use Rattle.yasir_io.specs.Disks.{OneImage, LeavesOnly}
+use Rattle.sequence_journal.specs.Slots.{floor_of}
+use Rattle.sequence_journal.specs.Journal.{IsBeside, HasFloorAtLeast}
+use Rattle.link_replay.specs.Outside.{Outside}
+use Rattle.link_replay.specs.Causes.{InputCause, ReadsCause, SinkCause, DiskCause, LogsFault, NoneRose}
+use Rattle.link_replay.specs.InitCommand.{Inits, IsBlank}
+use Rattle.link_replay.specs.ReadCommand.{IsReadable}
+use Rattle.link_replay.specs.Reading.{Reads}
+use Rattle.link_replay.specs.VectorsCommand.{Tabulates}
+use Rattle.link_replay.specs.BoxCommand.{BoxDiskCause, IsReplayable}
+use Rattle.link_replay.specs.SealCommand.{Seals}
+use Rattle.link_replay.specs.declared.status.Status.{Status}
+use Rattle.link_replay.specs.declared.status.Status.TheVariants.{Usage}
+use Rattle.link_replay.specs.declared.words.Command.{Command}
+use Rattle.link_replay.specs.declared.words.Command.TheVariants.{Init, Read, Vectors, Seal}
+
+-- What a crash may leave of the disk, at any moment of the run or at its end.
+abbrev pub KeepsDisk : {D : Type 0} → SlotDisk D → Option Command → D → D → Type 0
+KeepsDisk d (Some Init) old new =
+    LeavesOnly d.moment d.left_since old new (IsBeside B (d.may_leave old))
+KeepsDisk d (Some (Seal proto dir)) old new = OneImage (d.told old) (d.may_leave old)
+    → (floor : ℕ) → IsSomeAnd (d.told old) (λ slots. floor_of slots ≡ Some floor)
+    → LeavesOnly d.moment d.left_since old new (HasFloorAtLeast floor)
+KeepsDisk d asked old new = new ≡ old
+
+module _ {K S O L D : Type 0} (k : Source K) (s : Source S) (o : Sink O) (l : Sink L)
+    (d : SlotDisk D) where
+  -- What is done before the fault line: nothing at all where the words ask for no command.
+  abbrev pub Does : Option Command → Outside K S O L D → Outside K S O L D → Status → Type 0
+  Does None before after status = (status ≡ Usage) × (after ≡ before)
+  Does (Some Init) before after status = Inits o l d before after status
+  Does (Some (Read proto)) before after status = Reads s o l proto before after status
+  Does (Some Vectors) before after status = Tabulates o l before after status
+  Does (Some (Seal proto dir)) before after status = Seals k s o l d proto dir before after status
+
+  -- What a run does: what was asked for, and then the fault line in the log, where the status has one.
+  pub record Runs (asked : Option Command) (before after : Outside K S O L D) (status : Status)
+      : Type 0 where
+    -- the log as the command left it
+    pub noted : L
+    pub does : Does asked before (record after { log = noted }) status
+    pub faults : LogsFault (l.held noted) (l.held after.log)
+        (l.faults before.log) (l.faults after.log) status
+
+  -- All that the command is given is right.
+  abbrev pub MayDo : Option Command → Outside K S O L D → Type 0
+  MayDo None before = ⊥
+  MayDo (Some Init) before = IsBlank (d.told before.disk)
+  MayDo (Some (Read proto)) before = IsReadable (s.left before.input)
+  MayDo (Some Vectors) before = Unit {0}
+  MayDo (Some (Seal proto dir)) before =
+      IsReplayable (k.left before.key) (d.told before.disk) (s.left before.input)
+
+  -- Nothing outside failed.
+  abbrev pub IsCalm : Outside K S O L D → Outside K S O L D → Type 0
+  IsCalm before after = NoneRose (k.faults before.key) (k.faults after.key)
+      (s.faults before.input) (s.faults after.input) (o.faults before.out) (o.faults after.out)
+      (l.faults before.log) (l.faults after.log) (d.faults before.disk) (d.faults after.disk)
+
+  -- The causes that depend on the command: a box may write after a call of the disk has failed.
+  abbrev pub HasOwnCauses : Option Command → Outside K S O L D → Outside K S O L D → Status → Type 0
+  HasOwnCauses (Some (Seal proto dir)) before after status =
+      BoxDiskCause (d.faults before.disk) (d.faults after.disk) status
+  HasOwnCauses asked before after status =
+      InputCause (s.faults before.input) (s.faults after.input) status
+      × DiskCause (d.faults before.disk) (d.faults after.disk) status
+
+  -- The counts of faults that rose, for each status.
+  pub record HasCauses (asked : Option Command) (before after : Outside K S O L D)
+      (status : Status) : Type 0 where
+    pub reads : ReadsCause (k.faults before.key) (k.faults after.key)
+        (s.faults before.input) (s.faults after.input) status
+    pub sinks : SinkCause (o.faults before.out) (o.faults after.out)
+        (l.faults before.log) (l.faults after.log) status
+    pub own : HasOwnCauses asked before after status
