@@ -2,7 +2,7 @@
 use Rattle.std.proofs.Common.{◌≡◌, ◌+◌, ◌-◌, ◌<◌, ◌≤◌, ℕ, List, [], ◌∷◌, ◌++◌, length, take, drop, get_or, Option, Some, None, ap, refl, ◌∙◌, sym, subst, append_assoc, arith}
 use Rattle.std.proofs.lemmas.List.{take_more, take-append-drop, take-take, length-take}
 use Rattle.std.specs.Io.KnownBytes.{prepend_known}
-use Rattle.tick_drive.specs.Input.{IsMetOf}
+use Rattle.tick_drive.specs.Input.{ComesFirst}
 
 -- some bytes of those that are kept are met
 pub met_some : (before left : Option (List ℕ)) (text kept : List ℕ) (n : ℕ) → before ≡ prepend_known text (prepend_known kept left)
@@ -33,7 +33,7 @@ met_slice before left text kept new within n h e p =
 
 -- and one more
 pub met_slice_more : (before left : Option (List ℕ)) (text kept : List ℕ) (within n : ℕ) → n < length (take within kept)
-    → before ≡ prepend_known text (prepend_known kept left) → IsMetOf before ((text ++ take n (take within kept)) ++ get_or (take within kept) n 0 ∷ [])
+    → before ≡ prepend_known text (prepend_known kept left) → ComesFirst before ((text ++ take n (take within kept)) ++ get_or (take within kept) n 0 ∷ [])
 met_slice_more before left text kept within n h p = (
   prepend_known (drop (n + 1) kept) left,
   met_slice before left text kept (drop (n + 1) kept) within (n + 1) (omega arith) refl p
@@ -42,6 +42,6 @@ met_slice_more before left text kept within n h p = (
 
 -- the first byte that is kept is met
 pub met_first : (before left : Option (List ℕ)) (text kept : List ℕ) → 0 < length kept → before ≡ prepend_known text (prepend_known kept left)
-    → IsMetOf before (text ++ get_or kept 0 0 ∷ [])
+    → ComesFirst before (text ++ get_or kept 0 0 ∷ [])
 met_first before left text [] h p = absurd (omega arith)
 met_first before left text (b ∷ rest) h p = (prepend_known rest left, met_some before left text (b ∷ rest) 1 p)

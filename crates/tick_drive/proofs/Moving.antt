@@ -1,37 +1,13 @@
--- What a consumer has taken, and what its disk's images have, from one call to the next.
-use Rattle.std.proofs.Common.{◌≡◌, ℕ, ◌+◌, inl, inr, min, List, [], ◌++◌, length, length-append, take, append-nil, Ok, Err, subst, sym, ap, append_assoc, arith, ◌∙◌}
+-- What calls do to a consumer, one after the other.
+use Rattle.std.proofs.Common.{◌≡◌, ◌≤◌, ◌<◌, ℕ, ◌+◌, inl, inr, List, [], ◌++◌, length, length-append, take, append-nil, Result, Ok, Err, Bool, true, false, OnOk, IfErr, subst, sym, ap, refl, append_assoc, arith, ◌∙◌}
 use Rattle.std.proofs.Math.Seq.{take-append-add}
-use Rattle.std.proofs.lemmas.List.{take-append-le, take_min}
+use Rattle.std.proofs.lemmas.List.{take-append-le}
 use Rattle.yasir_io.specs.Disks.{Slots, LeavesOnly}
+use Rattle.yasir_io.specs.declared.sink.Sink.{Ghosts as Sink}
+use Rattle.yasir_io.specs.declared.disk.SlotDisk.{Ghosts as SlotDisk}
 use Rattle.yasir_ticks.specs.Ticks.{Item}
-use Rattle.tick_drive.specs.Consumers.{Held, Start, Moves, Stops, Advances}
+use Rattle.tick_drive.specs.Consumers.{Consuming, State, outputs_of, Moves, Stops, KeepsImages, Gives, IsDiskCause, IsSinkCause, is_write_fault, is_journal_fault}
 use Rattle.tick_drive.specs.declared.consumer.Stop.{Stop}
-
--- so many of the first list's items, and no more than it has
-take-within : (xs ys : List Item) (n : ℕ) → take (min n (length xs)) (xs ++ ys) ≡ take n xs
-take-within xs ys n = take-append-le (min n (length xs)) xs ys (omega arith) ∙ take_min n xs
-
-module _ {C : Type 0} (stands : C → Start → Held → List Item → Type 0) (stopped : C → Stop → Start → Held → List Item → Type 0) where
-  pub moves_then : (c0 : C) (h0 : Held) (c1 : C) (h1 : Held) (c2 : C) (h2 : Held) (a b : List Item)
-      → Moves stands c0 h0 c1 h1 a → Moves stands c1 h1 c2 h2 b → Moves stands c0 h0 c2 h2 (a ++ b)
-  moves_then c0 h0 c1 h1 c2 h2 a b first second = λ start line s.
-      subst (stands c2 start h2) (append_assoc line a b) (second start (line ++ a) (first start line s))
-
-  pub stops_then : (c0 : C) (h0 : Held) (c1 : C) (h1 : Held) (c2 : C) (h2 : Held) (a b : List Item) (stop : Stop)
-      → Moves stands c0 h0 c1 h1 a → Stops stands stopped c1 h1 c2 h2 b stop → Stops stands stopped c0 h0 c2 h2 (a ++ b) stop
-  stops_then c0 h0 c1 h1 c2 h2 a b stop first second = λ start line s.
-      let then = second start (line ++ a) (first start line s) in (
-        length a + then.0,
-        subst (stopped c2 stop start h2)
-            (append_assoc line a (take then.0 b) ∙ ap (λ l. line ++ l) (sym (take-append-add a b then.0))) then.1,
-      )
-
-  -- items that follow change nothing of where it stopped
-  pub stops_before : (c0 : C) (h0 : Held) (c : C) (h : Held) (a rest : List Item) (stop : Stop)
-      → Stops stands stopped c0 h0 c h a stop → Stops stands stopped c0 h0 c h (a ++ rest) stop
-  stops_before c0 h0 c h a rest stop stops = λ start line s.
-      let at = stops start line s in
-      (min at.0 (length a), subst (λ items. stopped c stop start h (line ++ items)) (sym (take-within a rest at.0)) at.1)
 
 module _ {D : Type 0} (moment : D → ℕ) (left_since : D → ℕ → Slots → Type 0) where
   -- no call yet
@@ -47,47 +23,135 @@ module _ {D : Type 0} (moment : D → ℕ) (left_since : D → ℕ → Slots →
     before = λ t c h l. elim (second.before t c (omega (arith, h, first.later)) l) [ inl l1 ↦ first.before t c h l1 | inr q ↦ inr (weaker c q) ];
   }
 
--- what a call does in calls one after the other
-module _ {C D : Type 0} (stands : C → Start → Held → List Item → Type 0) (stopped : C → Stop → Start → Held → List Item → Type 0)
-    (taken : C → ℕ) (able kept : C → D → Type 0) (safe : C → Slots → Type 0) (moment : D → ℕ) (left_since : D → ℕ → Slots → Type 0) where
-  pub advances_none : (c : C) (h : Held) (d : D) → able c d → (kept c d → (image : Slots) → left_since d (moment d) image → safe c image)
-      → Advances {T = Unit {0}} stands stopped taken able kept safe moment left_since c c h h d d [] (Ok tt)
-  advances_none c h d can now = record {
-    moved = λ start line s. subst (stands c start h) (sym (append-nil line)) s;
-    ended = tt;
-    counted = omega arith;
-    is_able = can;
-    is_kept = λ k. k;
-    any_moment = λ k. leaves_now moment left_since d (safe c) (now k);
-    safer = λ image s. s;
+-- counts of faults that were as they had been before a call
+disk_from : (n0 n1 n2 : ℕ) (is_cause : Bool) → IsDiskCause n0 n1 false → IsDiskCause n1 n2 is_cause → IsDiskCause n0 n2 is_cause
+disk_from n0 n1 n2 is_cause first second = subst (λ n. IsDiskCause n n2 is_cause) (first.same refl) second
+
+sinks_from : (o0 o1 o2 l0 l1 l2 : ℕ) (is_cause : Bool) → IsSinkCause o0 o1 l0 l1 false → IsSinkCause o1 o2 l1 l2 is_cause
+    → IsSinkCause o0 o2 l0 l2 is_cause
+sinks_from o0 o1 o2 l0 l1 l2 is_cause first second =
+    subst (λ n. IsSinkCause n o2 l0 l2 is_cause) (first.out_same refl) (subst (λ n. IsSinkCause o1 o2 n l2 is_cause) (first.log_same refl) second)
+
+-- no call
+disk_still : (n : ℕ) → IsDiskCause n n false
+disk_still n = record { never_falls = omega arith; failed = λ e. cc; same = λ _. refl }
+
+sinks_still : (o l : ℕ) → IsSinkCause o o l l false
+sinks_still o l = record {
+  out_never_falls = omega arith;
+  log_never_falls = omega arith;
+  failed = λ e. cc;
+  out_same = λ _. refl;
+  log_same = λ _. refl;
+}
+
+module _ {C O L D : Type 0} (meaning : Consuming C D) (o : Sink O) (l : Sink L) (d : SlotDisk D) where
+  moves_then : (s0 s1 s2 : State C O L D) (a b : List Item)
+      → Moves meaning o l d s0 s1 a → Moves meaning o l d s1 s2 b → Moves meaning o l d s0 s2 (a ++ b)
+  moves_then s0 s1 s2 a b first second = λ origin items stands.
+      subst (meaning.stands s2.consumer origin (outputs_of meaning o l d s2)) (append_assoc items a b) (second origin (items ++ a) (first origin items stands))
+
+  stops_then : (s0 s1 s2 : State C O L D) (a b : List Item) (stop : Stop)
+      → Moves meaning o l d s0 s1 a → Stops meaning o l d s1 s2 b stop → Stops meaning o l d s0 s2 (a ++ b) stop
+  stops_then s0 s1 s2 a b stop first second =
+      let sum : length a + second.place + 1 ≡ length a + (second.place + 1) = omega arith in
+      let front : take (length a + second.place + 1) (a ++ b) ≡ a ++ take (second.place + 1) b =
+      ap (λ n. take n (a ++ b)) sum ∙ take-append-add a b (second.place + 1) in record {
+        place = length a + second.place;
+        within = omega (arith, length-append a b, second.within);
+        at = λ origin items stands. subst (meaning.stopped s2.consumer stop origin (outputs_of meaning o l d s2))
+            (append_assoc items a (take (second.place + 1) b) ∙ ap (λ l. items ++ l) (sym front))
+            (second.at origin (items ++ a) (first origin items stands));
+      }
+
+  -- items that follow change nothing of where it stopped
+  stops_before : (s0 s1 : State C O L D) (a rest : List Item) (stop : Stop) → Stops meaning o l d s0 s1 a stop → Stops meaning o l d s0 s1 (a ++ rest) stop
+  stops_before s0 s1 a rest stop stops = record {
+    place = stops.place;
+    within = omega (arith, length-append a rest, stops.within);
+    at = λ origin items stands. subst (λ front. meaning.stopped s1.consumer stop origin (outputs_of meaning o l d s1) (items ++ front))
+        (sym (take-append-le (stops.place + 1) a rest (omega (arith, stops.within)))) (stops.at origin items stands);
   }
 
-  pub advances_then : (c0 c1 c2 : C) (h0 h1 h2 : Held) (d0 d1 d2 : D) (a b : List Item)
-      → Advances {T = Unit {0}} stands stopped taken able kept safe moment left_since c0 c1 h0 h1 d0 d1 a (Ok tt)
-      → Advances {T = Unit {0}} stands stopped taken able kept safe moment left_since c1 c2 h1 h2 d1 d2 b (Ok tt)
-      → Advances {T = Unit {0}} stands stopped taken able kept safe moment left_since c0 c2 h0 h2 d0 d2 (a ++ b) (Ok tt)
-  advances_then c0 c1 c2 h0 h1 h2 d0 d1 d2 a b first second = record {
-    moved = moves_then stands stopped c0 h0 c1 h1 c2 h2 a b first.moved second.moved;
-    ended = tt;
+  images_then : (s0 s1 s2 : State C O L D) → KeepsImages meaning o l d s0 s1 → KeepsImages meaning o l d s1 s2 → KeepsImages meaning o l d s0 s2
+  images_then s0 s1 s2 first second = record {
+    is_kept = λ k. second.is_kept (first.is_kept k);
+    any_moment = λ k. leaves_then d.moment d.left_since _ _ _ (meaning.safe s0.consumer) (meaning.safe s1.consumer)
+        (first.any_moment k) (second.any_moment (first.is_kept k)) first.safer;
+    safer = λ image s. first.safer image (second.safer image s);
+  }
+
+  images_still : (s : State C O L D) → (meaning.kept s.consumer s.disk → (image : Slots) → d.left_since s.disk (d.moment s.disk) image → meaning.safe s.consumer image)
+      → KeepsImages meaning o l d s s
+  images_still s now = record {
+    is_kept = λ k. k;
+    any_moment = λ k. leaves_now d.moment d.left_since s.disk (meaning.safe s.consumer) (now k);
+    safer = λ image safe. safe;
+  }
+
+  -- no item
+  pub gives_none : (s : State C O L D) → meaning.able s.consumer s.disk
+      → (meaning.kept s.consumer s.disk → (image : Slots) → d.left_since s.disk (d.moment s.disk) image → meaning.safe s.consumer image)
+      → Gives meaning o l d {T = Unit {0}} s s [] (Ok tt)
+  gives_none s able now = record {
+    moved = λ origin items stands. subst (meaning.stands s.consumer origin (outputs_of meaning o l d s)) (sym (append-nil items)) stands;
+    stopped = tt;
+    counted = omega arith;
+    is_able = able;
+    images = images_still s now;
+    disk = disk_still _;
+    sinks = sinks_still _ _;
+  }
+
+  -- one call more
+  pub gives_then : {T : Type 0} (s0 s1 s2 : State C O L D) (a b : List Item) (result : Result T Stop)
+      → Gives meaning o l d {T = Unit {0}} s0 s1 a (Ok tt) → Gives meaning o l d s1 s2 b result → Gives meaning o l d s0 s2 (a ++ b) result
+  gives_then s0 s1 s2 a b (Ok x) first second = record {
+    moved = moves_then s0 s1 s2 a b first.moved second.moved;
+    stopped = tt;
     counted = omega (arith, first.counted, second.counted, length-append a b);
     is_able = second.is_able;
-    is_kept = λ k. second.is_kept (first.is_kept k);
-    any_moment = λ k. leaves_then moment left_since d0 d1 d2 (safe c0) (safe c1) (first.any_moment k) (second.any_moment (first.is_kept k)) first.safer;
-    safer = λ image s. first.safer image (second.safer image s);
+    images = images_then s0 s1 s2 first.images second.images;
+    disk = disk_from _ _ _ _ first.disk second.disk;
+    sinks = sinks_from _ _ _ _ _ _ _ first.sinks second.sinks;
   }
-
-  -- the items that follow the one at which it stopped are not looked at
-  pub advances_stop : (c0 c1 c2 : C) (h0 h1 h2 : Held) (d0 d1 d2 : D) (a b rest all : List Item) (stop : Stop) → all ≡ (a ++ b) ++ rest
-      → Advances {T = Unit {0}} stands stopped taken able kept safe moment left_since c0 c1 h0 h1 d0 d1 a (Ok tt)
-      → Advances {T = Unit {0}} stands stopped taken able kept safe moment left_since c1 c2 h1 h2 d1 d2 b (Err stop)
-      → Advances {T = Unit {0}} stands stopped taken able kept safe moment left_since c0 c2 h0 h2 d0 d2 all (Err stop)
-  advances_stop c0 c1 c2 h0 h1 h2 d0 d1 d2 a b rest all stop is_all first second = record {
+  gives_then s0 s1 s2 a b (Err stop) first second = record {
     moved = tt;
-    ended = subst (λ items. Stops stands stopped c0 h0 c2 h2 items stop) (sym is_all)
-        (stops_before stands stopped c0 h0 c2 h2 (a ++ b) rest stop (stops_then stands stopped c0 h0 c1 h1 c2 h2 a b stop first.moved second.ended));
+    stopped = stops_then s0 s1 s2 a b stop first.moved second.stopped;
     counted = tt;
     is_able = tt;
-    is_kept = λ k. second.is_kept (first.is_kept k);
-    any_moment = λ k. leaves_then moment left_since d0 d1 d2 (safe c0) (safe c1) (first.any_moment k) (second.any_moment (first.is_kept k)) first.safer;
-    safer = λ image s. first.safer image (second.safer image s);
+    images = images_then s0 s1 s2 first.images second.images;
+    disk = disk_from _ _ _ _ first.disk second.disk;
+    sinks = sinks_from _ _ _ _ _ _ _ first.sinks second.sinks;
   }
+
+  pub gives_items : (s0 s1 : State C O L D) (a b : List Item) (result : Result (Unit {0}) Stop) → a ≡ b
+      → Gives meaning o l d s0 s1 a result → Gives meaning o l d s0 s1 b result
+  gives_items s0 s1 a b result same given = subst (λ items. Gives meaning o l d s0 s1 items result) same given
+
+  pub gives_more : (s0 s1 s2 : State C O L D) (a b all : List Item) → a ++ b ≡ all
+      → Gives meaning o l d {T = Unit {0}} s0 s1 a (Ok tt) → Gives meaning o l d {T = Unit {0}} s1 s2 b (Ok tt)
+      → Gives meaning o l d {T = Unit {0}} s0 s2 all (Ok tt)
+  gives_more s0 s1 s2 a b all is_all first second =
+      subst (λ items. Gives meaning o l d {T = Unit {0}} s0 s2 items (Ok tt)) is_all (gives_then s0 s1 s2 a b (Ok tt) first second)
+
+  -- the items that follow the one at which it stopped are not looked at
+  pub gives_front : {T : Type 0} (s0 s1 : State C O L D) (a rest : List Item) (stop : Stop)
+      → Gives meaning o l d {T = T} s0 s1 a (Err stop) → Gives meaning o l d {T = T} s0 s1 (a ++ rest) (Err stop)
+  gives_front s0 s1 a rest stop given = record {
+    moved = tt;
+    stopped = stops_before s0 s1 a rest stop given.stopped;
+    counted = tt;
+    is_able = tt;
+    images = given.images;
+    disk = given.disk;
+    sinks = given.sinks;
+  }
+
+  -- it stopped at an item of several
+  pub gives_stop : {T : Type 0} (s0 s1 s2 : State C O L D) (a b rest all : List Item) (stop : Stop) → all ≡ (a ++ b) ++ rest
+      → Gives meaning o l d {T = Unit {0}} s0 s1 a (Ok tt) → Gives meaning o l d {T = T} s1 s2 b (Err stop)
+      → Gives meaning o l d {T = T} s0 s2 all (Err stop)
+  gives_stop {T} s0 s1 s2 a b rest all stop is_all first second =
+      subst (λ items. Gives meaning o l d {T = T} s0 s2 items (Err stop)) (sym is_all)
+      (gives_front s0 s2 (a ++ b) rest stop (gives_then s0 s1 s2 a b (Err stop) first second))

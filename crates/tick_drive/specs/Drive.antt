@@ -1,67 +1,52 @@
 -- How the run over an input ends, and what the consumer has then taken.
-use Rattle.std.specs.Prelude.{◌≡◌, ℕ, ◌+◌, ◌<◌, ◌≤◌, List, ◌++◌, length, Result, Ok, Err, Bool, true, false}
+use Rattle.std.specs.Prelude.{◌≡◌, ℕ, ◌+◌, ◌<◌, ◌≤◌, List, length, Option, Result, Ok, Err}
+use Rattle.yasir_io.specs.declared.sink.Sink.{Ghosts as Sink}
+use Rattle.yasir_io.specs.declared.disk.SlotDisk.{Ghosts as SlotDisk}
 use Rattle.yasir_ticks.specs.Ticks.{Item, ticks_in}
-use Rattle.tick_drive.specs.Input.{max_ticks}
-use Rattle.tick_drive.specs.Items.{silent_items}
-use Rattle.tick_drive.specs.Consumers.{Held, Start, Moves, Stops}
+use Rattle.tick_drive.specs.Input.{Takes, AreFew, max_ticks}
+use Rattle.tick_drive.specs.Consumers.{Consuming, State, Gives}
 use Rattle.tick_drive.specs.declared.consumer.Stop.{Stop}
-use Rattle.tick_drive.specs.declared.consumer.Stop.TheVariants.{WriteFault, JournalFault}
 use Rattle.tick_drive.specs.declared.end.End.{End}
-use Rattle.tick_drive.specs.declared.end.End.TheVariants.{Whole, Refused, TooLong, ReadFault, Stopped}
-use Rattle.tick_drive.specs.declared.end.TooMuch.TheVariants.{Ticks, Bytes}
+use Rattle.tick_drive.specs.declared.end.End.TheVariants.{Stopped, TooLong}
+use Rattle.tick_drive.specs.declared.end.TooMuch.TheVariants.{Ticks}
 
--- The consumer has taken these items, or stopped at one of them.
-abbrev pub EndsAs : {C : Type 0} → (C → Start → Held → List Item → Type 0) → (C → Stop → Start → Held → List Item → Type 0)
-    → C → Held → C → Held → List Item → End → Type 0
-EndsAs stands stopped old before new after items Whole = Moves stands old before new after items
-EndsAs stands stopped old before new after items (Refused bad) = Moves stands old before new after items
-EndsAs stands stopped old before new after items (TooLong what count) = Moves stands old before new after items
-EndsAs stands stopped old before new after items ReadFault = Moves stands old before new after items
-EndsAs stands stopped old before new after items (Stopped stop) = Stops stands stopped old before new after items stop
+-- what the consumer answered last as the run ended so
+abbrev pub answer_of : End → Result (Unit {0}) Stop
+answer_of (Stopped stop) = Err stop
+answer_of end = Ok tt
 
--- The same, with so many silent ticks behind a whole input.
-abbrev pub EndsWith : {C : Type 0} → (C → Start → Held → List Item → Type 0) → (C → Stop → Start → Held → List Item → Type 0)
-    → ℕ → C → Held → C → Held → List Item → End → Type 0
-EndsWith stands stopped rest old before new after items Whole = Moves stands old before new after (items ++ silent_items rest)
-EndsWith stands stopped rest old before new after items (Refused bad) = Moves stands old before new after items
-EndsWith stands stopped rest old before new after items (TooLong what count) = Moves stands old before new after items
-EndsWith stands stopped rest old before new after items ReadFault = Moves stands old before new after items
-EndsWith stands stopped rest old before new after items (Stopped stop) = Stops stands stopped old before new after (items ++ silent_items rest) stop
+-- A consumer that has taken nothing yet may be used.
+pub record IsFresh {C D : Type 0} (meaning : Consuming C D) (consumer : C) (disk : D) : Type 0 where
+  pub none : meaning.taken consumer ≡ 0
+  pub able : meaning.able consumer disk
 
-abbrev pub is_write_stop : End → Bool
-is_write_stop (Stopped WriteFault) = true
-is_write_stop (Stopped JournalFault) = false
-is_write_stop Whole = false
-is_write_stop (Refused bad) = false
-is_write_stop (TooLong what count) = false
-is_write_stop ReadFault = false
+module _ {C O L D : Type 0} (meaning : Consuming C D) (o : Sink O) (l : Sink L) (d : SlotDisk D) where
+  -- What was taken of an input that had `before` left and now has `now` was given to a consumer, and the run over it ended so.
+  pub record Drives (marks rest : ℕ) (before now : Option (List ℕ)) (old new : State C O L D) (end : End) : Type 0 where
+    pub items : List Item
+    pub takes : Takes marks rest before now items end
+    pub gives : Gives meaning o l d old new items (answer_of end)
 
-abbrev pub is_journal_stop : End → Bool
-is_journal_stop (Stopped JournalFault) = true
-is_journal_stop (Stopped WriteFault) = false
-is_journal_stop Whole = false
-is_journal_stop (Refused bad) = false
-is_journal_stop (TooLong what count) = false
-is_journal_stop ReadFault = false
+  -- One line's items were handed over: their ticks with those before are this sum.
+  pub record HandsOver (old new : State C O L D) (ticks : ℕ) (items : List Item) (sum : ℕ) : Type 0 where
+    pub gives : Gives meaning o l d {T = Unit {0}} old new items (Ok tt)
+    pub sum_is : sum ≡ ticks + length (ticks_in items)
+    pub few : sum ≤ max_ticks
 
-abbrev pub is_write_answer : {T : Type 0} → Result T End → Bool
-is_write_answer (Ok x) = false
-is_write_answer (Err end) = is_write_stop end
+  -- Their ticks with those before are too many, and nothing was done.
+  pub record HoldsBack (old new : State C O L D) (ticks : ℕ) (items : List Item) (count : ℕ) : Type 0 where
+    pub same : new ≡ old
+    pub sum : count ≡ ticks + length (ticks_in items)
+    pub above : max_ticks < count
 
-abbrev pub is_journal_answer : {T : Type 0} → Result T End → Bool
-is_journal_answer (Ok x) = false
-is_journal_answer (Err end) = is_journal_stop end
+  -- The consumer stopped at one of them.
+  pub record StopsAt (old new : State C O L D) (ticks : ℕ) (items : List Item) (stop : Stop) : Type 0 where
+    pub gives : Gives meaning o l d {T = Unit {0}} old new items (Err stop)
+    pub few : ticks + length (ticks_in items) ≤ max_ticks
 
--- One line's items were handed to the consumer after so many ticks: the sum with them, or why not all of them were taken.
-abbrev pub HandsOver : {C : Type 0} → (C → Start → Held → List Item → Type 0) → (C → Stop → Start → Held → List Item → Type 0)
-    → C → Held → C → Held → ℕ → List Item → Result ℕ End → Type 0
-HandsOver stands stopped old before new after ticks items (Ok sum) =
-    Moves stands old before new after items × (sum ≡ ticks + length (ticks_in items)) × (sum ≤ max_ticks)
-HandsOver stands stopped old before new after ticks items (Err (TooLong Ticks count)) =
-    (new ≡ old) × (after ≡ before) × (count ≡ ticks + length (ticks_in items)) × (max_ticks < count)
-HandsOver stands stopped old before new after ticks items (Err (Stopped stop)) =
-    Stops stands stopped old before new after items stop × (ticks + length (ticks_in items) ≤ max_ticks)
-HandsOver stands stopped old before new after ticks items (Err (TooLong Bytes count)) = ⊥
-HandsOver stands stopped old before new after ticks items (Err (Refused bad)) = ⊥
-HandsOver stands stopped old before new after ticks items (Err ReadFault) = ⊥
-HandsOver stands stopped old before new after ticks items (Err Whole) = ⊥
+  -- what the answer says where one line's items were to be handed over after so many ticks
+  abbrev pub HandAnswer : State C O L D → State C O L D → ℕ → List Item → Result ℕ End → Type 0
+  HandAnswer old new ticks items (Ok sum) = HandsOver old new ticks items sum
+  HandAnswer old new ticks items (Err (TooLong Ticks count)) = HoldsBack old new ticks items count
+  HandAnswer old new ticks items (Err (Stopped stop)) = StopsAt old new ticks items stop
+  HandAnswer old new ticks items (Err end) = ⊥

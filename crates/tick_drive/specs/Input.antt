@@ -1,12 +1,14 @@
 -- What a run takes of its input.
 -- It meets the input's bytes in order, and ends at the first of these: a byte past the limit, a byte that no right text begins with, the end of a
--- line whose ticks with all before are too many, a failed read, the input's end.
-use Rattle.std.specs.Prelude.{◌≡◌, ℕ, ◌<◌, ◌≤◌, ◌⊎◌, List, [], ◌∷◌, ◌++◌, length, Option, Result, Ok, Err, Bool, true, false}
+-- line whose ticks with all before are too many, the end of a line at one of whose ticks the consumer stops, a failed read, the input's end.
+-- Behind the input's end, and nowhere else, silence may follow.
+use Rattle.std.specs.Prelude.{◌≡◌, ◌≢◌, ℕ, ◌+◌, ◌<◌, ◌≤◌, ◌⊎◌, List, [], ◌∷◌, ◌++◌, length, Option, Result, Ok, Err, Bool, true, false}
 use Rattle.yasir_io.specs.Causes.{Rose}
 use Rattle.std.specs.Io.KnownBytes.{prepend_known, IsAtEnd}
 use Rattle.yasir_ticks.specs.Ticks.{Item, ticks_in}
-use Rattle.yasir_ticks.specs.TickText.{IsTickText, BeginsTickText, IsRefusedAfter, ended_items, line_after, fault_after, fault_at_end}
+use Rattle.yasir_ticks.specs.TickText.{IsTickText, BeginsTickText, IsRefusedAfter, ended_items, line_after, fault_after, fault_at_end, line_feed}
 use Rattle.yasir_ticks.specs.declared.fault.BadTicks.{BadTicks}
+use Rattle.tick_drive.specs.Items.{silent_items}
 use Rattle.tick_drive.specs.declared.end.End.{End}
 use Rattle.tick_drive.specs.declared.end.End.TheVariants.{Whole, Refused, TooLong, ReadFault, Stopped}
 use Rattle.tick_drive.specs.declared.end.TooMuch.TheVariants.{Ticks, Bytes}
@@ -17,9 +19,28 @@ max_ticks = 16777216
 abbrev pub max_bytes : ℕ
 max_bytes = 268435456
 
--- This text has been met: where the source told what it had left, that began with it.
-abbrev pub IsMetOf : Option (List ℕ) → List ℕ → Type 0
-IsMetOf before text = (later : Option (List ℕ)) × (before ≡ prepend_known text later)
+-- These bytes came first: where the source told what it had left, that began with them.
+abbrev pub ComesFirst : Option (List ℕ) → List ℕ → Type 0
+ComesFirst before bytes = (later : Option (List ℕ)) × (before ≡ prepend_known bytes later)
+
+-- This text was met: its bytes came first, and are no more than may be read.
+pub record IsMetOf (before : Option (List ℕ)) (text : List ℕ) : Type 0 where
+  pub came : ComesFirst before text
+  pub within : length text ≤ max_bytes
+
+-- This text was met, and these bytes are left behind it.
+pub record IsMetUpTo (before now : Option (List ℕ)) (text : List ℕ) : Type 0 where
+  pub came : before ≡ prepend_known text now
+  pub within : length text ≤ max_bytes
+
+-- This text was met, and is the whole input.
+pub record IsMetWhole (before now : Option (List ℕ)) (text : List ℕ) : Type 0 where
+  pub met : IsMetUpTo before now text
+  pub at_end : IsAtEnd now
+
+-- no more ticks than may be taken
+abbrev pub AreFew : List Item → Type 0
+AreFew items = length (ticks_in items) ≤ max_ticks
 
 -- The text that was met, and then a byte, begins no right text.
 pub record IsRefusedByte (marks : ℕ) (before : Option (List ℕ)) (text : List ℕ) (bad : BadTicks) : Type 0 where
@@ -31,8 +52,7 @@ pub record IsRefusedByte (marks : ℕ) (before : Option (List ℕ)) (text : List
 
 -- The whole input was met, and is no right text.
 pub record IsRefusedEnd (marks : ℕ) (before now : Option (List ℕ)) (text : List ℕ) (bad : BadTicks) : Type 0 where
-  pub met : before ≡ prepend_known text now
-  pub at_end : IsAtEnd now
+  pub met : IsMetWhole before now text
   pub begins : BeginsTickText marks text
   pub refused : ¬ ((items : List Item) × IsTickText marks text items)
   pub line : bad.line ≡ line_after text
@@ -40,42 +60,78 @@ pub record IsRefusedEnd (marks : ℕ) (before now : Option (List ℕ)) (text : L
 
 -- The next byte, an LF, ends a line of these items, and begins a right text with those before it.
 pub record EndsLine (marks : ℕ) (before : Option (List ℕ)) (text : List ℕ) (items line : List Item) : Type 0 where
-  pub byte : ℕ
-  pub met : IsMetOf before (text ++ byte ∷ [])
-  pub begins : BeginsTickText marks (text ++ byte ∷ [])
-  pub ended : ended_items (text ++ byte ∷ []) ≡ items ++ line
+  pub met : IsMetOf before (text ++ line_feed ∷ [])
+  pub begins : BeginsTickText marks (text ++ line_feed ∷ [])
+  pub ended : ended_items (text ++ line_feed ∷ []) ≡ items ++ line
+  pub some : line ≢ []
 
 -- The input's end ends a line of these items.
 pub record EndsLast (marks : ℕ) (before now : Option (List ℕ)) (text : List ℕ) (items line : List Item) : Type 0 where
-  pub met : before ≡ prepend_known text now
-  pub at_end : IsAtEnd now
+  pub met : IsMetWhole before now text
   pub ended : IsTickText marks text (items ++ line)
 
+-- The whole input was met and is a right text; behind its items stand so many silent ticks.
+pub record IsWhole (marks rest : ℕ) (before now : Option (List ℕ)) (items : List Item) : Type 0 where
+  pub text : List ℕ
+  pub told : List Item
+  pub met : IsMetWhole before now text
+  pub right : IsTickText marks text told
+  pub few : AreFew told
+  pub are : items ≡ told ++ silent_items rest
+
+-- The lines that ended before the refused place have these items.
+pub record IsRefused (marks : ℕ) (before now : Option (List ℕ)) (items : List Item) (bad : BadTicks) : Type 0 where
+  pub text : List ℕ
+  pub refused : IsRefusedByte marks before text bad ⊎ IsRefusedEnd marks before now text bad
+  pub few : AreFew items
+  pub are : items ≡ ended_items text
+
 -- A line ended, at an LF or at the input's end, whose ticks with those before are more than may be taken.
-pub record HasTooManyTicks (marks : ℕ) (before now : Option (List ℕ)) (text : List ℕ) (items : List Item) (count : ℕ) : Type 0 where
-  pub taken : items ≡ ended_items text
-  pub within : length (ticks_in items) ≤ max_ticks
+pub record HasTooManyTicks (marks : ℕ) (before now : Option (List ℕ)) (items : List Item) (count : ℕ) : Type 0 where
+  pub text : List ℕ
   pub line : List Item
   pub ended : EndsLine marks before text items line ⊎ EndsLast marks before now text items line
+  pub few : AreFew items
+  pub are : items ≡ ended_items text
   pub sum : count ≡ length (ticks_in (items ++ line))
   pub above : max_ticks < count
 
 -- As many bytes as may be read were met, and one more came.
-pub record HasTooManyBytes (marks : ℕ) (before : Option (List ℕ)) (text : List ℕ) (count : ℕ) : Type 0 where
+pub record HasTooManyBytes (marks : ℕ) (before : Option (List ℕ)) (items : List Item) (count : ℕ) : Type 0 where
+  pub text : List ℕ
   pub byte : ℕ
-  pub met : IsMetOf before (text ++ byte ∷ [])
+  pub came : ComesFirst before (text ++ byte ∷ [])
   pub begins : BeginsTickText marks text
   pub full : length text ≡ max_bytes
+  pub few : AreFew items
+  pub are : items ≡ ended_items text
   pub sum : count ≡ length (text ++ byte ∷ [])
 
--- These items were taken of the input as the run over it ended so.
-abbrev pub Takes : ℕ → Option (List ℕ) → Option (List ℕ) → List Item → End → Type 0
-Takes marks before now items Whole = (text : List ℕ) × (before ≡ prepend_known text now) × IsAtEnd now × IsTickText marks text items × (length (ticks_in items) ≤ max_ticks)
-Takes marks before now items (Refused bad) = (text : List ℕ) × (IsRefusedByte marks before text bad ⊎ IsRefusedEnd marks before now text bad) × (items ≡ ended_items text) × (length (ticks_in items) ≤ max_ticks)
-Takes marks before now items (TooLong Ticks count) = (text : List ℕ) × HasTooManyTicks marks before now text items count
-Takes marks before now items (TooLong Bytes count) = (text : List ℕ) × HasTooManyBytes marks before text count × (items ≡ ended_items text) × (length (ticks_in items) ≤ max_ticks)
-Takes marks before now items ReadFault = (text : List ℕ) × (before ≡ prepend_known text now) × BeginsTickText marks text × (items ≡ ended_items text) × (length (ticks_in items) ≤ max_ticks)
-Takes marks before now items (Stopped stop) = (text : List ℕ) × IsMetOf before text × BeginsTickText marks text × ((items ≡ ended_items text) ⊎ IsTickText marks text items) × (length (ticks_in items) ≤ max_ticks)
+-- A read failed behind this text.
+pub record FailsToRead (marks : ℕ) (before now : Option (List ℕ)) (items : List Item) : Type 0 where
+  pub text : List ℕ
+  pub met : IsMetUpTo before now text
+  pub begins : BeginsTickText marks text
+  pub few : AreFew items
+  pub are : items ≡ ended_items text
+
+-- The last byte that was met ended a line with ticks, and these are the items of all lines up to it.
+pub record StopsInLine (marks : ℕ) (before : Option (List ℕ)) (items : List Item) : Type 0 where
+  pub text : List ℕ
+  pub line : List Item
+  pub ended : EndsLine marks before text (ended_items text) line
+  pub few : AreFew items
+  pub are : items ≡ ended_items text ++ line
+
+-- These items were taken of an input, and of so many silent ticks behind it, as the run over it ended so. A consumer that stopped
+-- did so at one of them: in the last of the lines that were met, all whole, or behind an input that was met to its end.
+abbrev pub Takes : ℕ → ℕ → Option (List ℕ) → Option (List ℕ) → List Item → End → Type 0
+Takes marks rest before now items Whole = IsWhole marks rest before now items
+Takes marks rest before now items (Refused bad) = IsRefused marks before now items bad
+Takes marks rest before now items (TooLong Ticks count) = HasTooManyTicks marks before now items count
+Takes marks rest before now items (TooLong Bytes count) = HasTooManyBytes marks before items count
+Takes marks rest before now items ReadFault = FailsToRead marks before now items
+Takes marks rest before now items (Stopped stop) = StopsInLine marks before items ⊎ IsWhole marks rest before now items
 
 abbrev pub is_read_fault : End → Bool
 is_read_fault ReadFault = true

@@ -1,5 +1,5 @@
 -- The bytes of an input on their way to the reader.
-use Rattle.std.specs.Prelude.{◌≡◌, ◌≢◌, ℕ, List, [], ◌∷◌, ◌++◌, length, Option, Some, None, Result, Ok, Err, false}
+use Rattle.std.specs.Prelude.{◌≡◌, ◌≢◌, ℕ, ◌≤◌, List, [], ◌∷◌, ◌++◌, length, Option, Some, None, Result, Ok, Err, false}
 use Rattle.std.specs.Io.KnownBytes.{prepend_known, IsAtEnd}
 use Rattle.yasir_io.specs.Pieces.{to_come, has_ended}
 use Rattle.yasir_ticks.specs.Ticks.{Item, items_of_run}
@@ -8,7 +8,7 @@ use Rattle.yasir_ticks.specs.TickText.{IsTickText, BeginsTickText, ended_items, 
 use Rattle.yasir_ticks.specs.declared.fault.BadTicks.{BadTicks}
 use Rattle.yasir_ticks.specs.declared.run.Run.{Run}
 use Rattle.yasir_ticks.specs.declared.run.Run.TheVariants.{Nothing}
-use Rattle.tick_drive.specs.Input.{IsRefusedByte, HasTooManyBytes}
+use Rattle.tick_drive.specs.Input.{ComesFirst, IsMetUpTo, IsMetWhole, IsRefusedByte, max_bytes}
 use Rattle.tick_drive.specs.declared.intake.Intake.{Intake}
 use Rattle.tick_drive.specs.declared.end.End.{End}
 use Rattle.tick_drive.specs.declared.end.End.TheVariants.{Whole, Refused, TooLong, ReadFault, Stopped}
@@ -19,19 +19,20 @@ abbrev pub HasFed : Intake → ℕ → List ℕ → Type 0
 HasFed intake marks text = StandsFor intake.reader marks text
 
 -- This text was met of an input that had `before` left at first and has `now` left, and begins a right text.
-pub record IsMet (intake : Intake) (marks : ℕ) (before now : Option (List ℕ)) (text : List ℕ) : Type 0 where
+pub record HasMet (intake : Intake) (marks : ℕ) (before now : Option (List ℕ)) (text : List ℕ) : Type 0 where
   pub stands : StandsFor intake.reader marks text
   pub begins : BeginsTickText marks text
   pub source : before ≡ prepend_known text (to_come intake.pieces now)
   pub open_end : has_ended intake.pieces ≡ false
   pub count : intake.bytes ≡ length text
+  pub within : length text ≤ max_bytes
 
 -- Bytes were met after a text, at least one and none refused, and this run is that of the lines that ended.
 -- Where it has ticks, the last of these bytes ended its line, and no line with ticks ended before.
 pub record MeetsRun (intake : Intake) (marks : ℕ) (before now : Option (List ℕ)) (text : List ℕ) (run : Run) : Type 0 where
   pub front : List ℕ
   pub byte : ℕ
-  pub met : IsMet intake marks before now ((text ++ front) ++ byte ∷ [])
+  pub met : HasMet intake marks before now ((text ++ front) ++ byte ∷ [])
   pub ended : ended_items ((text ++ front) ++ byte ∷ []) ≡ ended_items text ++ items_of_run run
   pub quiet : run ≢ Nothing → ended_items (text ++ front) ≡ ended_items text
 
@@ -41,22 +42,30 @@ pub record MeetsRefused (marks : ℕ) (before : Option (List ℕ)) (text : List 
   pub refused : IsRefusedByte marks before (text ++ front) bad
   pub quiet : ended_items (text ++ front) ≡ ended_items text
 
+-- One byte came behind a text of as many as may be read.
+pub record MeetsLimit (before : Option (List ℕ)) (text : List ℕ) (count : ℕ) : Type 0 where
+  pub byte : ℕ
+  pub came : ComesFirst before (text ++ byte ∷ [])
+  pub full : length text ≡ max_bytes
+  pub sum : count ≡ length (text ++ byte ∷ [])
+
+-- Nothing came behind a text, and it is the whole input.
+pub record MeetsEnd (intake : Intake) (marks : ℕ) (before now : Option (List ℕ)) (text : List ℕ) : Type 0 where
+  pub fed : HasFed intake marks text
+  pub begins : BeginsTickText marks text
+  pub met : IsMetWhole before now text
+
 -- what the answer to one step says, after a text was met
 abbrev pub StepAnswer : Intake → ℕ → Option (List ℕ) → Option (List ℕ) → List ℕ → Result (Option Run) End → Type 0
 StepAnswer intake marks before now text (Ok (Some run)) = MeetsRun intake marks before now text run
-StepAnswer intake marks before now text (Ok None) = HasFed intake marks text × BeginsTickText marks text × (before ≡ prepend_known text now) × IsAtEnd now
+StepAnswer intake marks before now text (Ok None) = MeetsEnd intake marks before now text
 StepAnswer intake marks before now text (Err (Refused bad)) = MeetsRefused marks before text bad
-StepAnswer intake marks before now text (Err (TooLong Bytes count)) = HasTooManyBytes marks before text count
-StepAnswer intake marks before now text (Err ReadFault) = before ≡ prepend_known text now
-StepAnswer intake marks before now text (Err (TooLong Ticks count)) = ⊥
-StepAnswer intake marks before now text (Err Whole) = ⊥
-StepAnswer intake marks before now text (Err (Stopped stop)) = ⊥
+StepAnswer intake marks before now text (Err (TooLong Bytes count)) = MeetsLimit before text count
+StepAnswer intake marks before now text (Err ReadFault) = IsMetUpTo before now text
+StepAnswer intake marks before now text (Err end) = ⊥
 
 -- what the answer at the input's end says
 abbrev pub FinishAnswer : ℕ → List ℕ → Result Run End → Type 0
 FinishAnswer marks text (Ok run) = IsTickText marks text (ended_items text ++ items_of_run run)
 FinishAnswer marks text (Err (Refused bad)) = (¬ ((items : List Item) × IsTickText marks text items)) × (bad.line ≡ line_after text) × (bad.why ≡ fault_at_end text)
-FinishAnswer marks text (Err (TooLong what count)) = ⊥
-FinishAnswer marks text (Err ReadFault) = ⊥
-FinishAnswer marks text (Err Whole) = ⊥
-FinishAnswer marks text (Err (Stopped stop)) = ⊥
+FinishAnswer marks text (Err end) = ⊥

@@ -1,12 +1,11 @@
-ghost use Rattle.std.specs.Prelude.{◌≡◌, ℕ, ◌+◌, ◌≤◌, ◌<◌, List, length, OnOk, IfOk, IfErr};
-ghost use Rattle.yasir_io.specs.Disks.{Slots, LeavesOnly};
-ghost use Rattle.yasir_ticks.specs.Ticks.{Item, items_of_run, ticks_in};
-ghost use Rattle.tick_drive.specs.Input.{Takes, IsReadCause, is_read_fault};
-ghost use Rattle.tick_drive.specs.Consumers.{held_by, IsDiskCause, IsSinkCause};
-ghost use Rattle.tick_drive.specs.Drive.{EndsAs, EndsWith, HandsOver, is_write_stop, is_journal_stop, is_write_answer, is_journal_answer};
+ghost use Rattle.std.specs.Prelude.{◌≡◌, ℕ, ◌≤◌, length, IfOk};
+ghost use Rattle.yasir_ticks.specs.Ticks.{items_of_run, ticks_in};
+ghost use Rattle.tick_drive.specs.Input.{IsReadCause, is_read_fault};
+ghost use Rattle.tick_drive.specs.Consumers.{state_of};
+ghost use Rattle.tick_drive.specs.Drive.{Drives, IsFresh, HandAnswer};
 
 use crate::intake::Intake;
-use crate::{Consumer, End, Stop, TooMuch};
+use crate::{Consumer, End, TooMuch};
 use yasir_io::{Sink, SlotDisk, Source};
 use yasir_ticks::Run;
 
@@ -35,18 +34,11 @@ fn hand_over<O: Sink, L: Sink, D: SlotDisk, C: Consumer<O, L, D>>(
     disk: &mut D,
 ) -> Result<u32, End>
     requires within { ticks ≤ 16777216 }
-    requires taken { C.taken consumer.old ≡ ticks }
-    requires able { C.able consumer.old disk.old }
-    ensures handed { HandsOver C.stands C.stopped
-        consumer.old (held_by (O.held out.old) (L.held log.old) (D.told disk.old))
-        consumer.new (held_by (O.held out.new) (L.held log.new) (D.told disk.new)) ticks (items_of_run run.now) result }
-    ensures taken { IfOk result (λ sum. C.taken consumer.new ≡ sum) }
-    ensures able { OnOk result (C.able consumer.new disk.new) }
-    ensures kept { C.kept consumer.old disk.old → C.kept consumer.new disk.new }
-    ensures any_moment { C.kept consumer.old disk.old → LeavesOnly D.moment D.left_since disk.old disk.new (C.safe consumer.old) }
-    ensures safer { (c : Slots) → C.safe consumer.new c → C.safe consumer.old c }
-    ensures disk { IsDiskCause (D.faults disk.old) (D.faults disk.new) (is_journal_answer result) }
-    ensures sinks { IsSinkCause (O.faults out.old) (O.faults out.new) (L.faults log.old) (L.faults log.new) (is_write_answer result) }
+    requires taken { C.meaning.taken consumer.old ≡ ticks }
+    requires able { C.meaning.able consumer.old disk.old }
+    ensures handed { HandAnswer C.meaning O.Sink L.Sink D.SlotDisk (state_of consumer.old out.old log.old disk.old)
+        (state_of consumer.new out.new log.new disk.new) ticks (items_of_run run.now) result }
+    ensures taken { IfOk result (λ sum. C.meaning.taken consumer.new ≡ sum) }
 {
     let sum = u64::from(ticks) + u64::from(ticks_of(run));
     if sum > u64::from(MAX_INPUT_TICKS) {
@@ -71,19 +63,10 @@ pub fn drive<S: Source, O: Sink, L: Sink, D: SlotDisk, C: Consumer<O, L, D>>(
     disk: &mut D,
 ) -> End
     requires no_mark { marks ≡ 0 }
-    requires fresh { C.taken consumer.old ≡ 0 }
-    requires able { C.able consumer.old disk.old }
-    ensures end { (items : List Item) × Takes marks (S.left input.old) (S.left input.new) items result
-        × EndsAs C.stands C.stopped
-        consumer.old (held_by (O.held out.old) (L.held log.old) (D.told disk.old))
-        consumer.new (held_by (O.held out.new) (L.held log.new) (D.told disk.new)) items result }
-    ensures goes_on { result ≡ End.Whole → C.able consumer.new disk.new × (C.taken consumer.new ≤ 16777216) }
-    ensures kept { C.kept consumer.old disk.old → C.kept consumer.new disk.new }
-    ensures any_moment { C.kept consumer.old disk.old → LeavesOnly D.moment D.left_since disk.old disk.new (C.safe consumer.old) }
-    ensures safer { (c : Slots) → C.safe consumer.new c → C.safe consumer.old c }
+    requires fresh { IsFresh C.meaning consumer.old disk.old }
+    ensures driven { Drives C.meaning O.Sink L.Sink D.SlotDisk marks 0 (S.left input.old) (S.left input.new)
+        (state_of consumer.old out.old log.old disk.old) (state_of consumer.new out.new log.new disk.new) result }
     ensures read { IsReadCause (S.faults input.old) (S.faults input.new) (is_read_fault result) }
-    ensures disk { IsDiskCause (D.faults disk.old) (D.faults disk.new) (is_journal_stop result) }
-    ensures sinks { IsSinkCause (O.faults out.old) (O.faults out.new) (L.faults log.old) (L.faults log.new) (is_write_stop result) }
 {
     let mut intake = Intake::new(marks);
     let mut ticks = 0;
@@ -122,18 +105,10 @@ pub fn drive_to_rest<S: Source, O: Sink, L: Sink, D: SlotDisk, C: Consumer<O, L,
     disk: &mut D,
 ) -> End
     requires no_mark { marks ≡ 0 }
-    requires fresh { C.taken consumer.old ≡ 0 }
-    requires able { C.able consumer.old disk.old }
-    ensures end { (items : List Item) × Takes marks (S.left input.old) (S.left input.new) items result
-        × EndsWith C.stands C.stopped rest
-        consumer.old (held_by (O.held out.old) (L.held log.old) (D.told disk.old))
-        consumer.new (held_by (O.held out.new) (L.held log.new) (D.told disk.new)) items result }
-    ensures kept { C.kept consumer.old disk.old → C.kept consumer.new disk.new }
-    ensures any_moment { C.kept consumer.old disk.old → LeavesOnly D.moment D.left_since disk.old disk.new (C.safe consumer.old) }
-    ensures safer { (c : Slots) → C.safe consumer.new c → C.safe consumer.old c }
+    requires fresh { IsFresh C.meaning consumer.old disk.old }
+    ensures driven { Drives C.meaning O.Sink L.Sink D.SlotDisk marks rest (S.left input.old) (S.left input.new)
+        (state_of consumer.old out.old log.old disk.old) (state_of consumer.new out.new log.new disk.new) result }
     ensures read { IsReadCause (S.faults input.old) (S.faults input.new) (is_read_fault result) }
-    ensures disk { IsDiskCause (D.faults disk.old) (D.faults disk.new) (is_journal_stop result) }
-    ensures sinks { IsSinkCause (O.faults out.old) (O.faults out.new) (L.faults log.old) (L.faults log.new) (is_write_stop result) }
 {
     match drive(marks, input, consumer, out, log, disk) {
         End::Whole => {}

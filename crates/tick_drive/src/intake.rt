@@ -19,14 +19,14 @@ pub struct Intake {
 }
 
 impl Intake {
-    ghost use Rattle.tick_drive.specs.Intake.{IsMet, HasFed, StepAnswer, FinishAnswer};
+    ghost use Rattle.tick_drive.specs.Intake.{HasMet, HasFed, StepAnswer, FinishAnswer};
     ghost use Rattle.yasir_io.specs.Pieces.{kept_bytes};
     ghost use Rattle.tick_drive.specs.Input.{is_read_answer, IsReadCause};
 
     /// Nothing met yet of a text with exactly so many marks.
     pub fn new(marks: u8) -> Intake
         requires no_mark { marks ≡ 0 }
-        ensures { (before : Option (List ℕ)) → IsMet result marks before before [] }
+        ensures { (before : Option (List ℕ)) → HasMet result marks before before [] }
     {
         Intake {
             pieces: Pieces::new(),
@@ -39,7 +39,7 @@ impl Intake {
     #[inline]
     pub fn step<S: Source>(&mut self, source: &mut S) -> Result<Option<Run>, End>
         ensures answer { (marks : ℕ) (before : Option (List ℕ)) (text : List ℕ)
-            → IsMet self.old marks before (S.left source.old) text
+            → HasMet self.old marks before (S.left source.old) text
             → StepAnswer self.new marks before (S.left source.new) text result }
         ensures counted { IfOk result (λ next. IfSome next (λ run. self.old.bytes < self.new.bytes)) }
         ensures cause { IsReadCause (S.faults source.old) (S.faults source.new) (is_read_answer result) }
@@ -56,7 +56,7 @@ impl Intake {
     fn feed_kept(&mut self) -> Result<Option<Run>, End>
         requires { 0 < length (kept_bytes self.old.pieces) }
         ensures answer { (marks : ℕ) (before now : Option (List ℕ)) (text : List ℕ)
-            → IsMet self.old marks before now text → StepAnswer self.new marks before now text result }
+            → HasMet self.old marks before now text → StepAnswer self.new marks before now text result }
         ensures counted { IfOk result (λ next. IfSome next (λ run. self.old.bytes < self.new.bytes)) }
         ensures no_read { is_read_answer result ≡ false }
     {

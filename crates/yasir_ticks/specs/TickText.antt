@@ -11,6 +11,10 @@ use Rattle.yasir_ticks.specs.declared.fault.TickFault.{TickFault}
 use Rattle.yasir_ticks.specs.declared.fault.TickFault.TheVariants.{Char, Odd, Long, Count, Empty, Mark}
 use Rattle.yasir_ticks.specs.declared.tick.Tick.TheVariants.{Silent, Byte}
 
+-- the bytes of the format, in ASCII
+abbrev pub line_feed : ℕ
+line_feed = 10
+
 -- A text cut at each LF: the lines that an LF ended, and the last line, which may be empty.
 pub record Lines : Type 0 where
   pub ended : List (List ℕ)

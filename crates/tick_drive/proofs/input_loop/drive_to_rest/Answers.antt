@@ -1,27 +1,30 @@
-use Rattle.std.proofs.Common.{inr}
-use Rattle.tick_drive.proofs.Moving.{stops_then}
-use Rattle.tick_drive.proofs.Driving.{begins_right, ends_with_rest}
+use Rattle.std.proofs.Common.{arith}
+use Rattle.tick_drive.proofs.ItemLaws.{length-silent_items}
+use Rattle.tick_drive.proofs.Driving.{rest_taken, rest_stops, other_ends, length-whole}
 use Rattle.tick_drive.proofs.input_loop.drive_to_rest.Goals as goal
+
+pub take-requires : goal.take-requires
+take-requires g c =
+    let driven = c.in-Whole.ensures.driven in record {
+      room = omega (
+        arith,
+        driven.gives.counted,
+        c.requires.fresh.none,
+        length-silent_items c.args.rest,
+        c.ranges.rest.fits,
+        length-whole _ _ _ driven.items c.requires.no_mark driven.takes,
+      );
+      able = driven.gives.is_able;
+    }
 
 pub returns-in_default : goal.returns-in_default
 returns-in_default g c = record {
-  end = (
-    c.drive.ensures.end.0,
-    c.drive.ensures.end.1,
-    ends_with_rest g.C.Consumer.stands g.C.Consumer.stopped c.args.rest _ _ _ _ _ _ c.in_default.not-Whole c.drive.ensures.end.2,
-  );
-  kept = c.drive.ensures.kept;
-  any_moment = c.drive.ensures.any_moment;
-  safer = c.drive.ensures.safer;
+  driven = other_ends g.C.Consumer.meaning g.O.Sink g.L.Sink g.D.SlotDisk _ c.args.rest _ _ _ _ _ c.in_default.not-Whole c.drive.ensures.driven;
   read = c.drive.ensures.read;
-  disk = c.drive.ensures.disk;
-  sinks = c.drive.ensures.sinks;
 }
 
-pub returns-in-Err-clause-end : goal.returns-in-Err-clause-end
-returns-in-Err-clause-end g c =
-    let whole = c.in-Whole.ensures.end in (
-      whole.0,
-      (whole.1.0, (_, whole.1.1), begins_right _ _ _ whole.1.3, inr whole.1.3, whole.1.4),
-      stops_then g.C.Consumer.stands g.C.Consumer.stopped _ _ _ _ _ _ whole.0 _ _ whole.2 c.in-Err.ensures.advances.ended,
-    )
+pub returns-in-Err-clause-driven : goal.returns-in-Err-clause-driven
+returns-in-Err-clause-driven g c = rest_stops g.C.Consumer.meaning g.O.Sink g.L.Sink g.D.SlotDisk _ c.args.rest _ _ _ _ _ _ c.in-Whole.ensures.driven c.in-Err.ensures
+
+pub returns-in-Ok-clause-driven : goal.returns-in-Ok-clause-driven
+returns-in-Ok-clause-driven g c = rest_taken g.C.Consumer.meaning g.O.Sink g.L.Sink g.D.SlotDisk _ c.args.rest _ _ _ _ _ c.in-Whole.ensures.driven c.in-Ok.ensures

@@ -1,15 +1,9 @@
-use Rattle.std.proofs.Common.{◌≡◌, take, Ok}
-use Rattle.tick_drive.specs.Consumers.{held_by, Advances}
+use Rattle.std.proofs.Common.{Ok, take}
+use Rattle.tick_drive.specs.Consumers.{Gives, state_of}
 use Rattle.tick_drive.specs.Items.{byte_items}
 use Rattle.tick_drive.proofs.consumer.Consumer.take_bytes.Given as goal
 
 abbrev pub invariant-loop-byte : goal.invariant-loop-byte
 invariant-loop-byte g l =
-    Advances {T = Unit {0}} g.Self.Consumer.stands g.Self.Consumer.stopped g.Self.Consumer.taken g.Self.Consumer.able g.Self.Consumer.kept g.Self.Consumer.safe
-    g.D.SlotDisk.moment g.D.SlotDisk.left_since l.fn.self l.self
-    (held_by (g.O.Sink.held l.fn.out) (g.L.Sink.held l.fn.log) (g.D.SlotDisk.told l.fn.disk))
-    (held_by (g.O.Sink.held l.out) (g.L.Sink.held l.log) (g.D.SlotDisk.told l.disk))
-    l.fn.disk l.disk (byte_items (take l.byte-index l.bytes)) (Ok tt)
-    × (g.O.Sink.faults l.out ≡ g.O.Sink.faults l.fn.out)
-    × (g.L.Sink.faults l.log ≡ g.L.Sink.faults l.fn.log)
-    × (g.D.SlotDisk.faults l.disk ≡ g.D.SlotDisk.faults l.fn.disk)
+    Gives g.Self.Consumer.meaning g.O.Sink g.L.Sink g.D.SlotDisk {T = Unit {0}}
+    (state_of l.fn.self l.fn.out l.fn.log l.fn.disk) (state_of l.self l.out l.log l.disk) (byte_items (take l.byte-index l.bytes)) (Ok tt)

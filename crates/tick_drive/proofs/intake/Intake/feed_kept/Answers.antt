@@ -1,9 +1,9 @@
-use Rattle.std.proofs.Common.{◌<◌, ◌-◌, ◌≡◌, ◌∙◌, ◌∷◌, [], length, length-append, take, drop, get_or, ap, sym, subst, arith}
+use Rattle.std.proofs.Common.{◌<◌, ◌-◌, ◌≡◌, ◌∙◌, ◌∷◌, ◌++◌, [], length, length-append, take, drop, get_or, ap, sym, subst, arith}
 use Rattle.std.proofs.lemmas.List.{length-take}
 use Rattle.std.specs.Io.KnownBytes.{prepend_known}
 use Rattle.yasir_io.specs.Pieces.{kept_bytes}
 use Rattle.yasir_ticks.specs.TickText.{ended_items}
-use Rattle.tick_drive.specs.Intake.{IsMet}
+use Rattle.tick_drive.specs.Intake.{HasMet}
 use Rattle.tick_drive.proofs.Known.{text_last, met_slice, met_slice_more, met_first}
 use Rattle.tick_drive.proofs.intake.Intake.feed_kept.Goals as goal
 
@@ -11,8 +11,7 @@ pub returns-then-self-eq-MAX_INPUT_BYTES-clause-answer :
     goal.returns-then-self-eq-MAX_INPUT_BYTES-clause-answer
 returns-then-self-eq-MAX_INPUT_BYTES-clause-answer c = λ marks before now text met. record {
   byte = get_or (kept_bytes c.args.self.now.pieces) 0 0;
-  met = met_first _ now text _ c.requires met.source;
-  begins = met.begins;
+  came = met_first _ now text _ c.requires met.source;
   full = sym met.count ∙ c.if-self-eq-MAX_INPUT_BYTES.true;
   sum = omega (arith, met.count, c.if-self-eq-MAX_INPUT_BYTES.true, length-append text (get_or (kept_bytes c.args.self.now.pieces) 0 0 ∷ []));
 }
@@ -30,12 +29,13 @@ returns-in-Ok-clause-answer c = λ marks before now text met.
     record {
       front = take (n - 1) slice;
       byte = get_or slice (n - 1) 0;
-      met = subst (IsMet _ marks before now) (sym whole) (record {
+      met = subst (HasMet _ marks before now) (sym whole) (record {
         stands = rw c.in-Ok.is at (fed.stands marks text met.stands);
         begins = rw c.in-Ok.is at (fed.begins marks text met.stands);
         source = met_slice before now text kept _ c.min-within.result n fed.within rest source;
         open_end = c.skip.ensures.ended ∙ met.open_end;
         count = omega (arith, met.count, length-append text (take n slice), length-take n slice, fed.within);
+        within = omega (arith, met.count, met.within, length-append text (take n slice), length-take n slice, length-take c.min-within.result kept, fed.within, c.min-within.ensures);
       });
       ended = ap ended_items whole ∙ (rw c.in-Ok.is at (fed.run marks text met.stands));
       quiet = λ ticks. let last = rw c.in-Ok.is at (fed.last marks text met.stands) in (last ticks).1;
@@ -52,7 +52,20 @@ returns-in-Err-clause-answer c = λ marks before now text met.
       front = take n slice;
       refused = record {
         byte = get_or slice n 0;
-        met = met_slice_more before now text kept c.min-within.result n refused.0 source;
+        met = record {
+          came = met_slice_more before now text kept c.min-within.result n refused.0 source;
+          within = omega (
+            arith,
+            met.count,
+            met.within,
+            refused.0,
+            length-append text (take n slice),
+            length-take n slice,
+            length-append (text ++ take n slice) (get_or slice n 0 ∷ []),
+            length-take c.min-within.result kept,
+            c.min-within.ensures,
+          );
+        };
         refused = refused.1;
         line = refused.2;
         why = refused.3;

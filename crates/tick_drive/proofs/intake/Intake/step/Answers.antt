@@ -9,4 +9,5 @@ returns-in-Ok-true-clause-answer g c = λ marks before text met. c.feed_kept.ens
   source = met.source ∙ ap (prepend_known text) (sym c.fill.ensures.same);
   open_end = c.fill.ensures.still_open (c.in-Ok-true.is ∙ ap Ok c.in-Ok-true.field-0-test) ∙ met.open_end;
   count = met.count;
+  within = met.within;
 })
