@@ -1,0 +1,3 @@
+pub mod Lines
+pub mod FrameLines
+pub mod PrintsFrames

@@ -1,0 +1,78 @@
+ghost use Rattle.std.specs.Prelude.{◌≡◌, ℕ, ◌+◌, ◌≤◌, List, [], ◌∷◌, ◌++◌, length, Option, OnOk, OnErr, ⊤};
+ghost use Rattle.yasir_io.specs.Causes.{HasCause};
+ghost use Rattle.yasir_io.specs.Output.{Buffered, GotPrefix};
+ghost use Rattle.yasir_io.specs.TextBuffer.{waiting_bytes};
+ghost use Rattle.device_replay.specs.FrameLines.{PrintsReads, StopsPrinting};
+
+use crate::text::frame_line;
+use device_model::Device;
+use tick_drive::{Consumer, Stop};
+use yasir_io::{Failed, Sink, SlotDisk, TextBuffer};
+use yasir_ticks::Tick;
+
+/// Prints a line for each frame that a device reads.
+#[derive(Drop)]
+pub struct FrameLines<V> {
+    device: V,
+    lines: TextBuffer,
+}
+
+impl<V: Device + Drop> FrameLines<V> {
+    /// A device that has heard nothing, and no line yet.
+    pub fn new() -> FrameLines<V>
+        ensures stands { V.stands result.device [] }
+        ensures nothing { V.reads [] ≡ [] }
+        ensures taken { V.taken result.device ≡ 0 }
+        ensures waits { waiting_bytes result.lines ≡ [] }
+    {
+        FrameLines {
+            device: V::fresh(),
+            lines: TextBuffer::new(),
+        }
+    }
+
+    /// Writes the lines that wait.
+    pub fn drain<O: Sink>(&mut self, out: &mut O) -> Result<(), Failed>
+        ensures ok { OnOk result ((start : Option (List ℕ)) (text : List ℕ)
+            → Buffered start (O.held out.old) (waiting_bytes self.old.lines) text → Buffered start (O.held out.new) [] text) }
+        ensures err { OnErr result ((start : Option (List ℕ)) (text : List ℕ)
+            → Buffered start (O.held out.old) (waiting_bytes self.old.lines) text → GotPrefix start (O.held out.new) text) }
+        ensures cause { HasCause (O.faults out.old) (O.faults out.new) result }
+    {
+        self.lines.drain(out)
+    }
+}
+
+impl<V: Device + Drop, O: Sink, L: Sink, D: SlotDisk> Consumer<O, L, D> for FrameLines<V> {
+    ghost stands = { λ self start held items. PrintsReads V.stands V.reads self.device (waiting_bytes self.lines) start held items };
+
+    ghost stopped = { λ self stop start held items. StopsPrinting V.reads stop start held items };
+
+    ghost taken = { λ self. V.taken self.device };
+
+    // The disk is not used.
+    ghost able = { λ self disk. ⊤ };
+
+    ghost kept = { λ self disk. ⊤ };
+
+    ghost safe = { λ self image. ⊤ };
+
+    fn take_tick(
+        &mut self,
+        out: &mut O,
+        _log: &mut L,
+        _disk: &mut D,
+        tick: Tick,
+    ) -> Result<(), Stop> {
+        let frame = match self.device.step(tick) {
+            Some(frame) => frame,
+            None => return Ok(()),
+        };
+        match self.lines.push(out, frame_line(&frame).as_slice()) {
+            Ok(()) => Ok(()),
+            Err(Failed) => Err(Stop::WriteFault),
+        }
+    }
+
+    ghost safe_now = { λ consumer disk image kept left. tt };
+}

@@ -1,0 +1,9 @@
+//! A device over a recorded line: a line of text for each frame that it reads.
+#![tactic(auto)]
+
+mod command;
+mod frame_lines;
+mod text;
+
+pub use command::read_frames;
+pub use text::frame_line;

@@ -1,0 +1,19 @@
+ghost use Rattle.std.specs.Prelude.{◌≡◌};
+ghost use Rattle.device_replay.specs.Lines.{frame_line};
+ghost use Rattle.device_model.specs.Frames.{FrameRead};
+
+use device_model::FrameAt;
+use replay_status::{Line, push_decimal, push_hex};
+
+/// `read at S HEX`: a frame, and the tick of its first byte.
+pub fn frame_line(frame: &FrameAt) -> Line
+    ensures { result.items ≡ frame_line (record { start = frame.now.start; frame = frame.now.bytes.items }) }
+{
+    let mut line = Line::new();
+    line.try_extend_from_slice(b"read at ").unwrap();
+    push_decimal(&mut line, frame.start);
+    line.push(b' ');
+    push_hex(&mut line, frame.bytes.as_slice());
+    line.push(b'\n');
+    line
+}

@@ -1,0 +1,163 @@
+ghost use Rattle.std.specs.Prelude.{◌≡◌, ◌⊎◌, ℕ, ◌%◌, ◌≤◌, List, length, take, slice_index, true, false, Ok, OnErr, IfOk, IfErr};
+ghost use Rattle.std.specs.List.{AllPass};
+ghost use Rattle.hex.specs.Hex.{decode_of, is_hex_digit};
+ghost use Rattle.yasir_io.specs.Causes.{HasCause};
+ghost use Rattle.key_text.specs.declared.key_text.KeyError.TheVariants.{Fault, Bad};
+ghost use Rattle.key_text.specs.KeyText.{IsKeyMet, IsCutShort, IsKeyText, IsNoKey, IsKeyEnding, IsLongestFront, BeginsEnding, KeyCause};
+
+use arrayvec::ArrayVec;
+use yasir_io::{Failed, Source};
+
+/// A key of the program.
+pub type Key = ArrayVec<u8, 64>;
+
+/// Why no key was read.
+#[derive(Clone, Copy, Debug, PartialEq, Eq)]
+pub enum KeyError {
+    /// A read failed.
+    Fault,
+    /// The text is no key text; `place` is the length of its longest prefix that begins some key text.
+    Bad { place: u32 },
+}
+
+/// How many bytes are read of a source at most: one more than the longest key text has.
+const MAX_TEXT: usize = 131;
+
+/// What was read of a source.
+type KeyText = ArrayVec<u8, MAX_TEXT>;
+
+/// How many digits a key has at least, and at most.
+const MIN_DIGITS: usize = 32;
+
+const MAX_DIGITS: usize = 128;
+
+// These bytes as a text.
+fn text_of(bytes: &[u8]) -> KeyText
+    requires { length bytes.now ≤ 131 }
+    ensures { result.items ≡ bytes.now }
+{
+    let mut text = KeyText::new();
+    text.try_extend_from_slice(bytes).unwrap();
+    text
+}
+
+// The text of a source: its bytes to the end, or 131. No byte behind these is taken.
+fn read_text<K: Source>(source: &mut K) -> Result<KeyText, Failed>
+    ensures met { IfOk result (λ text. IsKeyMet (K.left source.old) (K.left source.new) text.items) }
+    ensures cut { OnErr result (IsCutShort (K.left source.old) (K.left source.new)) }
+    ensures cause { HasCause (K.faults source.old) (K.faults source.new) result }
+{
+    let mut bytes = [0u8; MAX_TEXT];
+    let mut len = 0;
+    while len < MAX_TEXT {
+        let n = source.read(&mut bytes[len..])?;
+        if n == 0 {
+            return Ok(text_of(&bytes[..len]));
+        }
+        len += n;
+    }
+    Ok(text_of(&bytes))
+}
+
+// How many hex digits stand at the front of a text, but no more than a key has.
+fn digit_count(text: &[u8]) -> usize
+    ensures within { result ≤ length text.now }
+    ensures few { result ≤ 128 }
+    ensures digits { AllPass is_hex_digit (take result text.now) }
+    ensures stops { (result ≡ length text.now) ⊎ ((result ≡ 128) ⊎ (is_hex_digit (slice_index text.now result) ≡ false)) }
+{
+    let most = text.len().min(MAX_DIGITS);
+    for place in 0..most {
+        if !text[place].is_ascii_hexdigit() {
+            return place;
+        }
+    }
+    most
+}
+
+// How many bytes of an ending stand at the front of these.
+fn begun_ending(rest: &[u8]) -> usize
+    ensures { IsLongestFront BeginsEnding rest.now result }
+{
+    if rest.is_empty() {
+        return 0;
+    }
+    if rest[0] == b'\n' {
+        return 1;
+    }
+    if rest[0] != b'\r' {
+        return 0;
+    }
+    if rest.len() == 1 {
+        return 1;
+    }
+    if rest[1] == b'\n' { 2 } else { 1 }
+}
+
+fn is_ending(rest: &[u8]) -> bool
+    ensures yes { result ≡ true → IsKeyEnding rest.now }
+    ensures no { result ≡ false → IsKeyEnding rest.now → ⊥ }
+{
+    if rest.is_empty() {
+        return true;
+    }
+    if rest == b"\n".as_slice() {
+        return true;
+    }
+    rest == b"\r\n".as_slice()
+}
+
+// The bytes that the digits of a key spell.
+fn decode(digits: &[u8]) -> Key
+    requires digits { AllPass is_hex_digit digits.now }
+    requires even { length digits.now % 2 ≡ 0 }
+    requires few { length digits.now ≤ 128 }
+    ensures { decode_of digits.now ≡ Ok result.items }
+{
+    let mut bytes = [0u8; MAX_DIGITS / 2];
+    let spelled = &mut bytes[..digits.len() / 2];
+    hex::decode_to_slice(digits, spelled).unwrap();
+    let mut key = Key::new();
+    key.try_extend_from_slice(spelled).unwrap();
+    key
+}
+
+// The key of a key text, or the place where it is none.
+fn key_of(text: &[u8]) -> Result<Key, u32>
+    requires { length text.now ≤ 131 }
+    ensures key { IfOk result (λ key. IsKeyText text.now key.items) }
+    ensures bad { IfErr result (λ place. IsNoKey text.now place) }
+{
+    let count = digit_count(text);
+    let (digits, rest) = text.split_at(count);
+    if count < MIN_DIGITS || count % 2 == 1 {
+        return Err(count as u32);
+    }
+    if !is_ending(rest) {
+        return Err((count + begun_ending(rest)) as u32);
+    }
+    Ok(decode(digits))
+}
+
+/// Reads the key text of a source: its bytes to the end, or 131, and no byte behind these. A key text is 32 to 128
+/// hex digits of either case, an even count, and then nothing, LF, or CR LF, as the profile has it.
+pub fn read_key<K: Source>(source: &mut K) -> Result<Key, KeyError>
+    ensures key { IfOk result (λ key. (text : List ℕ)
+        × IsKeyMet (K.left source.old) (K.left source.new) text × IsKeyText text key.items) }
+    ensures bad { IfErr result (λ error. (place : ℕ) → error ≡ Bad place → (text : List ℕ)
+        × IsKeyMet (K.left source.old) (K.left source.new) text × IsNoKey text place) }
+    // A read fails before the text is met, and is the last one.
+    ensures fault { IfErr result (λ error. error ≡ Fault
+        → IsCutShort (K.left source.old) (K.left source.new)) }
+    ensures cause { KeyCause (K.faults source.old) (K.faults source.new) result }
+    ensures never_falls { K.faults source.old ≤ K.faults source.new }
+{
+    let text = match read_text(source) {
+        Ok(text) => text,
+        Err(Failed) => return Err(KeyError::Fault),
+    };
+    match key_of(text.as_slice()) {
+        Ok(key) => Ok(key),
+        Err(place) => Err(KeyError::Bad { place }),
+    }
+}

@@ -1,0 +1,54 @@
+-- The causes of the status that a run over an input ends with.
+use Rattle.std.proofs.Common.{◌≡◌, ℕ, ◌⊎◌, inl, inr, false, List, refl, sym, subst, arith}
+use Rattle.tick_drive.specs.Input.{IsReadCause, is_read_fault}
+use Rattle.tick_drive.specs.Drive.{is_write_stop}
+use Rattle.tick_drive.specs.declared.consumer.Stop.TheVariants as stops
+use Rattle.tick_drive.specs.declared.end.End.{End}
+use Rattle.tick_drive.specs.declared.end.End.TheVariants.{Whole, Refused, TooLong, ReadFault, Stopped}
+use Rattle.replay_status.specs.Endings.{status_of}
+use Rattle.replay_status.specs.Causes.{InputCause, SinkCause}
+use Rattle.replay_status.specs.declared.status.Status.{Status}
+use Rattle.replay_status.specs.declared.status.Status.TheVariants.{Done, WriteFault, BadJournal}
+
+pub input_cause : (before now : ℕ) (end : End) → IsReadCause before now (is_read_fault end)
+    → InputCause before now (status_of end)
+input_cause before now Whole h = h.same refl
+input_cause before now (Refused bad) h = h.same refl
+input_cause before now (TooLong what count) h = h.same refl
+input_cause before now ReadFault h = (h.failed refl, h.never_falls)
+input_cause before now (Stopped stops.WriteFault) h = h.never_falls
+input_cause before now (Stopped stops.JournalFault) h = h.same refl
+
+pub input_cause_of_whole : (before now : ℕ) (status : Status) → (status ≡ Done) ⊎ (status ≡ WriteFault) → now ≡ before
+    → InputCause before now status
+input_cause_of_whole before now status (inl done) same = subst (InputCause before now) (sym done) same
+input_cause_of_whole before now status (inr fault) same =
+    subst (InputCause before now) (sym fault) (omega (arith, same))
+
+-- no write had failed as the input ended
+pub sink_cause_of_end : (out_before out_now log_before log_now : ℕ) (end : End) → is_write_stop end ≡ false
+    → (end ≡ Whole → ⊥) → out_now ≡ out_before → log_now ≡ log_before
+    → SinkCause out_before out_now log_before log_now (status_of end)
+sink_cause_of_end out_before out_now log_before log_now Whole other partial out log = absurd (partial refl)
+sink_cause_of_end out_before out_now log_before log_now (Refused bad) other partial out log = (out, omega (arith, log))
+sink_cause_of_end out_before out_now log_before log_now (TooLong what count) other partial out log =
+    (out, omega (arith, log))
+sink_cause_of_end out_before out_now log_before log_now ReadFault other partial out log = (out, omega (arith, log))
+sink_cause_of_end out_before out_now log_before log_now (Stopped stops.JournalFault) other partial out log =
+    (out, omega (arith, log))
+sink_cause_of_end out_before out_now log_before log_now (Stopped stops.WriteFault) other partial out log = cc
+
+-- the sinks' counts had not changed before the flushes
+pub sink_cause_of_whole : (out0 out1 out2 log0 log1 log2 : ℕ) → (out1 ≡ out0) → (log1 ≡ log0) → (status : Status)
+    → SinkCause out1 out2 log1 log2 status → SinkCause out0 out2 log0 log2 status
+sink_cause_of_whole out0 out1 out2 log0 log1 log2 out log status h =
+    subst (λ n. SinkCause n out2 log0 log2 status) out (subst (λ n. SinkCause out1 out2 n log2 status) log h)
+
+-- no end has the status of a journal that isn't loaded
+pub no_bad_journal : (end : End) (a b : List ℕ) → status_of end ≡ BadJournal a b → ⊥
+no_bad_journal Whole a b is = cc
+no_bad_journal (Refused bad) a b is = cc
+no_bad_journal (TooLong what count) a b is = cc
+no_bad_journal ReadFault a b is = cc
+no_bad_journal (Stopped stops.WriteFault) a b is = cc
+no_bad_journal (Stopped stops.JournalFault) a b is = cc

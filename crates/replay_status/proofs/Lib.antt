@@ -1,0 +1,4 @@
+pub mod Logging
+pub mod EndCauses
+pub mod Readable
+pub mod Printing

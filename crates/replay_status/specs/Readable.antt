@@ -1,0 +1,14 @@
+-- An input that no command refuses.
+use Rattle.std.specs.Prelude.{◌≡◌, ℕ, ◌≤◌, List, length, Option, Some}
+use Rattle.yasir_ticks.specs.Ticks.{Item, ticks_in}
+use Rattle.yasir_ticks.specs.TickText.{IsTickText}
+use Rattle.tick_drive.specs.Input.{max_ticks, max_bytes}
+
+-- The input tells a right text within the limits.
+pub record IsReadable (input : Option (List ℕ)) : Type 0 where
+  pub text : List ℕ
+  pub items : List Item
+  pub told : input ≡ Some text
+  pub right : IsTickText 0 text items
+  pub few_ticks : length (ticks_in items) ≤ max_ticks
+  pub few_bytes : length text ≤ max_bytes

@@ -1,0 +1,46 @@
+-- The exit status and the fault line of each status.
+use Rattle.std.specs.Prelude.{ℕ, List, [], ◌++◌, codes, decimal}
+use Rattle.hex.specs.Hex.{encode_lower}
+use Rattle.yasir_ticks.specs.declared.fault.TickFault.{TickFault}
+use Rattle.yasir_ticks.specs.declared.fault.TickFault.TheVariants.{Char, Odd, Long, Count, Empty, Mark}
+use Rattle.tick_drive.specs.declared.end.TooMuch.{TooMuch}
+use Rattle.tick_drive.specs.declared.end.TooMuch.TheVariants.{Ticks, Bytes}
+use Rattle.replay_status.specs.declared.status.Status.{Status}
+use Rattle.replay_status.specs.declared.status.Status.TheVariants.{Done, Usage, BadTicks, ReadFault, WriteFault, JournalFault, TooLong, HasJournal, BadKey, BadJournal}
+
+abbrev pub code_of : Status → ℕ
+code_of Done = 0
+code_of Usage = 2
+code_of (BadTicks bad) = 4
+code_of ReadFault = 5
+code_of WriteFault = 6
+code_of JournalFault = 7
+code_of (TooLong what count) = 10
+code_of (HasJournal floor) = 11
+code_of (BadKey place) = 3
+code_of (BadJournal a b) = 8
+
+abbrev pub fault_word : TickFault → List ℕ
+fault_word Char = codes "char"
+fault_word Odd = codes "odd"
+fault_word Long = codes "long"
+fault_word Count = codes "count"
+fault_word Empty = codes "empty"
+fault_word Mark = codes "mark"
+
+abbrev pub unit_word : TooMuch → List ℕ
+unit_word Ticks = codes " ticks"
+unit_word Bytes = codes " bytes"
+
+-- the line that the log gets last; none after Done and after a write that failed
+abbrev pub fault_line : Status → List ℕ
+fault_line Done = []
+fault_line Usage = codes "fault: usage\n"
+fault_line (BadTicks bad) = codes "fault: line " ++ decimal bad.line ++ codes " " ++ fault_word bad.why ++ codes "\n"
+fault_line ReadFault = codes "fault: read\n"
+fault_line WriteFault = []
+fault_line (TooLong what count) = codes "fault: too long " ++ decimal count ++ unit_word what ++ codes "\n"
+fault_line JournalFault = codes "fault: journal\n"
+fault_line (HasJournal floor) = codes "fault: journal stands at " ++ decimal floor ++ codes "\n"
+fault_line (BadKey place) = codes "fault: key at " ++ decimal place ++ codes "\n"
+fault_line (BadJournal a b) = codes "fault: bad journal " ++ encode_lower a ++ codes " " ++ encode_lower b ++ codes "\n"

@@ -1,0 +1,37 @@
+ghost use Rattle.std.specs.Prelude.{◌≡◌, ◌⊎◌};
+ghost use Rattle.replay_status.specs.Causes.{SinkCause};
+ghost use Rattle.replay_status.specs.Endings.{status_of};
+
+use crate::Status;
+use tick_drive::{End, Stop};
+use yasir_io::{Failed, Sink};
+
+/// Flushes both sinks, on the way to `Done`.
+pub fn flush_both<O: Sink, L: Sink>(out: &mut O, log: &mut L) -> Status
+    ensures status { (result ≡ Status.Done) ⊎ (result ≡ Status.WriteFault) }
+    ensures out { O.held out.new ≡ O.held out.old }
+    ensures log { L.held log.new ≡ L.held log.old }
+    ensures sinks { SinkCause (O.faults out.old) (O.faults out.new) (L.faults log.old) (L.faults log.new) result }
+{
+    if let Err(Failed) = out.flush() {
+        return Status::WriteFault;
+    }
+    if let Err(Failed) = log.flush() {
+        return Status::WriteFault;
+    }
+    Status::Done
+}
+
+/// The status of a run that ended so, and whose last lines were written.
+pub fn status_of(end: End) -> Status
+    ensures { result ≡ status_of end }
+{
+    match end {
+        End::Whole => Status::Done,
+        End::Refused(bad) => Status::BadTicks(bad),
+        End::TooLong { what, count } => Status::TooLong { what, count },
+        End::ReadFault => Status::ReadFault,
+        End::Stopped(Stop::WriteFault) => Status::WriteFault,
+        End::Stopped(Stop::JournalFault) => Status::JournalFault,
+    }
+}

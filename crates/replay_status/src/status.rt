@@ -1,0 +1,52 @@
+ghost use Rattle.std.specs.Prelude.{◌≡◌};
+
+use tick_drive::TooMuch;
+use yasir_io::SlotBytes;
+use yasir_ticks::BadTicks;
+
+/// How a run of the program ended.
+#[derive(Clone, Copy, Debug, PartialEq, Eq)]
+pub enum Status {
+    /// The answer is written, all of it.
+    Done,
+    /// The words name no command.
+    Usage,
+    /// The input is no tick text.
+    BadTicks(BadTicks),
+    /// The input could not be read.
+    ReadFault,
+    /// Standard output or the log could not be written.
+    WriteFault,
+    /// The journal's disk failed.
+    JournalFault,
+    /// The input has more ticks or bytes than are taken; `count` is the first sum that was too much.
+    TooLong { what: TooMuch, count: u64 },
+    /// A journal stands already, at this floor.
+    HasJournal { floor: u64 },
+    /// The key's text is no key; `place` is the length of its longest prefix that begins some key text.
+    BadKey { place: u32 },
+    /// The disk holds no journal; these are its slots as they were read.
+    BadJournal { a: SlotBytes, b: SlotBytes },
+}
+
+impl Status {
+    ghost use Rattle.replay_status.specs.Statuses.{code_of};
+
+    /// The program's exit status.
+    pub fn code(&self) -> u8
+        ensures { result ≡ code_of self.now }
+    {
+        match self {
+            Status::Done => 0,
+            Status::Usage => 2,
+            Status::BadTicks(_) => 4,
+            Status::ReadFault => 5,
+            Status::WriteFault => 6,
+            Status::JournalFault => 7,
+            Status::TooLong { .. } => 10,
+            Status::HasJournal { .. } => 11,
+            Status::BadKey { .. } => 3,
+            Status::BadJournal { .. } => 8,
+        }
+    }
+}

@@ -1,0 +1,31 @@
+ghost use Rattle.std.specs.Prelude.{◌≡◌, ◌≤◌, ◌+◌, ◌*◌, ◌++◌, length, decimal};
+ghost use Rattle.hex.specs.Hex.{encode_lower};
+
+use arrayvec::ArrayVec;
+
+/// One printed line: the longest has 8 bytes, a number of 20 digits, a blank, 292 bytes in hex and an LF.
+pub type Line = ArrayVec<u8, 640>;
+
+/// Appends the decimal digits of a number.
+pub fn push_decimal<const CAP: usize>(line: &mut ArrayVec<u8, CAP>, n: u64)
+    requires { length line.old.items + 20 ≤ CAP }
+    ensures digits { line.new.items ≡ line.old.items ++ decimal n }
+    ensures short { length line.new.items ≤ length line.old.items + 20 }
+{
+    let mut digits = itoa::Buffer::new();
+    let text = digits.format(n);
+    line.try_extend_from_slice(text.as_bytes()).unwrap();
+}
+
+/// Appends bytes as lower-case hex digits.
+pub fn push_hex(line: &mut Line, bytes: &[u8])
+    requires room { length line.old.items + 2 * length bytes.now ≤ 640 }
+    requires frame { length bytes.now ≤ 292 }
+    ensures digits { line.new.items ≡ line.old.items ++ encode_lower bytes.now }
+    ensures long { length line.new.items ≡ length line.old.items + 2 * length bytes.now }
+{
+    let mut digits = [0u8; 584];
+    let text = &mut digits[..2 * bytes.len()];
+    hex::encode_to_slice(bytes, text).unwrap();
+    line.try_extend_from_slice(text).unwrap();
+}
