@@ -1,7 +1,7 @@
 -- The lengths of digests and tags, and that they are bytes.
 use Rattle.std.specs.Prelude.{◌≡◌, ℕ, zero, suc, ◌<◌, ◌≤◌, List, length, All, refl}
 use Rattle.std.specs.Int.{byte_at, bytes_high_first}
-use Rattle.std.proofs.Common.{arith}
+use Rattle.std.proofs.Common.{arith, inl}
 use Rattle.std.proofs.lemmas.List.{length-take-le}
 use Rattle.std.proofs.lemmas.List.Elements.{All-nil, All-cons, All-append, All-take}
 use Rattle.hmac_tag.specs.Hmac.{hmac}
@@ -36,7 +36,7 @@ pub sha1-fits_block : 20 ≤ 64
 sha1-fits_block = omega arith
 
 pub sha1-tag_size : IsTagSize 12
-sha1-tag_size = refl
+sha1-tag_size = inl refl
 
 pub sha1-tag_within : 12 ≤ 20
 sha1-tag_within = omega arith

@@ -1,14 +1,14 @@
 -- Tags: the first bytes of a code of a text, and the text that is coded for a numbered frame.
-use Rattle.std.specs.Prelude.{◌≡◌, ℕ, List, ◌∷◌, ◌++◌, take}
+use Rattle.std.specs.Prelude.{◌≡◌, ◌⊎◌, ℕ, List, ◌∷◌, ◌++◌, take}
 use Rattle.std.specs.Int.{w64, to_be_bytes}
 use Rattle.sha1.specs.Sha1.{sha1}
 use Rattle.hmac_tag.specs.Hmac.{hmac}
 use Rattle.hmac_tag.specs.declared.dir.Dir.{Dir}
 use Rattle.hmac_tag.specs.declared.dir.Dir.TheVariants.{Ab, Ba}
 
--- how many bytes a tag may have
+-- how many bytes a tag has: 12 or 16
 abbrev pub IsTagSize : ℕ → Type 0
-IsTagSize size = size ≡ 12
+IsTagSize size = (size ≡ 12) ⊎ (size ≡ 16)
 
 -- a code cut to its first bytes
 abbrev pub hmac_cut : (List ℕ → List ℕ) → ℕ → List ℕ → List ℕ → List ℕ
