@@ -11,7 +11,7 @@ pub struct TextBuffer {
 }
 
 impl TextBuffer {
-    ghost use Rattle.std.specs.Prelude.{◌≡◌, ℕ, List, [], ◌++◌, Option, OnOk, OnErr};
+    ghost use Rattle.std.specs.Prelude.{◌≡◌, ℕ, ◌+◌, ◌≤◌, List, [], ◌++◌, length, true, false, Option, OnOk, OnErr};
     ghost use Rattle.yasir_io.specs.Causes.{HasCause};
     ghost use Rattle.yasir_io.specs.Output.{Buffered, GotPrefix};
     ghost use Rattle.yasir_io.specs.TextBuffer.{waiting_bytes};
@@ -25,6 +25,18 @@ impl TextBuffer {
         TextBuffer {
             text: ArrayVec::new(),
         }
+    }
+
+    /// Adds a piece where the room left takes it, and answers whether it did; where it did not, nothing
+    /// changes. No sink is called.
+    #[inline]
+    pub fn extend(&mut self, piece: &[u8]) -> bool
+        ensures added { result ≡ true
+            → waiting_bytes self.new ≡ waiting_bytes self.old ++ piece.now }
+        ensures left { result ≡ false → self.new ≡ self.old }
+        ensures fits { length (waiting_bytes self.old) + length piece.now ≤ 4096 → result ≡ true }
+    {
+        self.text.try_extend_from_slice(piece).is_ok()
     }
 
     /// Adds a piece to the text, of any length.
