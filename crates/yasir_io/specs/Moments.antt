@@ -18,9 +18,9 @@ module _ {D : Type 0} (moment : D → ℕ) (left_since : D → ℕ → Slots →
     ];
     before = λ t c le left. elim (time.nothing_else t c le left)
         as (λ _. left_since old t c ⊎ P c) [
-      | inl past ↦ inl past
-      | inr now ↦ inr (from_after c now)
-    ];
+          | inl past ↦ inl past
+          | inr now ↦ inr (from_after c now)
+        ];
   }
 
   -- some calls, and then some more

@@ -5,6 +5,8 @@ mod calls;
 mod disk;
 mod edge;
 mod faults;
+#[cfg(test)]
+mod file_tests;
 mod files;
 mod mem_sink;
 mod mem_slots;

@@ -66,6 +66,14 @@ fn a_source_gives_each_byte_once(rt: HostRuntime) -> Result<(), Fail> {
         assert_eq!(rt; drained(&mut Pieces::new(), &mut source, &mut out)?, failed);
         assert_eq!(rt; out.as_slice(), b"abcdef".as_slice());
     }
+    // A slice shorter than what is left, and one without room.
+    let mut source = MemSource::new(b"abc", 512, Plan::new());
+    let mut two = [0; 2];
+    assert_eq!(rt; source.read(&mut two), Ok(2));
+    assert_eq!(rt; two, *b"ab");
+    assert_eq!(rt; source.read(&mut []), Ok(0));
+    assert_eq!(rt; source.read(&mut two), Ok(1));
+    assert_eq!(rt; source.read(&mut two), Ok(0));
     let mut out = Vec::new(rt.alloc());
     assert_eq!(rt;
         drained(&mut Pieces::new(), &mut SteadySource::new(b"abc"), &mut out)?,
@@ -239,7 +247,8 @@ fn slots_in_memory_fail_where_they_are_told_to(rt: HostRuntime) -> Result<(), Fa
     assert_eq!(rt; disk.read_slot(Slot::A), Ok(a));
     assert_eq!(rt; disk.read_slot(Slot::B), Ok(b));
     // The calls are a write, a sync and a read of slot B: which fail, and what the slot is then.
-    let rows: [(usize, &[u32], [bool; 3], [u8; 16]); 5] = [
+    let rows: [(usize, &[u32], [bool; 3], [u8; 16]); 6] = [
+        (2, &[1], [false, true, false], b),
         (3, &[], [true, true, true], [3; 16]),
         (3, &[1], [false, true, true], b),
         (3, &[2], [true, false, true], [3; 16]),

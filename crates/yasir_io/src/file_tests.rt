@@ -1,0 +1,333 @@
+//! Files at their edge: short calls, calls that fail, how a file is opened, and what reaches a
+//! sync.
+ghost use Rattle.std.specs.Io.{ReadsAtMost, WritesAtMost};
+
+use crate::{Failed, FileSlots, FileSource, Pieces, Slot, SlotDisk, Source};
+use std::alloc::Allocator;
+use std::cell::Cell;
+use std::fs::{Metadata, OpenFile, OpenOptions};
+use std::io::{self, ErrorKind, Read, Seek, SeekFrom, Write};
+use std::rt::Files;
+use std::test::Fail;
+
+const ROOM: usize = 40;
+
+// A file system of one file. A call moves at most `piece` bytes; call `fail`, counted from 1,
+// fails.
+#[derive(Drop)]
+struct OneFile {
+    bytes: Cell<[u8; ROOM]>,
+    len: Cell<usize>,
+    exists: Cell<bool>,
+    piece: usize,
+    fail: u32,
+    calls: Cell<u32>,
+    openings: Cell<u32>,
+    syncs: Cell<u32>,
+    unsynced: Cell<bool>,
+}
+
+impl OneFile {
+    fn begin(&self) -> io::Result<()> {
+        let call = self.calls.get().saturating_add(1);
+        self.calls.set(call);
+        if call == self.fail {
+            return Err(ErrorKind::Other.into());
+        }
+        Ok(())
+    }
+}
+
+// A file whose first bytes are 0, 1, 2, ..
+fn file_of(len: usize, piece: usize, fail: u32) -> OneFile {
+    let mut bytes = [0; ROOM];
+    let mut next = 0u8;
+    for byte in bytes.iter_mut() {
+        *byte = next;
+        next = next.wrapping_add(1);
+    }
+    OneFile {
+        bytes: Cell::new(bytes),
+        len: Cell::new(len),
+        exists: Cell::new(true),
+        piece,
+        fail,
+        calls: Cell::new(0),
+        openings: Cell::new(0),
+        syncs: Cell::new(0),
+        unsynced: Cell::new(false),
+    }
+}
+
+#[derive(Drop)]
+struct Folder<'a>(&'a OneFile);
+
+#[derive(Drop)]
+struct Opened<'a> {
+    file: &'a OneFile,
+    place: usize,
+    writes: bool,
+}
+
+impl Opened<'_> {
+    fn give(&mut self, buf: &mut [u8]) -> io::Result<usize>
+        ensures { ReadsAtMost result buf.new }
+    {
+        self.file.begin()?;
+        let bytes = self.file.bytes.get();
+        let left = bytes.get(self.place..self.file.len.get()).unwrap_or(&[]);
+        let n = left.len().min(buf.len()).min(self.file.piece);
+        buf[..n].copy_from_slice(&left[..n]);
+        self.place = self.place.saturating_add(n);
+        Ok(n)
+    }
+
+    fn take(&mut self, buf: &[u8]) -> io::Result<usize>
+        ensures { WritesAtMost result buf.now }
+    {
+        self.file.begin()?;
+        if !self.writes || self.place > ROOM {
+            return Err(ErrorKind::PermissionDenied.into());
+        }
+        let n = buf.len().min(ROOM - self.place).min(self.file.piece);
+        let mut bytes = self.file.bytes.get();
+        bytes[self.place..self.place + n].copy_from_slice(&buf[..n]);
+        self.file.bytes.set(bytes);
+        self.place += n;
+        self.file.len.set(self.file.len.get().max(self.place));
+        self.file.unsynced.set(true);
+        Ok(n)
+    }
+}
+
+impl Read for Opened<'_> {
+    fn read(&mut self, buf: &mut [u8]) -> io::Result<usize> {
+        self.give(buf)
+    }
+}
+
+impl Write for Opened<'_> {
+    fn write(&mut self, buf: &[u8]) -> io::Result<usize> {
+        self.take(buf)
+    }
+
+    fn flush(&mut self) -> io::Result<()> {
+        Ok(())
+    }
+}
+
+impl Seek for Opened<'_> {
+    fn seek(&mut self, to: SeekFrom) -> io::Result<u64> {
+        self.file.begin()?;
+        let SeekFrom::Start(place) = to else {
+            return Err(ErrorKind::Unsupported.into());
+        };
+        self.place = usize::try_from(place).unwrap_or(ROOM);
+        Ok(place)
+    }
+}
+
+impl OpenFile for Opened<'_> {
+    fn metadata(&self) -> io::Result<Metadata> {
+        Err(ErrorKind::Unsupported.into())
+    }
+
+    fn set_len(&self, _size: u64) -> io::Result<()> {
+        Err(ErrorKind::Unsupported.into())
+    }
+
+    fn sync_all(&self) -> io::Result<()> {
+        self.file.begin()?;
+        self.file.syncs.set(self.file.syncs.get().saturating_add(1));
+        self.file.unsynced.set(false);
+        Ok(())
+    }
+
+    fn sync_data(&self) -> io::Result<()> {
+        Err(ErrorKind::Unsupported.into())
+    }
+}
+
+impl<'a> Files for Folder<'a> {
+    type File = Opened<'a>;
+
+    type Dir = Opened<'a>;
+
+    fn open_file(&self, how: &OpenOptions, _path: &str) -> io::Result<Opened<'a>> {
+        how.check()?;
+        self.0.begin()?;
+        if !self.0.exists.get() && !how.asks_create() {
+            return Err(ErrorKind::NotFound.into());
+        }
+        self.0.exists.set(true);
+        if how.asks_truncate() || how.asks_append() || how.asks_create_new() {
+            self.0.len.set(0);
+        }
+        self.0.openings.set(self.0.openings.get().saturating_add(1));
+        Ok(Opened {
+            file: self.0,
+            place: 0,
+            writes: how.asks_write(),
+        })
+    }
+
+    fn open_dir(&self, _path: &str) -> io::Result<Opened<'a>> {
+        Err(ErrorKind::Unsupported.into())
+    }
+
+    fn metadata(&self, _path: &str) -> io::Result<Metadata> {
+        Err(ErrorKind::Unsupported.into())
+    }
+
+    fn symlink_metadata(&self, _path: &str) -> io::Result<Metadata> {
+        Err(ErrorKind::Unsupported.into())
+    }
+
+    fn copy(&self, _from: &str, _to: &str) -> io::Result<u64> {
+        Err(ErrorKind::Unsupported.into())
+    }
+
+    fn rename(&self, _from: &str, _to: &str) -> io::Result<()> {
+        Err(ErrorKind::Unsupported.into())
+    }
+
+    fn remove_file(&self, _path: &str) -> io::Result<()> {
+        Err(ErrorKind::Unsupported.into())
+    }
+
+    fn create_dir(&self, _path: &str) -> io::Result<()> {
+        Err(ErrorKind::Unsupported.into())
+    }
+
+    fn remove_dir(&self, _path: &str) -> io::Result<()> {
+        Err(ErrorKind::Unsupported.into())
+    }
+
+    fn remove_dir_all<B: Allocator>(&self, _alloc: B, _path: &str) -> io::Result<()> {
+        Err(ErrorKind::Unsupported.into())
+    }
+}
+
+// Sixteen bytes that count up from this one.
+fn counted(first: u8) -> [u8; 16] {
+    let mut next = first;
+    [0u8; 16].map(|_| {
+        let byte = next;
+        next = next.wrapping_add(1);
+        byte
+    })
+}
+
+fn name(rt: &HostRuntime) -> Result<Option<String>, Fail> {
+    Ok(Some(String::from_str(rt.alloc(), "file")?))
+}
+
+#[test]
+fn a_slot_is_read_whole_or_not_at_all(rt: HostRuntime) -> Result<(), Fail> {
+    let (a, b) = (counted(0), counted(16));
+    // bytes of the file, most of a call, the call that fails, and the two slots as the first reads
+    // give them
+    let cut = [16, 17, 18, 0, 0, 0, 0, 0, 0, 0, 0, 0, 0, 0, 0, 0];
+    let rows: [(
+        usize,
+        usize,
+        u32,
+        Result<[u8; 16], Failed>,
+        Result<[u8; 16], Failed>,
+    ); 9] = [
+        (32, 40, 0, Ok(a), Ok(b)),
+        (40, 5, 0, Ok(a), Ok(b)),
+        (19, 7, 0, Ok(a), Ok(cut)),
+        (0, 40, 0, Ok([0; 16]), Ok([0; 16])),
+        // The opening, the seek and the read for slot A fail, the second of its reads, and the read
+        // for slot B.
+        (32, 40, 1, Err(Failed), Ok(b)),
+        (32, 40, 2, Err(Failed), Ok(b)),
+        (32, 40, 3, Err(Failed), Ok(b)),
+        (32, 9, 4, Err(Failed), Ok(b)),
+        (32, 40, 5, Ok(a), Err(Failed)),
+    ];
+    for (len, piece, fail, first, second) in rows {
+        let file = file_of(len, piece, fail);
+        let folder = Folder(&file);
+        let mut disk = FileSlots::new(&folder, name(&rt)?, false);
+        assert_eq!(rt; disk.read_slot(Slot::A), first);
+        assert_eq!(rt; disk.read_slot(Slot::B), second);
+        assert_eq!(rt; file.openings.get(), 1);
+        assert_eq!(rt; file.len.get(), len);
+    }
+    Ok(())
+}
+
+#[test]
+fn a_slot_is_written_whole_or_a_fault(rt: HostRuntime) -> Result<(), Fail> {
+    // most of a call, the call that fails, and whether the write and the sync behind it are done
+    let rows: [(usize, u32, bool, bool); 6] = [
+        (40, 0, true, true),
+        (16, 0, true, true),
+        (15, 0, false, true),
+        (40, 1, false, true),
+        (40, 3, false, true),
+        (40, 4, true, false),
+    ];
+    for (piece, fail, written, synced) in rows {
+        let file = file_of(40, piece, fail);
+        let folder = Folder(&file);
+        let mut disk = FileSlots::new(&folder, name(&rt)?, false);
+        assert_eq!(rt; disk.write_slot(Slot::B, &[99; 16]).is_ok(), written);
+        assert_eq!(rt; file.syncs.get(), 0);
+        assert_eq!(rt; disk.sync().is_ok(), synced);
+        assert_eq!(rt; file.syncs.get(), if synced { 1 } else { 0 });
+        assert_eq!(rt; file.unsynced.get(), !synced);
+        // What stands beside slot B is as it was.
+        let bytes = file.bytes.get();
+        assert!(rt; bytes.get(..16) == Some(counted(0).as_slice()));
+        assert!(rt; bytes.get(32..) == counted(32).get(..8));
+        if written {
+            assert!(rt; bytes.get(16..32) == Some([99u8; 16].as_slice()));
+        }
+        assert_eq!(rt; file.len.get(), 40);
+        assert_eq!(rt; file.openings.get(), 1);
+    }
+    Ok(())
+}
+
+#[test]
+fn a_missing_file_is_made_where_it_is_said(rt: HostRuntime) -> Result<(), Fail> {
+    for create in [false, true] {
+        let file = file_of(0, 40, 0);
+        file.exists.set(false);
+        let folder = Folder(&file);
+        let mut disk = FileSlots::new(&folder, name(&rt)?, create);
+        assert_eq!(rt; disk.sync().is_ok(), create);
+        assert_eq!(rt; file.exists.get(), create);
+        assert_eq!(rt; file.syncs.get(), if create { 1 } else { 0 });
+    }
+    Ok(())
+}
+
+#[test]
+fn a_file_gives_each_byte_once(rt: HostRuntime) -> Result<(), Fail> {
+    // most of a call, the call that fails, and how many answers of a failure come
+    let rows: [(usize, u32, u32); 5] = [(40, 0, 0), (7, 0, 0), (7, 1, 1), (7, 3, 1), (9, 6, 1)];
+    for (piece, fail, failed) in rows {
+        let file = file_of(40, piece, fail);
+        let folder = Folder(&file);
+        let mut source = FileSource::new(&folder, name(&rt)?);
+        let mut pieces = Pieces::new();
+        let mut out = Vec::new(rt.alloc());
+        let mut failures = 0u32;
+        for _ in 0..50 {
+            match pieces.next(&mut source) {
+                Ok(Some(byte)) => out.push(byte)?,
+                Ok(None) => {}
+                Err(Failed) => failures = failures.saturating_add(1),
+            }
+        }
+        assert_eq!(rt; failures, failed);
+        assert_eq!(rt; out.as_slice(), file.bytes.get().as_slice());
+        assert_eq!(rt; file.openings.get(), 1);
+        assert_eq!(rt; source.read(&mut []), Ok(0));
+    }
+    Ok(())
+}
