@@ -1,23 +1,43 @@
 -- What stands where for a consumer that prints a line for each frame that its device reads.
-use Rattle.std.specs.Prelude.{◌≡◌, ℕ, List}
+use Rattle.std.specs.Prelude.{◌≡◌, ℕ, List, Option, ⊤}
 use Rattle.yasir_io.specs.Output.{Buffered, GotPrefix}
+use Rattle.yasir_io.specs.TextBuffer.{waiting_bytes}
 use Rattle.yasir_ticks.specs.Ticks.{Item, ticks_in}
-use Rattle.yasir_ticks.specs.declared.tick.Tick.{Tick}
-use Rattle.device_model.specs.Frames.{FrameRead}
-use Rattle.tick_drive.specs.Consumers.{Held, Start}
+use Rattle.device_model.specs.declared.device.Device.{Ghosts as Device}
+use Rattle.tick_drive.specs.Consumers.{Consuming, Outputs}
 use Rattle.tick_drive.specs.declared.consumer.Stop.{Stop}
 use Rattle.tick_drive.specs.declared.consumer.Stop.TheVariants.{WriteFault}
 use Rattle.device_replay.specs.Lines.{frame_lines}
+use Rattle.device_replay.specs.declared.frame_lines.FrameLines.{FrameLines}
+
+-- what the sinks held as the first tick came
+pub record Began : Type 0 where
+  pub out : Option (List ℕ)
+  pub log : Option (List ℕ)
 
 -- The device has heard these items' ticks, and the lines of what it read are on their way to `out`.
-pub record PrintsReads {V : Type 0} (stands : V → List Tick → Type 0) (reads : List Tick → List FrameRead)
-    (device : V) (waits : List ℕ) (start : Start) (held : Held) (items : List Item) : Type 0 where
-  pub hears : stands device (ticks_in items)
-  pub lines : Buffered start.out held.out waits (frame_lines (reads (ticks_in items)))
-  pub quiet : held.log ≡ start.log
+pub record PrintsReads {V : Type 0} (device : Device V) (printer : FrameLines V)
+    (began : Began) (outputs : Outputs) (items : List Item) : Type 0 where
+  pub hears : device.stands printer.device (ticks_in items)
+  pub lines : Buffered began.out outputs.out (waiting_bytes printer.lines)
+      (frame_lines (device.reads (ticks_in items)))
+  pub quiet : outputs.log ≡ began.log
 
 -- A write failed at the last of these items: `out` has got a front of the lines.
-pub record StopsPrinting (reads : List Tick → List FrameRead) (stop : Stop) (start : Start) (held : Held) (items : List Item) : Type 0 where
+pub record StopsPrinting {V : Type 0} (device : Device V) (stop : Stop)
+    (began : Began) (outputs : Outputs) (items : List Item) : Type 0 where
   pub why : stop ≡ WriteFault
-  pub lines : GotPrefix start.out held.out (frame_lines (reads (ticks_in items)))
-  pub quiet : held.log ≡ start.log
+  pub lines : GotPrefix began.out outputs.out (frame_lines (device.reads (ticks_in items)))
+  pub quiet : outputs.log ≡ began.log
+
+-- What is said of such a consumer. It uses no disk.
+abbrev pub printing : {V D : Type 0} → Device V → Consuming (FrameLines V) D
+printing device = record {
+  Origin = Began;
+  stands = PrintsReads device;
+  stopped = λ printer. StopsPrinting device;
+  taken = λ printer. device.taken printer.device;
+  able = λ printer disk. ⊤;
+  kept = λ printer disk. ⊤;
+  safe = λ printer image. ⊤;
+}

@@ -1,57 +1,61 @@
--- The command `read`: what is printed of an input, and when each status comes.
-use Rattle.std.specs.Prelude.{◌≡◌, ℕ, List, ◌++◌, take, Option}
+-- What is printed of the frames that a device reads from an input, and when each status comes.
+use Rattle.std.specs.Prelude.{◌≡◌, ℕ, ◌+◌, List, take, Option}
 use Rattle.std.specs.Io.KnownBytes.{append_known}
 use Rattle.yasir_io.specs.Output.{Buffered, GotPrefix}
-use Rattle.yasir_ticks.specs.Ticks.{Item, ticks_in, silent}
+use Rattle.yasir_ticks.specs.Ticks.{Item, ticks_in}
 use Rattle.yasir_ticks.specs.declared.tick.Tick.{Tick}
 use Rattle.device_model.specs.Frames.{FrameRead}
 use Rattle.tick_drive.specs.Input.{Takes}
+use Rattle.tick_drive.specs.declared.consumer.Stop.{Stop}
 use Rattle.tick_drive.specs.declared.end.End.{End}
 use Rattle.tick_drive.specs.declared.end.End.TheVariants.{Whole, Refused, Stopped}
 use Rattle.tick_drive.specs.declared.end.End.TheVariants as ends
 use Rattle.tick_drive.specs.declared.consumer.Stop.TheVariants as stops
 use Rattle.device_replay.specs.Lines.{frame_lines}
 use Rattle.replay_status.specs.declared.status.Status.{Status}
-use Rattle.replay_status.specs.declared.status.Status.TheVariants.{Done, Usage, BadTicks, ReadFault, WriteFault, JournalFault, TooLong, HasJournal, BadKey, BadJournal}
+use Rattle.replay_status.specs.declared.status.Status.TheVariants.{Done, BadTicks, ReadFault, WriteFault, TooLong}
 
--- `out` has got exactly the lines of what the device reads of these ticks.
-abbrev pub HasPrinted : (List Tick → List FrameRead) → Option (List ℕ) → Option (List ℕ) → List Tick → Type 0
-HasPrinted reads out_before out_now line = out_now ≡ append_known out_before (frame_lines (reads line))
+-- How many silent ticks stand behind a whole input, so that its last burst ends.
+abbrev pub read_rest : ℕ
+read_rest = 4
 
--- The lines of what the device reads of these ticks are on their way to `out`.
-abbrev pub IsPrinting : (List Tick → List FrameRead) → Option (List ℕ) → Option (List ℕ) → List ℕ → List Tick → Type 0
-IsPrinting reads out_before out_now waits line = Buffered out_before out_now waits (frame_lines (reads line))
+module _ (reads : List Tick → List FrameRead) (in_before in_now out_before out_now : Option (List ℕ)) where
+  -- `out` has got the lines of what the device reads of all ticks that were taken.
+  pub record PrintsAll (end : End) : Type 0 where
+    pub items : List Item
+    pub takes : Takes 0 read_rest in_before in_now items end
+    pub printed : out_now ≡ append_known out_before (frame_lines (reads (ticks_in items)))
 
--- As the run over the input ended, with the lines that still wait.
-abbrev pub DrivesFrames : (List Tick → List FrameRead) → Option (List ℕ) → Option (List ℕ) → Option (List ℕ) → Option (List ℕ) → List ℕ → End → Type 0
-DrivesFrames reads before now out_before out_now waits Whole =
-    (items : List Item) × Takes 0 before now items Whole × IsPrinting reads out_before out_now waits (ticks_in items ++ silent 4)
-DrivesFrames reads before now out_before out_now waits (Refused bad) =
-    (items : List Item) × Takes 0 before now items (Refused bad) × IsPrinting reads out_before out_now waits (ticks_in items)
-DrivesFrames reads before now out_before out_now waits (ends.TooLong what count) =
-    (items : List Item) × Takes 0 before now items (ends.TooLong what count) × IsPrinting reads out_before out_now waits (ticks_in items)
-DrivesFrames reads before now out_before out_now waits ends.ReadFault =
-    (items : List Item) × Takes 0 before now items ends.ReadFault × IsPrinting reads out_before out_now waits (ticks_in items)
-DrivesFrames reads before now out_before out_now waits (Stopped stop) =
-    (stop ≡ stops.WriteFault) × ((items : List Item) × Takes 0 before now items (Stopped stop)
-    × ((n : ℕ) × GotPrefix out_before out_now (frame_lines (reads (take n (ticks_in items ++ silent 4))))))
+  -- A write failed: `out` has got a front of the lines of what the device reads of so many of the items that were taken.
+  pub record PrintsFront : Type 0 where
+    pub items : List Item
+    pub end : End
+    pub count : ℕ
+    pub takes : Takes 0 read_rest in_before in_now items end
+    pub printed : GotPrefix out_before out_now (frame_lines (reads (ticks_in (take count items))))
 
--- What the run took of its input, and what `out` has got of it. Behind a whole input stand four silent ticks.
-abbrev pub PrintsFrames : (List Tick → List FrameRead) → Option (List ℕ) → Option (List ℕ) → Option (List ℕ) → Option (List ℕ) → Status → Type 0
-PrintsFrames reads before now out_before out_now Done =
-    (items : List Item) × Takes 0 before now items Whole × HasPrinted reads out_before out_now (ticks_in items ++ silent 4)
-PrintsFrames reads before now out_before out_now (BadTicks bad) =
-    (items : List Item) × Takes 0 before now items (Refused bad) × HasPrinted reads out_before out_now (ticks_in items)
-PrintsFrames reads before now out_before out_now (TooLong what count) =
-    (items : List Item) × Takes 0 before now items (ends.TooLong what count) × HasPrinted reads out_before out_now (ticks_in items)
-PrintsFrames reads before now out_before out_now ReadFault =
-    (items : List Item) × Takes 0 before now items ends.ReadFault × HasPrinted reads out_before out_now (ticks_in items)
--- a front of the lines of the ticks that were decided so far
-PrintsFrames reads before now out_before out_now WriteFault =
-    (items : List Item) × (end : End) × Takes 0 before now items end
-    × (n : ℕ) × GotPrefix out_before out_now (frame_lines (reads (take n (ticks_in items ++ silent 4))))
-PrintsFrames reads before now out_before out_now Usage = ⊥
-PrintsFrames reads before now out_before out_now JournalFault = ⊥
-PrintsFrames reads before now out_before out_now (HasJournal floor) = ⊥
-PrintsFrames reads before now out_before out_now (BadKey place) = ⊥
-PrintsFrames reads before now out_before out_now (BadJournal a b) = ⊥
+  -- What the run took of its input, and what `out` has got of it.
+  abbrev pub PrintsFrames : Status → Type 0
+  PrintsFrames Done = PrintsAll Whole
+  PrintsFrames (BadTicks bad) = PrintsAll (Refused bad)
+  PrintsFrames (TooLong what count) = PrintsAll (ends.TooLong what count)
+  PrintsFrames ReadFault = PrintsAll ends.ReadFault
+  PrintsFrames WriteFault = PrintsFront
+  PrintsFrames status = ⊥
+
+  -- A write failed at one of these items.
+  pub record StopsAtLine (items : List Item) (stop : Stop) : Type 0 where
+    pub why : stop ≡ stops.WriteFault
+    pub place : ℕ
+    pub lines : GotPrefix out_before out_now (frame_lines (reads (ticks_in (take (place + 1) items))))
+
+  -- the lines of these items as the run over the input ended, while some of them still wait
+  abbrev pub LinesAtEnd : List ℕ → List Item → End → Type 0
+  LinesAtEnd waits items (Stopped stop) = StopsAtLine items stop
+  LinesAtEnd waits items end = Buffered out_before out_now waits (frame_lines (reads (ticks_in items)))
+
+  -- As the run over the input ended.
+  pub record DrivesFrames (waits : List ℕ) (end : End) : Type 0 where
+    pub items : List Item
+    pub takes : Takes 0 read_rest in_before in_now items end
+    pub lines : LinesAtEnd waits items end

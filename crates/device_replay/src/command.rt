@@ -1,8 +1,8 @@
 ghost use Rattle.std.specs.Prelude.{◌≡◌, [], ℕ};
 ghost use Rattle.yasir_io.specs.TextBuffer.{waiting_bytes};
 ghost use Rattle.tick_drive.specs.Input.{IsReadCause, is_read_fault};
-ghost use Rattle.tick_drive.specs.Consumers.{IsSinkCause};
-ghost use Rattle.tick_drive.specs.Drive.{is_write_stop};
+ghost use Rattle.tick_drive.specs.Consumers.{IsSinkCause, is_write_fault};
+ghost use Rattle.tick_drive.specs.Drive.{answer_of};
 ghost use Rattle.device_replay.specs.PrintsFrames.{DrivesFrames, PrintsFrames};
 ghost use Rattle.replay_status.specs.Causes.{InputCause, SinkCause};
 
@@ -26,10 +26,12 @@ fn drive_frames<V: Device + Drop, S: Source, O: Sink, L: Sink>(
     requires stands { V.stands printer.old.device [] }
     requires nothing { V.reads [] ≡ [] }
     requires waits { waiting_bytes printer.old.lines ≡ [] }
-    ensures driven { DrivesFrames V.reads (S.left input.old) (S.left input.new) (O.held out.old) (O.held out.new) (waiting_bytes printer.new.lines) result }
+    ensures driven { DrivesFrames V.reads (S.left input.old) (S.left input.new)
+        (O.held out.old) (O.held out.new) (waiting_bytes printer.new.lines) result }
     ensures log { L.held log.new ≡ L.held log.old }
     ensures read { IsReadCause (S.faults input.old) (S.faults input.new) (is_read_fault result) }
-    ensures sinks { IsSinkCause (O.faults out.old) (O.faults out.new) (L.faults log.old) (L.faults log.new) (is_write_stop result) }
+    ensures sinks { IsSinkCause (O.faults out.old) (O.faults out.new)
+        (L.faults log.old) (L.faults log.new) (is_write_fault (answer_of result)) }
 {
     let mut no_disk = SteadySlots::new([0; 16], [0; 16]);
     drive_to_rest(0, REST, input, printer, out, log, &mut no_disk)
@@ -41,10 +43,12 @@ pub fn read_frames<V: Device + Drop, S: Source, O: Sink, L: Sink>(
     out: &mut O,
     log: &mut L,
 ) -> Status
-    ensures frames { PrintsFrames V.reads (S.left input.old) (S.left input.new) (O.held out.old) (O.held out.new) result }
+    ensures frames { PrintsFrames V.reads (S.left input.old) (S.left input.new)
+        (O.held out.old) (O.held out.new) result }
     ensures log { L.held log.new ≡ L.held log.old }
     ensures input { InputCause (S.faults input.old) (S.faults input.new) result }
-    ensures sinks { SinkCause (O.faults out.old) (O.faults out.new) (L.faults log.old) (L.faults log.new) result }
+    ensures sinks { SinkCause (O.faults out.old) (O.faults out.new)
+        (L.faults log.old) (L.faults log.new) result }
 {
     let mut printer = FrameLines::<V>::new();
     let end = drive_frames(&mut printer, input, out, log);

@@ -1,8 +1,7 @@
-ghost use Rattle.std.specs.Prelude.{◌≡◌, ℕ, ◌+◌, ◌≤◌, List, [], ◌∷◌, ◌++◌, length, Option, OnOk, OnErr, ⊤};
+ghost use Rattle.std.specs.Prelude.{◌≡◌, ℕ, ◌+◌, ◌≤◌, List, [], ◌∷◌, ◌++◌, length, Option, OnOk, OnErr};
 ghost use Rattle.yasir_io.specs.Causes.{HasCause};
 ghost use Rattle.yasir_io.specs.Output.{Buffered, GotPrefix};
 ghost use Rattle.yasir_io.specs.TextBuffer.{waiting_bytes};
-ghost use Rattle.device_replay.specs.FrameLines.{PrintsReads, StopsPrinting};
 
 use crate::text::frame_line;
 use device_model::Device;
@@ -44,18 +43,9 @@ impl<V: Device + Drop> FrameLines<V> {
 }
 
 impl<V: Device + Drop, O: Sink, L: Sink, D: SlotDisk> Consumer<O, L, D> for FrameLines<V> {
-    ghost stands = { λ self start held items. PrintsReads V.stands V.reads self.device (waiting_bytes self.lines) start held items };
+    ghost use Rattle.device_replay.specs.FrameLines.{printing};
 
-    ghost stopped = { λ self stop start held items. StopsPrinting V.reads stop start held items };
-
-    ghost taken = { λ self. V.taken self.device };
-
-    // The disk is not used.
-    ghost able = { λ self disk. ⊤ };
-
-    ghost kept = { λ self disk. ⊤ };
-
-    ghost safe = { λ self image. ⊤ };
+    ghost meaning = { printing V.Device };
 
     fn take_tick(
         &mut self,

@@ -1,7 +1,8 @@
 -- The causes of the status that a run over an input ends with.
 use Rattle.std.proofs.Common.{◌≡◌, ℕ, ◌⊎◌, inl, inr, false, List, refl, sym, subst, arith}
 use Rattle.tick_drive.specs.Input.{IsReadCause, is_read_fault}
-use Rattle.tick_drive.specs.Drive.{is_write_stop}
+use Rattle.tick_drive.specs.Consumers.{is_write_fault}
+use Rattle.tick_drive.specs.Drive.{answer_of}
 use Rattle.tick_drive.specs.declared.consumer.Stop.TheVariants as stops
 use Rattle.tick_drive.specs.declared.end.End.{End}
 use Rattle.tick_drive.specs.declared.end.End.TheVariants.{Whole, Refused, TooLong, ReadFault, Stopped}
@@ -26,7 +27,8 @@ input_cause_of_whole before now status (inr fault) same =
     subst (InputCause before now) (sym fault) (omega (arith, same))
 
 -- no write had failed as the input ended
-pub sink_cause_of_end : (out_before out_now log_before log_now : ℕ) (end : End) → is_write_stop end ≡ false
+pub sink_cause_of_end : (out_before out_now log_before log_now : ℕ) (end : End)
+    → is_write_fault (answer_of end) ≡ false
     → (end ≡ Whole → ⊥) → out_now ≡ out_before → log_now ≡ log_before
     → SinkCause out_before out_now log_before log_now (status_of end)
 sink_cause_of_end out_before out_now log_before log_now Whole other partial out log = absurd (partial refl)
