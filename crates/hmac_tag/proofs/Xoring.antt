@@ -1,6 +1,8 @@
 -- A block that is xored with a pad in place, byte by byte.
-use Rattle.std.proofs.Common.{◌≡◌, ℕ, ◌+◌, ◌<◌, ◌≤◌, List, [], ◌∷◌, ◌++◌, length, get_or, take, drop, refl, sym, ◌∙◌, ap, arith, set, add-zero}
-use Rattle.std.proofs.lemmas.List.{take_more, take_more_set, map-append, length-set, drop-set-lt, drop-drop, get_or-drop, take_all}
+use Rattle.std.proofs.Common.{◌≡◌, ℕ, ◌+◌, ◌<◌, ◌≤◌, List, [], ◌∷◌, ◌++◌, length, get_or, take}
+use Rattle.std.proofs.Common.{drop, refl, sym, ◌∙◌, ap, arith, set, add-zero}
+use Rattle.std.proofs.lemmas.List.{take_more, take_more_set, map-append, length-set, drop-set-lt}
+use Rattle.std.proofs.lemmas.List.{drop-drop, get_or-drop, take_all}
 use Rattle.std.specs.Prelude.{bit_xor}
 use Rattle.hmac_tag.specs.Hmac.{xored}
 
@@ -13,12 +15,14 @@ pub record IsXoredUpTo (pad : ℕ) (old : List ℕ) (i : ℕ) (now : List ℕ) :
 pub xored_none : (pad : ℕ) (old : List ℕ) → IsXoredUpTo pad old 0 old
 xored_none pad old = record { len = refl; front = refl; rest = refl }
 
-pub xored_more : (pad : ℕ) (old : List ℕ) (i : ℕ) (now : List ℕ) → i < length now → IsXoredUpTo pad old i now
+pub xored_more : (pad : ℕ) (old : List ℕ) (i : ℕ) (now : List ℕ) → i < length now
+    → IsXoredUpTo pad old i now
     → IsXoredUpTo pad old (i + 1) (set now i (bit_xor (get_or now i 0) pad))
 xored_more pad old i now within done =
     let here : get_or now i 0 ≡ get_or old i 0 =
     simp add-zero at
-    (sym (get_or-drop i now 0 0) ∙ ap (λ (l : List ℕ). get_or l 0 0) done.rest ∙ get_or-drop i old 0 0) in
+    (sym (get_or-drop i now 0 0) ∙ ap (λ (l : List ℕ). get_or l 0 0) done.rest
+        ∙ get_or-drop i old 0 0) in
     record {
       len = length-set now i (bit_xor (get_or now i 0) pad) ∙ done.len;
       front =
@@ -34,6 +38,7 @@ xored_more pad old i now within done =
           ∙ drop-drop 1 i old;
     }
 
-pub xored_all : (pad : ℕ) (old : List ℕ) (i : ℕ) (now : List ℕ) → length now ≤ i → IsXoredUpTo pad old i now → now ≡ xored pad old
+pub xored_all : (pad : ℕ) (old : List ℕ) (i : ℕ) (now : List ℕ) → length now ≤ i
+    → IsXoredUpTo pad old i now → now ≡ xored pad old
 xored_all pad old i now past done =
     sym (take_all i now past) ∙ done.front ∙ ap (xored pad) (take_all i old (omega arith))

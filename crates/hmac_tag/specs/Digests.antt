@@ -19,12 +19,14 @@ byte_at-lt (suc i) n = omega arith
 
 All-bytes_high_first : (k n : ℕ) → All (λ b. b < 256) (bytes_high_first k n)
 All-bytes_high_first zero n = All-nil _
-All-bytes_high_first (suc k) n = All-cons (λ b. b < 256) (byte_at k n) _ (byte_at-lt k n) (All-bytes_high_first k n)
+All-bytes_high_first (suc k) n = All-cons (λ b. b < 256) (byte_at k n) _ (byte_at-lt k n)
+    (All-bytes_high_first k n)
 
 All-digest_bytes : (hash : List ℕ) (k : ℕ) → All (λ b. b < 256) (digest_bytes hash k)
 unfolding digest_bytes
 All-digest_bytes hash zero = All-nil _
-All-digest_bytes hash (suc k) = All-append (λ b. b < 256) (digest_bytes hash k) _ (All-digest_bytes hash k) (All-bytes_high_first 4 _)
+All-digest_bytes hash (suc k) = All-append (λ b. b < 256) (digest_bytes hash k)
+    _ (All-digest_bytes hash k) (All-bytes_high_first 4 _)
 
 -- the bytes of a digest are bytes
 pub All-sha1 : (message : List ℕ) → All (λ b. b < 256) (sha1 message)
@@ -43,7 +45,8 @@ sha1-tag_within = omega arith
 
 module _ (hash : List ℕ → List ℕ) where
   -- a tag has its size, where digests have as many bytes
-  pub length-hmac_cut : (n size : ℕ) → ((m : List ℕ) → length (hash m) ≡ n) → size ≤ n → (key text : List ℕ)
+  pub length-hmac_cut : (n size : ℕ) → ((m : List ℕ) → length (hash m) ≡ n) → size ≤ n
+      → (key text : List ℕ)
       → length (hmac_cut hash size key text) ≡ size
   unfolding hmac
   length-hmac_cut n size sized within key text = length-take-le size _ (rw (sized _) within)

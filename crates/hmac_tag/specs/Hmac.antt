@@ -1,5 +1,6 @@
 -- HMAC (RFC 2104) over a hash function that takes blocks of 64 bytes, on whole lists of bytes.
-use Rattle.std.specs.Prelude.{ℕ, ◌-◌, nat_lt, List, ◌++◌, length, map, replicate, bit_xor, if◌then◌else◌}
+use Rattle.std.specs.Prelude.{ℕ, ◌-◌, nat_lt, List, ◌++◌, length, map, replicate, bit_xor}
+use Rattle.std.specs.Prelude.{if◌then◌else◌}
 
 -- each byte xored with a pad's byte
 abbrev pub xored : ℕ → List ℕ → List ℕ

@@ -26,8 +26,8 @@ abbrev pub direction_number : Dir → ℕ
 direction_number Ab = 0
 direction_number Ba = 1
 
--- what a numbered frame is coded as: a byte for the protocol, a byte for the direction, the frame's bytes and its whole
--- number as 8 bytes, high byte first
+-- what a numbered frame is coded as: a byte for the protocol, a byte for the direction, the frame's
+-- bytes and its whole number as 8 bytes, high byte first
 abbrev pub tag_text : ℕ → ℕ → List ℕ → ℕ → List ℕ
 tag_text label direction frame number = label ∷ direction ∷ frame ++ to_be_bytes w64 number
 

@@ -16,9 +16,9 @@ const INNER_PAD: u8 = 0x36;
 
 const OUTER_PAD: u8 = 0x5C;
 
-/// HMAC (RFC 2104) of a text that comes in pieces: hashers that have taken the key's inner and outer block, and one that
-/// has taken the inner block and the text so far, but for its last bytes, which wait until they fill a block. So a piece of
-/// one byte costs no call of the hasher.
+/// HMAC (RFC 2104) of a text that comes in pieces: hashers that have taken the key's inner and
+/// outer block, and one that has taken the inner block and the text so far, but for its last bytes,
+/// which wait until they fill a block. So a piece of one byte costs no call of the hasher.
 #[derive(Drop)]
 pub struct Hmac<D, const N: usize> {
     inner: D,
@@ -100,7 +100,8 @@ impl<D: Digest<N>, const N: usize> Hmac<D, N> {
 impl<D: Digest<N>, const N: usize> Hmac<D, N> {
     // Gives the hasher the bytes that wait.
     fn hash_waiting(&mut self)
-        ensures stands { (key text : List ℕ) → StandsFor D.digest_of D.holds self.old key text → StandsFor D.digest_of D.holds self.new key text }
+        ensures stands { (key text : List ℕ) → StandsFor D.digest_of D.holds self.old key text
+            → StandsFor D.digest_of D.holds self.new key text }
         ensures hashed { (key text : List ℕ) → StandsFor D.digest_of D.holds self.old key text
             → D.holds self.new.running (xored 0x36 (key_block D.digest_of key) ++ text) }
         ensures empty { self.new.waiting.items ≡ [] }

@@ -7,7 +7,8 @@ use arrayvec::ArrayVec;
 /// The bytes of a tag.
 pub type TagBytes = ArrayVec<u8, 16>;
 
-/// A keyed code of a text that comes in pieces, cut to its first `TAG` bytes. A value stands for a key and the text so far.
+/// A keyed code of a text that comes in pieces, cut to its first `TAG` bytes. A value stands for a
+/// key and the text so far.
 pub trait Mac: Drop {
     /// The tag of a text under a key.
     ghost tag_of: { List ℕ → List ℕ → List ℕ };
@@ -37,11 +38,13 @@ pub trait Mac: Drop {
 
     /// Appends to the text.
     fn update(&mut self, part: &[u8])
-        ensures { (key text : List ℕ) → stands self.old key text → stands self.new key (text ++ part.now) };
+        ensures { (key text : List ℕ) → stands self.old key text
+            → stands self.new key (text ++ part.now) };
 
     /// The tag of the text; the empty text begins anew.
     fn finish(&mut self) -> TagBytes
-        ensures tag { (key text : List ℕ) → stands self.old key text → result.items ≡ tag_of key text }
+        ensures tag { (key text : List ℕ) → stands self.old key text
+            → result.items ≡ tag_of key text }
         ensures len { array_vec_len result ≡ TAG }
         ensures begun { (key text : List ℕ) → stands self.old key text → stands self.new key [] };
 }

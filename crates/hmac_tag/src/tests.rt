@@ -1,7 +1,7 @@
 use crate::{Dir, HmacSha1, Mac, TagBytes};
 
-// HMAC-SHA-1 by Python's `hmac`: of the text whose byte i is 5 i + 1 (modulo 256), whole with 150 bytes and empty, under the
-// first bytes of the key whose byte i is 7 i + 3.
+// HMAC-SHA-1 by Python's `hmac`: of the text whose byte i is 5 i + 1 (modulo 256), whole with 150
+// bytes and empty, under the first bytes of the key whose byte i is 7 i + 3.
 const CODES: [(usize, [u8; 20], [u8; 20]); 4] = [
     (
         0,

@@ -1,5 +1,7 @@
 -- The register, one step at a time.
-use Rattle.std.proofs.Common.{◌≡◌, ℕ, zero, suc, ◌+◌, ◌-◌, ◌/◌, ◌%◌, ◌^◌, ◌<◌, ◌≤◌, ◌∷◌, List, [], length, get_or, drop, refl, arith, sym, ◌∙◌, ap, bit_and, nat_eq, add-one}
+use Rattle.std.proofs.Common.{◌≡◌, ℕ, zero, suc, ◌+◌, ◌-◌, ◌/◌, ◌%◌, ◌^◌, ◌<◌, ◌≤◌, ◌∷◌, List, []}
+use Rattle.std.proofs.Common.{length, get_or, drop, refl, arith, sym, ◌∙◌, ap, bit_and, nat_eq}
+use Rattle.std.proofs.Common.{add-one}
 use Rattle.std.specs.Prelude.{bit_xor}
 use Rattle.std.specs.Int.Bits.{and_zero_r, xor_zero_r}
 use Rattle.std.proofs.Math.Nat.{mod-eq_of_lt}
@@ -9,12 +11,14 @@ use Rattle.std.proofs.lemmas.Bool.{cond_both, eqb-true, eqb-false}
 use Rattle.line_rules.specs.Crc.{bit_step, bit_steps, byte_step, crc}
 
 -- A bit step without a branch: the mask is all ones where the lowest bit is 1, and else 0.
-pub bit_step-masked : (p r mask : ℕ) → p < 2 ^ 16 → mask < 2 ^ 16 → (mask + bit_and r 1) % 2 ^ 16 ≡ 0
+pub bit_step-masked : (p r mask : ℕ) → p < 2 ^ 16 → mask < 2 ^ 16
+    → (mask + bit_and r 1) % 2 ^ 16 ≡ 0
     → bit_xor (r / 2) (bit_and p mask) ≡ bit_step p r
 unfolding bit_step
 bit_step-masked p r mask p_fits mask_fits zero_sum =
     let lowest : bit_and r 1 ≡ r % 2 = and_mask r 1 in
-    cond_both (nat_eq (r % 2) 1) (bit_xor (r / 2) p) (r / 2) (λ x. bit_xor (r / 2) (bit_and p mask) ≡ x)
+    cond_both (nat_eq (r % 2) 1) (bit_xor (r / 2) p) (r / 2)
+        (λ x. bit_xor (r / 2) (bit_and p mask) ≡ x)
     (λ one. let odd : r % 2 ≡ 1 = eqb-true (r % 2) 1 one in
     let all_ones : mask ≡ 2 ^ 16 - 1 = omega arith in
     ap (λ m. bit_xor (r / 2) (bit_and p m)) all_ones
@@ -57,7 +61,8 @@ pub bit_steps-next : (p k n r next : ℕ) → n < k → next ≡ bit_step p r
 bit_steps-next p k n r next left e =
     let fewer : k - n - 1 ≡ k - (n + 1) = omega arith in
     let some : 0 < k - n = omega arith in
-    rw e (ap (λ i. bit_steps p i (bit_step p r)) (sym fewer) ∙ sym (bit_steps-first p (k - n) r some))
+    rw e (ap (λ i. bit_steps p i (bit_step p r)) (sym fewer)
+        ∙ sym (bit_steps-first p (k - n) r some))
 
 -- all of k steps are done
 pub bit_steps-done : (p k n r : ℕ) → k ≤ n → bit_steps p (k - n) r ≡ r

@@ -1,5 +1,6 @@
 -- Bytes of a part that are appended one after the other, as long as there is room.
-use Rattle.std.proofs.Common.{◌≡◌, ℕ, ◌+◌, ◌<◌, false, List, [], ◌∷◌, ◌++◌, length, take, get_or, arith, sym, ◌∙◌, ap, subst, append_assoc, append-nil, ⊎_elim}
+use Rattle.std.proofs.Common.{◌≡◌, ℕ, ◌+◌, ◌<◌, false, List, [], ◌∷◌, ◌++◌, length, take, get_or}
+use Rattle.std.proofs.Common.{arith, sym, ◌∙◌, ap, subst, append_assoc, append-nil, ⊎_elim}
 use Rattle.std.proofs.lemmas.Bool.{cases_eq}
 use Rattle.std.proofs.lemmas.List.{take_more}
 use Rattle.line_rules.specs.Rules.{Rules, fills_room}
@@ -23,13 +24,14 @@ module _ {V : Type 0} (rules : Rules) (stands : V → List ℕ → Type 0) (old 
   taken-next value next n b taken within same has_room takes = record {
     stands_for = λ x before.
         let more : (x ++ take n part) ++ b ∷ [] ≡ x ++ take (n + 1) part =
-            append_assoc x (take n part) (b ∷ [])
-            ∙ ap (λ y. x ++ y) (ap (λ c. take n part ++ c ∷ []) same ∙ sym (take_more part n 0 within)) in
+        append_assoc x (take n part) (b ∷ [])
+        ∙ ap (λ y. x ++ y) (ap (λ c. take n part ++ c ∷ []) same
+            ∙ sym (take_more part n 0 within)) in
         subst (stands next) more (takes (x ++ take n part) (taken.stands_for x before));
     had_room = λ x k before below.
         ⊎_elim
         (λ last. ap (λ i. fills_room rules (x ++ take i part)) last
-            ∙ sym (has_room (x ++ take n part) (taken.stands_for x before)))
+        ∙ sym (has_room (x ++ take n part) (taken.stands_for x before)))
         (λ other. taken.had_room x k before (omega arith))
         (cases_eq k n);
   }

@@ -1,12 +1,15 @@
 -- Rules that are as small as the laws let them be: a frame is four bytes, of which the last is 0.
-use Rattle.std.specs.Prelude.{◌≡◌, ℕ, ◌-◌, ◌<◌, ◌≤◌, ◌==◌, ◌&&◌, nat_le, Bool, true, false, List, [], ◌∷◌, ◌++◌, length, get_or, bit_xor, refl}
-use Rattle.std.proofs.Common.{arith, ◌∙◌, sym, ap, subst, ⊎_elim, length-append}
+use Rattle.std.specs.Prelude.{◌≡◌, ℕ, ◌-◌, ◌≤◌, ◌==◌, ◌&&◌, nat_le, Bool, List, [], ◌∷◌, ◌++◌}
+use Rattle.std.specs.Prelude.{length, get_or, bit_xor, refl}
+use Rattle.std.proofs.Common.{arith, ◌∙◌, sym, ap, ⊎_elim, length-append}
 use Rattle.std.proofs.lemmas.List.{get_or_push}
-use Rattle.std.proofs.lemmas.Bool.{and_parts, and_right, eqb-true, eq-eqb, ne_eqb, cases_lt, le-leb, lt-leb}
+use Rattle.std.proofs.lemmas.Bool.{and_parts, and_right, eqb-true, eq-eqb, ne_eqb, cases_lt, le-leb}
+use Rattle.std.proofs.lemmas.Bool.{lt-leb}
 use Rattle.line_rules.specs.Bytes.{AreBytes}
 use Rattle.line_rules.specs.Rules.{Rules}
 use Rattle.line_rules.specs.RulesLaws.{IsLawful, IsHeaded, IsFramed, IsFilling, HasNumbers}
-use Rattle.line_rules.specs.Headerless.{headerless, headerless-lawful, headerless-headed, headerless-framed, headerless-filling}
+use Rattle.line_rules.specs.Headerless.{headerless, headerless-lawful, headerless-headed}
+use Rattle.line_rules.specs.Headerless.{headerless-framed, headerless-filling}
 use Rattle.line_rules.specs.Spoiling.{IsSpoiling, spoiling_by_ending}
 use Rattle.line_rules.specs.declared.four_bytes.FourBytes.{FourBytes}
 
@@ -24,7 +27,8 @@ abbrev pub four_bytes : Rules
 four_bytes = headerless 1 256 are_four_bytes ends_in_zero
 
 pub last_byte-push : (x : List ℕ) (b : ℕ) → last_byte (x ++ b ∷ []) ≡ b
-last_byte-push x b = get_or_push x b 1 (length (x ++ b ∷ []) - 1) (omega (arith, length-append x (b ∷ [])))
+last_byte-push x b = get_or_push x b 1 (length (x ++ b ∷ []) - 1)
+    (omega (arith, length-append x (b ∷ [])))
 
 pub four_bytes-lawful : IsLawful four_bytes
 four_bytes-lawful = headerless-lawful 1 256 are_four_bytes ends_in_zero (omega arith)
@@ -42,12 +46,12 @@ pub four_bytes-filling : IsFilling four_bytes
 four_bytes-filling = headerless-filling 1 256 are_four_bytes ends_in_zero
 
 pub four_bytes-spoiling : IsSpoiling four_bytes
-four_bytes-spoiling = spoiling_by_ending four_bytes (λ h c. refl) 
+four_bytes-spoiling = spoiling_by_ending four_bytes (λ h c. refl)
     (λ x wrong. and_right (length x == 4) (ends_in_zero x) wrong)
     (λ h c right.
     let zero : c ≡ 0 = sym (last_byte-push h c) ∙ eqb-true (last_byte (h ++ c ∷ [])) 0 right in
     let one : last_byte (h ++ bit_xor c 1 ∷ []) ≡ 1 =
-        last_byte-push h (bit_xor c 1) ∙ ap (λ b. bit_xor b 1) zero in
+    last_byte-push h (bit_xor c 1) ∙ ap (λ b. bit_xor b 1) zero in
     ne_eqb (last_byte (h ++ bit_xor c 1 ∷ [])) 0 (λ none. omega arith))
 
 pub four_bytes-numbers : HasNumbers four_bytes 256 1

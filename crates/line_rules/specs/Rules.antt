@@ -11,7 +11,8 @@ pub record Rules : Type 0 where
   -- how many bytes of a burst can be a frame's, where the burst begins with these bytes
   pub room : List ℕ → ℕ
   pub is_frame : List ℕ → Bool
-  -- how many bytes a header has, and whether so many bytes are a good one; a protocol without headers has 0
+  -- how many bytes a header has, and whether so many bytes are a good one; a protocol without
+  -- headers has 0
   pub header_len : ℕ
   pub is_good_header : List ℕ → Bool
   -- how many bytes the frame has that begins with these bytes, where they begin with a good header

@@ -4,12 +4,14 @@ use Rattle.line_rules.specs.Bytes.{AreBytes}
 use Rattle.line_rules.specs.Rules.{Rules, head_of, left_of}
 use Rattle.line_rules.specs.declared.head.Head.TheVariants.{Good}
 
--- There is room for a first byte; as long as the room isn't full, one more byte fits into the room that the bytes then have;
--- and once it is full it stays as it is. It is never greater than the longest frame.
+-- There is room for a first byte; as long as the room isn't full, one more byte fits into the room
+-- that the bytes then have; and once it is full it stays as it is. It is never greater than the
+-- longest frame.
 pub record IsLawful (rules : Rules) : Type 0 where
   pub some_room : 0 < rules.room []
   pub fits : (x : List ℕ) (b : ℕ) → length x < rules.room x → length x < rules.room (x ++ b ∷ [])
-  pub stays : (x : List ℕ) (b : ℕ) → rules.room x ≤ length x → rules.room (x ++ b ∷ []) ≡ rules.room x
+  pub stays : (x : List ℕ) (b : ℕ) → rules.room x ≤ length x
+      → rules.room (x ++ b ∷ []) ≡ rules.room x
   pub bounded : (x : List ℕ) → AreBytes x → rules.room x ≤ rules.longest
 
 -- A header is short, and fits every room.

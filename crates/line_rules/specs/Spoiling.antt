@@ -1,5 +1,6 @@
 -- How the last byte of bytes that are to be no frame is sent.
-use Rattle.std.specs.Prelude.{◌≡◌, ℕ, Bool, true, false, List, [], ◌∷◌, ◌++◌, bit_xor, if◌then◌else◌, refl}
+use Rattle.std.specs.Prelude.{◌≡◌, ℕ, Bool, true, false, List, [], ◌∷◌, ◌++◌, bit_xor}
+use Rattle.std.specs.Prelude.{if◌then◌else◌, refl}
 use Rattle.std.proofs.Common.{◌∙◌, ap}
 use Rattle.std.proofs.lemmas.Bool.{cond-true, cond-false}
 use Rattle.line_rules.specs.Rules.{Rules}
@@ -24,7 +25,7 @@ module _ (rules : Rules)
     (spoils : (h : List ℕ) (c : ℕ) → rules.spoil h c ≡ spoil_by rules.has_right_ending h c)
     (framed : (x : List ℕ) → rules.has_right_ending x ≡ false → rules.is_frame x ≡ false)
     (turns : (h : List ℕ) (c : ℕ) → rules.has_right_ending (h ++ c ∷ []) ≡ true
-        → rules.has_right_ending (h ++ bit_xor c 1 ∷ []) ≡ false) where
+    → rules.has_right_ending (h ++ bit_xor c 1 ∷ []) ≡ false) where
   spoil-kept : (h : List ℕ) (c : ℕ) → rules.has_right_ending (h ++ c ∷ []) ≡ false
       → rules.spoil h c ≡ c
   spoil-kept h c wrong = spoils h c ∙ cond-false _ _ _ wrong

@@ -2,8 +2,8 @@ use crate::{Head, LineRules};
 
 const FRAME_LEN: u16 = 4;
 
-/// The smallest rules that keep every law: a frame is four bytes, of which the last is 0. An example of how rules are given,
-/// on which the tests of generic code run.
+/// The smallest rules that keep every law: a frame is four bytes, of which the last is 0. An
+/// example of how rules are given, on which the tests of generic code run.
 #[derive(Drop)]
 pub struct FourBytes {
     len: u16,
@@ -12,9 +12,12 @@ pub struct FourBytes {
 
 impl LineRules for FourBytes {
     ghost use Rattle.line_rules.specs.FourBytes.{four_bytes, FourBytesStandFor, is_full_four_bytes};
-    ghost use Rattle.line_rules.specs.FourBytes.{four_bytes-lawful, four_bytes-headed, four_bytes-framed};
-    ghost use Rattle.line_rules.specs.FourBytes.{four_bytes-filling, four_bytes-spoiling, four_bytes-numbers};
-    ghost use Rattle.line_rules.specs.FourBytes.{four_bytes-fullness, four_bytes-bytes, four_bytes-within};
+    ghost use Rattle.line_rules.specs.FourBytes.{four_bytes-lawful, four_bytes-headed};
+    ghost use Rattle.line_rules.specs.FourBytes.{four_bytes-framed};
+    ghost use Rattle.line_rules.specs.FourBytes.{four_bytes-filling, four_bytes-spoiling};
+    ghost use Rattle.line_rules.specs.FourBytes.{four_bytes-numbers};
+    ghost use Rattle.line_rules.specs.FourBytes.{four_bytes-fullness, four_bytes-bytes};
+    ghost use Rattle.line_rules.specs.FourBytes.{four_bytes-within};
 
     ghost rules = { four_bytes };
 

@@ -1,4 +1,5 @@
-//! The rules of a protocol's frames on a serial line, as what transmitter and receiver ask of a protocol.
+//! The rules of a protocol's frames on a serial line, as what transmitter and receiver ask of a
+//! protocol.
 #![tactic(auto)]
 
 mod four_bytes;

@@ -1,4 +1,5 @@
-ghost use Rattle.std.specs.Prelude.{◌≡◌, ℕ, ◌<◌, ◌≤◌, Bool, true, false, List, [], ◌∷◌, ◌++◌, length, take};
+ghost use Rattle.std.specs.Prelude.{◌≡◌, ℕ, ◌<◌, ◌≤◌, Bool, true, false, List, [], ◌∷◌, ◌++◌};
+ghost use Rattle.std.specs.Prelude.{length, take};
 ghost use Rattle.line_rules.specs.Bytes.{AreBytes};
 ghost use Rattle.line_rules.specs.Rules.{Rules, fills_room, is_frame_of, head_of, left_of};
 ghost use Rattle.line_rules.specs.RulesLaws.{IsLawful, IsHeaded, IsFramed, IsFilling, HasNumbers};
@@ -33,7 +34,8 @@ pub trait LineRules: Drop {
 
     ghost numbers: { HasNumbers rules MAX LABEL };
 
-    ghost fullness: { (value : Self) (x : List ℕ) → stands value x → is_full value ≡ fills_room rules x };
+    ghost fullness: { (value : Self) (x : List ℕ) → stands value x
+        → is_full value ≡ fills_room rules x };
 
     ghost bytes: { (value : Self) (x : List ℕ) → stands value x → AreBytes x };
 

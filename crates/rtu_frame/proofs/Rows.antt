@@ -1,8 +1,10 @@
--- The definitions, computed at known values: those of a query of Modbus over Serial Line V1.02, and the usual check text.
+-- The definitions, computed at known values: those of a query of Modbus over Serial Line V1.02, and
+-- the usual check text.
 use Rattle.std.proofs.Common.{◌≡◌, [], ◌∷◌, true, false, refl, codes}
 use Rattle.line_rules.specs.Crc.{bit_step, bit_steps, byte_step, crc}
 use Rattle.rtu_frame.specs.Crc.{crc_rtu}
 use Rattle.rtu_frame.specs.Frame.{is_frame, has_right_ending}
+use Rattle.rtu_frame.specs.Rules.{rtu_rules}
 
 pub crc_of_two_bytes : crc_rtu (0x01 ∷ 0x03 ∷ []) ≡ 0x2140
 unfolding bit_step bit_steps byte_step crc
@@ -28,3 +30,12 @@ pub frames : (is_frame (0x01 ∷ 0x03 ∷ 0x00 ∷ 0x00 ∷ 0x00 ∷ 0x0A ∷ 0x
     × (is_frame (0x01 ∷ 0x03 ∷ 0x00 ∷ 0x00 ∷ 0x00 ∷ 0x0A ∷ 0xC5 ∷ 0xCC ∷ []) ≡ false)
 unfolding bit_step bit_steps byte_step crc is_frame has_right_ending
 frames = (refl, refl, refl, refl, refl)
+
+-- the last byte of a right ending has its lowest bit turned; every other byte stays
+pub spoiled_bytes : (rtu_rules.spoil (0x01 ∷ 0x7E ∷ []) 0x80 ≡ 0x81)
+    × (rtu_rules.spoil (0x01 ∷ 0x03 ∷ 0x40 ∷ []) 0x21 ≡ 0x20)
+    × (rtu_rules.spoil (0x01 ∷ 0x03 ∷ 0x40 ∷ []) 0x20 ≡ 0x20)
+    × (rtu_rules.spoil (0xFF ∷ []) 0xFF ≡ 0xFE)
+    × (rtu_rules.spoil [] 0xFF ≡ 0xFF)
+unfolding bit_step bit_steps byte_step crc has_right_ending
+spoiled_bytes = (refl, refl, refl, refl, refl)

@@ -1,4 +1,5 @@
--- The check of Modbus RTU (Modbus over Serial Line V1.02): the polynomial A001, from the register FFFF.
+-- The check of Modbus RTU (Modbus over Serial Line V1.02): the polynomial A001, from the register
+-- FFFF.
 use Rattle.std.specs.Prelude.{ℕ, List}
 unfoldable pub use Rattle.line_rules.specs.Crc.{bit_step, bit_steps, byte_step, crc}
 

@@ -1,5 +1,7 @@
--- Modbus RTU frames (Modbus over Serial Line V1.02): address, function, up to 252 bytes of data, and their CRC.
-use Rattle.std.specs.Prelude.{◌≡◌, ℕ, ◌-◌, ◌/◌, ◌%◌, ◌≤◌, ◌==◌, ◌&&◌, nat_le, Bool, List, ◌++◌, length, take, slice_index}
+-- Modbus RTU frames (Modbus over Serial Line V1.02): address, function, up to 252 bytes of data,
+-- and their CRC.
+use Rattle.std.specs.Prelude.{◌≡◌, ℕ, ◌-◌, ◌/◌, ◌%◌, ◌≤◌, ◌==◌, ◌&&◌, nat_le, Bool, List, ◌++◌}
+use Rattle.std.specs.Prelude.{length, take, slice_index}
 use Rattle.line_rules.specs.Bytes.{low_first}
 use Rattle.rtu_frame.specs.Crc.{crc_rtu}
 

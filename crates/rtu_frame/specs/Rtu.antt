@@ -17,7 +17,8 @@ abbrev pub is_full_rtu : Rtu → Bool
 is_full_rtu value = nat_le 256 value.len
 
 -- the room is full where the value says so
-pub rtu_fullness : (value : Rtu) (x : List ℕ) → RtuStandsFor value x → is_full_rtu value ≡ (length x == 256)
+pub rtu_fullness : (value : Rtu) (x : List ℕ) → RtuStandsFor value x
+    → is_full_rtu value ≡ (length x == 256)
 rtu_fullness value x stands =
     let count = stands.count in
     let short = stands.short in

@@ -1,12 +1,14 @@
 -- Modbus RTU as the rules of a line: any burst has room for 256 bytes, and there is no header.
-use Rattle.std.specs.Prelude.{◌≡◌, ℕ, ◌-◌, ◌/◌, ◌<◌, ◌≤◌, ◌&&◌, nat_le, true, false, List, [], ◌∷◌, ◌++◌, length, take, get_or, bit_xor, refl}
+use Rattle.std.specs.Prelude.{◌≡◌, ℕ, ◌-◌, ◌/◌, ◌≤◌, ◌&&◌, nat_le, true, false, List, [], ◌∷◌, ◌++◌}
+use Rattle.std.specs.Prelude.{length, take, get_or, bit_xor, refl}
 use Rattle.std.specs.Int.Bits.{xor_assoc, xor_self}
 use Rattle.std.proofs.Common.{arith, ◌∙◌, sym, ap, length-append}
 use Rattle.std.proofs.lemmas.List.{get_or_push, take-append-le}
 use Rattle.std.proofs.lemmas.Bool.{and_parts, and_right, leb-true, eqb-true, ne_eqb}
 use Rattle.line_rules.specs.Rules.{Rules}
 use Rattle.line_rules.specs.RulesLaws.{IsLawful, IsHeaded, IsFramed, IsFilling, HasNumbers}
-use Rattle.line_rules.specs.Headerless.{headerless, headerless-lawful, headerless-headed, headerless-framed, headerless-filling}
+use Rattle.line_rules.specs.Headerless.{headerless, headerless-lawful, headerless-headed}
+use Rattle.line_rules.specs.Headerless.{headerless-framed, headerless-filling}
 use Rattle.line_rules.specs.Spoiling.{IsSpoiling, spoiling_by_ending}
 use Rattle.rtu_frame.specs.Crc.{crc_rtu}
 use Rattle.rtu_frame.specs.Frame.{is_frame, has_right_ending, body_of}
@@ -15,7 +17,8 @@ abbrev pub rtu_rules : Rules
 rtu_rules = headerless 1 256 is_frame has_right_ending
 
 -- the length of a frame
-is_frame-length : (frame : List ℕ) → is_frame frame ≡ true → (4 ≤ length frame) × (length frame ≤ 256)
+is_frame-length : (frame : List ℕ) → is_frame frame ≡ true
+    → (4 ≤ length frame) × (length frame ≤ 256)
 unfolding is_frame
 is_frame-length frame framed =
     let ends = and_parts _ _ framed in
@@ -32,7 +35,7 @@ is_frame-wrong x wrong =
 push-body : (h : List ℕ) (c : ℕ) → body_of (h ++ c ∷ []) ≡ take (length h - 1) h
 push-body h c =
     let front : length (h ++ c ∷ []) - 2 ≡ length h - 1 =
-        omega (arith, length-append h (c ∷ [])) in
+    omega (arith, length-append h (c ∷ [])) in
     ap (λ n. take n (h ++ c ∷ [])) front ∙ take-append-le (length h - 1) h (c ∷ []) (omega arith)
 
 push-last : (h : List ℕ) (c : ℕ) → get_or (h ++ c ∷ []) (length (h ++ c ∷ []) - 1) 0 ≡ c
@@ -42,7 +45,7 @@ push-last h c = get_or_push h c 0 _ (omega (arith, length-append h (c ∷ [])))
 turned-other : (c : ℕ) → bit_xor c 1 ≡ c → ⊥
 turned-other c same =
     let back : bit_xor c (bit_xor c 1) ≡ 1 =
-        sym (xor_assoc c c 1) ∙ ap (λ n. bit_xor n 1) (xor_self c) in
+    sym (xor_assoc c c 1) ∙ ap (λ n. bit_xor n 1) (xor_self c) in
     let none : bit_xor c (bit_xor c 1) ≡ 0 = ap (bit_xor c) same ∙ xor_self c in
     omega arith
 
@@ -54,8 +57,8 @@ has_right_ending-turned h c right =
     let last = eqb-true _ _ (and_parts _ _ right).1 in
     let before : c ≡ crc_rtu (body_of (h ++ c ∷ [])) / 256 = sym (push-last h c) ∙ last in
     and_right _ _ (ne_eqb _ _ (λ same. turned-other c
-        (sym (push-last h (bit_xor c 1)) ∙ same
-        ∙ ap (λ x. crc_rtu x / 256) (push-body h (bit_xor c 1) ∙ sym (push-body h c)) ∙ sym before)))
+    (sym (push-last h (bit_xor c 1)) ∙ same
+    ∙ ap (λ x. crc_rtu x / 256) (push-body h (bit_xor c 1) ∙ sym (push-body h c)) ∙ sym before)))
 
 pub rtu_lawful : IsLawful rtu_rules
 rtu_lawful = headerless-lawful 1 256 is_frame has_right_ending (omega arith)

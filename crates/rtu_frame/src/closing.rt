@@ -15,7 +15,8 @@ pub struct NoRoom;
 /// Makes a frame of its address, its function and its data: appends their CRC, low byte first.
 /// `NoRoom` where there are more than 254 bytes; then nothing changes.
 pub fn close(bytes: &mut RtuBytes) -> Result<(), NoRoom>
-    ensures closed { OnOk result (bytes.new.items ≡ bytes.old.items ++ low_first (crc_rtu bytes.old.items)) }
+    ensures closed { OnOk result (bytes.new.items
+        ≡ bytes.old.items ++ low_first (crc_rtu bytes.old.items)) }
     ensures unchanged { OnErr result (bytes.new ≡ bytes.old) }
     ensures cause { IsErr result ↔ (254 < length bytes.old.items) }
 {

@@ -8,7 +8,8 @@ const SHORTEST: usize = 4;
 
 const LONGEST: usize = 256;
 
-/// Whether these bytes are a Modbus RTU frame: 4 to 256 bytes, the last two being the CRC of those before, low byte first.
+/// Whether these bytes are a Modbus RTU frame: 4 to 256 bytes, the last two being the CRC of those
+/// before, low byte first.
 pub fn is_frame(bytes: &[u8]) -> bool
     ensures { IsTrue result ↔ IsFrame bytes.now }
 {
@@ -20,8 +21,7 @@ pub fn is_frame(bytes: &[u8]) -> bool
     bytes[length - 2] == low && bytes[length - 1] == high
 }
 
-/// Whether the last two of at least two bytes are the CRC of those before, low byte first. The CRC of all of them is 0 then,
-/// and only then.
+/// Whether the last two of at least two bytes are the CRC of those before, low byte first.
 pub fn has_right_ending(bytes: &[u8]) -> bool
     ensures { IsTrue result ↔ HasRightEnding bytes.now }
 {

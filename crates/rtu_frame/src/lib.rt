@@ -4,6 +4,7 @@
 mod closing;
 mod crc;
 mod frame;
+pub mod laws;
 mod rtu;
 mod whole_bytes;
 

@@ -4,8 +4,8 @@ use line_rules::{Head, LineRules};
 
 const SHORTEST: u16 = 4;
 
-/// The bytes of a burst so far, as the rules of Modbus RTU see them: how many there are, and their CRC. A frame ends in the
-/// CRC of what stands before it, so that the CRC of the whole is 0.
+/// The bytes of a burst so far, as the rules of Modbus RTU see them: how many there are, and their
+/// CRC. A frame ends in the CRC of what stands before it, so that the CRC of the whole is 0.
 #[derive(Drop)]
 pub struct Rtu {
     len: u16,
@@ -14,9 +14,11 @@ pub struct Rtu {
 
 impl LineRules for Rtu {
     ghost use Rattle.std.specs.Prelude.{ℕ};
-    ghost use Rattle.rtu_frame.specs.Rules.{rtu_rules, rtu_lawful, rtu_headed, rtu_framed, rtu_filling};
+    ghost use Rattle.rtu_frame.specs.Rules.{rtu_rules, rtu_lawful, rtu_headed, rtu_framed};
+    ghost use Rattle.rtu_frame.specs.Rules.{rtu_filling};
     ghost use Rattle.rtu_frame.specs.Rules.{rtu_spoiling, rtu_numbers};
-    ghost use Rattle.rtu_frame.specs.Rtu.{RtuStandsFor, is_full_rtu, rtu_fullness, rtu_bytes, rtu_within};
+    ghost use Rattle.rtu_frame.specs.Rtu.{RtuStandsFor, is_full_rtu, rtu_fullness, rtu_bytes};
+    ghost use Rattle.rtu_frame.specs.Rtu.{rtu_within};
 
     ghost rules = { rtu_rules };
 

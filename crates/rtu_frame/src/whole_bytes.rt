@@ -14,8 +14,9 @@ fn odd_part(low: u8) -> u16
     0xC001 * (low.count_ones() % 2) as u16
 }
 
-// The low byte goes out of the register in eight steps. For each of its bits that is 1 the polynomial is xored in, and these
-// are together: the byte shifted by 6 and by 7, and C001 where it has an odd number of bits.
+// The low byte goes out of the register in eight steps. For each of its bits that is 1 the
+// polynomial is xored in, and these are together: the byte shifted by 6 and by 7, and C001 where it
+// has an odd number of bits.
 #[inline]
 pub(crate) fn after_whole_byte(register: u16, byte: u8) -> u16
     ensures { result ≡ byte_step POLYNOMIAL register byte }

@@ -1,5 +1,6 @@
 -- The answer to a table as a function is the answer as a relation.
-use Rattle.std.proofs.Common.{◌≡◌, ℕ, ◌+◌, List, [], ◌∷◌, ◌++◌, length, Bool, Decides, true, false, not, refl, ap, sym, ◌∙◌, subst, append_assoc}
+use Rattle.std.proofs.Common.{◌≡◌, ℕ, ◌+◌, List, [], ◌∷◌, ◌++◌, length, Bool, Decides, true, false}
+use Rattle.std.proofs.Common.{not, refl, ap, sym, ◌∙◌, subst, append_assoc}
 use Rattle.std.specs.Prelude.{Result, All}
 use Rattle.std.specs.List.{position_from}
 use Rattle.std.proofs.lemmas.Iterator.Adapters.{position_from-zero}
@@ -16,19 +17,24 @@ answer_from n rest = answer_at (position_from (λ case. not (is_right case)) n r
 
 -- where the cases before are right, the answer to the rest is the answer to all
 AnswersOn : List Case → Type 0
-AnswersOn rest = (before : List Case) (n : ℕ) → n ≡ length before → All IsRight before → IsAnswer (before ++ rest) (answer_from n rest)
+AnswersOn rest = (before : List Case) (n : ℕ) → n ≡ length before → All IsRight before
+    → IsAnswer (before ++ rest) (answer_from n rest)
 
 is_right-Decides : (case : Case) → Decides (is_right case) (IsRight case)
 is_right-Decides case = bytes_eq-Decides (value_of case) case.want.items
 
-answers_on : (case : Case) (rest : List Case) → AnswersOn rest → (b : Bool) → is_right case ≡ b → AnswersOn (case ∷ rest)
+answers_on : (case : Case) (rest : List Case) → AnswersOn rest → (b : Bool) → is_right case ≡ b
+    → AnswersOn (case ∷ rest)
 unfolding AnswersOn
 answers_on case rest later true is before n at right =
-    let one_more : n + 1 ≡ length (before ++ case ∷ []) = ap (λ (k : ℕ). k + 1) at ∙ sym (length_push before case) in
+    let one_more : n + 1 ≡ length (before ++ case ∷ []) =
+        ap (λ (k : ℕ). k + 1) at ∙ sym (length_push before case) in
     let all_right : All IsRight (before ++ case ∷ []) =
-    All-append IsRight before (case ∷ []) right (All-cons IsRight case [] ((is_right-Decides case).0 is) (All-nil IsRight)) in
+    All-append IsRight before (case ∷ []) right
+        (All-cons IsRight case [] ((is_right-Decides case).0 is) (All-nil IsRight)) in
     let P : List Case → Type 0 = λ cases. IsAnswer cases (answer_from (n + 1) rest) in
-    rw is (subst P (append_assoc before (case ∷ []) rest) (later (before ++ case ∷ []) (n + 1) one_more all_right))
+    rw is (subst P (append_assoc before (case ∷ []) rest)
+        (later (before ++ case ∷ []) (n + 1) one_more all_right))
 answers_on case rest later false isnt before n at right =
     rw isnt (record {
       before = before;
@@ -49,7 +55,9 @@ AnswersOn-all (case ∷ rest) before n at right =
 IsAnswer-answer : (cases : List Case) → IsAnswer cases (answer cases)
 unfolding answer AnswersOn
 IsAnswer-answer cases =
-    rw (position_from-zero (λ case. not (is_right case)) cases) (AnswersOn-all cases [] 0 refl (All-nil IsRight))
+    rw (position_from-zero (λ case. not (is_right case)) cases)
+        (AnswersOn-all cases [] 0 refl (All-nil IsRight))
 
-pub is_answer : (cases : List Case) (result : Result (Unit {0}) Miss) → result ≡ answer cases → IsAnswer cases result
+pub is_answer : (cases : List Case) (result : Result (Unit {0}) Miss) → result ≡ answer cases
+    → IsAnswer cases result
 is_answer cases result same = rw same (IsAnswer-answer cases)

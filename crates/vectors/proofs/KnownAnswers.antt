@@ -2,7 +2,8 @@
 use Rattle.std.proofs.Common.{◌≡◌, Ok, length, refl}
 use Rattle.rtu_frame.specs.Crc.{bit_step, bit_steps, byte_step, crc}
 use Rattle.rtu_frame.specs.Frame.{is_frame, has_right_ending}
-use Rattle.hmac_tag.proofs.StandardFacts.{hmac_of_hi_there, hmac_of_jefe, hmac_of_fifty_bytes, tag_of_test_with_truncation, hmac_under_a_long_key}
+use Rattle.hmac_tag.proofs.StandardFacts.{hmac_of_hi_there, hmac_of_jefe, hmac_of_fifty_bytes}
+use Rattle.hmac_tag.proofs.StandardFacts.{tag_of_test_with_truncation, hmac_under_a_long_key}
 use Rattle.vectors.specs.Cases.{answer}
 use Rattle.vectors.specs.Tables.{crc_cases, hmac_cases, frames_cases}
 
@@ -13,7 +14,8 @@ crc_rows = (refl, refl)
 pub hmac_rows : (length hmac_cases ≡ 5) × (answer hmac_cases ≡ Ok tt)
 unfolding answer hmac_cases
 hmac_rows =
-    (refl, rw (hmac_of_hi_there, hmac_of_jefe, hmac_of_fifty_bytes, tag_of_test_with_truncation, hmac_under_a_long_key))
+    (refl, rw (hmac_of_hi_there, hmac_of_jefe, hmac_of_fifty_bytes, tag_of_test_with_truncation,
+        hmac_under_a_long_key))
 
 pub frames_rows : (length frames_cases ≡ 5) × (answer frames_cases ≡ Ok tt)
 unfolding bit_step bit_steps byte_step crc is_frame has_right_ending answer frames_cases

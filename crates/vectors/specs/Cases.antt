@@ -1,5 +1,6 @@
 -- Known answers: what the definitions give for a case, and what a table of cases is answered.
-use Rattle.std.specs.Prelude.{◌≡◌, ℕ, ◌+◌, List, [], ◌∷◌, ◌++◌, length, Bool, not, Option, Some, None, Result, Ok, Err, MatchResult, All, position, if◌then◌else◌}
+use Rattle.std.specs.Prelude.{◌≡◌, ℕ, ◌+◌, List, [], ◌∷◌, ◌++◌, length, Bool, not, Option, Some}
+use Rattle.std.specs.Prelude.{None, Result, Ok, Err, MatchResult, All, position, if◌then◌else◌}
 use Rattle.std.specs.Int.{w16, to_be_bytes}
 use Rattle.std.specs.Str.{bytes_eq}
 use Rattle.rtu_frame.specs.Crc.{crc_rtu}
@@ -13,9 +14,11 @@ use Rattle.vectors.specs.declared.table.Miss.{Miss}
 -- the case of this kind with this key, text and wanted bytes
 abbrev pub case_of : CaseKind → List ℕ → List ℕ → List ℕ → Case
 case_of kind key text want =
-    record { kind = kind; key = record { items = key }; text = record { items = text }; want = record { items = want } }
+    record { kind = kind; key = record { items = key }; text = record { items = text };
+        want = record { items = want } }
 
--- what the definitions give: a CRC high byte first, a code, a code cut to 12 bytes, and 1 or 0 for a frame or none
+-- what the definitions give: a CRC high byte first, a code, a code cut to 12 bytes, and 1 or 0 for
+-- a frame or none
 abbrev pub value_by : CaseKind → List ℕ → List ℕ → List ℕ
 value_by Crc16 key text = to_be_bytes w16 (crc_rtu text)
 value_by HmacSha1 key text = hmac_sha1 key text
@@ -45,7 +48,8 @@ pub record IsFirstMiss (cases : List Case) (row : ℕ) : Type 0 where
 
 -- the answer to a table: every case is right, or this row, counted from 1, is the first that isn't
 abbrev pub IsAnswer : List Case → Result (Unit {0}) Miss → Type 0
-IsAnswer cases result = MatchResult result (λ _. All IsRight cases) (λ miss. IsFirstMiss cases miss.row)
+IsAnswer cases result = MatchResult result (λ _. All IsRight cases)
+    (λ miss. IsFirstMiss cases miss.row)
 
 abbrev pub answer_at : Option ℕ → Result (Unit {0}) Miss
 answer_at None = Ok tt

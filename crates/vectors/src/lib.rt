@@ -1,4 +1,5 @@
-//! Tables of known answers: what the definitions of this repository give, beside the numbers of the public standards.
+//! Tables of known answers: what the definitions of this repository give, beside the numbers of the
+//! public standards.
 #![tactic(auto)]
 
 mod case;

@@ -3,4 +3,5 @@ use Rattle.std.proofs.lemmas.List.{drop-replicate}
 use Rattle.hmac_tag.proofs.keyed_hash.filled.Goals as goal
 
 pub returns : goal.returns
-returns c = rw c.copy_from_slice.ensures.after (ap (λ (zeros : List ℕ). c.args.key.now ++ zeros) (drop-replicate _ 64 0))
+returns c = rw c.copy_from_slice.ensures.after
+    (ap (λ (zeros : List ℕ). c.args.key.now ++ zeros) (drop-replicate _ 64 0))

@@ -12,8 +12,10 @@ loop-init c =
 
 pub loop-preserved : goal.loop-preserved
 loop-preserved c =
-    bit_steps-next POLYNOMIAL 8 c.loop.counter c.loop.shifted _ (omega arith) c.after_bit-shifted.ensures
+    bit_steps-next POLYNOMIAL 8 c.loop.counter c.loop.shifted _ (omega arith)
+        c.after_bit-shifted.ensures
     ∙ c.loop.invariant
 
 pub returns : goal.returns
-returns c = sym (bit_steps-done POLYNOMIAL 8 c.loop.counter c.loop.shifted (omega arith)) ∙ c.loop.invariant
+returns c = sym (bit_steps-done POLYNOMIAL 8 c.loop.counter c.loop.shifted (omega arith))
+    ∙ c.loop.invariant

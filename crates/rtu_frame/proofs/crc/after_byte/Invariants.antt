@@ -4,4 +4,5 @@ use Rattle.rtu_frame.specs.declared.crc.TheConstants.{POLYNOMIAL}
 use Rattle.rtu_frame.proofs.crc.after_byte.Given as goal
 
 abbrev pub invariant-loop : goal.invariant-loop
-invariant-loop l = bit_steps POLYNOMIAL (8 - l.counter) l.shifted ≡ byte_step POLYNOMIAL l.fn.register l.fn.byte
+invariant-loop l = bit_steps POLYNOMIAL (8 - l.counter) l.shifted
+    ≡ byte_step POLYNOMIAL l.fn.register l.fn.byte

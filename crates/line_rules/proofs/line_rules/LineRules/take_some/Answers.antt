@@ -4,7 +4,8 @@ use Rattle.line_rules.proofs.line_rules.LineRules.take_some.Goals as goal
 
 pub loop-byte-init : goal.loop-byte-init
 loop-byte-init g c =
-    (refl, taken-none g.Self.LineRules.rules g.Self.LineRules.stands c.args.self.now c.args.part.now)
+    (refl, taken-none g.Self.LineRules.rules g.Self.LineRules.stands c.args.self.now
+        c.args.part.now)
 
 pub returns-then-full-clause-within : goal.returns-then-full-clause-within
 returns-then-full-clause-within g c = omega (arith, c.loop-byte.invariant.0)
@@ -20,12 +21,13 @@ overflow_add-taken g c = omega (arith, c.loop-byte.invariant.0)
 
 pub loop-byte-preserved : goal.loop-byte-preserved
 loop-byte-preserved g c =
-    let at = c.loop-byte.invariant.0 in
-    (ap (λ n. n + 1) at,
-     taken-next g.Self.LineRules.rules g.Self.LineRules.stands c.args.self.now c.args.part.now
-         c.loop-byte.self c.take.new.self c.loop-byte.taken _ c.loop-byte.invariant.1 (omega arith)
-         (ap (λ n. get_or c.args.part.now n 0) (sym at))
-         (λ x stands. sym c.if-full.false ∙ c.full.ensures.stands x stands) c.take.ensures)
+    let at = c.loop-byte.invariant.0 in (
+      ap (λ n. n + 1) at,
+      taken-next g.Self.LineRules.rules g.Self.LineRules.stands c.args.self.now c.args.part.now
+          c.loop-byte.self c.take.new.self c.loop-byte.taken _ c.loop-byte.invariant.1 (omega arith)
+          (ap (λ n. get_or c.args.part.now n 0) (sym at))
+          (λ x stands. sym c.if-full.false ∙ c.full.ensures.stands x stands) c.take.ensures,
+    )
 
 pub returns-clause-within : goal.returns-clause-within
 returns-clause-within g c = omega (arith, c.loop-byte.invariant.0)
