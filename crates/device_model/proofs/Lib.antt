@@ -1,4 +1,5 @@
 pub mod ReadLaws
-pub mod OpenBurstLaws
+pub mod Forwarded
 pub mod RtuLaws
+pub mod Runs
 pub mod Rows

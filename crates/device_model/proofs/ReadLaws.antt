@@ -1,78 +1,15 @@
 -- What is read of bursts, as the line goes on.
-use Rattle.std.proofs.Common.{◌≡◌, ℕ, zero, suc, ◌+◌, ◌<◌, ◌≤◌, nat_le, cond, Bool, true, false, ◌&&◌, ◌||◌, List, [], ◌∷◌, ◌++◌, length, map, refl, arith, sym, ◌∙◌, ap}
+use Rattle.std.proofs.Common.{◌≡◌, ℕ, ◌+◌, ◌<◌, ◌≤◌, nat_le, cond, Bool, true, false, ◌&&◌, List}
+use Rattle.std.proofs.Common.{[], ◌∷◌, ◌++◌, length, map, refl, arith, sym, ◌∙◌, ap}
 use Rattle.std.specs.Prelude.{filter}
 use Rattle.std.proofs.Common.{⊎_elim}
-use Rattle.std.proofs.lemmas.Bool.{le-leb, lt-leb, cases_lt, cases_Bool}
+use Rattle.std.proofs.lemmas.Bool.{le-leb, lt-leb, cases_Bool}
 use Rattle.std.proofs.lemmas.List.{append-nil, map-append}
 use Rattle.std.proofs.lemmas.List.Elements.{filter-append}
 use Rattle.rtu_frame.specs.Frame.{is_frame}
 use Rattle.rtu_frame.proofs.FrameLaws.{is_frame-true}
-use Rattle.yasir_ticks.specs.Ticks.{silent}
 use Rattle.yasir_ticks.specs.Bursts.{Burst, end_of, AreClosed}
-use Rattle.yasir_ticks.specs.declared.tick.Tick.{Tick}
-use Rattle.yasir_ticks.specs.declared.tick.Tick.TheVariants.{Silent, Byte}
-use Rattle.device_model.specs.RtuReads.{begins_silent, has_silence, is_frame_body, is_read, frame_in, frames_read}
-
--- ---- silence among ticks
-
-pub has_silence-cons : (k : ℕ) (t : Tick) (l : List Tick) → has_silence k (t ∷ l) ≡ (begins_silent k (t ∷ l) || has_silence k l)
-unfolding has_silence
-has_silence-cons k t l = refl
-
-pub has_silence-nil : (k : ℕ) → has_silence k [] ≡ false
-unfolding has_silence
-has_silence-nil k = refl
-
--- silence that begins before a byte ends before it
-begins_silent-append : (k : ℕ) (x : List Tick) (b : ℕ) (y : List Tick)
-    → begins_silent k ((x ++ Byte b ∷ []) ++ y) ≡ begins_silent k (x ++ Byte b ∷ [])
-begins_silent-append zero x b y = refl
-begins_silent-append (suc k) [] b y = refl
-begins_silent-append (suc k) (Silent ∷ x) b y = begins_silent-append k x b y
-begins_silent-append (suc k) (Byte a ∷ x) b y = refl
-
-or_assoc : (x y z : Bool) → ((x || y) || z) ≡ (x || (y || z))
-or_assoc true y z = refl
-or_assoc false y z = refl
-
-or_false : (x : Bool) → (x || false) ≡ x
-or_false true = refl
-or_false false = refl
-
--- no silence goes across a byte
-pub has_silence-append : (k : ℕ) (x : List Tick) (b : ℕ) (y : List Tick)
-    → has_silence (suc k) ((x ++ Byte b ∷ []) ++ y) ≡ (has_silence (suc k) (x ++ Byte b ∷ []) || has_silence (suc k) y)
-has_silence-append k [] b y =
-    has_silence-cons (suc k) (Byte b) y
-    ∙ sym (ap (λ v. v || has_silence (suc k) y) (has_silence-cons (suc k) (Byte b) [] ∙ has_silence-nil (suc k)))
-has_silence-append k (t ∷ x) b y =
-    has_silence-cons (suc k) t ((x ++ Byte b ∷ []) ++ y)
-    ∙ (ap (λ v. v || has_silence (suc k) ((x ++ Byte b ∷ []) ++ y)) (begins_silent-append (suc k) (t ∷ x) b y)
-    ∙ (ap (λ v. begins_silent (suc k) (t ∷ (x ++ Byte b ∷ [])) || v) (has_silence-append k x b y)
-    ∙ (sym (or_assoc (begins_silent (suc k) (t ∷ (x ++ Byte b ∷ []))) (has_silence (suc k) (x ++ Byte b ∷ [])) (has_silence (suc k) y))
-    ∙ sym (ap (λ v. v || has_silence (suc k) y) (has_silence-cons (suc k) t (x ++ Byte b ∷ []))))))
-
-begins_silent-silent : (k j b : ℕ) → begins_silent k (silent j ++ Byte b ∷ []) ≡ nat_le k j
-begins_silent-silent zero j b = sym (le-leb zero j (omega arith))
-begins_silent-silent (suc k) zero b = sym (lt-leb (suc k) zero (omega arith))
-begins_silent-silent (suc k) (suc j) b =
-    begins_silent-silent k j b ∙ ⊎_elim
-    (λ below. lt-leb k j below ∙ sym (lt-leb (suc k) (suc j) (omega arith)))
-    (λ within. le-leb k j within ∙ sym (le-leb (suc k) (suc j) (omega arith)))
-    (cases_lt j k)
-
--- j silent ticks and a byte
-pub has_silence-silent : (k j b : ℕ) → has_silence (suc k) (silent j ++ Byte b ∷ []) ≡ nat_le (suc k) j
-has_silence-silent k zero b =
-    has_silence-cons (suc k) (Byte b) [] ∙ (has_silence-nil (suc k) ∙ sym (lt-leb (suc k) zero (omega arith)))
-has_silence-silent k (suc j) b =
-    has_silence-cons (suc k) Silent (silent j ++ Byte b ∷ [])
-    ∙ (ap (λ v. v || has_silence (suc k) (silent j ++ Byte b ∷ [])) (begins_silent-silent (suc k) (suc j) b)
-    ∙ (ap (λ v. nat_le (suc k) (suc j) || v) (has_silence-silent k j b)
-    ∙ ⊎_elim
-    (λ below. ap (λ v. nat_le (suc k) (suc j) || v) (lt-leb (suc k) j (omega arith)) ∙ or_false (nat_le (suc k) (suc j)))
-    (λ within. ap (λ v. v || nat_le (suc k) j) (le-leb (suc k) (suc j) (omega arith)) ∙ sym (le-leb (suc k) (suc j) (omega arith)))
-    (cases_lt j k)))
+use Rattle.device_model.specs.RtuReads.{is_frame_body, is_read, frame_in, frames_read}
 
 -- ---- frames among bursts
 
@@ -82,13 +19,15 @@ one_test true true d e = refl
 one_test true false d e = refl
 one_test false whole d e = absurd (cc)
 
-no_test : (ended whole : Bool) (d : Burst) → ended ≡ false → map frame_in (cond (ended && whole) (d ∷ []) []) ≡ []
+no_test : (ended whole : Bool) (d : Burst) → ended ≡ false
+    → map frame_in (cond (ended && whole) (d ∷ []) []) ≡ []
 no_test false whole d e = refl
 no_test true whole d e = absurd (cc)
 
 module _ (cut pause : ℕ) where
   pub frames_read-append : (m : ℕ) (xs ys : List Burst)
-      → frames_read cut pause m (xs ++ ys) ≡ frames_read cut pause m xs ++ frames_read cut pause m ys
+      → frames_read cut pause m (xs ++ ys)
+      ≡ frames_read cut pause m xs ++ frames_read cut pause m ys
   frames_read-append m xs ys =
       ap (λ x. map frame_in x) (filter-append (is_read cut pause m) xs ys)
       ∙ map-append frame_in (filter (is_read cut pause m) xs) (filter (is_read cut pause m) ys)
@@ -97,12 +36,15 @@ module _ (cut pause : ℕ) where
   pub frames_read-ended : (m : ℕ) (d : Burst) → end_of d + cut ≤ m
       → frames_read cut pause m (d ∷ []) ≡ cond (is_frame_body pause d.body) (frame_in d ∷ []) []
   frames_read-ended m d ended =
-      one_test (nat_le (end_of d + cut) m) (is_frame_body pause d.body) d (le-leb (end_of d + cut) m ended)
+      one_test (nat_le (end_of d + cut) m) (is_frame_body pause d.body) d
+      (le-leb (end_of d + cut) m ended)
 
   -- an open burst isn't read
-  pub frames_read-open : (m : ℕ) (d : Burst) → m < end_of d + cut → frames_read cut pause m (d ∷ []) ≡ []
+  pub frames_read-open : (m : ℕ) (d : Burst) → m < end_of d + cut
+      → frames_read cut pause m (d ∷ []) ≡ []
   frames_read-open m d here =
-      no_test (nat_le (end_of d + cut) m) (is_frame_body pause d.body) d (lt-leb (end_of d + cut) m here)
+      no_test (nat_le (end_of d + cut) m) (is_frame_body pause d.body) d
+      (lt-leb (end_of d + cut) m here)
 
   -- what is read of ended bursts doesn't change as the line goes on
   pub frames_read-later : (m n : ℕ) (ds : List Burst) → m ≤ n → AreClosed cut m ds
@@ -112,12 +54,14 @@ module _ (cut pause : ℕ) where
       let ended : end_of d + cut ≤ m = closed.0 in
       let still : end_of d + cut ≤ n = omega arith in
       frames_read-append n (d ∷ []) ds
-      ∙ (ap (λ x. x ++ frames_read cut pause n ds) (frames_read-ended n d still ∙ sym (frames_read-ended m d ended))
+      ∙ (ap (λ x. x ++ frames_read cut pause n ds)
+      (frames_read-ended n d still ∙ sym (frames_read-ended m d ended))
       ∙ (ap (λ x. frames_read cut pause m (d ∷ []) ++ x) (frames_read-later m n ds later closed.1)
       ∙ sym (frames_read-append m (d ∷ []) ds)))
 
   -- An open burst after ended ones adds nothing.
-  pub frames_read-front : (m n : ℕ) (front : List Burst) (d : Burst) → m ≤ n → AreClosed cut m front → n < end_of d + cut
+  pub frames_read-front : (m n : ℕ) (front : List Burst) (d : Burst) → m ≤ n → AreClosed cut m front
+      → n < end_of d + cut
       → frames_read cut pause n (front ++ d ∷ []) ≡ frames_read cut pause m front
   frames_read-front m n front d later closed here =
       frames_read-append n front (d ∷ [])
@@ -125,13 +69,15 @@ module _ (cut pause : ℕ) where
       ∙ (append-nil (frames_read cut pause n front) ∙ frames_read-later m n front later closed))
 
   -- A burst that ends after ended ones adds its frame.
-  pub frames_read-last : (m n : ℕ) (front : List Burst) (d : Burst) → m ≤ n → AreClosed cut m front → end_of d + cut ≤ n
+  pub frames_read-last : (m n : ℕ) (front : List Burst) (d : Burst) → m ≤ n → AreClosed cut m front
+      → end_of d + cut ≤ n
       → frames_read cut pause n (front ++ d ∷ [])
       ≡ frames_read cut pause m front ++ cond (is_frame_body pause d.body) (frame_in d ∷ []) []
   frames_read-last m n front d later closed ended =
       frames_read-append n front (d ∷ [])
       ∙ (ap (λ x. frames_read cut pause n front ++ x) (frames_read-ended n d ended)
-      ∙ ap (λ x. x ++ cond (is_frame_body pause d.body) (frame_in d ∷ []) []) (frames_read-later m n front later closed))
+      ∙ ap (λ x. x ++ cond (is_frame_body pause d.body) (frame_in d ∷ []) [])
+      (frames_read-later m n front later closed))
 
 -- a frame isn't longer than the longest one
 pub is_frame-long : (f : List ℕ) → 256 < length f → is_frame f ≡ false

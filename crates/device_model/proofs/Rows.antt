@@ -1,5 +1,6 @@
--- What is read of a recorded exchange, computed: a query, the same with a wrong check, and the least frame with one silent tick
--- in it. A burst in which two silent ticks stand together isn't read, nor one that only three silent ticks follow.
+-- What is read of a recorded exchange, computed: a query, the same with a wrong check, and the
+-- least frame with one silent tick in it. A burst in which two silent ticks stand together isn't
+-- read, nor one that only three silent ticks follow.
 use Rattle.std.proofs.Common.{◌≡◌, List, [], ◌∷◌, ◌++◌, refl}
 use Rattle.rtu_frame.specs.Crc.{bit_step, bit_steps, byte_step, crc}
 use Rattle.rtu_frame.specs.Frame.{is_frame, has_right_ending}
@@ -10,10 +11,12 @@ use Rattle.yasir_ticks.specs.declared.tick.Tick.TheVariants.{Byte}
 use Rattle.device_model.specs.RtuReads.{has_silence, rtu_reads}
 
 abbrev query : List Tick
-query = Byte 0x01 ∷ Byte 0x03 ∷ Byte 0x00 ∷ Byte 0x00 ∷ Byte 0x00 ∷ Byte 0x0A ∷ Byte 0xC5 ∷ Byte 0xCD ∷ []
+query = Byte 0x01 ∷ Byte 0x03 ∷ Byte 0x00 ∷ Byte 0x00 ∷ Byte 0x00 ∷ Byte 0x0A ∷ Byte 0xC5
+    ∷ Byte 0xCD ∷ []
 
 abbrev damaged : List Tick
-damaged = Byte 0x01 ∷ Byte 0x03 ∷ Byte 0x00 ∷ Byte 0x00 ∷ Byte 0x00 ∷ Byte 0x0A ∷ Byte 0xC5 ∷ Byte 0xCC ∷ []
+damaged = Byte 0x01 ∷ Byte 0x03 ∷ Byte 0x00 ∷ Byte 0x00 ∷ Byte 0x00 ∷ Byte 0x0A ∷ Byte 0xC5
+    ∷ Byte 0xCC ∷ []
 
 abbrev least : List Tick
 least = Byte 0x01 ∷ Byte 0x03 ∷ (silent 1 ++ Byte 0x40 ∷ Byte 0x21 ∷ [])
@@ -24,13 +27,16 @@ parted = Byte 0x01 ∷ Byte 0x03 ∷ (silent 2 ++ Byte 0x40 ∷ Byte 0x21 ∷ []
 pub exchange_read : rtu_reads (query ++ silent 4 ++ damaged ++ silent 4 ++ least ++ silent 4)
     ≡ record { start = 0; frame = 0x01 ∷ 0x03 ∷ 0x00 ∷ 0x00 ∷ 0x00 ∷ 0x0A ∷ 0xC5 ∷ 0xCD ∷ [] }
     ∷ record { start = 24; frame = 0x01 ∷ 0x03 ∷ 0x40 ∷ 0x21 ∷ [] } ∷ []
-unfolding bit_step bit_steps byte_step crc is_frame has_right_ending with_byte bursts_from has_silence
+unfolding bit_step bit_steps byte_step crc is_frame has_right_ending with_byte bursts_from
+    has_silence
 exchange_read = refl
 
 pub parted_unread : rtu_reads (parted ++ silent 4) ≡ []
-unfolding bit_step bit_steps byte_step crc is_frame has_right_ending with_byte bursts_from has_silence
+unfolding bit_step bit_steps byte_step crc is_frame has_right_ending with_byte bursts_from
+    has_silence
 parted_unread = refl
 
 pub open_unread : rtu_reads (query ++ silent 3) ≡ []
-unfolding bit_step bit_steps byte_step crc is_frame has_right_ending with_byte bursts_from has_silence
+unfolding bit_step bit_steps byte_step crc is_frame has_right_ending with_byte bursts_from
+    has_silence
 open_unread = refl

@@ -1,4 +1,3 @@
 pub mod Frames
 pub mod RtuReads
-pub mod OpenBurst
 pub mod RtuDevice

@@ -1,10 +1,13 @@
--- What a Modbus RTU device reads of a line: a burst that four silent ticks follow, in which no two adjacent ticks are silent,
--- and whose bytes are a frame. Modbus over Serial Line V1.02 parts frames by 3.5 character times and lets at most 1.5 pass
--- inside one; the rounding to whole ticks is this project's profile.
-use Rattle.std.specs.Prelude.{ℕ, zero, suc, ◌+◌, nat_le, ◌&&◌, ◌||◌, not, Bool, true, false, List, [], ◌∷◌, length, map, filter}
+-- What a Modbus RTU device reads of a line: a burst that four silent ticks follow, in which no two
+-- adjacent ticks are silent, and whose bytes are a frame. Modbus over Serial Line V1.02 parts
+-- frames by 3.5 character times and lets at most 1.5 pass inside one; the rounding to whole ticks
+-- is this project's profile.
+use Rattle.std.specs.Prelude.{ℕ, zero, suc, ◌+◌, nat_le, ◌&&◌, ◌||◌, not, Bool, true, false, List}
+use Rattle.std.specs.Prelude.{[], ◌∷◌, length, map, filter}
 use Rattle.rtu_frame.specs.Frame.{is_frame}
 use Rattle.yasir_ticks.specs.Ticks.{bytes_in}
 use Rattle.yasir_ticks.specs.Bursts.{Burst, bursts, end_of}
+use Rattle.yasir_ticks.specs.declared.TheConstants.{T3_5_TICKS, T1_5_TICKS}
 use Rattle.yasir_ticks.specs.declared.tick.Tick.{Tick}
 use Rattle.yasir_ticks.specs.declared.tick.Tick.TheVariants.{Silent, Byte}
 use Rattle.device_model.specs.Frames.{FrameRead}
@@ -25,8 +28,8 @@ has_silence k (t ∷ l) = begins_silent k (t ∷ l) || has_silence k l
 abbrev pub is_frame_body : ℕ → List Tick → Bool
 is_frame_body pause body = not (has_silence pause body) && is_frame (bytes_in body)
 
--- The burst is read of a line of m ticks: `cut` silent ticks follow it there (no later burst starts before they have passed),
--- and its ticks are a frame.
+-- The burst is read of a line of m ticks: `cut` silent ticks follow it there (no later burst starts
+-- before they have passed), and its ticks are a frame.
 abbrev pub is_read : ℕ → ℕ → ℕ → Burst → Bool
 is_read cut pause m d = nat_le (end_of d + cut) m && is_frame_body pause d.body
 
@@ -39,4 +42,4 @@ frames_read cut pause m ds = map frame_in (filter (is_read cut pause m) ds)
 
 -- the frames that are read of a line
 abbrev pub rtu_reads : List Tick → List FrameRead
-rtu_reads line = frames_read 4 2 (length line) (bursts line)
+rtu_reads line = frames_read T3_5_TICKS T1_5_TICKS (length line) (bursts line)

@@ -2,9 +2,11 @@
 #![tactic(auto)]
 
 mod device;
+mod laws;
 mod rtu;
 
-pub use device::{Device, FrameAt};
+pub use device::{Device, FrameAt, Heard};
+pub use laws::forwarded_frames_are_read;
 pub use rtu::RtuDevice;
 
 #[cfg(test)]

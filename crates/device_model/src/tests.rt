@@ -112,3 +112,25 @@ fn lone_bursts(rt: HostRuntime) -> Result<(), Fail> {
     assert_eq!(rt; rtu_readings(alloc, &[Bytes(QUERY), Silence(3)])?.len(), 0);
     Ok(())
 }
+
+// What such a device hears of silence, the query and silence again, run by run.
+fn runs<D: Device + Drop>() -> [Heard; 3] {
+    let mut device = D::fresh();
+    [
+        device.wait_some(3),
+        device.hear_some(QUERY),
+        device.wait_some(6),
+    ]
+}
+
+#[test]
+fn runs_of_ticks(rt: HostRuntime) {
+    let [before, query, after] = runs::<RtuDevice>();
+    assert_eq!(rt; (before.taken, before.frame.is_none()), (3, true));
+    assert_eq!(rt; (query.taken, query.frame.is_none()), (8, true));
+    assert_eq!(rt; after.taken, 4);
+    let frame = after.frame.expect(&rt, "the query");
+    assert_eq!(rt; frame.start, 3);
+    assert_eq!(rt; frame.bytes.as_slice(), QUERY);
+    forwarded_frames_are_read();
+}

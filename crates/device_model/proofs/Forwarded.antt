@@ -1,0 +1,149 @@
+-- What a transmitter forwards as a frame is what a device reads.
+use Rattle.std.proofs.Common.{◌≡◌, ◌∙◌, ℕ, ◌<◌, ◌≤◌, Bool, true, false, not, ◌&&◌, List, [], ◌∷◌}
+use Rattle.std.proofs.Common.{length, take, refl, sym, ap, subst, arith, ⊎_elim}
+use Rattle.std.specs.List.{All, Contains}
+use Rattle.std.proofs.lemmas.Bool.{cases_Bool, cases_lt, lt-ltb, le-ltb}
+use Rattle.std.proofs.lemmas.List.{take_all, length-take}
+use Rattle.std.proofs.lemmas.List.Elements.{All-nil, All-cons, All-contains}
+use Rattle.rtu_frame.specs.Frame.{is_frame}
+use Rattle.rtu_frame.specs.Rules.{rtu_rules}
+use Rattle.rtu_frame.proofs.FrameLaws.{is_frame-true}
+use Rattle.yasir_ticks.specs.Ticks.{bytes_in}
+use Rattle.yasir_ticks.specs.Bursts.{Burst, bursts, end_of}
+use Rattle.yasir_ticks.specs.BurstsOf.{IsContiguous, AreBursts}
+use Rattle.yasir_ticks.specs.declared.tick.Tick.{Tick}
+use Rattle.yasir_ticks.specs.declared.tick.Tick.TheVariants.{Silent, Byte}
+use Rattle.yasir_ticks.proofs.BurstsOfLaws.{bursts_from-are}
+use Rattle.frame_ending.specs.LiveBytes.{before_pause, has_pause, spelled, live_bytes, has_extra}
+use Rattle.frame_ending.proofs.Pauses.{ended, knit-ends, before_pause-whole}
+use Rattle.device_model.specs.RtuReads.{has_silence, is_frame_body}
+use Rattle.device_model.proofs.ReadLaws.{is_frame-long}
+
+-- ---- the bursts of a line are contiguous
+
+contiguous-all : (n : ℕ) (line : List Tick) (ds : List Burst) → AreBursts 4 n line ds
+    → All (λ (d : Burst). IsContiguous 4 d.body) ds
+contiguous-all n line [] are = All-nil (λ (d : Burst). IsContiguous 4 d.body)
+contiguous-all n line (d ∷ ds) are =
+    All-cons (λ (e : Burst). IsContiguous 4 e.body) d ds are.4
+    (contiguous-all (end_of d) are.1 ds are.6)
+
+pub burst-contiguous : (line : List Tick) (d : Burst) → Contains (bursts line) d
+    → IsContiguous 4 d.body
+burst-contiguous line d contains =
+    All-contains (λ (e : Burst). IsContiguous 4 e.body) (bursts line) d
+    (contiguous-all 0 line (bursts line) (bursts_from-are 4 0 line)) contains
+
+-- ---- two silent ticks together
+
+-- both definitions of two silent ticks that stand together say the same
+pauses : (x : List Tick) → has_silence 2 x ≡ has_pause x
+unfolding has_silence has_pause
+pauses [] = refl
+pauses (Byte b ∷ x) = pauses x
+pauses (Silent ∷ []) = refl
+pauses (Silent ∷ Silent ∷ x) = refl
+pauses (Silent ∷ Byte b ∷ x) = pauses x
+
+-- a byte stands behind them
+before-fewer : (w : List Tick) (a : ℕ) → has_pause (ended w a) ≡ true
+    → length (bytes_in (before_pause (ended w a))) < length (bytes_in (ended w a))
+unfolding has_pause before_pause
+before-fewer [] a paused = absurd (cc)
+before-fewer (Byte c ∷ w) a paused = let rest = before-fewer w a paused in omega arith
+before-fewer (Silent ∷ []) a paused = absurd (cc)
+before-fewer (Silent ∷ Silent ∷ w) a paused = some w a
+  where
+    some : (w : List Tick) (a : ℕ) → 0 < length (bytes_in (ended w a))
+    some [] a = omega arith
+    some (Silent ∷ w) a = some w a
+    some (Byte c ∷ w) a = omega arith
+before-fewer (Silent ∷ Byte c ∷ w) a paused = let rest = before-fewer w a paused in omega arith
+
+-- ---- a burst
+
+module _ (d : Burst) (knit : IsContiguous 4 d.body) where
+  paused-fewer : has_pause d.body ≡ true → length (spelled d) < length (bytes_in d.body)
+  paused-fewer paused =
+      let last = knit-ends 4 d.body knit in
+      let P : List Tick → Type 0 = λ x. has_pause x ≡ true
+      → length (bytes_in (before_pause x)) < length (bytes_in x) in
+      let fewer : has_pause d.body ≡ true → length (spelled d) < length (bytes_in d.body) =
+      subst P (sym last.2) (before-fewer last.0 last.1) in
+      fewer paused
+
+  spelled-all : has_pause d.body ≡ false → spelled d ≡ bytes_in d.body
+  spelled-all none =
+      let last = knit-ends 4 d.body knit in
+      let P : List Tick → Type 0 = λ x. has_pause x ≡ false
+      → bytes_in (before_pause x) ≡ bytes_in x in
+      let whole : has_pause d.body ≡ false → spelled d ≡ bytes_in d.body =
+      subst P (sym last.2) (λ calm. ap bytes_in (before_pause-whole last.0 last.1 calm)) in
+      whole none
+
+  -- with no pause the live bytes are the first 256
+  live-first : has_pause d.body ≡ false → live_bytes rtu_rules d ≡ take 256 (bytes_in d.body)
+  live-first none = ap (λ x. take 256 x) (spelled-all none)
+
+  live-all : has_pause d.body ≡ false → length (bytes_in d.body) ≤ 256
+      → live_bytes rtu_rules d ≡ bytes_in d.body
+  live-all none few = live-first none ∙ take_all 256 (bytes_in d.body) few
+
+  abbrev forwards : Bool
+  forwards = not (has_extra rtu_rules d) && is_frame (live_bytes rtu_rules d)
+
+  -- fewer bytes are live than there are
+  extra-fewer : length (live_bytes rtu_rules d) < length (bytes_in d.body) → forwards ≡ false
+  extra-fewer fewer =
+      ap (λ e. not e && is_frame (live_bytes rtu_rules d))
+      (lt-ltb (length (live_bytes rtu_rules d)) (length (bytes_in d.body)) fewer)
+
+  calm-body : has_pause d.body ≡ false → is_frame_body 2 d.body ≡ is_frame (bytes_in d.body)
+  calm-body none = ap (λ s. not s && is_frame (bytes_in d.body)) (pauses d.body ∙ none)
+
+  paused-body : has_pause d.body ≡ true → is_frame_body 2 d.body ≡ false
+  paused-body paused = ap (λ s. not s && is_frame (bytes_in d.body)) (pauses d.body ∙ paused)
+
+  same-paused : has_pause d.body ≡ true → forwards ≡ is_frame_body 2 d.body
+  same-paused paused =
+      let fewer = paused-fewer paused in
+      let room = length-take 256 (spelled d) in
+      extra-fewer (omega arith) ∙ sym (paused-body paused)
+
+  same-long : has_pause d.body ≡ false → 256 < length (bytes_in d.body)
+      → forwards ≡ is_frame_body 2 d.body
+  same-long none long =
+      let room = length-take 256 (spelled d) in
+      extra-fewer (omega arith) ∙ sym (calm-body none ∙ is_frame-long (bytes_in d.body) long)
+
+  same-whole : has_pause d.body ≡ false → length (bytes_in d.body) ≤ 256
+      → forwards ≡ is_frame_body 2 d.body
+  same-whole none few =
+      let all = ap length (live-all none few) in
+      ap (λ e. not e && is_frame (live_bytes rtu_rules d))
+      (le-ltb (length (live_bytes rtu_rules d)) (length (bytes_in d.body)) (omega arith))
+      ∙ (ap is_frame (live-all none few) ∙ sym (calm-body none))
+
+  -- the transmitter's test of a burst is the device's
+  pub forwarded-same : forwards ≡ is_frame_body 2 d.body
+  forwarded-same =
+      ⊎_elim
+      same-paused
+      (λ none. ⊎_elim
+      (λ long. same-long none long)
+      (λ few. same-whole none few)
+      (cases_lt 256 (length (bytes_in d.body))))
+      (cases_Bool (has_pause d.body))
+
+  -- and then all bytes are live
+  pub forwarded-whole : is_frame_body 2 d.body ≡ true → live_bytes rtu_rules d ≡ bytes_in d.body
+  forwarded-whole framed =
+      ⊎_elim
+      (λ paused. let none = paused-body paused in absurd (cc))
+      (λ none. live-all none (is_frame-true (bytes_in d.body)
+      (sym (calm-body none) ∙ framed)).at_most)
+      (cases_Bool (has_pause d.body))
+
+-- there is room for the live bytes
+pub live-short : (d : Burst) → length (live_bytes rtu_rules d) ≤ 256
+live-short d = let room = length-take 256 (spelled d) in omega arith
