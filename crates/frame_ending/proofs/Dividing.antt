@@ -12,7 +12,7 @@ use Rattle.yasir_ticks.specs.declared.tick.Tick.TheVariants.{Silent, Byte}
 use Rattle.yasir_ticks.proofs.BurstLaws.{alone, with_last, extended, extended-closed}
 use Rattle.yasir_ticks.proofs.BurstLaws.{extended-joins, bursts_from-byte, bursts_from-silent}
 use Rattle.yasir_ticks.proofs.BurstLaws.{AreClosed-later, AreClosed-more}
-use Rattle.yasir_ticks.proofs.BurstsOfLaws.{knit-more}
+use Rattle.yasir_ticks.proofs.BurstsOfLaws.{contiguous-more}
 use Rattle.frame_ending.specs.Divided.{IsDivided}
 use Rattle.frame_ending.proofs.LastBurst.{IsWithin, last_burst-within}
 use Rattle.frame_ending.proofs.BurstSteps.{longer-end}
@@ -71,7 +71,7 @@ module _ (line : List Tick) (closed : List Burst) where
       let within = divided-within d divided in
       let near : length line < end_of d + 4 = divided.is_running in
       let few : length line - end_of d < 4 = omega arith in
-      knit-more 4 d.body (length line - end_of d) b within.knit few
+      contiguous-more 4 d.body (length line - end_of d) b within.knit few
 
   -- its last tick is the byte
   pub byte-last : (b : ℕ) (running : Option Burst) → IsDivided line closed running

@@ -7,7 +7,7 @@ use Rattle.yasir_ticks.specs.Bursts.{Burst, end_of}
 use Rattle.yasir_ticks.specs.BurstsOf.{IsContiguous}
 use Rattle.yasir_ticks.specs.declared.tick.Tick.{Tick}
 use Rattle.yasir_ticks.specs.declared.tick.Tick.TheVariants.{Silent, Byte}
-use Rattle.yasir_ticks.proofs.BurstsOfLaws.{knit-more}
+use Rattle.yasir_ticks.proofs.BurstsOfLaws.{contiguous-more}
 use Rattle.line_rules.specs.Rules.{Rules}
 use Rattle.line_rules.specs.RulesLaws.{IsLawful}
 use Rattle.frame_ending.specs.LiveBytes.{live_bytes, live_ticks, has_extra}
@@ -112,7 +112,7 @@ module _ (profile : Profile) (rules : Rules) (lawful : IsLawful rules) where
       let within : IsWithin m d = record { knit = may.contiguous; within = may.after } in
       let close : m < end_of d + 4 = may.near in
       let few : m - end_of d < 4 = omega arith in
-      let knit : IsContiguous 4 (going_on d m b).body = knit-more 4 d.body (m - end_of d) b may.contiguous few in
+      let knit : IsContiguous 4 (going_on d m b).body = contiguous-more 4 d.body (m - end_of d) b may.contiguous few in
       ⊎_elim
       (λ dark. shown-before (going_on d m b) i dark ∙ sym (shown-before d i dark))
       (λ from.
@@ -127,7 +127,7 @@ module _ (profile : Profile) (rules : Rules) (lawful : IsLawful rules) where
       let within : IsWithin m d = record { knit = may.contiguous; within = may.after } in
       let close : m < end_of d + 4 = may.near in
       let few : m - end_of d < 4 = omega arith in
-      let knit : IsContiguous 4 (going_on d m b).body = knit-more 4 d.body (m - end_of d) b may.contiguous few in
+      let knit : IsContiguous 4 (going_on d m b).body = contiguous-more 4 d.body (m - end_of d) b may.contiguous few in
       let end : end_of (going_on d m b) ≡ m + 1 = longer-end m b d within in
       let old : i < end_of d + 3 = omega arith in
       let new : i < end_of (going_on d m b) + 3 = omega arith in

@@ -12,7 +12,7 @@ use Rattle.yasir_ticks.specs.declared.TheConstants.{T3_5_TICKS}
 use Rattle.yasir_ticks.specs.declared.tick.Tick.{Tick}
 use Rattle.yasir_ticks.specs.declared.tick.Tick.TheVariants.{Silent, Byte}
 use Rattle.yasir_ticks.proofs.BurstLaws.{alone, with_last, extended, extended-closed, extended-joins, bursts_from-byte, bursts_from-silent, AreClosed-later, AreClosed-more}
-use Rattle.yasir_ticks.proofs.BurstsOfLaws.{knit-more}
+use Rattle.yasir_ticks.proofs.BurstsOfLaws.{contiguous-more}
 use Rattle.line_rules.specs.Rules.{Rules}
 use Rattle.line_rules.specs.RulesLaws.{IsLawful}
 use Rattle.frame_ending.specs.LiveBytes.{up_to_byte, live_bytes, live_ticks, live_end, has_extra}
@@ -384,7 +384,7 @@ module _ (profile : Profile) (rules : Rules) (lawful : IsLawful rules) (tags : H
       let within = running-within d so_far in
       let close : length line < end_of d + 4 = so_far.is_running in
       let few : length line - end_of d < 4 = omega arith in
-      knit-more 4 d.body (length line - end_of d) b within.knit few
+      contiguous-more 4 d.body (length line - end_of d) b within.knit few
 
   byte-last : (running : Option Burst) (b : ℕ) → HasWalked profile rules floor line s left running
       → get_or (with_byte_at (length line) b running).body (length line - (with_byte_at (length line) b running).start) Silent ≡ Byte b

@@ -5,8 +5,9 @@
 use Rattle.std.specs.Prelude.{◌≡◌, ◌≢◌, ℕ, ◌+◌, ◌<◌, ◌≤◌, ◌⊎◌, List, [], ◌∷◌, ◌++◌, length, Option, Result, Ok, Err, Bool, true, false}
 use Rattle.yasir_io.specs.Causes.{Rose}
 use Rattle.std.specs.Io.KnownBytes.{prepend_known, IsAtEnd}
+use Rattle.yasir_ticks.specs.Characters.{line_feed}
 use Rattle.yasir_ticks.specs.Ticks.{Item, ticks_in}
-use Rattle.yasir_ticks.specs.TickText.{IsTickText, BeginsTickText, IsRefusedAfter, ended_items, line_after, fault_after, fault_at_end, line_feed}
+use Rattle.yasir_ticks.specs.TickText.{IsTickText, BeginsTickText, IsRefusedAfter, ended_items, line_after, fault_after, fault_at_end}
 use Rattle.yasir_ticks.specs.declared.fault.BadTicks.{BadTicks}
 use Rattle.tick_drive.specs.Items.{silent_items}
 use Rattle.tick_drive.specs.declared.end.End.{End}

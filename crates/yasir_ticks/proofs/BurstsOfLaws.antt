@@ -31,17 +31,17 @@ module _ (cut : ℕ) where
   with_byte-alone n b [] far = with_byte-nil n b
   with_byte-alone n b (d ∷ ds) far = with_byte-far cut n b d ds far
 
-  -- Knit ticks that `cut` or more silent ticks follow are a burst of their own.
-  pub bursts_from-knit : (n : ℕ) (x rest : List Tick) → IsContiguous cut x
+  -- Contiguous ticks that `cut` or more silent ticks follow are a burst of their own.
+  pub bursts_from-contiguous : (n : ℕ) (x rest : List Tick) → IsContiguous cut x
       → StartsFrom (n + length x + cut) (bursts_from cut (n + length x) rest)
       → bursts_from cut n (x ++ rest) ≡ record { start = n; body = x } ∷ bursts_from cut (n + length x) rest
-  bursts_from-knit n x rest (one b) far =
+  bursts_from-contiguous n x rest (one b) far =
       let e : n + 1 ≡ suc n = omega arith in
       let P : ℕ → Type 0 = λ i. StartsFrom (i + cut) (bursts_from cut i rest) in
       bursts_from-cons n b rest
       ∙ (with_byte-alone n b (bursts_from cut (suc n) rest) (subst P e far)
       ∙ ap (λ i. alone n b ∷ bursts_from cut i rest) (sym e))
-  bursts_from-knit n x rest (more b gap body few knit) far =
+  bursts_from-contiguous n x rest (more b gap body few body_is) far =
       let long : length (silent gap ++ body) ≡ gap + length body =
       length-append (silent gap) body ∙ ap (λ k. k + length body) (length-replicate gap Silent) in
       let end : n + suc (length (silent gap ++ body)) ≡ suc n + gap + length body = omega arith in
@@ -53,7 +53,7 @@ module _ (cut : ℕ) where
       ∙ (ap (λ y. with_byte cut n b (bursts_from cut (suc n) y)) (append_assoc (silent gap) body rest)
       ∙ (ap (λ y. with_byte cut n b y)
       (bursts_from-silence (suc n) gap (body ++ rest)
-      ∙ bursts_from-knit (suc n + gap) body rest knit (subst P end far))
+      ∙ bursts_from-contiguous (suc n + gap) body rest body_is (subst P end far))
       ∙ (with_byte-near cut n b next (bursts_from cut (suc n + gap + length body) rest) near
       ∙ (ap (λ k. let d : Burst = record { start = n; body = Byte b ∷ (silent k ++ body) } in d ∷ bursts_from cut (suc n + gap + length body) rest) back
       ∙ ap (λ i. let d : Burst = record { start = n; body = Byte b ∷ (silent gap ++ body) } in d ∷ bursts_from cut i rest) (sym end)))))
@@ -127,14 +127,14 @@ module _ (cut : ℕ) where
       let Q : ℕ → Type 0 = λ i. StartsFrom (i + length d.body + cut) ds in
       ap (λ x. bursts_from cut n x) are.2
       ∙ (bursts_from-silence n are.0 (d.body ++ are.1)
-      ∙ (bursts_from-knit (n + are.0) d.body are.1 are.4 (subst P (sym others) (subst Q are.3 are.5))
+      ∙ (bursts_from-contiguous (n + are.0) d.body are.1 are.4 (subst P (sym others) (subst Q are.3 are.5))
       ∙ (ap (λ x. let e : Burst = record { start = n + are.0; body = d.body } in e ∷ x) others
       ∙ ap (λ i. let e : Burst = record { start = i; body = d.body } in e ∷ ds) (sym are.3))))
 
--- Knit ticks that go on after fewer than `cut` silent ones stay knit.
-pub knit-more : (cut : ℕ) (x : List Tick) (gap b : ℕ) → IsContiguous cut x → gap < cut → IsContiguous cut (x ++ (silent gap ++ Byte b ∷ []))
-knit-more cut x gap b (one c) few = more c gap (Byte b ∷ []) few (one b)
-knit-more cut x gap b (more c g rest little knit) few =
+-- Contiguous ticks that go on after fewer than `cut` silent ones stay contiguous.
+pub contiguous-more : (cut : ℕ) (x : List Tick) (gap b : ℕ) → IsContiguous cut x → gap < cut → IsContiguous cut (x ++ (silent gap ++ Byte b ∷ []))
+contiguous-more cut x gap b (one c) few = more c gap (Byte b ∷ []) few (one b)
+contiguous-more cut x gap b (more c g rest little rest_is) few =
     let P : List Tick → Type 0 = λ y. IsContiguous cut (Byte c ∷ y) in
     subst P (sym (append_assoc (silent g) rest (silent gap ++ Byte b ∷ [])))
-    (more c g (rest ++ (silent gap ++ Byte b ∷ [])) little (knit-more cut rest gap b knit few))
+    (more c g (rest ++ (silent gap ++ Byte b ∷ [])) little (contiguous-more cut rest gap b rest_is few))

@@ -13,7 +13,7 @@ pub step_on : (old new : TickReader) (b : ℕ) (result : Result (Option Content)
     → old.place ≡ place → new.place ≡ new_place → new.bytes.items ≡ new_bytes → new.line ≡ old.line → result ≡ Ok None → b ≢ 10
     → Accepts place old.bytes.items b [] new_place new_bytes → Advances old b result new
 step_on old new b result place new_place new_bytes p q x l e n a =
-    record { case = rw e (rw (p, q, x) a, rw (test_of b 10 n) l, λ _. refl) }
+    record { case = rw e (rw (p, q, x) a, rw (test_of b 10 n) l, λ _. refl, refl) }
 
 -- a byte that is refused
 pub step_refused : (old new : TickReader) (b : ℕ) (result : Result (Option Content) TickFault) (place : Place) (why : TickFault)

@@ -1,8 +1,8 @@
 -- What a tick does to the line of a writer that isn't filled.
-use Rattle.std.proofs.Common.{◌≡◌, ◌∙◌, ℕ, suc, ◌+◌, ◌*◌, ◌<◌, ◌≤◌, nat_lt, true, List, [], ◌∷◌, ◌++◌, length, refl, sym, ap, subst, arith, inl, inr, ⊎_elim}
+use Rattle.std.proofs.Common.{◌≡◌, ◌∙◌, ℕ, suc, ◌+◌, ◌*◌, ◌<◌, ◌≤◌, nat_lt, true, List, [], ◌∷◌, ◌++◌, length, get_or, map, take, refl, sym, ap, subst, arith, inl, inr, ⊎_elim}
 use Rattle.std.specs.List.{flat_map}
 use Rattle.std.proofs.lemmas.Grind.{flat_map-append}
-use Rattle.std.proofs.lemmas.List.{append-nil, append_assoc, length-append}
+use Rattle.std.proofs.lemmas.List.{append-nil, append_assoc, length-append, map-append, take_more, replicate-append-replicate}
 use Rattle.yasir_ticks.specs.CanonicalText.{Stretch, stretches, stretch_lines, byte_line, silence_line, canonical_text}
 use Rattle.yasir_ticks.specs.CanonicalText.Stretch.{bytes, silence}
 use Rattle.yasir_ticks.specs.Line.{is_unfilled}
@@ -12,6 +12,7 @@ use Rattle.yasir_ticks.specs.declared.run.Run.{Run}
 use Rattle.arrayvec.specs.ArrayVec.{ArrayVec}
 use borrow.Author.Tests.{ltb-true}
 use Rattle.yasir_ticks.specs.declared.run.Run.TheVariants.{Nothing, Bytes, Silence}
+use Rattle.yasir_ticks.specs.Ticks.{IsTick, AreTicks, silent}
 use Rattle.yasir_ticks.specs.declared.tick.Tick.{Tick}
 use Rattle.yasir_ticks.specs.declared.tick.Tick.TheVariants.{Silent, Byte}
 use Rattle.yasir_ticks.proofs.Writing.{grown-last, stretches-more, bytes_more, silence_part, silence_full}
@@ -273,18 +274,33 @@ silent_begins old text is none = record {
 
 -- ---- the writer
 
-pub pushed : (old new : TickWriter) (t : Tick) (text : List ℕ) → Writes old.unfilled t text new.unfilled
+are_more : (ticks : List Tick) (t : Tick) → AreTicks ticks → IsTick t → AreTicks (ticks ++ t ∷ [])
+are_more [] t are is = (is, tt)
+are_more (s ∷ ticks) t are is = (are.0, are_more ticks t are.1 is)
+
+pub pushed : (old new : TickWriter) (t : Tick) (text : List ℕ) → Writes old.unfilled t text new.unfilled → IsTick t
     → (ticks : List Tick) (answered : List ℕ) → HasWritten old ticks answered → HasWritten new (ticks ++ t ∷ []) (answered ++ text)
-pushed old new t text writes ticks answered has =
+pushed old new t text writes is ticks answered has =
     let P : List Stretch → Type 0 = λ x. Leaves new.unfilled x (answered ++ text) in
-    record { left = subst P (sym (stretches-more ticks t)) (writes.leaves (stretches ticks) answered has.left) }
+    record { left = subst P (sym (stretches-more ticks t)) (writes.leaves (stretches ticks) answered has.left); are = are_more ticks t has.are is }
 
 -- the same of a tick that completes no line
-pub extended : (old new : TickWriter) (t : Tick) → Writes old.unfilled t [] new.unfilled
+pub extended : (old new : TickWriter) (t : Tick) → Writes old.unfilled t [] new.unfilled → IsTick t
     → (ticks : List Tick) (answered : List ℕ) → HasWritten old ticks answered → HasWritten new (ticks ++ t ∷ []) answered
-extended old new t writes ticks answered has =
+extended old new t writes is ticks answered has =
     let P : List ℕ → Type 0 = λ text. HasWritten new (ticks ++ t ∷ []) text in
-    subst P (append-nil answered) (pushed old new t [] writes ticks answered has)
+    subst P (append-nil answered) (pushed old new t [] writes is ticks answered has)
+
+-- one byte more of several
+pub bytes_more_by_one : (ticks : List Tick) (l : List ℕ) (n : ℕ) → n < length l
+    → (ticks ++ map Byte (take n l)) ++ Byte (get_or l n 0) ∷ [] ≡ ticks ++ map Byte (take (n + 1) l)
+bytes_more_by_one ticks l n within =
+    append_assoc ticks (map Byte (take n l)) (Byte (get_or l n 0) ∷ [])
+    ∙ ap (λ more. ticks ++ more) (sym (ap (map Byte) (take_more l n 0 within) ∙ map-append Byte (take n l) (get_or l n 0 ∷ [])))
+
+-- one silent tick more
+pub silent_more_by_one : (ticks : List Tick) (n : ℕ) → (ticks ++ silent n) ++ Silent ∷ [] ≡ ticks ++ silent (n + 1)
+silent_more_by_one ticks n = append_assoc ticks (silent n) (Silent ∷ []) ∙ ap (λ more. ticks ++ more) (replicate-append-replicate n 1 Silent)
 
 pub finished_bytes : (writer : TickWriter) (line : ArrayVec ℕ) (text : List ℕ) → writer.unfilled ≡ Bytes line → is_unfilled writer.unfilled ≡ true → text ≡ byte_line line.items
     → (ticks : List Tick) (answered : List ℕ) → HasWritten writer ticks answered → answered ++ text ≡ canonical_text ticks

@@ -1,6 +1,7 @@
 -- Bursts of a line: the line is cut wherever `cut` or more silent ticks stand together. The start of the line counts as quiet.
 use Rattle.std.specs.Prelude.{ℕ, suc, ◌+◌, ◌-◌, ◌≤◌, nat_lt, List, [], ◌∷◌, ◌++◌, length, if◌then◌else◌}
 use Rattle.yasir_ticks.specs.Ticks.{silent}
+use Rattle.yasir_ticks.specs.declared.TheConstants.{T3_5_TICKS}
 use Rattle.yasir_ticks.specs.declared.tick.Tick.{Tick}
 use Rattle.yasir_ticks.specs.declared.tick.Tick.TheVariants.{Silent, Byte}
 
@@ -23,9 +24,9 @@ bursts_from cut n [] = []
 bursts_from cut n (Silent ∷ l) = bursts_from cut (suc n) l
 bursts_from cut n (Byte b ∷ l) = with_byte cut n b (bursts_from cut (suc n) l)
 
--- the bursts of a line, which four silent ticks cut
+-- the bursts of a line, which the silence t3.5 of Modbus over Serial Line V1.02 cuts
 abbrev pub bursts : List Tick → List Burst
-bursts l = bursts_from 4 0 l
+bursts l = bursts_from T3_5_TICKS 0 l
 
 -- the tick after its last byte
 abbrev pub end_of : Burst → ℕ

@@ -3,6 +3,7 @@ use Rattle.std.specs.Prelude.{ℕ, suc, ◌+◌, ◌*◌, ◌/◌, ◌%◌, ◌=
 use Rattle.std.specs.List.{flat_map, range_with_len}
 use Rattle.std.specs.Fmt.{decimal}
 use Rattle.hex.specs.Hex.{encode_lower}
+use Rattle.yasir_ticks.specs.Characters.{plus_sign, minus_sign, line_feed}
 use Rattle.yasir_ticks.specs.declared.tick.Tick.{Tick}
 use Rattle.yasir_ticks.specs.declared.tick.Tick.TheVariants.{Silent, Byte}
 
@@ -25,10 +26,10 @@ stretches [] = []
 stretches (t ∷ ticks) = with_tick t (stretches ticks)
 
 abbrev pub byte_line : List ℕ → List ℕ
-byte_line l = 43 ∷ (encode_lower l ++ 10 ∷ [])
+byte_line l = plus_sign ∷ (encode_lower l ++ line_feed ∷ [])
 
 abbrev pub silence_line : ℕ → List ℕ
-silence_line n = 45 ∷ (decimal n ++ 10 ∷ [])
+silence_line n = minus_sign ∷ (decimal n ++ line_feed ∷ [])
 
 -- lines of 32 bytes, the last one shorter where need be; lines of 1000000 silent ticks, the last one smaller where need be
 abbrev pub stretch_lines : Stretch → List ℕ

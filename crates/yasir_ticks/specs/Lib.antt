@@ -1,6 +1,7 @@
 pub mod Ticks
 pub mod Bursts
 pub mod BurstsOf
+pub mod Characters
 pub mod TickText
 pub mod CanonicalText
 pub mod Place

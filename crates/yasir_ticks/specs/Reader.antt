@@ -1,6 +1,7 @@
 -- What a reader of tick text stands for: a text with a number of marks, up to some place of its last line.
 use Rattle.std.specs.Prelude.{◌≡◌, ℕ, ◌+◌, ◌≤◌, ◌<◌, ◌==◌, Bool, true, false, List, [], ◌∷◌, ◌++◌, length, map, replicate, Some, Ok}
 use Rattle.hex.specs.Hex.{decode_of, hex_digit_value}
+use Rattle.yasir_ticks.specs.Characters.{plus_sign, minus_sign, number_sign, carriage_return}
 use Rattle.yasir_ticks.specs.Ticks.{Item, marks_in}
 use Rattle.yasir_ticks.specs.Ticks.Item.{tick}
 use Rattle.yasir_ticks.specs.TickText.{lines_of, all_items, ended_items, line_after, content_items, is_plain_decimal, number_after}
@@ -20,19 +21,19 @@ items_of_content (SilentTicks n) bytes = replicate n (tick Silent)
 
 abbrev pub starts_comment : List ℕ → Bool
 starts_comment [] = false
-starts_comment (c ∷ x) = c == 35
+starts_comment (c ∷ x) = c == number_sign
 
 -- `#` and so many bytes
 pub record IsComment (n : ℕ) (line : List ℕ) : Type 0 where
   pub after : List ℕ
-  pub is : line ≡ 35 ∷ after
+  pub is : line ≡ number_sign ∷ after
   pub long : length after ≡ n
   pub fits : n ≤ 120
 
 -- `+` and the digits of these bytes
 pub record HasPairs (bytes line : List ℕ) : Type 0 where
   pub digits : List ℕ
-  pub is : line ≡ 43 ∷ digits
+  pub is : line ≡ plus_sign ∷ digits
   pub decoded : decode_of digits ≡ Ok bytes
   pub fits : length bytes ≤ 32
 
@@ -40,7 +41,7 @@ pub record HasPairs (bytes line : List ℕ) : Type 0 where
 pub record HasHalfPair (high : ℕ) (bytes line : List ℕ) : Type 0 where
   pub digits : List ℕ
   pub digit : ℕ
-  pub is : line ≡ 43 ∷ (digits ++ digit ∷ [])
+  pub is : line ≡ plus_sign ∷ (digits ++ digit ∷ [])
   pub decoded : decode_of digits ≡ Ok bytes
   pub value : hex_digit_value digit ≡ Some high
   pub fits : length bytes < 32
@@ -48,7 +49,7 @@ pub record HasHalfPair (high : ℕ) (bytes line : List ℕ) : Type 0 where
 -- `-` and the digits of this number
 pub record HasNumber (n : ℕ) (line : List ℕ) : Type 0 where
   pub digits : List ℕ
-  pub is : line ≡ 45 ∷ digits
+  pub is : line ≡ minus_sign ∷ digits
   pub plain : is_plain_decimal digits ≡ true
   pub number : number_after 0 digits ≡ n
   pub fits : n ≤ 1000000
@@ -56,7 +57,7 @@ pub record HasNumber (n : ℕ) (line : List ℕ) : Type 0 where
 -- a content, and then a CR
 pub record IsReturned (content : Content) (bytes line : List ℕ) : Type 0 where
   pub before : List ℕ
-  pub is : line ≡ before ++ 13 ∷ []
+  pub is : line ≡ before ++ carriage_return ∷ []
   pub apart : starts_comment before ≡ false
   pub stands : content_items before ≡ Some (items_of_content content bytes)
 
@@ -66,7 +67,7 @@ Reads Start bytes line = line ≡ []
 Reads (Comment n) bytes line = IsComment n line
 Reads Pairs bytes line = HasPairs bytes line
 Reads (HalfPair high) bytes line = HasHalfPair high bytes line
-Reads Minus bytes line = line ≡ 45 ∷ []
+Reads Minus bytes line = line ≡ minus_sign ∷ []
 Reads (Number n) bytes line = HasNumber n line
 Reads (Returned content) bytes line = IsReturned content bytes line
 Reads (Refused why) bytes line = ⊥

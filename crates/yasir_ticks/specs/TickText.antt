@@ -5,15 +5,12 @@ use Rattle.std.specs.List.{flat_map, list_all}
 use Rattle.std.specs.Option.{option_map_or}
 use Rattle.std.specs.Result.{result_ok}
 use Rattle.hex.specs.Hex.{decode_of, is_hex_digit}
+use Rattle.yasir_ticks.specs.Characters.{plus_sign, minus_sign, percent_sign, number_sign, carriage_return, line_feed, digit_zero, digit_nine}
 use Rattle.yasir_ticks.specs.Ticks.{Item, marks_in}
 use Rattle.yasir_ticks.specs.Ticks.Item.{tick, mark}
 use Rattle.yasir_ticks.specs.declared.fault.TickFault.{TickFault}
 use Rattle.yasir_ticks.specs.declared.fault.TickFault.TheVariants.{Char, Odd, Long, Count, Empty, Mark}
 use Rattle.yasir_ticks.specs.declared.tick.Tick.TheVariants.{Silent, Byte}
-
--- the bytes of the format, in ASCII
-abbrev pub line_feed : ℕ
-line_feed = 10
 
 -- A text cut at each LF: the lines that an LF ended, and the last line, which may be empty.
 pub record Lines : Type 0 where
@@ -28,7 +25,7 @@ with_front b (l ∷ ls) last = record { ended = (b ∷ l) ∷ ls; last = last }
 unfoldable pub lines_of : List ℕ → Lines
 lines_of [] = record { ended = []; last = [] }
 lines_of (b ∷ x) =
-    if b == 10
+    if b == line_feed
     then record { ended = [] ∷ (lines_of x).ended; last = (lines_of x).last }
     else with_front b (lines_of x).ended (lines_of x).last
 
@@ -42,15 +39,15 @@ byte_items digits =
 -- the number that decimal digits spell, after a number that was spelled before them
 abbrev pub number_after : ℕ → List ℕ → ℕ
 number_after n [] = n
-number_after n (d ∷ digits) = number_after (10 * n + (d - 48)) digits
+number_after n (d ∷ digits) = number_after (10 * n + (d - digit_zero)) digits
 
 abbrev pub is_decimal_digit : ℕ → Bool
-is_decimal_digit c = nat_le 48 c && nat_le c 57
+is_decimal_digit c = nat_le digit_zero c && nat_le c digit_nine
 
 -- digits alone, at least one, and the first not 0
 abbrev pub is_plain_decimal : List ℕ → Bool
 is_plain_decimal [] = false
-is_plain_decimal (d ∷ digits) = not (d == 48) && list_all is_decimal_digit (d ∷ digits)
+is_plain_decimal (d ∷ digits) = not (d == digit_zero) && list_all is_decimal_digit (d ∷ digits)
 
 -- `-`: a decimal number from 1 to 1000000 without leading zero, that many silent ticks
 abbrev pub silence_items : List ℕ → Option (List Item)
@@ -63,22 +60,22 @@ silence_items digits =
 abbrev pub content_items : List ℕ → Option (List Item)
 content_items [] = Some []
 content_items (c ∷ x) =
-    if c == 43 then byte_items x
-    else if c == 45 then silence_items x
-    else if c == 37 then (if length x == 0 then Some (mark ∷ []) else None)
+    if c == plus_sign then byte_items x
+    else if c == minus_sign then silence_items x
+    else if c == percent_sign then (if length x == 0 then Some (mark ∷ []) else None)
     else None
 
 -- a line without the CR that may stand as its last byte
 abbrev pub without_return : List ℕ → List ℕ
 without_return [] = []
-without_return (c ∷ []) = if c == 13 then [] else c ∷ []
+without_return (c ∷ []) = if c == carriage_return then [] else c ∷ []
 without_return (c ∷ d ∷ x) = c ∷ without_return (d ∷ x)
 
 -- what a line stands for: `#` and at most 120 bytes are a comment, in which a CR is a byte like any other
 unfoldable pub line_items : List ℕ → Option (List Item)
 line_items [] = Some []
 line_items (c ∷ x) =
-    if c == 35
+    if c == number_sign
     then (if nat_le (length x) 120 then Some [] else None)
     else content_items (without_return (c ∷ x))
 
@@ -112,7 +109,7 @@ line_after text = suc (length (lines_of text).ended)
 -- whether a byte, or the end of the text, ends the content of a line
 abbrev pub ends_content : Option ℕ → Bool
 ends_content None = true
-ends_content (Some b) = b == 10 || b == 13
+ends_content (Some b) = b == line_feed || b == carriage_return
 
 -- Why a byte, or the end of the text, is refused after a beginning of its line that isn't refused.
 abbrev pub fault_in_bytes : List ℕ → Option ℕ → TickFault
@@ -130,16 +127,16 @@ fault_in_silence digits next =
 
 abbrev pub ends_in_return : List ℕ → Bool
 ends_in_return [] = false
-ends_in_return (c ∷ []) = c == 13
+ends_in_return (c ∷ []) = c == carriage_return
 ends_in_return (c ∷ d ∷ x) = ends_in_return (d ∷ x)
 
 abbrev pub fault_in_line : List ℕ → Option ℕ → TickFault
 fault_in_line [] next = Char
 fault_in_line (c ∷ x) next =
-    if c == 35 then Long
+    if c == number_sign then Long
     else if ends_in_return (c ∷ x) then Char
-    else if c == 43 then fault_in_bytes x next
-    else if c == 45 then fault_in_silence x next
+    else if c == plus_sign then fault_in_bytes x next
+    else if c == minus_sign then fault_in_silence x next
     else Char
 
 -- why the byte after this text is refused

@@ -1,6 +1,7 @@
 -- What a writer of tick text stands for: ticks, the lines that it has answered, and a line that isn't filled yet.
 use Rattle.std.specs.Prelude.{◌≡◌, ℕ, suc, ◌+◌, ◌*◌, ◌<◌, ◌⊎◌, Bool, true, false, nat_lt, List, [], ◌∷◌, ◌++◌, length}
 use Rattle.std.specs.List.{flat_map}
+use Rattle.yasir_ticks.specs.Ticks.{AreTicks}
 use Rattle.yasir_ticks.specs.CanonicalText.{Stretch, stretches, stretch_lines}
 use Rattle.yasir_ticks.specs.CanonicalText.Stretch.{bytes, silence}
 use Rattle.yasir_ticks.specs.declared.run.Run.{Run}
@@ -39,6 +40,7 @@ Leaves (Silence n) parts answered = (0 < n) × EndsInSilence n parts answered
 -- The writer has taken these ticks, and all its answers joined are this text.
 pub record HasWritten (writer : TickWriter) (ticks : List Tick) (answered : List ℕ) : Type 0 where
   pub left : Leaves writer.unfilled (stretches ticks) answered
+  pub are : AreTicks ticks
 
 -- stretches, and one more tick
 abbrev pub grown : List Stretch → Tick → List Stretch
@@ -61,6 +63,10 @@ joins (Bytes line) (Byte b) = nat_lt (length line.items + 1) 32
 joins (Bytes line) Silent = false
 joins (Silence n) Silent = nat_lt (n + 1) 1000000
 joins (Silence n) (Byte b) = false
+
+-- a writer takes this tick without completing a line
+abbrev pub has_room_for : TickWriter → Tick → Bool
+has_room_for writer t = joins writer.unfilled t
 
 -- the line is this byte
 abbrev pub BeginsWith : ℕ → Run → Type 0

@@ -1,4 +1,6 @@
-use crate::TickFault;
+ghost use Rattle.std.specs.Prelude.{◌≡◌, [], true};
+
+use crate::{LineBytes, Run, TickFault};
 
 /// What a line stands for that ends where its reader stands.
 #[derive(Clone, Copy, Debug, PartialEq, Eq)]
@@ -9,6 +11,25 @@ pub enum Content {
     KeptBytes,
     /// So many silent ticks.
     SilentTicks(u32),
+}
+
+impl Content {
+    ghost use Rattle.yasir_ticks.specs.Ticks.{items_of_run};
+    ghost use Rattle.yasir_ticks.specs.Place.{has_ticks};
+    ghost use Rattle.yasir_ticks.specs.Reader.{items_of_content};
+
+    /// The run of a line of this content. The bytes of a `+` line are taken from these.
+    pub fn run(self, bytes: &mut LineBytes) -> Run
+        requires { has_ticks self bytes.old.items ≡ true }
+        ensures items { items_of_run result ≡ items_of_content self bytes.old.items }
+        ensures nothing { items_of_run result ≡ [] → result ≡ Run.Nothing }
+    {
+        match self {
+            Content::NoTick => Run::Nothing,
+            Content::KeptBytes => Run::Bytes(bytes.take()),
+            Content::SilentTicks(n) => Run::Silence(n),
+        }
+    }
 }
 
 /// Where in a line of tick text its reader stands.

@@ -1,6 +1,7 @@
 ghost use Rattle.std.specs.Prelude.{◌≡◌, ℕ, ◌+◌, ◌-◌, ◌*◌, ◌<◌, ◌≤◌, ◌^◌, ◌==◌, ◌++◌, ◌∷◌, [], List, true, length, IsTrue, MatchResult, Some, if◌then◌else◌};
 ghost use Rattle.hex.specs.Hex.{hex_digit_value, is_hex_digit};
-ghost use Rattle.yasir_ticks.specs.Place.{has_room, is_foreign};
+ghost use Rattle.yasir_ticks.specs.Characters.{line_feed, carriage_return};
+ghost use Rattle.yasir_ticks.specs.Place.{has_ticks, is_sound, is_foreign};
 
 use crate::digit::hex_value;
 use crate::place::{Content, Place};
@@ -21,7 +22,7 @@ pub struct TickReader {
     pub(crate) line: u32,
     pub(crate) place: Place,
     pub(crate) bytes: LineBytes,
-    ghost room: { has_room place bytes.items ≡ true },
+    ghost room: { is_sound place bytes.items ≡ true },
 }
 
 impl TickReader {
@@ -30,7 +31,7 @@ impl TickReader {
     ghost use Rattle.yasir_ticks.specs.declared.fault.BadTicks.{BadTicks};
     ghost use Rattle.yasir_ticks.specs.Ticks.{Item, items_of_run};
     ghost use Rattle.yasir_ticks.specs.TickText.{IsTickText, BeginsTickText, IsRefusedAfter, ended_items, line_after, fault_after, fault_at_end};
-    ghost use Rattle.yasir_ticks.specs.Reader.{StandsFor, HasRefused, reader_line, items_of_content};
+    ghost use Rattle.yasir_ticks.specs.Reader.{StandsFor, HasRefused, reader_line};
     ghost use Rattle.yasir_ticks.specs.ReaderStep.{Advances, Steps, Stops, Closes, IsOpen};
 
     /// A reader of a text with exactly so many marks.
@@ -57,6 +58,7 @@ impl TickReader {
 
     /// What the line stands for if it ends here.
     fn content(&self) -> Result<Content, TickFault>
+        ensures ticks { IfOk result (λ content. has_ticks content self.now.bytes.items ≡ true) }
         ensures content { MatchResult result (Closes self.now.place self.now.bytes.items) (IsOpen self.now.place self.now.bytes.items) }
         ensures refused { (why : TickFault) → self.now.place ≡ Place.Refused why → result ≡ Err why }
     {
@@ -77,23 +79,10 @@ impl TickReader {
         }
     }
 
-    /// The run of a line that ends here with this content.
-    fn run_of(&mut self, content: Content) -> Run
-        ensures items { items_of_run result ≡ items_of_content content self.old.bytes.items }
-        ensures place { self.new.place ≡ self.old.place }
-        ensures line { self.new.line ≡ self.old.line }
-    {
-        match content {
-            Content::NoTick => Run::Nothing,
-            Content::KeptBytes => Run::Bytes(self.bytes.take()),
-            Content::SilentTicks(n) => Run::Silence(n),
-        }
-    }
-
     /// Goes to a place of the same line.
     #[inline]
     fn go(&mut self, place: Place) -> Advance
-        requires { has_room place self.old.bytes.items ≡ true }
+        requires { is_sound place self.old.bytes.items ≡ true }
         ensures ok { result ≡ Ok None }
         ensures place { self.new.place ≡ place }
         ensures bytes { self.new.bytes.items ≡ self.old.bytes.items }
@@ -116,7 +105,7 @@ impl TickReader {
     /// Ends the line at its LF.
     fn end_line(&mut self) -> Advance
         requires { reader_line self.old < 2 ^ 32 - 1 }
-        ensures { Advances self.old 10 result self.new }
+        ensures { Advances self.old line_feed result self.new }
     {
         match self.content() {
             Ok(content) => {
@@ -130,8 +119,8 @@ impl TickReader {
 
     /// Ends the content at the CR behind it.
     fn end_content(&mut self) -> Advance
-        requires { is_foreign self.old.place 13 ≡ true }
-        ensures { Advances self.old 13 result self.new }
+        requires { is_foreign self.old.place carriage_return ≡ true }
+        ensures { Advances self.old carriage_return result self.new }
     {
         match self.content() {
             Ok(content) => self.go(Place::Returned(content)),
@@ -286,7 +275,7 @@ impl TickReader {
     {
         match self.advance(b) {
             Ok(None) => Ok(Run::Nothing),
-            Ok(Some(content)) => Ok(self.run_of(content)),
+            Ok(Some(content)) => Ok(content.run(&mut self.bytes)),
             Err(why) => Err(BadTicks {
                 line: self.line,
                 why,
@@ -306,11 +295,13 @@ impl TickReader {
         // The runs are those of the lines that ended.
         ensures run { (marks : ℕ) (text : List ℕ) → StandsFor self.old marks text
             → IfOk result (λ run. ended_items (text ++ b ∷ []) ≡ ended_items text ++ items_of_run run) }
+        // It is `Nothing` exactly where no line with ticks ended.
+        ensures nothing { IfOk result (λ run. items_of_run run ≡ [] → run ≡ Run.Nothing) }
         // It refuses the text at its refused place, and nowhere else.
         ensures refused { (marks : ℕ) (text : List ℕ) → StandsFor self.old marks text
             → IfErr result (λ bad. IsRefusedAfter marks text b
             × (bad.line ≡ line_after text) × (bad.why ≡ fault_after text b)) }
-        ensures line { OnOk result (reader_line self.new ≡ (if b == 10 then reader_line self.old + 1 else reader_line self.old)) }
+        ensures line { OnOk result (reader_line self.new ≡ (if b == line_feed then reader_line self.old + 1 else reader_line self.old)) }
         ensures line_kept { OnErr result (reader_line self.new ≡ reader_line self.old) }
         ensures line_by_one { reader_line self.new ≤ reader_line self.old + 1 }
         ensures remembered { IfErr result (λ bad. HasRefused self.new bad) }
@@ -323,6 +314,8 @@ impl TickReader {
     pub fn finish(mut self) -> Result<Run, BadTicks>
         ensures right { (marks : ℕ) (text : List ℕ) → StandsFor self marks text
             → IfOk result (λ run. IsTickText marks text (ended_items text ++ items_of_run run)) }
+        // It is `Nothing` exactly where the last line has no tick.
+        ensures nothing { IfOk result (λ run. items_of_run run ≡ [] → run ≡ Run.Nothing) }
         ensures refused { (marks : ℕ) (text : List ℕ) → StandsFor self marks text
             → IfErr result (λ bad. (¬ ((items : List Item) × IsTickText marks text items))
             × (bad.line ≡ line_after text) × (bad.why ≡ fault_at_end text)) }
@@ -337,7 +330,10 @@ impl TickReader {
         ensures again { (bad : BadTicks) → HasRefused self.old bad → result ≡ Err bad }
     {
         match self.content() {
-            Ok(content) => Ok(self.run_of(content)),
+            Ok(content) => {
+                self.place = Place::Start;
+                Ok(content.run(&mut self.bytes))
+            }
             Err(why) => Err(BadTicks {
                 line: self.line,
                 why,

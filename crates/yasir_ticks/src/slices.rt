@@ -91,6 +91,8 @@ impl TickReader {
         // The run is that of the lines that ended.
         ensures run { (marks : ℕ) (text : List ℕ) → StandsFor self.old marks text
             → IfOk result.run (λ run. ended_items (text ++ take result.taken bytes.now) ≡ ended_items text ++ items_of_run run) }
+        // It is `Nothing` exactly where no line with ticks ended.
+        ensures nothing { IfOk result.run (λ run. items_of_run run ≡ [] → run ≡ Nothing) }
         // A line with ticks ended at the last byte that was taken, and none before.
         ensures last { (marks : ℕ) (text : List ℕ) → StandsFor self.old marks text
             → IfOk result.run (λ run. run ≢ Nothing → (0 < result.taken)

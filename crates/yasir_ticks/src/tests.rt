@@ -170,6 +170,22 @@ fn writes_full_lines(rt: HostRuntime) -> Result<(), Fail> {
     Ok(())
 }
 
+/// The line of 32 bytes 7.
+const WRITTEN_SEVENS: [u8; 66] =
+    *b"+0707070707070707070707070707070707070707070707070707070707070707\n";
+
+#[test]
+fn takes_runs(rt: HostRuntime) -> Result<(), Fail> {
+    let mut writer = TickWriter::new();
+    assert_eq!(rt; writer.extend_bytes(&[7; 40]), 31);
+    let line = writer.push(Tick::Byte(7));
+    assert_eq!(rt; line.as_slice(), WRITTEN_SEVENS.as_slice());
+    assert_eq!(rt; writer.extend_silence(5), 5);
+    assert_eq!(rt; writer.extend_bytes(&[7]), 0);
+    assert_eq!(rt; writer.finish().as_slice(), b"-5\n".as_slice());
+    Ok(())
+}
+
 /// Feeds a text in slices of so many bytes to a reader and ends it.
 fn read_slices(alloc: Global, text: &[u8], size: usize) -> Result<Seen, Fail> {
     let mut reader = TickReader::new(0);

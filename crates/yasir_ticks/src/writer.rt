@@ -50,12 +50,13 @@ pub struct TickWriter {
 }
 
 impl TickWriter {
-    ghost use Rattle.std.specs.Prelude.{map};
-    ghost use Rattle.yasir_ticks.specs.Ticks.{AreTicks};
+    ghost use Rattle.std.specs.Prelude.{map, take, slice_index};
+    ghost use Rattle.yasir_ticks.specs.Ticks.{IsTick, silent};
+    ghost use Rattle.yasir_ticks.specs.declared.tick.Tick.TheVariants.{Silent, Byte};
     ghost use Rattle.yasir_ticks.specs.Ticks.Item.{tick};
     ghost use Rattle.yasir_ticks.specs.TickText.{IsTickText};
     ghost use Rattle.yasir_ticks.specs.CanonicalText.{canonical_text};
-    ghost use Rattle.yasir_ticks.specs.Writer.{HasWritten, Writes, BeginsWith, joins};
+    ghost use Rattle.yasir_ticks.specs.Writer.{HasWritten, Writes, BeginsWith, joins, has_room_for};
 
     /// A writer that has taken no tick.
     pub fn new() -> TickWriter
@@ -78,6 +79,7 @@ impl TickWriter {
     #[inline]
     fn extend_byte(&mut self, b: u8) -> bool
         ensures answer { result ≡ joins self.old.unfilled (Tick.Byte b) }
+        ensures is_tick { IsTick (Tick.Byte b) }
         ensures taken { result ≡ true → Writes self.old.unfilled (Tick.Byte b) [] self.new.unfilled }
         ensures left { result ≡ false → self.new ≡ self.old }
     {
@@ -123,7 +125,7 @@ impl TickWriter {
     /// Takes the next tick if it completes no line, and answers whether it did; where it did not, nothing changes.
     #[inline]
     pub fn extend(&mut self, t: Tick) -> bool
-        ensures answer { result ≡ joins self.old.unfilled t }
+        ensures answer { result ≡ has_room_for self.old t }
         ensures taken { result ≡ true → (ticks : List Tick) (answered : List ℕ) → HasWritten self.old ticks answered
             → HasWritten self.new (ticks ++ t ∷ []) answered }
         ensures left { result ≡ false → self.new ≡ self.old }
@@ -134,10 +136,46 @@ impl TickWriter {
         }
     }
 
+    /// Takes bytes, one a tick, up to the first one that completes a line. Answers how many it took.
+    pub fn extend_bytes(&mut self, bytes: &[u8]) -> usize
+        ensures within { result ≤ length bytes.now }
+        ensures taken { (ticks : List Tick) (answered : List ℕ) → HasWritten self.old ticks answered
+            → HasWritten self.new (ticks ++ map Byte (take result bytes.now)) answered }
+        ensures completes { result < length bytes.now
+            → has_room_for self.new (Byte (slice_index bytes.now result)) ≡ false }
+    {
+        let mut taken = 0;
+        while taken < bytes.len() {
+            if !self.extend(Tick::Byte(bytes[taken])) {
+                return taken;
+            }
+            taken += 1;
+        }
+        taken
+    }
+
+    /// Takes silent ticks, so many at most, up to the first one that completes a line. Answers how many it took.
+    pub fn extend_silence(&mut self, ticks: u32) -> u32
+        ensures within { result ≤ ticks }
+        ensures taken { (line : List Tick) (answered : List ℕ) → HasWritten self.old line answered
+            → HasWritten self.new (line ++ silent result) answered }
+        ensures completes { result < ticks → has_room_for self.new Silent ≡ false }
+    {
+        let mut taken = 0;
+        while taken < ticks {
+            if !self.extend(Tick::Silent) {
+                return taken;
+            }
+            taken += 1;
+        }
+        taken
+    }
+
     // The line that a byte completes: it fills it, or ends one of silence.
     fn complete_by_byte(&mut self, b: u8) -> LineText
         requires { joins self.old.unfilled (Tick.Byte b) ≡ false }
-        ensures { Writes self.old.unfilled (Tick.Byte b) result.items self.new.unfilled }
+        ensures is_tick { IsTick (Tick.Byte b) }
+        ensures writes { Writes self.old.unfilled (Tick.Byte b) result.items self.new.unfilled }
     {
         match &mut self.unfilled {
             Run::Bytes(line) => {
@@ -174,19 +212,29 @@ impl TickWriter {
         }
     }
 
-    /// Takes the next tick, and answers the line that it completes, or an empty text. A tick completes the line that it
-    /// fills (32 bytes, or 1000000 silent ticks), and else the unfilled line of the other kind that stands before it.
+    /// Takes a tick that completes a line, and answers this line. A tick completes the line that it fills (32 bytes, or
+    /// 1000000 silent ticks), and else the unfilled line of the other kind that stands before it.
+    pub fn complete(&mut self, t: Tick) -> LineText
+        requires { has_room_for self.old t ≡ false }
+        ensures { (ticks : List Tick) (answered : List ℕ) → HasWritten self.old ticks answered
+            → HasWritten self.new (ticks ++ t ∷ []) (answered ++ result.items) }
+    {
+        match t {
+            Tick::Silent => self.complete_by_silence(),
+            Tick::Byte(b) => self.complete_by_byte(b),
+        }
+    }
+
+    /// Takes the next tick, and answers the line that it completes, or an empty text.
     #[inline]
     pub fn push(&mut self, t: Tick) -> LineText
         ensures { (ticks : List Tick) (answered : List ℕ) → HasWritten self.old ticks answered
             → HasWritten self.new (ticks ++ t ∷ []) (answered ++ result.items) }
     {
         if self.extend(t) {
-            return LineText::new();
-        }
-        match t {
-            Tick::Silent => self.complete_by_silence(),
-            Tick::Byte(b) => self.complete_by_byte(b),
+            LineText::new()
+        } else {
+            self.complete(t)
         }
     }
 
@@ -194,7 +242,7 @@ impl TickWriter {
     pub fn finish(self) -> LineText
         ensures whole { (ticks : List Tick) (answered : List ℕ) → HasWritten self ticks answered
             → answered ++ result.items ≡ canonical_text ticks }
-        ensures reads { (ticks : List Tick) (answered : List ℕ) → HasWritten self ticks answered → AreTicks ticks
+        ensures reads { (ticks : List Tick) (answered : List ℕ) → HasWritten self ticks answered
             → IsTickText 0 (answered ++ result.items) (map tick ticks) }
     {
         match &self.unfilled {

@@ -48,6 +48,7 @@ returns-in_default c =
       begins = λ marks text stood. subst (BeginsTickText marks) (text_more text c.args.bytes.now _ inside) (fed.begins marks _ (goes.stands marks text stood));
       run = λ marks text stood. ap ended_items (sym (text_more text c.args.bytes.now _ inside)) ∙ fed.run marks _ (goes.stands marks text stood)
           ∙ ap (λ items. items ++ items_of_run c.in-Ok.run') (goes.quiet marks text stood);
+      nothing = fed.nothing;
       last = λ marks text stood ticks. (omega arith, ap (λ n. ended_items (text ++ take n c.args.bytes.now)) back ∙ goes.quiet marks text stood);
       whole = λ nothing. absurd (c.in_default.not-Nothing (cc (nothing)));
       progress = λ some. omega arith;

@@ -7,22 +7,22 @@ pub returns-in-Bytes-clause-whole : goal.returns-in-Bytes-clause-whole
 returns-in-Bytes-clause-whole c = finished_bytes c.args.self c.in-Bytes.line _ c.in-Bytes.is c.args.self.room c.hex_line.ensures
 
 pub returns-in-Bytes-clause-reads : goal.returns-in-Bytes-clause-reads
-returns-in-Bytes-clause-reads c = λ ticks answered has are.
+returns-in-Bytes-clause-reads c = λ ticks answered has.
     whole_text ticks (answered ++ c.hex_line.result.items)
-    (finished_bytes c.args.self c.in-Bytes.line _ c.in-Bytes.is c.args.self.room c.hex_line.ensures ticks answered has) are
+    (finished_bytes c.args.self c.in-Bytes.line _ c.in-Bytes.is c.args.self.room c.hex_line.ensures ticks answered has) has.are
 
 pub returns-in-Silence-clause-whole : goal.returns-in-Silence-clause-whole
 returns-in-Silence-clause-whole c = finished_silence c.args.self c.in-Silence.n _ c.in-Silence.is c.args.self.room c.count_line.ensures
 
 pub returns-in-Silence-clause-reads : goal.returns-in-Silence-clause-reads
-returns-in-Silence-clause-reads c = λ ticks answered has are.
+returns-in-Silence-clause-reads c = λ ticks answered has.
     whole_text ticks (answered ++ c.count_line.result.items)
-    (finished_silence c.args.self c.in-Silence.n _ c.in-Silence.is c.args.self.room c.count_line.ensures ticks answered has) are
+    (finished_silence c.args.self c.in-Silence.n _ c.in-Silence.is c.args.self.room c.count_line.ensures ticks answered has) has.are
 
 pub returns-in-Nothing-clause-whole : goal.returns-in-Nothing-clause-whole
 returns-in-Nothing-clause-whole c = finished_nothing c.args.self _ c.in-Nothing.is c.new.ensures
 
 pub returns-in-Nothing-clause-reads : goal.returns-in-Nothing-clause-reads
-returns-in-Nothing-clause-reads c = λ ticks answered has are.
+returns-in-Nothing-clause-reads c = λ ticks answered has.
     whole_text ticks (answered ++ c.new.result.items)
-    (finished_nothing c.args.self _ c.in-Nothing.is c.new.ensures ticks answered has) are
+    (finished_nothing c.args.self _ c.in-Nothing.is c.new.ensures ticks answered has) has.are
