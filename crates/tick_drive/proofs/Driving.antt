@@ -1,5 +1,7 @@
 -- How the run over an input goes on by a byte and by a line, and how it ends.
-use Rattle.std.proofs.Common.{◌≡◌, ◌≢◌, ℕ, ◌+◌, ◌≤◌, ◌<◌, inl, inr, List, [], ◌∷◌, ◌++◌, length, Option, Ok, Err, Bool, true, false, subst, sym, ap, refl, ◌∙◌, arith, append-nil, length-append}
+use Rattle.std.proofs.Common.{◌≡◌, ◌≢◌, ℕ, ◌+◌, ◌≤◌, ◌<◌, inl, inr, List, [], ◌∷◌, ◌++◌, length}
+use Rattle.std.proofs.Common.{Option, Ok, Err, Bool, true, false, subst, sym, ap, refl, ◌∙◌, arith}
+use Rattle.std.proofs.Common.{append-nil, length-append}
 use Rattle.std.specs.Prelude.{unwrap_or}
 use Rattle.std.specs.List.{flat_map}
 use Rattle.std.proofs.lemmas.Bool.{cases_eq}
@@ -8,13 +10,15 @@ use Rattle.yasir_io.specs.declared.sink.Sink.{Ghosts as Sink}
 use Rattle.yasir_io.specs.declared.disk.SlotDisk.{Ghosts as SlotDisk}
 use Rattle.yasir_ticks.specs.Characters.{line_feed}
 use Rattle.yasir_ticks.specs.Ticks.{Item, ticks_in, items_of_run}
-use Rattle.yasir_ticks.specs.TickText.{IsTickText, BeginsTickText, ended_items, lines_of, line_items}
+use Rattle.yasir_ticks.specs.TickText.{IsTickText, BeginsTickText, ended_items, lines_of}
+use Rattle.yasir_ticks.specs.TickText.{line_items}
 use Rattle.yasir_ticks.specs.declared.run.Run.{Run}
 use Rattle.yasir_ticks.specs.declared.run.Run.TheVariants.{Nothing}
 use Rattle.yasir_ticks.proofs.Lines.{lines_of-more}
 use Rattle.tick_drive.specs.Consumers.{Consuming, State, Gives}
 use Rattle.tick_drive.specs.Items.{silent_items}
-use Rattle.tick_drive.specs.Input.{IsMetOf, EndsLine, IsWhole, IsReadCause, max_ticks, is_read_fault}
+use Rattle.tick_drive.specs.Input.{IsMetOf, EndsLine, IsWhole, IsReadCause, max_ticks}
+use Rattle.tick_drive.specs.Input.{is_read_fault}
 use Rattle.tick_drive.specs.Intake.{HasMet, MeetsRun, MeetsEnd, StepAnswer, FinishAnswer}
 use Rattle.tick_drive.specs.Drive.{Drives, HandsOver, HandAnswer}
 use Rattle.tick_drive.proofs.ItemLaws.{ticks_in-append, length-items}
@@ -22,7 +26,8 @@ use Rattle.tick_drive.proofs.Moving.{gives_then, gives_front, gives_items}
 use Rattle.tick_drive.specs.declared.consumer.Stop.{Stop}
 use Rattle.tick_drive.specs.declared.intake.Intake.{Intake}
 use Rattle.tick_drive.specs.declared.end.End.{End}
-use Rattle.tick_drive.specs.declared.end.End.TheVariants.{Whole, Refused, TooLong, ReadFault, Stopped}
+use Rattle.tick_drive.specs.declared.end.End.TheVariants.{Whole, Refused, TooLong, ReadFault}
+use Rattle.tick_drive.specs.declared.end.End.TheVariants.{Stopped}
 use Rattle.tick_drive.specs.declared.end.TooMuch.TheVariants.{Ticks, Bytes}
 
 ended_items-nil : ended_items [] ≡ []
@@ -33,33 +38,45 @@ nothing_behind : (xs ys : List Item) → xs ++ ys ≡ xs → ys ≡ []
 nothing_behind xs ys e = nil_from_length ys (omega (arith, ap length e, length-append xs ys))
 
 -- a byte behind which a line with ticks has ended is an LF
-ends_by_line_feed : (text : List ℕ) (byte : ℕ) (line : List Item) → ended_items (text ++ byte ∷ []) ≡ ended_items text ++ line → line ≢ [] → byte ≡ line_feed
+ends_by_line_feed : (text : List ℕ) (byte : ℕ) (line : List Item)
+    → ended_items (text ++ byte ∷ []) ≡ ended_items text ++ line → line ≢ [] → byte ≡ line_feed
 ends_by_line_feed text byte line ended some = elim (cases_eq byte line_feed) [
   | inl is ↦ is
   | inr other ↦ absurd (some (nothing_behind (ended_items text) line (sym ended ∙ same other)))
 ]
   where
     same : byte ≢ 10 → ended_items (text ++ byte ∷ []) ≡ ended_items text
-    same other = ap (λ lines. flat_map (λ l. unwrap_or (line_items l) []) lines.ended) (lines_of-more text byte other)
+    same other = ap (λ lines. flat_map (λ l. unwrap_or (line_items l) []) lines.ended)
+        (lines_of-more text byte other)
 
 -- how many ticks there are with a line more
-ticks_with : (items line : List Item) → length (ticks_in (items ++ line)) ≡ length (ticks_in items) + length (ticks_in line)
-ticks_with items line = ap length (ticks_in-append items line) ∙ length-append (ticks_in items) (ticks_in line)
+ticks_with : (items line : List Item) → length (ticks_in (items ++ line))
+    ≡ length (ticks_in items) + length (ticks_in line)
+ticks_with items line = ap length (ticks_in-append items line)
+    ∙ length-append (ticks_in items) (ticks_in line)
 
 -- the LF ends a line behind these bytes, in which no line with ticks ended
-ends_line : (intake : Intake) (marks : ℕ) (before now : Option (List ℕ)) (text : List ℕ) (run : Run) (met : MeetsRun intake marks before now text run)
-    → run ≢ Nothing → items_of_run run ≢ [] → EndsLine marks before (text ++ met.front) (ended_items text) (items_of_run run)
+ends_line : (intake : Intake) (marks : ℕ) (before now : Option (List ℕ)) (text : List ℕ) (run : Run)
+    (met : MeetsRun intake marks before now text run)
+    → run ≢ Nothing → items_of_run run ≢ []
+    → EndsLine marks before (text ++ met.front) (ended_items text) (items_of_run run)
 ends_line intake marks before now text run met ticks some =
     let byte_is : met.byte ≡ line_feed =
-    ends_by_line_feed (text ++ met.front) met.byte (items_of_run run) (met.ended ∙ ap (λ items. items ++ items_of_run run) (sym (met.quiet ticks))) some in record {
-      met = subst (λ b. IsMetOf before ((text ++ met.front) ++ b ∷ [])) byte_is (record { came = (_, met.met.source); within = met.met.within });
-      begins = subst (λ b. BeginsTickText marks ((text ++ met.front) ++ b ∷ [])) byte_is met.met.begins;
-      ended = subst (λ b. ended_items ((text ++ met.front) ++ b ∷ []) ≡ ended_items text ++ items_of_run run) byte_is met.ended;
+    ends_by_line_feed (text ++ met.front) met.byte (items_of_run run)
+    (met.ended ∙ ap (λ items. items ++ items_of_run run) (sym (met.quiet ticks))) some in
+    record {
+      met = subst (λ b. IsMetOf before ((text ++ met.front) ++ b ∷ [])) byte_is
+          (record { came = (_, met.met.source); within = met.met.within });
+      begins = subst (λ b. BeginsTickText marks ((text ++ met.front) ++ b ∷ [])) byte_is
+          met.met.begins;
+      ended = subst (λ b. ended_items ((text ++ met.front) ++ b ∷ [])
+          ≡ ended_items text ++ items_of_run run) byte_is met.ended;
       some = some;
     }
 
 -- silence behind a whole input
-rested : (marks rest : ℕ) (before now : Option (List ℕ)) (items : List Item) → IsWhole marks 0 before now items → IsWhole marks rest before now (items ++ silent_items rest)
+rested : (marks rest : ℕ) (before now : Option (List ℕ)) (items : List Item)
+    → IsWhole marks 0 before now items → IsWhole marks rest before now (items ++ silent_items rest)
 rested marks rest before now items h = record {
   text = h.text;
   told = h.told;
@@ -70,22 +87,27 @@ rested marks rest before now items h = record {
 }
 
 -- a whole input has no mark, and few ticks: so many items
-pub length-whole : (marks : ℕ) (before now : Option (List ℕ)) (items : List Item) → marks ≡ 0 → IsWhole marks 0 before now items → length items ≤ max_ticks
+pub length-whole : (marks : ℕ) (before now : Option (List ℕ)) (items : List Item) → marks ≡ 0
+    → IsWhole marks 0 before now items → length items ≤ max_ticks
 length-whole marks before now items none h =
     let long : length items ≡ length h.told = ap length (h.are ∙ append-nil h.told) in
     omega (arith, long, none, h.few, h.right.marked, length-items h.told)
 
 -- nothing was read
-pub read_same : (in0 in1 : ℕ) (is_cause : Bool) → in1 ≡ in0 → is_cause ≡ false → IsReadCause in0 in1 is_cause
+pub read_same : (in0 in1 : ℕ) (is_cause : Bool) → in1 ≡ in0 → is_cause ≡ false
+    → IsReadCause in0 in1 is_cause
 read_same in0 in1 is_cause e unless = record {
   never_falls = omega (arith, e);
   failed = λ yes. absurd (let both : true ≡ false = sym yes ∙ unless in cc);
   same = λ _. e;
 }
 
-module _ {C O L D : Type 0} (meaning : Consuming C D) (o : Sink O) (l : Sink L) (d : SlotDisk D) where
-  -- So far: the text that was met, whose ended lines the consumer was given, and so many ticks in them.
-  pub record Progress (marks : ℕ) (before now : Option (List ℕ)) (intake : Intake) (start state : State C O L D) (ticks : ℕ) : Type 0 where
+module _ {C O L D : Type 0} (meaning : Consuming C D) (o : Sink O) (l : Sink L)
+    (d : SlotDisk D) where
+  -- So far: the text that was met, whose ended lines the consumer was given, and so many ticks in
+  -- them.
+  pub record Progress (marks : ℕ) (before now : Option (List ℕ)) (intake : Intake)
+      (start state : State C O L D) (ticks : ℕ) : Type 0 where
     pub text : List ℕ
     pub met : HasMet intake marks before now text
     pub gives : Gives meaning o l d {T = Unit {0}} start state (ended_items text) (Ok tt)
@@ -94,23 +116,29 @@ module _ {C O L D : Type 0} (meaning : Consuming C D) (o : Sink O) (l : Sink L) 
     pub taken : meaning.taken state.consumer ≡ ticks
 
   -- nothing met yet
-  pub progress_start : (marks : ℕ) (before : Option (List ℕ)) (intake : Intake) (start : State C O L D) → HasMet intake marks before before []
-      → Gives meaning o l d {T = Unit {0}} start start [] (Ok tt) → meaning.taken start.consumer ≡ 0 → Progress marks before before intake start start 0
+  pub progress_start : (marks : ℕ) (before : Option (List ℕ)) (intake : Intake)
+      (start : State C O L D) → HasMet intake marks before before []
+      → Gives meaning o l d {T = Unit {0}} start start [] (Ok tt) → meaning.taken start.consumer ≡ 0
+      → Progress marks before before intake start start 0
   progress_start marks before intake start met none fresh = record {
     text = [];
     met = met;
-    gives = gives_items meaning o l d start start [] (ended_items []) (Ok tt) (sym ended_items-nil) none;
+    gives = gives_items meaning o l d start start [] (ended_items []) (Ok tt) (sym ended_items-nil)
+        none;
     sum = sym (ap (λ items. length (ticks_in items)) ended_items-nil);
     few = omega arith;
     taken = fresh;
   }
 
   -- bytes that end no line with ticks
-  pub progress_quiet : (marks : ℕ) (before now later : Option (List ℕ)) (intake next : Intake) (start state : State C O L D) (ticks : ℕ)
-      (p : Progress marks before now intake start state ticks) → MeetsRun next marks before later p.text Nothing
+  pub progress_quiet : (marks : ℕ) (before now later : Option (List ℕ)) (intake next : Intake)
+      (start state : State C O L D) (ticks : ℕ)
+      (p : Progress marks before now intake start state ticks)
+      → MeetsRun next marks before later p.text Nothing
       → Progress marks before later next start state ticks
   progress_quiet marks before now later intake next start state ticks p met =
-      let same : ended_items ((p.text ++ met.front) ++ met.byte ∷ []) ≡ ended_items p.text = met.ended ∙ append-nil _ in record {
+      let same : ended_items ((p.text ++ met.front) ++ met.byte ∷ []) ≡ ended_items p.text =
+      met.ended ∙ append-nil _ in record {
         text = (p.text ++ met.front) ++ met.byte ∷ [];
         met = met.met;
         gives = gives_items meaning o l d start state _ _ (Ok tt) (sym same) p.gives;
@@ -120,61 +148,95 @@ module _ {C O L D : Type 0} (meaning : Consuming C D) (o : Sink O) (l : Sink L) 
       }
 
   -- a line that was handed over
-  pub progress_line : (marks : ℕ) (before now later : Option (List ℕ)) (intake next : Intake) (start mid new : State C O L D) (ticks sum : ℕ) (run : Run)
-      (p : Progress marks before now intake start mid ticks) → MeetsRun next marks before later p.text run
-      → HandsOver meaning o l d mid new ticks (items_of_run run) sum → meaning.taken new.consumer ≡ sum
+  pub progress_line : (marks : ℕ) (before now later : Option (List ℕ)) (intake next : Intake)
+      (start mid new : State C O L D) (ticks sum : ℕ) (run : Run)
+      (p : Progress marks before now intake start mid ticks)
+      → MeetsRun next marks before later p.text run
+      → HandsOver meaning o l d mid new ticks (items_of_run run) sum
+      → meaning.taken new.consumer ≡ sum
       → Progress marks before later next start new sum
-  progress_line marks before now later intake next start mid new ticks sum run p met handed taken = record {
-    text = (p.text ++ met.front) ++ met.byte ∷ [];
-    met = met.met;
-    gives = gives_items meaning o l d start new _ _ (Ok tt) (sym met.ended) (gives_then meaning o l d start mid new _ _ (Ok tt) p.gives handed.gives);
-    sum = omega (arith, handed.sum_is, p.sum, ticks_with (ended_items p.text) (items_of_run run), ap (λ items. length (ticks_in items)) met.ended);
-    few = handed.few;
-    taken = taken;
-  }
+  progress_line marks before now later intake next start mid new ticks sum run p met handed taken =
+      record {
+        text = (p.text ++ met.front) ++ met.byte ∷ [];
+        met = met.met;
+        gives = gives_items meaning o l d start new _ _ (Ok tt) (sym met.ended)
+            (gives_then meaning o l d start mid new _ _ (Ok tt) p.gives handed.gives);
+        sum = omega (
+          arith,
+          handed.sum_is,
+          p.sum,
+          ticks_with (ended_items p.text) (items_of_run run),
+          ap (λ items. length (ticks_in items)) met.ended,
+        );
+        few = handed.few;
+        taken = taken;
+      }
 
   -- a step that isn't answered ends the run
-  pub step_ends : (marks : ℕ) (before now later : Option (List ℕ)) (intake next : Intake) (start state : State C O L D) (ticks : ℕ) (end : End)
-      (p : Progress marks before now intake start state ticks) → StepAnswer next marks before later p.text (Err end)
+  pub step_ends : (marks : ℕ) (before now later : Option (List ℕ)) (intake next : Intake)
+      (start state : State C O L D) (ticks : ℕ) (end : End)
+      (p : Progress marks before now intake start state ticks)
+      → StepAnswer next marks before later p.text (Err end)
       → Drives meaning o l d marks 0 before later start state end
   step_ends marks before now later intake next start state ticks (Refused bad) p h = record {
     items = ended_items p.text;
-    takes = record { text = p.text ++ h.front; refused = inl h.refused; few = omega (arith, p.sum, p.few); are = sym h.quiet };
-    gives = p.gives;
-  }
-  step_ends marks before now later intake next start state ticks (TooLong Bytes count) p h = record {
-    items = ended_items p.text;
     takes = record {
-      text = p.text;
-      byte = h.byte;
-      came = h.came;
-      begins = p.met.begins;
-      full = h.full;
+      text = p.text ++ h.front;
+      refused = inl h.refused;
       few = omega (arith, p.sum, p.few);
-      are = refl;
-      sum = h.sum;
+      are = sym h.quiet;
     };
     gives = p.gives;
   }
+  step_ends marks before now later intake next start state ticks (TooLong Bytes count) p h =
+      record {
+        items = ended_items p.text;
+        takes = record {
+          text = p.text;
+          byte = h.byte;
+          came = h.came;
+          begins = p.met.begins;
+          full = h.full;
+          few = omega (arith, p.sum, p.few);
+          are = refl;
+          sum = h.sum;
+        };
+        gives = p.gives;
+      }
   step_ends marks before now later intake next start state ticks ReadFault p h = record {
     items = ended_items p.text;
-    takes = record { text = p.text; met = h; begins = p.met.begins; few = omega (arith, p.sum, p.few); are = refl };
+    takes = record {
+      text = p.text;
+      met = h;
+      begins = p.met.begins;
+      few = omega (arith, p.sum, p.few);
+      are = refl;
+    };
     gives = p.gives;
   }
-  step_ends marks before now later intake next start state ticks (TooLong Ticks count) p h = absurd h
+  step_ends marks before now later intake next start state ticks (TooLong Ticks count) p h =
+      absurd h
   step_ends marks before now later intake next start state ticks Whole p h = absurd h
   step_ends marks before now later intake next start state ticks (Stopped stop) p h = absurd h
 
   -- a text that isn't right at its end
-  pub finish_ends : (marks : ℕ) (before now later : Option (List ℕ)) (intake next : Intake) (start state : State C O L D) (ticks : ℕ) (end : End)
-      (p : Progress marks before now intake start state ticks) → MeetsEnd next marks before later p.text → FinishAnswer marks p.text (Err end)
+  pub finish_ends : (marks : ℕ) (before now later : Option (List ℕ)) (intake next : Intake)
+      (start state : State C O L D) (ticks : ℕ) (end : End)
+      (p : Progress marks before now intake start state ticks)
+      → MeetsEnd next marks before later p.text → FinishAnswer marks p.text (Err end)
       → Drives meaning o l d marks 0 before later start state end × (is_read_fault end ≡ false)
   finish_ends marks before now later intake next start state ticks (Refused bad) p met h = (
     record {
       items = ended_items p.text;
       takes = record {
         text = p.text;
-        refused = inr (record { met = met.met; begins = met.begins; refused = h.0; line = h.1; why = h.2 });
+        refused = inr (record {
+          met = met.met;
+          begins = met.begins;
+          refused = h.0;
+          line = h.1;
+          why = h.2;
+        });
         few = omega (arith, p.sum, p.few);
         are = refl;
       };
@@ -182,19 +244,25 @@ module _ {C O L D : Type 0} (meaning : Consuming C D) (o : Sink O) (l : Sink L) 
     },
     refl,
   )
-  finish_ends marks before now later intake next start state ticks (TooLong what count) p met h = absurd h
+  finish_ends marks before now later intake next start state ticks (TooLong what count) p met h =
+      absurd h
   finish_ends marks before now later intake next start state ticks ReadFault p met h = absurd h
   finish_ends marks before now later intake next start state ticks Whole p met h = absurd h
   finish_ends marks before now later intake next start state ticks (Stopped stop) p met h = absurd h
 
   -- a line that was held back, or at one of whose ticks the consumer stopped, ends the run
-  pub line_ends : (marks : ℕ) (before now later : Option (List ℕ)) (intake next : Intake) (start mid new : State C O L D) (ticks : ℕ) (run : Run) (end : End)
-      (p : Progress marks before now intake start mid ticks) → MeetsRun next marks before later p.text run → run ≢ Nothing
+  pub line_ends : (marks : ℕ) (before now later : Option (List ℕ)) (intake next : Intake)
+      (start mid new : State C O L D) (ticks : ℕ) (run : Run) (end : End)
+      (p : Progress marks before now intake start mid ticks)
+      → MeetsRun next marks before later p.text run → run ≢ Nothing
       → HandAnswer meaning o l d mid new ticks (items_of_run run) (Err end)
       → Drives meaning o l d marks 0 before later start new end × (is_read_fault end ≡ false)
-  line_ends marks before now later intake next start mid new ticks run (TooLong Ticks count) p met ticks_run h =
+  line_ends marks before now later intake next start mid new ticks run (TooLong Ticks count) p met
+      ticks_run h =
       let line = items_of_run run in
-      let some : line ≢ [] = λ none. let nothing : length (ticks_in line) ≡ 0 = ap (λ items. length (ticks_in items)) none in omega (arith, nothing, h.sum, h.above, p.few) in (
+      let some : line ≢ [] = λ none. let nothing : length (ticks_in line) ≡ 0 =
+      ap (λ items. length (ticks_in items)) none in
+      omega (arith, nothing, h.sum, h.above, p.few) in (
         record {
           items = ended_items p.text;
           takes = record {
@@ -206,36 +274,49 @@ module _ {C O L D : Type 0} (meaning : Consuming C D) (o : Sink O) (l : Sink L) 
             sum = omega (arith, h.sum, p.sum, ticks_with (ended_items p.text) line);
             above = h.above;
           };
-          gives = subst (λ state. Gives meaning o l d start state (ended_items p.text) (Ok tt)) (sym h.same) p.gives;
+          gives = subst (λ state. Gives meaning o l d start state (ended_items p.text) (Ok tt))
+              (sym h.same) p.gives;
         },
         refl,
       )
-  line_ends marks before now later intake next start mid new ticks run (Stopped stop) p met ticks_run h =
+  line_ends marks before now later intake next start mid new ticks run (Stopped stop) p met
+      ticks_run h =
       let line = items_of_run run in
-      let some : line ≢ [] = λ none. let nothing : length line ≡ 0 = ap length none in omega (arith, nothing, h.gives.stopped.within) in
+      let some : line ≢ [] = λ none. let nothing : length line ≡ 0 = ap length none in
+      omega (arith, nothing, h.gives.stopped.within) in
       let quiet = met.quiet ticks_run in (
         record {
           items = ended_items p.text ++ line;
           takes = inl (record {
             text = p.text ++ met.front;
             line = line;
-            ended = subst (λ items. EndsLine marks before (p.text ++ met.front) items line) (sym quiet) (ends_line next marks before later p.text run met ticks_run some);
+            ended = subst (λ items. EndsLine marks before (p.text ++ met.front) items line)
+                (sym quiet) (ends_line next marks before later p.text run met ticks_run some);
             few = omega (arith, h.few, p.sum, ticks_with (ended_items p.text) line);
             are = ap (λ items. items ++ line) (sym quiet);
           });
-          gives = gives_then meaning o l d start mid new (ended_items p.text) line (Err stop) p.gives h.gives;
+          gives = gives_then meaning o l d start mid new (ended_items p.text) line (Err stop)
+              p.gives h.gives;
         },
         refl,
       )
-  line_ends marks before now later intake next start mid new ticks run (TooLong Bytes count) p met ticks_run h = absurd h
-  line_ends marks before now later intake next start mid new ticks run (Refused bad) p met ticks_run h = absurd h
-  line_ends marks before now later intake next start mid new ticks run ReadFault p met ticks_run h = absurd h
-  line_ends marks before now later intake next start mid new ticks run Whole p met ticks_run h = absurd h
+  line_ends marks before now later intake next start mid new ticks run (TooLong Bytes count) p met
+      ticks_run h = absurd h
+  line_ends marks before now later intake next start mid new ticks run (Refused bad) p met ticks_run
+      h = absurd h
+  line_ends marks before now later intake next start mid new ticks run ReadFault p met ticks_run h =
+      absurd h
+  line_ends marks before now later intake next start mid new ticks run Whole p met ticks_run h =
+      absurd h
 
   -- the last line was handed over
-  pub last_ends : (marks : ℕ) (before now later : Option (List ℕ)) (intake next : Intake) (start mid new : State C O L D) (ticks sum : ℕ) (line : List Item)
-      (p : Progress marks before now intake start mid ticks) → MeetsEnd next marks before later p.text → IsTickText marks p.text (ended_items p.text ++ line)
-      → HandsOver meaning o l d mid new ticks line sum → Drives meaning o l d marks 0 before later start new Whole
+  pub last_ends : (marks : ℕ) (before now later : Option (List ℕ)) (intake next : Intake)
+      (start mid new : State C O L D) (ticks sum : ℕ) (line : List Item)
+      (p : Progress marks before now intake start mid ticks)
+      → MeetsEnd next marks before later p.text
+      → IsTickText marks p.text (ended_items p.text ++ line)
+      → HandsOver meaning o l d mid new ticks line sum
+      → Drives meaning o l d marks 0 before later start new Whole
   last_ends marks before now later intake next start mid new ticks sum line p met right h = record {
     items = ended_items p.text ++ line;
     takes = record {
@@ -246,75 +327,100 @@ module _ {C O L D : Type 0} (meaning : Consuming C D) (o : Sink O) (l : Sink L) 
       few = omega (arith, h.few, h.sum_is, p.sum, ticks_with (ended_items p.text) line);
       are = sym (append-nil _);
     };
-    gives = gives_then meaning o l d start mid new (ended_items p.text) line (Ok tt) p.gives h.gives;
+    gives = gives_then meaning o l d start mid new (ended_items p.text) line (Ok tt) p.gives
+        h.gives;
   }
 
   -- the last line was held back, or the consumer stopped at one of its ticks
-  pub last_line_ends : (marks : ℕ) (before now later : Option (List ℕ)) (intake next : Intake) (start mid new : State C O L D) (ticks : ℕ) (line : List Item) (end : End)
-      (p : Progress marks before now intake start mid ticks) → MeetsEnd next marks before later p.text → IsTickText marks p.text (ended_items p.text ++ line)
-      → HandAnswer meaning o l d mid new ticks line (Err end) → Drives meaning o l d marks 0 before later start new end × (is_read_fault end ≡ false)
-  last_line_ends marks before now later intake next start mid new ticks line (TooLong Ticks count) p met right h = (
-    record {
-      items = ended_items p.text;
-      takes = record {
-        text = p.text;
-        line = line;
-        ended = inr (record { met = met.met; ended = right });
-        few = omega (arith, p.sum, p.few);
-        are = refl;
-        sum = omega (arith, h.sum, p.sum, ticks_with (ended_items p.text) line);
-        above = h.above;
-      };
-      gives = subst (λ state. Gives meaning o l d start state (ended_items p.text) (Ok tt)) (sym h.same) p.gives;
-    },
-    refl,
-  )
-  last_line_ends marks before now later intake next start mid new ticks line (Stopped stop) p met right h = (
-    record {
-      items = ended_items p.text ++ line;
-      takes = inr (record {
-        text = p.text;
-        told = ended_items p.text ++ line;
-        met = met.met;
-        right = right;
-        few = omega (arith, h.few, p.sum, ticks_with (ended_items p.text) line);
-        are = sym (append-nil _);
-      });
-      gives = gives_then meaning o l d start mid new (ended_items p.text) line (Err stop) p.gives h.gives;
-    },
-    refl,
-  )
-  last_line_ends marks before now later intake next start mid new ticks line (TooLong Bytes count) p met right h = absurd h
-  last_line_ends marks before now later intake next start mid new ticks line (Refused bad) p met right h = absurd h
-  last_line_ends marks before now later intake next start mid new ticks line ReadFault p met right h = absurd h
-  last_line_ends marks before now later intake next start mid new ticks line Whole p met right h = absurd h
+  pub last_line_ends : (marks : ℕ) (before now later : Option (List ℕ)) (intake next : Intake)
+      (start mid new : State C O L D) (ticks : ℕ) (line : List Item) (end : End)
+      (p : Progress marks before now intake start mid ticks)
+      → MeetsEnd next marks before later p.text
+      → IsTickText marks p.text (ended_items p.text ++ line)
+      → HandAnswer meaning o l d mid new ticks line (Err end)
+      → Drives meaning o l d marks 0 before later start new end × (is_read_fault end ≡ false)
+  last_line_ends marks before now later intake next start mid new ticks line (TooLong Ticks count) p
+      met right h = (
+        record {
+          items = ended_items p.text;
+          takes = record {
+            text = p.text;
+            line = line;
+            ended = inr (record { met = met.met; ended = right });
+            few = omega (arith, p.sum, p.few);
+            are = refl;
+            sum = omega (arith, h.sum, p.sum, ticks_with (ended_items p.text) line);
+            above = h.above;
+          };
+          gives = subst (λ state. Gives meaning o l d start state (ended_items p.text) (Ok tt))
+              (sym h.same) p.gives;
+        },
+        refl,
+      )
+  last_line_ends marks before now later intake next start mid new ticks line (Stopped stop) p met
+      right h = (
+        record {
+          items = ended_items p.text ++ line;
+          takes = inr (record {
+            text = p.text;
+            told = ended_items p.text ++ line;
+            met = met.met;
+            right = right;
+            few = omega (arith, h.few, p.sum, ticks_with (ended_items p.text) line);
+            are = sym (append-nil _);
+          });
+          gives = gives_then meaning o l d start mid new (ended_items p.text) line (Err stop) p.gives
+              h.gives;
+        },
+        refl,
+      )
+  last_line_ends marks before now later intake next start mid new ticks line (TooLong Bytes count) p
+      met right h = absurd h
+  last_line_ends marks before now later intake next start mid new ticks line (Refused bad) p met
+      right h = absurd h
+  last_line_ends marks before now later intake next start mid new ticks line ReadFault p met right
+      h = absurd h
+  last_line_ends marks before now later intake next start mid new ticks line Whole p met right h =
+      absurd h
 
   -- the silence behind a whole input was taken
-  pub rest_taken : (marks rest : ℕ) (before now : Option (List ℕ)) (old mid new : State C O L D) → Drives meaning o l d marks 0 before now old mid Whole
-      → Gives meaning o l d {T = Unit {0}} mid new (silent_items rest) (Ok tt) → Drives meaning o l d marks rest before now old new Whole
+  pub rest_taken : (marks rest : ℕ) (before now : Option (List ℕ)) (old mid new : State C O L D)
+      → Drives meaning o l d marks 0 before now old mid Whole
+      → Gives meaning o l d {T = Unit {0}} mid new (silent_items rest) (Ok tt)
+      → Drives meaning o l d marks rest before now old new Whole
   rest_taken marks rest before now old mid new whole more = record {
     items = whole.items ++ silent_items rest;
     takes = rested marks rest before now whole.items whole.takes;
-    gives = gives_then meaning o l d old mid new whole.items (silent_items rest) (Ok tt) whole.gives more;
+    gives = gives_then meaning o l d old mid new whole.items (silent_items rest) (Ok tt) whole.gives
+        more;
   }
 
   -- the consumer stopped in it
-  pub rest_stops : (marks rest : ℕ) (before now : Option (List ℕ)) (old mid new : State C O L D) (stop : Stop) → Drives meaning o l d marks 0 before now old mid Whole
-      → Gives meaning o l d {T = Unit {0}} mid new (silent_items rest) (Err stop) → Drives meaning o l d marks rest before now old new (Stopped stop)
+  pub rest_stops : (marks rest : ℕ) (before now : Option (List ℕ)) (old mid new : State C O L D)
+      (stop : Stop) → Drives meaning o l d marks 0 before now old mid Whole
+      → Gives meaning o l d {T = Unit {0}} mid new (silent_items rest) (Err stop)
+      → Drives meaning o l d marks rest before now old new (Stopped stop)
   rest_stops marks rest before now old mid new stop whole more = record {
     items = whole.items ++ silent_items rest;
     takes = inr (rested marks rest before now whole.items whole.takes);
-    gives = gives_then meaning o l d old mid new whole.items (silent_items rest) (Err stop) whole.gives more;
+    gives = gives_then meaning o l d old mid new whole.items (silent_items rest) (Err stop)
+        whole.gives more;
   }
 
   -- silence behind a whole input changes nothing of any other end
-  pub other_ends : (marks rest : ℕ) (before now : Option (List ℕ)) (old new : State C O L D) (end : End) → (end ≡ Whole → ⊥)
-      → Drives meaning o l d marks 0 before now old new end → Drives meaning o l d marks rest before now old new end
+  pub other_ends : (marks rest : ℕ) (before now : Option (List ℕ)) (old new : State C O L D)
+      (end : End) → (end ≡ Whole → ⊥)
+      → Drives meaning o l d marks 0 before now old new end
+      → Drives meaning o l d marks rest before now old new end
   other_ends marks rest before now old new Whole other h = absurd (other refl)
-  other_ends marks rest before now old new (Refused bad) other h = record { items = h.items; takes = h.takes; gives = h.gives }
-  other_ends marks rest before now old new (TooLong Ticks count) other h = record { items = h.items; takes = h.takes; gives = h.gives }
-  other_ends marks rest before now old new (TooLong Bytes count) other h = record { items = h.items; takes = h.takes; gives = h.gives }
-  other_ends marks rest before now old new ReadFault other h = record { items = h.items; takes = h.takes; gives = h.gives }
+  other_ends marks rest before now old new (Refused bad) other h =
+      record { items = h.items; takes = h.takes; gives = h.gives }
+  other_ends marks rest before now old new (TooLong Ticks count) other h =
+      record { items = h.items; takes = h.takes; gives = h.gives }
+  other_ends marks rest before now old new (TooLong Bytes count) other h =
+      record { items = h.items; takes = h.takes; gives = h.gives }
+  other_ends marks rest before now old new ReadFault other h =
+      record { items = h.items; takes = h.takes; gives = h.gives }
   other_ends marks rest before now old new (Stopped stop) other h = elim h.takes [
     | inl line ↦ record { items = h.items; takes = inl line; gives = h.gives }
     | inr whole ↦ record {

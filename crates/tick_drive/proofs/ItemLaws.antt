@@ -1,6 +1,9 @@
 -- Ticks among items, and how many a run has.
-use Rattle.std.proofs.Common.{◌≡◌, ℕ, suc, zero, ◌+◌, ◌-◌, ◌<◌, ◌≤◌, List, [], ◌∷◌, ◌++◌, length, get_or, take, drop, map, replicate, refl, ap, sym, ◌∙◌, arith}
-use Rattle.std.proofs.lemmas.List.{map-append, take_more, take-append-drop, replicate-append-replicate, length-map, length-replicate, length-take}
+use Rattle.std.proofs.Common.{◌≡◌, ℕ, suc, zero, ◌+◌, ◌-◌, ◌<◌, ◌≤◌, List, [], ◌∷◌, ◌++◌, length}
+use Rattle.std.proofs.Common.{get_or, take, drop, map, replicate, refl, ap, sym, ◌∙◌, arith}
+use Rattle.std.proofs.lemmas.List.{map-append, take_more, take-append-drop}
+use Rattle.std.proofs.lemmas.List.{replicate-append-replicate, length-map, length-replicate}
+use Rattle.std.proofs.lemmas.List.{length-take}
 use Rattle.tick_drive.specs.Items.{byte_items, silent_items}
 use Rattle.yasir_ticks.specs.Ticks.{Item, ticks_in, marks_in}
 use Rattle.yasir_ticks.specs.Ticks.Item.{tick, mark}
@@ -17,7 +20,8 @@ length-items [] = refl
 length-items (tick t ∷ items) = let rest = length-items items in omega (arith, rest)
 length-items (mark ∷ items) = let rest = length-items items in omega (arith, rest)
 
-pub length-ticks_in-bytes : (bytes : List ℕ) → length (ticks_in (map (λ b. tick (Byte b)) bytes)) ≡ length bytes
+pub length-ticks_in-bytes : (bytes : List ℕ)
+    → length (ticks_in (map (λ b. tick (Byte b)) bytes)) ≡ length bytes
 length-ticks_in-bytes [] = refl
 length-ticks_in-bytes (b ∷ bytes) = ap suc (length-ticks_in-bytes bytes)
 
@@ -27,26 +31,36 @@ length-ticks_in-silence (suc n) = ap suc (length-ticks_in-silence n)
 
 -- the byte at a place, between those before it and those after it
 pub byte_items-at : (bytes : List ℕ) (i : ℕ) → i < length bytes
-    → byte_items bytes ≡ (byte_items (take i bytes) ++ tick (Byte (get_or bytes i 0)) ∷ []) ++ byte_items (drop (i + 1) bytes)
+    → byte_items bytes ≡ (byte_items (take i bytes) ++ tick (Byte (get_or bytes i 0)) ∷ [])
+    ++ byte_items (drop (i + 1) bytes)
 byte_items-at bytes i within =
-    let whole : byte_items bytes ≡ byte_items (take (i + 1) bytes ++ drop (i + 1) bytes) = ap byte_items (sym (take-append-drop (i + 1) bytes)) in
-    let cut : byte_items (take (i + 1) bytes ++ drop (i + 1) bytes) ≡ byte_items (take (i + 1) bytes) ++ byte_items (drop (i + 1) bytes) =
+    let whole : byte_items bytes ≡ byte_items (take (i + 1) bytes ++ drop (i + 1) bytes) =
+    ap byte_items (sym (take-append-drop (i + 1) bytes)) in
+    let cut : byte_items (take (i + 1) bytes ++ drop (i + 1) bytes)
+    ≡ byte_items (take (i + 1) bytes) ++ byte_items (drop (i + 1) bytes) =
     map-append (λ b. tick (Byte b)) (take (i + 1) bytes) (drop (i + 1) bytes) in
-    let more : byte_items (take (i + 1) bytes) ≡ byte_items (take i bytes) ++ tick (Byte (get_or bytes i 0)) ∷ [] =
-    ap byte_items (take_more bytes i 0 within) ∙ map-append (λ b. tick (Byte b)) (take i bytes) (get_or bytes i 0 ∷ []) in
+    let more : byte_items (take (i + 1) bytes)
+    ≡ byte_items (take i bytes) ++ tick (Byte (get_or bytes i 0)) ∷ [] =
+    ap byte_items (take_more bytes i 0 within)
+    ∙ map-append (λ b. tick (Byte b)) (take i bytes) (get_or bytes i 0 ∷ []) in
     whole ∙ cut ∙ ap (λ l. l ++ byte_items (drop (i + 1) bytes)) more
 
 -- one byte more
 pub byte_items-more : (bytes : List ℕ) (i : ℕ) → i < length bytes
-    → byte_items (take i bytes) ++ tick (Byte (get_or bytes i 0)) ∷ [] ≡ byte_items (take (i + 1) bytes)
+    → byte_items (take i bytes) ++ tick (Byte (get_or bytes i 0)) ∷ []
+    ≡ byte_items (take (i + 1) bytes)
 byte_items-more bytes i within =
-    sym (ap byte_items (take_more bytes i 0 within) ∙ map-append (λ b. tick (Byte b)) (take i bytes) (get_or bytes i 0 ∷ []))
+    sym (ap byte_items (take_more bytes i 0 within)
+    ∙ map-append (λ b. tick (Byte b)) (take i bytes) (get_or bytes i 0 ∷ []))
 
 pub length-byte_items : (bytes : List ℕ) → length (byte_items bytes) ≡ length bytes
 length-byte_items bytes = length-map bytes (λ b. tick (Byte b))
 
-pub length-byte_items-take : (bytes : List ℕ) (i : ℕ) → i ≤ length bytes → length (byte_items (take i bytes)) ≡ i
-length-byte_items-take bytes i within = length-byte_items (take i bytes) ∙ let long : length (take i bytes) ≡ i = omega (arith, length-take i bytes, within) in long
+pub length-byte_items-take : (bytes : List ℕ) (i : ℕ) → i ≤ length bytes
+    → length (byte_items (take i bytes)) ≡ i
+length-byte_items-take bytes i within =
+    length-byte_items (take i bytes) ∙ let long : length (take i bytes) ≡ i =
+    omega (arith, length-take i bytes, within) in long
 
 -- one silent tick more
 pub silent_items-more : (n : ℕ) → silent_items n ++ tick Silent ∷ [] ≡ silent_items (n + 1)
@@ -56,7 +70,8 @@ pub length-silent_items : (n : ℕ) → length (silent_items n) ≡ n
 length-silent_items n = length-replicate n (tick Silent)
 
 -- one silent tick between those before it and those after it
-pub silent_items-at : (n i : ℕ) → i < n → silent_items n ≡ (silent_items i ++ tick Silent ∷ []) ++ silent_items (n - (i + 1))
+pub silent_items-at : (n i : ℕ) → i < n
+    → silent_items n ≡ (silent_items i ++ tick Silent ∷ []) ++ silent_items (n - (i + 1))
 silent_items-at n i within =
     let sum : i + 1 + (n - (i + 1)) ≡ n = omega arith in
     ap silent_items (sym sum) ∙ sym (replicate-append-replicate (i + 1) (n - (i + 1)) (tick Silent))

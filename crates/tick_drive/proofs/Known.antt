@@ -1,20 +1,26 @@
 -- What is known of an input: what was met of it, and then what is to come.
-use Rattle.std.proofs.Common.{◌≡◌, ◌+◌, ◌-◌, ◌<◌, ◌≤◌, ℕ, List, [], ◌∷◌, ◌++◌, length, take, drop, get_or, Option, Some, None, ap, refl, ◌∙◌, sym, subst, append_assoc, arith}
+use Rattle.std.proofs.Common.{◌≡◌, ◌+◌, ◌-◌, ◌<◌, ◌≤◌, ℕ, List, [], ◌∷◌, ◌++◌, length, take, drop}
+use Rattle.std.proofs.Common.{get_or, Option, Some, None, ap, refl, ◌∙◌, sym, subst, append_assoc}
+use Rattle.std.proofs.Common.{arith}
 use Rattle.std.proofs.lemmas.List.{take_more, take-append-drop, take-take, length-take}
 use Rattle.std.specs.Io.KnownBytes.{prepend_known}
 use Rattle.tick_drive.specs.Input.{ComesFirst}
 
 -- some bytes of those that are kept are met
-pub met_some : (before left : Option (List ℕ)) (text kept : List ℕ) (n : ℕ) → before ≡ prepend_known text (prepend_known kept left)
+pub met_some : (before left : Option (List ℕ)) (text kept : List ℕ) (n : ℕ)
+    → before ≡ prepend_known text (prepend_known kept left)
     → before ≡ prepend_known (text ++ take n kept) (prepend_known (drop n kept) left)
 met_some before None text kept n p = p
 met_some before (Some xs) text kept n p =
     p ∙ ap Some (sym (append_assoc text (take n kept) (drop n kept ++ xs)
-    ∙ ap (λ l. text ++ l) (sym (append_assoc (take n kept) (drop n kept) xs) ∙ ap (λ l. l ++ xs) (take-append-drop n kept))))
+    ∙ ap (λ l. text ++ l) (sym (append_assoc (take n kept) (drop n kept) xs)
+    ∙ ap (λ l. l ++ xs) (take-append-drop n kept))))
 
 -- so many bytes and one more
-pub text_more : (text bytes : List ℕ) (n : ℕ) → n < length bytes → (text ++ take n bytes) ++ get_or bytes n 0 ∷ [] ≡ text ++ take (n + 1) bytes
-text_more text bytes n h = append_assoc text (take n bytes) (get_or bytes n 0 ∷ []) ∙ ap (λ x. text ++ x) (sym (take_more bytes n 0 h))
+pub text_more : (text bytes : List ℕ) (n : ℕ) → n < length bytes
+    → (text ++ take n bytes) ++ get_or bytes n 0 ∷ [] ≡ text ++ take (n + 1) bytes
+text_more text bytes n h = append_assoc text (take n bytes) (get_or bytes n 0 ∷ [])
+    ∙ ap (λ x. text ++ x) (sym (take_more bytes n 0 h))
 
 -- so many bytes, the last of them apart
 pub text_last : (text bytes : List ℕ) (n : ℕ) → n ≤ length bytes → 0 < n
@@ -24,24 +30,34 @@ text_last text bytes n h some =
     text_more text bytes (n - 1) (omega arith) ∙ ap (λ k. text ++ take k bytes) sum
 
 -- some bytes of a front of those that are kept are met
-pub met_slice : (before left : Option (List ℕ)) (text kept new : List ℕ) (within n : ℕ) → n ≤ length (take within kept) → new ≡ drop n kept
-    → before ≡ prepend_known text (prepend_known kept left) → before ≡ prepend_known (text ++ take n (take within kept)) (prepend_known new left)
+pub met_slice : (before left : Option (List ℕ)) (text kept new : List ℕ) (within n : ℕ)
+    → n ≤ length (take within kept) → new ≡ drop n kept
+    → before ≡ prepend_known text (prepend_known kept left)
+    → before ≡ prepend_known (text ++ take n (take within kept)) (prepend_known new left)
 met_slice before left text kept new within n h e p =
-    let same : take n (take within kept) ≡ take n kept = take-take n within kept (omega (arith, length-take within kept)) in
+    let same : take n (take within kept) ≡ take n kept =
+    take-take n within kept (omega (arith, length-take within kept)) in
     subst (λ l. before ≡ prepend_known (text ++ l) (prepend_known new left)) (sym same)
-    (subst (λ l. before ≡ prepend_known (text ++ take n kept) (prepend_known l left)) (sym e) (met_some before left text kept n p))
+    (subst (λ l. before ≡ prepend_known (text ++ take n kept) (prepend_known l left)) (sym e)
+    (met_some before left text kept n p))
 
 -- and one more
-pub met_slice_more : (before left : Option (List ℕ)) (text kept : List ℕ) (within n : ℕ) → n < length (take within kept)
-    → before ≡ prepend_known text (prepend_known kept left) → ComesFirst before ((text ++ take n (take within kept)) ++ get_or (take within kept) n 0 ∷ [])
+pub met_slice_more : (before left : Option (List ℕ)) (text kept : List ℕ) (within n : ℕ)
+    → n < length (take within kept)
+    → before ≡ prepend_known text (prepend_known kept left)
+    → ComesFirst before ((text ++ take n (take within kept))
+    ++ get_or (take within kept) n 0 ∷ [])
 met_slice_more before left text kept within n h p = (
   prepend_known (drop (n + 1) kept) left,
   met_slice before left text kept (drop (n + 1) kept) within (n + 1) (omega arith) refl p
-      ∙ ap (λ l. prepend_known l (prepend_known (drop (n + 1) kept) left)) (sym (text_more text (take within kept) n h)),
+      ∙ ap (λ l. prepend_known l (prepend_known (drop (n + 1) kept) left))
+      (sym (text_more text (take within kept) n h)),
 )
 
 -- the first byte that is kept is met
-pub met_first : (before left : Option (List ℕ)) (text kept : List ℕ) → 0 < length kept → before ≡ prepend_known text (prepend_known kept left)
+pub met_first : (before left : Option (List ℕ)) (text kept : List ℕ) → 0 < length kept
+    → before ≡ prepend_known text (prepend_known kept left)
     → ComesFirst before (text ++ get_or kept 0 0 ∷ [])
 met_first before left text [] h p = absurd (omega arith)
-met_first before left text (b ∷ rest) h p = (prepend_known rest left, met_some before left text (b ∷ rest) 1 p)
+met_first before left text (b ∷ rest) h p =
+    (prepend_known rest left, met_some before left text (b ∷ rest) 1 p)

@@ -20,27 +20,33 @@ pub record IsFresh {C D : Type 0} (meaning : Consuming C D) (consumer : C) (disk
   pub none : meaning.taken consumer ≡ 0
   pub able : meaning.able consumer disk
 
-module _ {C O L D : Type 0} (meaning : Consuming C D) (o : Sink O) (l : Sink L) (d : SlotDisk D) where
-  -- What was taken of an input that had `before` left and now has `now` was given to a consumer, and the run over it ended so.
-  pub record Drives (marks rest : ℕ) (before now : Option (List ℕ)) (old new : State C O L D) (end : End) : Type 0 where
+module _ {C O L D : Type 0} (meaning : Consuming C D) (o : Sink O) (l : Sink L)
+    (d : SlotDisk D) where
+  -- What was taken of an input that had `before` left and now has `now` was given to a consumer,
+  -- and the run over it ended so.
+  pub record Drives (marks rest : ℕ) (before now : Option (List ℕ)) (old new : State C O L D)
+      (end : End) : Type 0 where
     pub items : List Item
     pub takes : Takes marks rest before now items end
     pub gives : Gives meaning o l d old new items (answer_of end)
 
   -- One line's items were handed over: their ticks with those before are this sum.
-  pub record HandsOver (old new : State C O L D) (ticks : ℕ) (items : List Item) (sum : ℕ) : Type 0 where
+  pub record HandsOver (old new : State C O L D) (ticks : ℕ) (items : List Item) (sum : ℕ) :
+      Type 0 where
     pub gives : Gives meaning o l d {T = Unit {0}} old new items (Ok tt)
     pub sum_is : sum ≡ ticks + length (ticks_in items)
     pub few : sum ≤ max_ticks
 
   -- Their ticks with those before are too many, and nothing was done.
-  pub record HoldsBack (old new : State C O L D) (ticks : ℕ) (items : List Item) (count : ℕ) : Type 0 where
+  pub record HoldsBack (old new : State C O L D) (ticks : ℕ) (items : List Item) (count : ℕ) :
+      Type 0 where
     pub same : new ≡ old
     pub sum : count ≡ ticks + length (ticks_in items)
     pub above : max_ticks < count
 
   -- The consumer stopped at one of them.
-  pub record StopsAt (old new : State C O L D) (ticks : ℕ) (items : List Item) (stop : Stop) : Type 0 where
+  pub record StopsAt (old new : State C O L D) (ticks : ℕ) (items : List Item) (stop : Stop) :
+      Type 0 where
     pub gives : Gives meaning o l d {T = Unit {0}} old new items (Err stop)
     pub few : ticks + length (ticks_in items) ≤ max_ticks
 

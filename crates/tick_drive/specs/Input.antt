@@ -1,17 +1,21 @@
 -- What a run takes of its input.
--- It meets the input's bytes in order, and ends at the first of these: a byte past the limit, a byte that no right text begins with, the end of a
--- line whose ticks with all before are too many, the end of a line at one of whose ticks the consumer stops, a failed read, the input's end.
+-- It meets the input's bytes in order, and ends at the first of these: a byte past the limit, a
+-- byte that no right text begins with, the end of a line whose ticks with all before are too many,
+-- the end of a line at one of whose ticks the consumer stops, a failed read, the input's end.
 -- Behind the input's end, and nowhere else, silence may follow.
-use Rattle.std.specs.Prelude.{◌≡◌, ◌≢◌, ℕ, ◌+◌, ◌<◌, ◌≤◌, ◌⊎◌, List, [], ◌∷◌, ◌++◌, length, Option, Result, Ok, Err, Bool, true, false}
+use Rattle.std.specs.Prelude.{◌≡◌, ◌≢◌, ℕ, ◌+◌, ◌<◌, ◌≤◌, ◌⊎◌, List, [], ◌∷◌, ◌++◌, length, Option}
+use Rattle.std.specs.Prelude.{Result, Ok, Err, Bool, true, false}
 use Rattle.yasir_io.specs.Causes.{Rose}
 use Rattle.std.specs.Io.KnownBytes.{prepend_known, IsAtEnd}
 use Rattle.yasir_ticks.specs.Characters.{line_feed}
 use Rattle.yasir_ticks.specs.Ticks.{Item, ticks_in}
-use Rattle.yasir_ticks.specs.TickText.{IsTickText, BeginsTickText, IsRefusedAfter, ended_items, line_after, fault_after, fault_at_end}
+use Rattle.yasir_ticks.specs.TickText.{IsTickText, BeginsTickText, IsRefusedAfter, ended_items}
+use Rattle.yasir_ticks.specs.TickText.{line_after, fault_after, fault_at_end}
 use Rattle.yasir_ticks.specs.declared.fault.BadTicks.{BadTicks}
 use Rattle.tick_drive.specs.Items.{silent_items}
 use Rattle.tick_drive.specs.declared.end.End.{End}
-use Rattle.tick_drive.specs.declared.end.End.TheVariants.{Whole, Refused, TooLong, ReadFault, Stopped}
+use Rattle.tick_drive.specs.declared.end.End.TheVariants.{Whole, Refused, TooLong, ReadFault}
+use Rattle.tick_drive.specs.declared.end.End.TheVariants.{Stopped}
 use Rattle.tick_drive.specs.declared.end.TooMuch.TheVariants.{Ticks, Bytes}
 
 abbrev pub max_ticks : ℕ
@@ -44,7 +48,8 @@ abbrev pub AreFew : List Item → Type 0
 AreFew items = length (ticks_in items) ≤ max_ticks
 
 -- The text that was met, and then a byte, begins no right text.
-pub record IsRefusedByte (marks : ℕ) (before : Option (List ℕ)) (text : List ℕ) (bad : BadTicks) : Type 0 where
+pub record IsRefusedByte (marks : ℕ) (before : Option (List ℕ)) (text : List ℕ) (bad : BadTicks) :
+    Type 0 where
   pub byte : ℕ
   pub met : IsMetOf before (text ++ byte ∷ [])
   pub refused : IsRefusedAfter marks text byte
@@ -52,7 +57,8 @@ pub record IsRefusedByte (marks : ℕ) (before : Option (List ℕ)) (text : List
   pub why : bad.why ≡ fault_after text byte
 
 -- The whole input was met, and is no right text.
-pub record IsRefusedEnd (marks : ℕ) (before now : Option (List ℕ)) (text : List ℕ) (bad : BadTicks) : Type 0 where
+pub record IsRefusedEnd (marks : ℕ) (before now : Option (List ℕ)) (text : List ℕ)
+    (bad : BadTicks) : Type 0 where
   pub met : IsMetWhole before now text
   pub begins : BeginsTickText marks text
   pub refused : ¬ ((items : List Item) × IsTickText marks text items)
@@ -60,19 +66,22 @@ pub record IsRefusedEnd (marks : ℕ) (before now : Option (List ℕ)) (text : L
   pub why : bad.why ≡ fault_at_end text
 
 -- The next byte, an LF, ends a line of these items, and begins a right text with those before it.
-pub record EndsLine (marks : ℕ) (before : Option (List ℕ)) (text : List ℕ) (items line : List Item) : Type 0 where
+pub record EndsLine (marks : ℕ) (before : Option (List ℕ)) (text : List ℕ)
+    (items line : List Item) : Type 0 where
   pub met : IsMetOf before (text ++ line_feed ∷ [])
   pub begins : BeginsTickText marks (text ++ line_feed ∷ [])
   pub ended : ended_items (text ++ line_feed ∷ []) ≡ items ++ line
   pub some : line ≢ []
 
 -- The input's end ends a line of these items.
-pub record EndsLast (marks : ℕ) (before now : Option (List ℕ)) (text : List ℕ) (items line : List Item) : Type 0 where
+pub record EndsLast (marks : ℕ) (before now : Option (List ℕ)) (text : List ℕ)
+    (items line : List Item) : Type 0 where
   pub met : IsMetWhole before now text
   pub ended : IsTickText marks text (items ++ line)
 
 -- The whole input was met and is a right text; behind its items stand so many silent ticks.
-pub record IsWhole (marks rest : ℕ) (before now : Option (List ℕ)) (items : List Item) : Type 0 where
+pub record IsWhole (marks rest : ℕ) (before now : Option (List ℕ)) (items : List Item) :
+    Type 0 where
   pub text : List ℕ
   pub told : List Item
   pub met : IsMetWhole before now text
@@ -81,14 +90,17 @@ pub record IsWhole (marks rest : ℕ) (before now : Option (List ℕ)) (items : 
   pub are : items ≡ told ++ silent_items rest
 
 -- The lines that ended before the refused place have these items.
-pub record IsRefused (marks : ℕ) (before now : Option (List ℕ)) (items : List Item) (bad : BadTicks) : Type 0 where
+pub record IsRefused (marks : ℕ) (before now : Option (List ℕ)) (items : List Item)
+    (bad : BadTicks) : Type 0 where
   pub text : List ℕ
   pub refused : IsRefusedByte marks before text bad ⊎ IsRefusedEnd marks before now text bad
   pub few : AreFew items
   pub are : items ≡ ended_items text
 
--- A line ended, at an LF or at the input's end, whose ticks with those before are more than may be taken.
-pub record HasTooManyTicks (marks : ℕ) (before now : Option (List ℕ)) (items : List Item) (count : ℕ) : Type 0 where
+-- A line ended, at an LF or at the input's end, whose ticks with those before are more than may be
+-- taken.
+pub record HasTooManyTicks (marks : ℕ) (before now : Option (List ℕ)) (items : List Item)
+    (count : ℕ) : Type 0 where
   pub text : List ℕ
   pub line : List Item
   pub ended : EndsLine marks before text items line ⊎ EndsLast marks before now text items line
@@ -98,7 +110,8 @@ pub record HasTooManyTicks (marks : ℕ) (before now : Option (List ℕ)) (items
   pub above : max_ticks < count
 
 -- As many bytes as may be read were met, and one more came.
-pub record HasTooManyBytes (marks : ℕ) (before : Option (List ℕ)) (items : List Item) (count : ℕ) : Type 0 where
+pub record HasTooManyBytes (marks : ℕ) (before : Option (List ℕ)) (items : List Item) (count : ℕ) :
+    Type 0 where
   pub text : List ℕ
   pub byte : ℕ
   pub came : ComesFirst before (text ++ byte ∷ [])
@@ -116,7 +129,8 @@ pub record FailsToRead (marks : ℕ) (before now : Option (List ℕ)) (items : L
   pub few : AreFew items
   pub are : items ≡ ended_items text
 
--- The last byte that was met ended a line with ticks, and these are the items of all lines up to it.
+-- The last byte that was met ended a line with ticks, and these are the items of all lines up to
+-- it.
 pub record StopsInLine (marks : ℕ) (before : Option (List ℕ)) (items : List Item) : Type 0 where
   pub text : List ℕ
   pub line : List Item
@@ -124,15 +138,18 @@ pub record StopsInLine (marks : ℕ) (before : Option (List ℕ)) (items : List 
   pub few : AreFew items
   pub are : items ≡ ended_items text ++ line
 
--- These items were taken of an input, and of so many silent ticks behind it, as the run over it ended so. A consumer that stopped
--- did so at one of them: in the last of the lines that were met, all whole, or behind an input that was met to its end.
+-- These items were taken of an input, and of so many silent ticks behind it, as the run over it
+-- ended so. A consumer that stopped did so at one of them: in the last of the lines that were met,
+-- all whole, or behind an input that was met to its end.
 abbrev pub Takes : ℕ → ℕ → Option (List ℕ) → Option (List ℕ) → List Item → End → Type 0
 Takes marks rest before now items Whole = IsWhole marks rest before now items
 Takes marks rest before now items (Refused bad) = IsRefused marks before now items bad
-Takes marks rest before now items (TooLong Ticks count) = HasTooManyTicks marks before now items count
+Takes marks rest before now items (TooLong Ticks count) =
+    HasTooManyTicks marks before now items count
 Takes marks rest before now items (TooLong Bytes count) = HasTooManyBytes marks before items count
 Takes marks rest before now items ReadFault = FailsToRead marks before now items
-Takes marks rest before now items (Stopped stop) = StopsInLine marks before items ⊎ IsWhole marks rest before now items
+Takes marks rest before now items (Stopped stop) = StopsInLine marks before items
+    ⊎ IsWhole marks rest before now items
 
 abbrev pub is_read_fault : End → Bool
 is_read_fault ReadFault = true

@@ -1,25 +1,30 @@
 -- The bytes of an input on their way to the reader.
-use Rattle.std.specs.Prelude.{◌≡◌, ◌≢◌, ℕ, ◌≤◌, List, [], ◌∷◌, ◌++◌, length, Option, Some, None, Result, Ok, Err, false}
+use Rattle.std.specs.Prelude.{◌≡◌, ◌≢◌, ℕ, ◌≤◌, List, [], ◌∷◌, ◌++◌, length, Option, Some, None}
+use Rattle.std.specs.Prelude.{Result, Ok, Err, false}
 use Rattle.std.specs.Io.KnownBytes.{prepend_known, IsAtEnd}
 use Rattle.yasir_io.specs.Pieces.{to_come, has_ended}
 use Rattle.yasir_ticks.specs.Ticks.{Item, items_of_run}
 use Rattle.yasir_ticks.specs.Reader.{StandsFor}
-use Rattle.yasir_ticks.specs.TickText.{IsTickText, BeginsTickText, ended_items, line_after, fault_at_end}
+use Rattle.yasir_ticks.specs.TickText.{IsTickText, BeginsTickText, ended_items, line_after}
+use Rattle.yasir_ticks.specs.TickText.{fault_at_end}
 use Rattle.yasir_ticks.specs.declared.fault.BadTicks.{BadTicks}
 use Rattle.yasir_ticks.specs.declared.run.Run.{Run}
 use Rattle.yasir_ticks.specs.declared.run.Run.TheVariants.{Nothing}
 use Rattle.tick_drive.specs.Input.{ComesFirst, IsMetUpTo, IsMetWhole, IsRefusedByte, max_bytes}
 use Rattle.tick_drive.specs.declared.intake.Intake.{Intake}
 use Rattle.tick_drive.specs.declared.end.End.{End}
-use Rattle.tick_drive.specs.declared.end.End.TheVariants.{Whole, Refused, TooLong, ReadFault, Stopped}
+use Rattle.tick_drive.specs.declared.end.End.TheVariants.{Whole, Refused, TooLong, ReadFault}
+use Rattle.tick_drive.specs.declared.end.End.TheVariants.{Stopped}
 use Rattle.tick_drive.specs.declared.end.TooMuch.TheVariants.{Ticks, Bytes}
 
 -- The reader has been fed this text.
 abbrev pub HasFed : Intake → ℕ → List ℕ → Type 0
 HasFed intake marks text = StandsFor intake.reader marks text
 
--- This text was met of an input that had `before` left at first and has `now` left, and begins a right text.
-pub record HasMet (intake : Intake) (marks : ℕ) (before now : Option (List ℕ)) (text : List ℕ) : Type 0 where
+-- This text was met of an input that had `before` left at first and has `now` left, and begins a
+-- right text.
+pub record HasMet (intake : Intake) (marks : ℕ) (before now : Option (List ℕ)) (text : List ℕ) :
+    Type 0 where
   pub stands : StandsFor intake.reader marks text
   pub begins : BeginsTickText marks text
   pub source : before ≡ prepend_known text (to_come intake.pieces now)
@@ -27,9 +32,11 @@ pub record HasMet (intake : Intake) (marks : ℕ) (before now : Option (List ℕ
   pub count : intake.bytes ≡ length text
   pub within : length text ≤ max_bytes
 
--- Bytes were met after a text, at least one and none refused, and this run is that of the lines that ended.
--- Where it has ticks, the last of these bytes ended its line, and no line with ticks ended before.
-pub record MeetsRun (intake : Intake) (marks : ℕ) (before now : Option (List ℕ)) (text : List ℕ) (run : Run) : Type 0 where
+-- Bytes were met after a text, at least one and none refused, and this run is that of the lines
+-- that ended. Where it has ticks, the last of these bytes ended its line, and no line with ticks
+-- ended before.
+pub record MeetsRun (intake : Intake) (marks : ℕ) (before now : Option (List ℕ)) (text : List ℕ)
+    (run : Run) : Type 0 where
   pub front : List ℕ
   pub byte : ℕ
   pub met : HasMet intake marks before now ((text ++ front) ++ byte ∷ [])
@@ -37,7 +44,8 @@ pub record MeetsRun (intake : Intake) (marks : ℕ) (before now : Option (List �
   pub quiet : run ≢ Nothing → ended_items (text ++ front) ≡ ended_items text
 
 -- Bytes were met after a text, in which no line with ticks ended, and then one that is refused.
-pub record MeetsRefused (marks : ℕ) (before : Option (List ℕ)) (text : List ℕ) (bad : BadTicks) : Type 0 where
+pub record MeetsRefused (marks : ℕ) (before : Option (List ℕ)) (text : List ℕ) (bad : BadTicks) :
+    Type 0 where
   pub front : List ℕ
   pub refused : IsRefusedByte marks before (text ++ front) bad
   pub quiet : ended_items (text ++ front) ≡ ended_items text
@@ -50,13 +58,15 @@ pub record MeetsLimit (before : Option (List ℕ)) (text : List ℕ) (count : �
   pub sum : count ≡ length (text ++ byte ∷ [])
 
 -- Nothing came behind a text, and it is the whole input.
-pub record MeetsEnd (intake : Intake) (marks : ℕ) (before now : Option (List ℕ)) (text : List ℕ) : Type 0 where
+pub record MeetsEnd (intake : Intake) (marks : ℕ) (before now : Option (List ℕ)) (text : List ℕ) :
+    Type 0 where
   pub fed : HasFed intake marks text
   pub begins : BeginsTickText marks text
   pub met : IsMetWhole before now text
 
 -- what the answer to one step says, after a text was met
-abbrev pub StepAnswer : Intake → ℕ → Option (List ℕ) → Option (List ℕ) → List ℕ → Result (Option Run) End → Type 0
+abbrev pub StepAnswer : Intake → ℕ → Option (List ℕ) → Option (List ℕ) → List ℕ
+    → Result (Option Run) End → Type 0
 StepAnswer intake marks before now text (Ok (Some run)) = MeetsRun intake marks before now text run
 StepAnswer intake marks before now text (Ok None) = MeetsEnd intake marks before now text
 StepAnswer intake marks before now text (Err (Refused bad)) = MeetsRefused marks before text bad
@@ -67,5 +77,7 @@ StepAnswer intake marks before now text (Err end) = ⊥
 -- what the answer at the input's end says
 abbrev pub FinishAnswer : ℕ → List ℕ → Result Run End → Type 0
 FinishAnswer marks text (Ok run) = IsTickText marks text (ended_items text ++ items_of_run run)
-FinishAnswer marks text (Err (Refused bad)) = (¬ ((items : List Item) × IsTickText marks text items)) × (bad.line ≡ line_after text) × (bad.why ≡ fault_at_end text)
+FinishAnswer marks text (Err (Refused bad)) =
+    (¬ ((items : List Item) × IsTickText marks text items)) × (bad.line ≡ line_after text)
+    × (bad.why ≡ fault_at_end text)
 FinishAnswer marks text (Err end) = ⊥

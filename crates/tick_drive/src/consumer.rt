@@ -15,17 +15,20 @@ pub enum Stop {
     JournalFault,
 }
 
-/// Takes the ticks of an input, a run at a time, and writes to two sinks and a disk. After a stop it is not used again.
+/// Takes the ticks of an input, a run at a time, and writes to two sinks and a disk. After a stop
+/// it is not used again.
 pub trait Consumer<O: Sink, L: Sink, D: SlotDisk> {
     ghost use Rattle.tick_drive.specs.Consumers.{Consuming, MayTake, Gives, state_of};
 
-    /// What is said of the consumer: what it has taken, where it stopped, and what holds of its disk.
+    /// What is said of the consumer: what it has taken, where it stopped, and what holds of its
+    /// disk.
     ghost meaning: { Consuming Self D };
 
     /// Takes one tick.
     fn take_tick(&mut self, out: &mut O, log: &mut L, disk: &mut D, tick: Tick) -> Result<(), Stop>
         requires { MayTake meaning self.old disk.old (tick_item tick ∷ []) }
-        ensures { Gives meaning O.Sink L.Sink D.SlotDisk (state_of self.old out.old log.old disk.old)
+        ensures { Gives meaning O.Sink L.Sink D.SlotDisk
+            (state_of self.old out.old log.old disk.old)
             (state_of self.new out.new log.new disk.new) (tick_item tick ∷ []) result };
 
     /// Takes these bytes, one a tick.
@@ -37,7 +40,8 @@ pub trait Consumer<O: Sink, L: Sink, D: SlotDisk> {
         bytes: &[u8],
     ) -> Result<(), Stop>
         requires { MayTake meaning self.old disk.old (byte_items bytes.now) }
-        ensures { Gives meaning O.Sink L.Sink D.SlotDisk (state_of self.old out.old log.old disk.old)
+        ensures { Gives meaning O.Sink L.Sink D.SlotDisk
+            (state_of self.old out.old log.old disk.old)
             (state_of self.new out.new log.new disk.new) (byte_items bytes.now) result }
     {
         for byte in bytes {
@@ -57,7 +61,8 @@ pub trait Consumer<O: Sink, L: Sink, D: SlotDisk> {
         ticks: u32,
     ) -> Result<(), Stop>
         requires { MayTake meaning self.old disk.old (silent_items ticks) }
-        ensures { Gives meaning O.Sink L.Sink D.SlotDisk (state_of self.old out.old log.old disk.old)
+        ensures { Gives meaning O.Sink L.Sink D.SlotDisk
+            (state_of self.old out.old log.old disk.old)
             (state_of self.new out.new log.new disk.new) (silent_items ticks) result }
     {
         for _ in 0..ticks {
@@ -71,7 +76,8 @@ pub trait Consumer<O: Sink, L: Sink, D: SlotDisk> {
     /// Takes the ticks of a run in order.
     fn take(&mut self, out: &mut O, log: &mut L, disk: &mut D, run: &Run) -> Result<(), Stop>
         requires { MayTake meaning self.old disk.old (items_of_run run.now) }
-        ensures { Gives meaning O.Sink L.Sink D.SlotDisk (state_of self.old out.old log.old disk.old)
+        ensures { Gives meaning O.Sink L.Sink D.SlotDisk
+            (state_of self.old out.old log.old disk.old)
             (state_of self.new out.new log.new disk.new) (items_of_run run.now) result }
     {
         match run {

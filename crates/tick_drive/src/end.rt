@@ -15,7 +15,8 @@ pub enum End {
     Whole,
     /// The input is no tick text.
     Refused(BadTicks),
-    /// A line has more ticks than may be taken, or a byte more came than may be read; `count` has the sum.
+    /// A line has more ticks than may be taken, or a byte more came than may be read; `count` has
+    /// the sum.
     TooLong { what: TooMuch, count: u64 },
     /// A read failed.
     ReadFault,

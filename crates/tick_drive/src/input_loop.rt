@@ -24,7 +24,8 @@ fn ticks_of(run: &Run) -> u32
     }
 }
 
-// Hands one line's run to the consumer, unless its ticks with those before are too many. Answers the sum.
+// Hands one line's run to the consumer, unless its ticks with those before are too many. Answers
+// the sum.
 fn hand_over<O: Sink, L: Sink, D: SlotDisk, C: Consumer<O, L, D>>(
     ticks: u32,
     run: &Run,
@@ -36,7 +37,8 @@ fn hand_over<O: Sink, L: Sink, D: SlotDisk, C: Consumer<O, L, D>>(
     requires within { ticks ≤ 16777216 }
     requires taken { C.meaning.taken consumer.old ≡ ticks }
     requires able { C.meaning.able consumer.old disk.old }
-    ensures handed { HandAnswer C.meaning O.Sink L.Sink D.SlotDisk (state_of consumer.old out.old log.old disk.old)
+    ensures handed { HandAnswer C.meaning O.Sink L.Sink D.SlotDisk
+        (state_of consumer.old out.old log.old disk.old)
         (state_of consumer.new out.new log.new disk.new) ticks (items_of_run run.now) result }
     ensures taken { IfOk result (λ sum. C.meaning.taken consumer.new ≡ sum) }
 {
@@ -53,7 +55,8 @@ fn hand_over<O: Sink, L: Sink, D: SlotDisk, C: Consumer<O, L, D>>(
     }
 }
 
-/// Drives an input, as tick text, into a consumer that has taken nothing yet, until one of the two stops.
+/// Drives an input, as tick text, into a consumer that has taken nothing yet, until one of the two
+/// stops.
 pub fn drive<S: Source, O: Sink, L: Sink, D: SlotDisk, C: Consumer<O, L, D>>(
     marks: u8,
     input: &mut S,
@@ -64,8 +67,10 @@ pub fn drive<S: Source, O: Sink, L: Sink, D: SlotDisk, C: Consumer<O, L, D>>(
 ) -> End
     requires no_mark { marks ≡ 0 }
     requires fresh { IsFresh C.meaning consumer.old disk.old }
-    ensures driven { Drives C.meaning O.Sink L.Sink D.SlotDisk marks 0 (S.left input.old) (S.left input.new)
-        (state_of consumer.old out.old log.old disk.old) (state_of consumer.new out.new log.new disk.new) result }
+    ensures driven { Drives C.meaning O.Sink L.Sink D.SlotDisk marks 0 (S.left input.old)
+        (S.left input.new)
+        (state_of consumer.old out.old log.old disk.old)
+        (state_of consumer.new out.new log.new disk.new) result }
     ensures read { IsReadCause (S.faults input.old) (S.faults input.new) (is_read_fault result) }
 {
     let mut intake = Intake::new(marks);
@@ -94,7 +99,8 @@ pub fn drive<S: Source, O: Sink, L: Sink, D: SlotDisk, C: Consumer<O, L, D>>(
     }
 }
 
-/// Drives an input into a consumer, and then so many silent ticks behind an input that was taken whole.
+/// Drives an input into a consumer, and then so many silent ticks behind an input that was taken
+/// whole.
 pub fn drive_to_rest<S: Source, O: Sink, L: Sink, D: SlotDisk, C: Consumer<O, L, D>>(
     marks: u8,
     rest: u32,
@@ -106,8 +112,10 @@ pub fn drive_to_rest<S: Source, O: Sink, L: Sink, D: SlotDisk, C: Consumer<O, L,
 ) -> End
     requires no_mark { marks ≡ 0 }
     requires fresh { IsFresh C.meaning consumer.old disk.old }
-    ensures driven { Drives C.meaning O.Sink L.Sink D.SlotDisk marks rest (S.left input.old) (S.left input.new)
-        (state_of consumer.old out.old log.old disk.old) (state_of consumer.new out.new log.new disk.new) result }
+    ensures driven { Drives C.meaning O.Sink L.Sink D.SlotDisk marks rest (S.left input.old)
+        (S.left input.new)
+        (state_of consumer.old out.old log.old disk.old)
+        (state_of consumer.new out.new log.new disk.new) result }
     ensures read { IsReadCause (S.faults input.old) (S.faults input.new) (is_read_fault result) }
 {
     match drive(marks, input, consumer, out, log, disk) {

@@ -1,4 +1,5 @@
-ghost use Rattle.std.specs.Prelude.{◌≡◌, ℕ, ◌+◌, ◌≤◌, ◌<◌, List, [], length, Option, IfOk, IfSome, false};
+ghost use Rattle.std.specs.Prelude.{◌≡◌, ℕ, ◌+◌, ◌≤◌, ◌<◌, List, [], length, Option, IfOk, IfSome};
+ghost use Rattle.std.specs.Prelude.{false};
 ghost use Rattle.yasir_ticks.specs.Reader.{reader_line};
 
 use crate::{End, TooMuch};
@@ -35,14 +36,17 @@ impl Intake {
         }
     }
 
-    /// Meets bytes up to the end of the first line with ticks, and answers its run, or `Nothing`; none at the input's end.
+    /// Meets bytes up to the end of the first line with ticks, and answers its run, or `Nothing`;
+    /// none at the input's end.
     #[inline]
     pub fn step<S: Source>(&mut self, source: &mut S) -> Result<Option<Run>, End>
         ensures answer { (marks : ℕ) (before : Option (List ℕ)) (text : List ℕ)
             → HasMet self.old marks before (S.left source.old) text
             → StepAnswer self.new marks before (S.left source.new) text result }
-        ensures counted { IfOk result (λ next. IfSome next (λ run. self.old.bytes < self.new.bytes)) }
-        ensures cause { IsReadCause (S.faults source.old) (S.faults source.new) (is_read_answer result) }
+        ensures counted { IfOk result (λ next. IfSome next
+            (λ run. self.old.bytes < self.new.bytes)) }
+        ensures cause { IsReadCause (S.faults source.old) (S.faults source.new)
+            (is_read_answer result) }
     {
         match self.pieces.fill(source) {
             Ok(true) => self.feed_kept(),
@@ -56,8 +60,10 @@ impl Intake {
     fn feed_kept(&mut self) -> Result<Option<Run>, End>
         requires { 0 < length (kept_bytes self.old.pieces) }
         ensures answer { (marks : ℕ) (before now : Option (List ℕ)) (text : List ℕ)
-            → HasMet self.old marks before now text → StepAnswer self.new marks before now text result }
-        ensures counted { IfOk result (λ next. IfSome next (λ run. self.old.bytes < self.new.bytes)) }
+            → HasMet self.old marks before now text
+            → StepAnswer self.new marks before now text result }
+        ensures counted { IfOk result (λ next. IfSome next
+            (λ run. self.old.bytes < self.new.bytes)) }
         ensures no_read { is_read_answer result ≡ false }
     {
         if self.bytes == MAX_INPUT_BYTES {
@@ -79,7 +85,8 @@ impl Intake {
 
     /// The run of the last line, at the input's end.
     pub fn finish(self) -> Result<Run, End>
-        ensures { (marks : ℕ) (text : List ℕ) → HasFed self marks text → FinishAnswer marks text result }
+        ensures { (marks : ℕ) (text : List ℕ) → HasFed self marks text
+            → FinishAnswer marks text result }
     {
         let Intake {
             pieces: _,

@@ -1,4 +1,5 @@
-//! The loop that drives a recorded input into whatever takes its ticks, proved once for every consumer.
+//! The loop that drives a recorded input into whatever takes its ticks, proved once for every
+//! consumer.
 #![tactic(auto)]
 
 mod consumer;

@@ -1,5 +1,8 @@
--- The bursts of a line that goes on by one tick. The cut is any number, so that each device has its own.
-use Rattle.std.proofs.Common.{◌≡◌, ℕ, zero, suc, ◌+◌, ◌-◌, ◌<◌, ◌≤◌, nat_lt, cond, List, [], ◌∷◌, ◌++◌, length, refl, arith, sym, ◌∙◌, ap, append_assoc, length-append, add-one, subst}
+-- The bursts of a line that goes on by one tick. The cut is any number, so that each device has its
+-- own.
+use Rattle.std.proofs.Common.{◌≡◌, ℕ, zero, suc, ◌+◌, ◌-◌, ◌<◌, ◌≤◌, nat_lt, cond, List, [], ◌∷◌}
+use Rattle.std.proofs.Common.{◌++◌, length, refl, arith, sym, ◌∙◌, ap, append_assoc, length-append}
+use Rattle.std.proofs.Common.{add-one, subst}
 use Rattle.std.proofs.Common.{⊎_elim}
 use Rattle.std.proofs.lemmas.Bool.{cases_lt, lt-ltb, le-ltb, cond-true, cond-false}
 use Rattle.std.proofs.lemmas.List.{append-nil, length-replicate}
@@ -15,7 +18,10 @@ alone m b = record { start = m; body = Byte b ∷ [] }
 
 -- a burst, and after it a byte at tick m
 abbrev pub with_last : Burst → ℕ → ℕ → Burst
-with_last d m b = record { start = d.start; body = d.body ++ (silent (m - end_of d) ++ (Byte b ∷ [])) }
+with_last d m b = record {
+  start = d.start;
+  body = d.body ++ (silent (m - end_of d) ++ (Byte b ∷ []));
+}
 
 -- a byte at tick n, and after it a burst
 abbrev pub with_first : ℕ → ℕ → Burst → Burst
@@ -39,11 +45,13 @@ module _ (cut : ℕ) where
   unfolding with_byte
   with_byte-far n b d ds far = cond-false _ _ _ (le-ltb d.start (suc n + cut) far)
 
-  pub extended-near : (m b : ℕ) (d : Burst) → m < end_of d + cut → extended cut m b (d ∷ []) ≡ with_last d m b ∷ []
+  pub extended-near : (m b : ℕ) (d : Burst) → m < end_of d + cut
+      → extended cut m b (d ∷ []) ≡ with_last d m b ∷ []
   unfolding extended
   extended-near m b d near = cond-true _ _ _ (lt-ltb m (end_of d + cut) near)
 
-  pub extended-far : (m b : ℕ) (d : Burst) → end_of d + cut ≤ m → extended cut m b (d ∷ []) ≡ d ∷ alone m b ∷ []
+  pub extended-far : (m b : ℕ) (d : Burst) → end_of d + cut ≤ m
+      → extended cut m b (d ∷ []) ≡ d ∷ alone m b ∷ []
   unfolding extended
   extended-far m b d far = cond-false _ _ _ (le-ltb m (end_of d + cut) far)
 
@@ -52,35 +60,43 @@ module _ (cut : ℕ) where
   unfolding extended
   extended-cons m b d e ds = refl
 
-  -- A byte before these bursts and a byte after them may be added in either order: the only burst stands far from the first byte,
+  -- A byte before these bursts and a byte after them may be added in either order: the only burst
+  -- stands far from the first byte,
   both-far : (n m a b : ℕ) (d : Burst) → suc n + cut ≤ d.start
-      → extended cut m b (with_byte cut n a (d ∷ [])) ≡ with_byte cut n a (extended cut m b (d ∷ []))
+      → extended cut m b (with_byte cut n a (d ∷ []))
+      ≡ with_byte cut n a (extended cut m b (d ∷ []))
   both-far n m a b d far =
       ap (λ x. extended cut m b x) (with_byte-far n a d [] far)
       ∙ (extended-cons m b (alone n a) d []
       ∙ ⊎_elim
       (λ near. ap (λ x. alone n a ∷ x) (extended-near m b d near)
-      ∙ sym (ap (λ x. with_byte cut n a x) (extended-near m b d near) ∙ with_byte-far n a (with_last d m b) [] far))
+      ∙ sym (ap (λ x. with_byte cut n a x) (extended-near m b d near)
+      ∙ with_byte-far n a (with_last d m b) [] far))
       (λ away. ap (λ x. alone n a ∷ x) (extended-far m b d away)
-      ∙ sym (ap (λ x. with_byte cut n a x) (extended-far m b d away) ∙ with_byte-far n a d (alone m b ∷ []) far))
+      ∙ sym (ap (λ x. with_byte cut n a x) (extended-far m b d away)
+      ∙ with_byte-far n a d (alone m b ∷ []) far))
       (cases_lt m (end_of d + cut)))
 
   end_of-with_first : (n a : ℕ) (d : Burst) → suc n ≤ d.start → end_of (with_first n a d) ≡ end_of d
   end_of-with_first n a d later =
       let body : length (silent (d.start - suc n) ++ d.body) ≡ d.start - suc n + length d.body =
-      length-append (silent (d.start - suc n)) d.body ∙ ap (λ k. k + length d.body) (length-replicate (d.start - suc n) Silent) in
+      length-append (silent (d.start - suc n)) d.body
+      ∙ ap (λ k. k + length d.body) (length-replicate (d.start - suc n) Silent) in
       omega arith
 
   with_last-with_first : (n m a b : ℕ) (d : Burst) → suc n ≤ d.start
       → with_last (with_first n a d) m b ≡ with_first n a (with_last d m b)
   with_last-with_first n m a b d later =
       ap (λ x. let u : Burst = record { start = n; body = Byte a ∷ x } in u)
-      (append_assoc (silent (d.start - suc n)) d.body (silent (m - end_of (with_first n a d)) ++ (Byte b ∷ []))
-      ∙ ap (λ k. silent (d.start - suc n) ++ (d.body ++ (silent (m - k) ++ (Byte b ∷ [])))) (end_of-with_first n a d later))
+      (append_assoc (silent (d.start - suc n)) d.body
+      (silent (m - end_of (with_first n a d)) ++ (Byte b ∷ []))
+      ∙ ap (λ k. silent (d.start - suc n) ++ (d.body ++ (silent (m - k) ++ (Byte b ∷ []))))
+      (end_of-with_first n a d later))
 
   -- or near it,
   both-near : (n m a b : ℕ) (d : Burst) → suc n ≤ d.start → d.start < suc n + cut
-      → extended cut m b (with_byte cut n a (d ∷ [])) ≡ with_byte cut n a (extended cut m b (d ∷ []))
+      → extended cut m b (with_byte cut n a (d ∷ []))
+      ≡ with_byte cut n a (extended cut m b (d ∷ []))
   both-near n m a b d later near =
       let end : end_of (with_first n a d) ≡ end_of d = end_of-with_first n a d later in
       ap (λ x. extended cut m b x) (with_byte-near n a d [] near)
@@ -88,10 +104,12 @@ module _ (cut : ℕ) where
       (λ soon. let soon' : m < end_of (with_first n a d) + cut = rw end soon in
       extended-near m b (with_first n a d) soon'
       ∙ (ap (λ x. x ∷ []) (with_last-with_first n m a b d later)
-      ∙ sym (ap (λ x. with_byte cut n a x) (extended-near m b d soon) ∙ with_byte-near n a (with_last d m b) [] near)))
+      ∙ sym (ap (λ x. with_byte cut n a x) (extended-near m b d soon)
+      ∙ with_byte-near n a (with_last d m b) [] near)))
       (λ away. let away' : end_of (with_first n a d) + cut ≤ m = rw end away in
       extended-far m b (with_first n a d) away'
-      ∙ sym (ap (λ x. with_byte cut n a x) (extended-far m b d away) ∙ with_byte-near n a d (alone m b ∷ []) near))
+      ∙ sym (ap (λ x. with_byte cut n a x) (extended-far m b d away)
+      ∙ with_byte-near n a d (alone m b ∷ []) near))
       (cases_lt m (end_of d + cut))
 
   -- or there is none,
@@ -105,9 +123,11 @@ module _ (cut : ℕ) where
       → extended cut m b (with_byte cut n a ds) ≡ with_byte cut n a (extended cut m b ds)
   extended-with_byte n m a b [] before starts = both-alone n m a b before
   extended-with_byte n m a b (d ∷ []) before starts =
-      ⊎_elim (λ near. both-near n m a b d starts near) (λ far. both-far n m a b d far) (cases_lt d.start (suc n + cut))
+      ⊎_elim (λ near. both-near n m a b d starts near) (λ far. both-far n m a b d far)
+      (cases_lt d.start (suc n + cut))
   extended-with_byte n m a b (d ∷ e ∷ ds) before starts =
-      let more : with_byte cut n a (extended cut m b (d ∷ e ∷ ds)) ≡ with_byte cut n a (d ∷ extended cut m b (e ∷ ds)) =
+      let more : with_byte cut n a (extended cut m b (d ∷ e ∷ ds))
+      ≡ with_byte cut n a (d ∷ extended cut m b (e ∷ ds)) =
       ap (λ x. with_byte cut n a x) (extended-cons m b d e ds) in
       ⊎_elim
       (λ near. ap (λ x. extended cut m b x) (with_byte-near n a d (e ∷ ds) near)
@@ -127,8 +147,10 @@ module _ (cut : ℕ) where
   with_byte-starts n b [] = with_byte-starts-nil n b
   with_byte-starts n b (d ∷ ds) =
       ⊎_elim
-      (λ near. let P : List Burst → Type 0 = λ x. StartsFrom n x in subst P (sym (with_byte-near n b d ds near)) (omega arith))
-      (λ far. let P : List Burst → Type 0 = λ x. StartsFrom n x in subst P (sym (with_byte-far n b d ds far)) (omega arith))
+      (λ near. let P : List Burst → Type 0 = λ x. StartsFrom n x in
+      subst P (sym (with_byte-near n b d ds near)) (omega arith))
+      (λ far. let P : List Burst → Type 0 = λ x. StartsFrom n x in
+      subst P (sym (with_byte-far n b d ds far)) (omega arith))
       (cases_lt d.start (suc n + cut))
 
   StartsFrom-weaker : (n m : ℕ) (ds : List Burst) → n ≤ m → StartsFrom m ds → StartsFrom n ds
@@ -138,7 +160,8 @@ module _ (cut : ℕ) where
   pub bursts_from-starts : (n : ℕ) (l : List Tick) → StartsFrom n (bursts_from cut n l)
   unfolding bursts_from
   bursts_from-starts n [] = tt
-  bursts_from-starts n (Silent ∷ l) = StartsFrom-weaker n (suc n) (bursts_from cut (suc n) l) (omega arith) (bursts_from-starts (suc n) l)
+  bursts_from-starts n (Silent ∷ l) = StartsFrom-weaker n (suc n) (bursts_from cut (suc n) l)
+      (omega arith) (bursts_from-starts (suc n) l)
   bursts_from-starts n (Byte b ∷ l) = with_byte-starts n b (bursts_from cut (suc n) l)
 
   -- One more byte is the next byte of the last burst, or a burst of its own.
@@ -146,21 +169,25 @@ module _ (cut : ℕ) where
       → bursts_from cut n (l ++ Byte b ∷ []) ≡ extended cut m b (bursts_from cut n l)
   unfolding bursts_from with_byte extended
   bursts_from-byte n m b [] here = let e : n ≡ m = omega arith in ap (λ k. alone k b ∷ []) e
-  bursts_from-byte n m b (Silent ∷ l) here = let e : suc n + length l ≡ m = omega arith in bursts_from-byte (suc n) m b l e
+  bursts_from-byte n m b (Silent ∷ l) here = let e : suc n + length l ≡ m = omega arith in
+      bursts_from-byte (suc n) m b l e
   bursts_from-byte n m b (Byte a ∷ l) here =
       let e : suc n + length l ≡ m = omega arith in
       let before : n < m = omega arith in
       ap (λ x. with_byte cut n a x) (bursts_from-byte (suc n) m b l e)
-      ∙ sym (extended-with_byte n m a b (bursts_from cut (suc n) l) before (bursts_from-starts (suc n) l))
+      ∙ sym (extended-with_byte n m a b (bursts_from cut (suc n) l) before
+      (bursts_from-starts (suc n) l))
 
   -- Silence at the end changes nothing.
-  pub bursts_from-silent : (n : ℕ) (l : List Tick) → bursts_from cut n (l ++ Silent ∷ []) ≡ bursts_from cut n l
+  pub bursts_from-silent : (n : ℕ) (l : List Tick)
+      → bursts_from cut n (l ++ Silent ∷ []) ≡ bursts_from cut n l
   unfolding bursts_from
   bursts_from-silent n [] = refl
   bursts_from-silent n (Silent ∷ l) = bursts_from-silent (suc n) l
   bursts_from-silent n (Byte a ∷ l) = ap (λ x. with_byte cut n a x) (bursts_from-silent (suc n) l)
 
-  pub bursts_from-silent_end : (n k : ℕ) (l : List Tick) → bursts_from cut n (l ++ silent k) ≡ bursts_from cut n l
+  pub bursts_from-silent_end : (n k : ℕ) (l : List Tick)
+      → bursts_from cut n (l ++ silent k) ≡ bursts_from cut n l
   bursts_from-silent_end n zero l = ap (λ x. bursts_from cut n x) (append-nil l)
   bursts_from-silent_end n (suc k) l =
       ap (λ x. bursts_from cut n x) (sym (append_assoc l (Silent ∷ []) (silent k)))
@@ -171,7 +198,8 @@ module _ (cut : ℕ) where
   extended-nil m b = refl
 
   -- after bursts that are all closed a byte is a burst of its own
-  pub extended-closed : (m b : ℕ) (ds : List Burst) → AreClosed cut m ds → extended cut m b ds ≡ ds ++ alone m b ∷ []
+  pub extended-closed : (m b : ℕ) (ds : List Burst) → AreClosed cut m ds
+      → extended cut m b ds ≡ ds ++ alone m b ∷ []
   extended-closed m b [] closed = extended-nil m b
   extended-closed m b (d ∷ []) closed = extended-far m b d closed.0
   extended-closed m b (d ∷ e ∷ ds) closed =
@@ -181,15 +209,20 @@ module _ (cut : ℕ) where
   pub extended-joins : (m b : ℕ) (front : List Burst) (d : Burst) → m < end_of d + cut
       → extended cut m b (front ++ d ∷ []) ≡ front ++ with_last d m b ∷ []
   extended-joins m b [] d near = extended-near m b d near
-  extended-joins m b (x ∷ []) d near = extended-cons m b x d [] ∙ ap (λ y. x ∷ y) (extended-near m b d near)
+  extended-joins m b (x ∷ []) d near = extended-cons m b x d []
+      ∙ ap (λ y. x ∷ y) (extended-near m b d near)
   extended-joins m b (x ∷ e ∷ front) d near =
-      extended-cons m b x e (front ++ d ∷ []) ∙ ap (λ y. x ∷ y) (extended-joins m b (e ∷ front) d near)
+      extended-cons m b x e (front ++ d ∷ [])
+      ∙ ap (λ y. x ∷ y) (extended-joins m b (e ∷ front) d near)
 
 -- bursts that are closed stay so
-pub AreClosed-later : (cut m n : ℕ) (ds : List Burst) → m ≤ n → AreClosed cut m ds → AreClosed cut n ds
+pub AreClosed-later : (cut m n : ℕ) (ds : List Burst) → m ≤ n → AreClosed cut m ds
+    → AreClosed cut n ds
 AreClosed-later cut m n [] le closed = tt
-AreClosed-later cut m n (d ∷ ds) le closed = (omega (arith, closed.0), AreClosed-later cut m n ds le closed.1)
+AreClosed-later cut m n (d ∷ ds) le closed =
+    (omega (arith, closed.0), AreClosed-later cut m n ds le closed.1)
 
-pub AreClosed-more : (cut m : ℕ) (ds : List Burst) (d : Burst) → AreClosed cut m ds → end_of d + cut ≤ m → AreClosed cut m (ds ++ d ∷ [])
+pub AreClosed-more : (cut m : ℕ) (ds : List Burst) (d : Burst) → AreClosed cut m ds
+    → end_of d + cut ≤ m → AreClosed cut m (ds ++ d ∷ [])
 AreClosed-more cut m [] d closed last = (last, tt)
 AreClosed-more cut m (e ∷ ds) d closed last = (closed.0, AreClosed-more cut m ds d closed.1 last)

@@ -1,25 +1,33 @@
 -- The canonical text of ticks stands for them, and for nothing else.
-use Rattle.std.proofs.Common.{◌≡◌, ◌≢◌, ◌∙◌, ◌==◌, ℕ, zero, suc, ◌+◌, ◌*◌, ◌/◌, ◌%◌, ◌^◌, ◌<◌, ◌≤◌, Bool, true, false, cond, List, [], ◌∷◌, ◌++◌, length, map, take, drop, replicate, Some, get_or, refl, sym, ap, subst, arith, append_assoc, Ok, not, ◌⊎◌, inl, inr}
+use Rattle.std.proofs.Common.{◌≡◌, ◌≢◌, ◌∙◌, ◌==◌, ℕ, zero, suc, ◌+◌, ◌*◌, ◌/◌, ◌%◌, ◌^◌, ◌<◌, ◌≤◌}
+use Rattle.std.proofs.Common.{Bool, true, false, cond, List, [], ◌∷◌, ◌++◌, length, map, take, drop}
+use Rattle.std.proofs.Common.{replicate, Some, get_or, refl, sym, ap, subst, arith, append_assoc}
+use Rattle.std.proofs.Common.{Ok, not, ◌⊎◌, inl, inr}
 use Rattle.std.specs.List.{flat_map, range_with_len, list_all, All}
 use Rattle.std.specs.Fmt.{decimal}
 use Rattle.std.proofs.Math.Seq.{take-add}
 use Rattle.std.proofs.lemmas.Bool.{and_parts, both_ways, cases_lt}
 use Rattle.std.proofs.lemmas.Fmt.{decimal_by_steps}
-use Rattle.std.proofs.lemmas.List.{append-nil, map-append, length-take, get_or_past, take_all, drop-drop, length-drop, replicate-append-replicate}
+use Rattle.std.proofs.lemmas.List.{append-nil, map-append, length-take, get_or_past, take_all}
+use Rattle.std.proofs.lemmas.List.{drop-drop, length-drop, replicate-append-replicate}
 use Rattle.std.proofs.lemmas.List.Elements.{All-nil, All-cons, All-take, All-drop, All-get_or}
 use Rattle.hex.specs.Hex.{encode_lower, decode_of, is_hex_digit, IsBytes}
 use Rattle.hex.proofs.HexLemmas.{decode_of-encode_lower}
 use Rattle.yasir_ticks.specs.Ticks.{Item, IsTick, AreTicks, marks_in}
 use Rattle.yasir_ticks.specs.Ticks.Item.{tick}
-use Rattle.yasir_ticks.specs.TickText.{lines_of, line_items, all_items, is_decimal_digit, is_plain_decimal, number_after, ends_in_return, content_items, IsTickText}
-use Rattle.yasir_ticks.specs.CanonicalText.{Stretch, stretches, with_tick, stretch_lines, byte_line, silence_line, canonical_text}
+use Rattle.yasir_ticks.specs.TickText.{lines_of, line_items, all_items, is_decimal_digit}
+use Rattle.yasir_ticks.specs.TickText.{is_plain_decimal, number_after, ends_in_return}
+use Rattle.yasir_ticks.specs.TickText.{content_items, IsTickText}
+use Rattle.yasir_ticks.specs.CanonicalText.{Stretch, stretches, with_tick, stretch_lines, byte_line}
+use Rattle.yasir_ticks.specs.CanonicalText.{silence_line, canonical_text}
 use Rattle.yasir_ticks.specs.CanonicalText.Stretch.{bytes, silence}
 use Rattle.yasir_ticks.specs.declared.tick.Tick.{Tick}
 use Rattle.yasir_ticks.specs.declared.tick.Tick.TheVariants.{Silent, Byte}
 use Rattle.yasir_ticks.proofs.Lines.{all_lines, joined, all_lines-lf, all_lines-byte}
 use Rattle.yasir_ticks.proofs.Items.{all_items_cons}
 use Rattle.yasir_ticks.proofs.Contents.{test_of, line_items-plain, without_return-same}
-use Rattle.yasir_ticks.proofs.Digits.{hex_digits, byte_items-right, silence_items-right, is_plain_decimal-more, number_after-append}
+use Rattle.yasir_ticks.proofs.Digits.{hex_digits, byte_items-right, silence_items-right}
+use Rattle.yasir_ticks.proofs.Digits.{is_plain_decimal-more, number_after-append}
 
 -- ---- one line
 
@@ -28,14 +36,16 @@ module _ (test : ℕ → Bool) where
   other b c fails passes e = both_ways (test c) (ap test e ∙ fails) passes
 
   -- content before an LF is the first line
-  first_line : test 10 ≡ false → (x more : List ℕ) → list_all test x ≡ true → all_lines (x ++ 10 ∷ more) ≡ x ∷ all_lines more
+  first_line : test 10 ≡ false → (x more : List ℕ) → list_all test x ≡ true
+      → all_lines (x ++ 10 ∷ more) ≡ x ∷ all_lines more
   first_line fails [] more h = all_lines-lf more
   first_line fails (c ∷ x) more h =
       let parts = and_parts (test c) (list_all test x) h in
       all_lines-byte c (x ++ 10 ∷ more) (other 10 c fails parts.0)
       ∙ ap (λ ls. joined (c ∷ []) ls) (first_line fails x more parts.1)
 
-  no_return : test 13 ≡ false → (c : ℕ) (x : List ℕ) → (c == 13) ≡ false → list_all test x ≡ true → ends_in_return (c ∷ x) ≡ false
+  no_return : test 13 ≡ false → (c : ℕ) (x : List ℕ) → (c == 13) ≡ false → list_all test x ≡ true
+      → ends_in_return (c ∷ x) ≡ false
   no_return fails c [] h all = h
   no_return fails c (d ∷ x) h all =
       let parts = and_parts (test d) (list_all test x) all in
@@ -43,7 +53,8 @@ module _ (test : ℕ → Bool) where
 
 -- the text of these lines, whatever lines follow
 abbrev Adds : List ℕ → List Item → Type 0
-Adds text items = (more : List ℕ) (others : List Item) → all_items (all_lines more) ≡ Some others → all_items (all_lines (text ++ more)) ≡ Some (items ++ others)
+Adds text items = (more : List ℕ) (others : List Item) → all_items (all_lines more) ≡ Some others
+    → all_items (all_lines (text ++ more)) ≡ Some (items ++ others)
 
 adds-nil : Adds [] []
 adds-nil more others h = h
@@ -51,17 +62,21 @@ adds-nil more others h = h
 adds-append : (x y : List ℕ) (i j : List Item) → Adds x i → Adds y j → Adds (x ++ y) (i ++ j)
 adds-append x y i j first second more others h =
     ap (λ t. all_items (all_lines t)) (append_assoc x y more)
-    ∙ (first (y ++ more) (j ++ others) (second more others h) ∙ ap Some (sym (append_assoc i j others)))
+    ∙ (first (y ++ more) (j ++ others) (second more others h)
+    ∙ ap Some (sym (append_assoc i j others)))
 
 adds-as : (x y : List ℕ) (i j : List Item) → x ≡ y → i ≡ j → Adds x i → Adds y j
 adds-as x y i j e f adds more others h =
-    ap (λ t. all_items (all_lines (t ++ more))) (sym e) ∙ (adds more others h ∙ ap (λ items. Some (items ++ others)) f)
+    ap (λ t. all_items (all_lines (t ++ more))) (sym e)
+    ∙ (adds more others h ∙ ap (λ items. Some (items ++ others)) f)
 
-adds-line : (test : ℕ → Bool) (sign : ℕ) (content : List ℕ) (items : List Item) → test 10 ≡ false → sign ≢ 10 → list_all test content ≡ true
+adds-line : (test : ℕ → Bool) (sign : ℕ) (content : List ℕ) (items : List Item) → test 10 ≡ false
+    → sign ≢ 10 → list_all test content ≡ true
     → line_items (sign ∷ content) ≡ Some items → Adds (sign ∷ (content ++ 10 ∷ [])) items
 adds-line test sign content items fails other_sign all stands more others h =
     ap (λ t. all_items (all_lines (sign ∷ t))) (append_assoc content (10 ∷ []) more)
-    ∙ (ap all_items (all_lines-byte sign (content ++ 10 ∷ more) other_sign ∙ ap (λ ls. joined (sign ∷ []) ls) (first_line test fails content more all))
+    ∙ (ap all_items (all_lines-byte sign (content ++ 10 ∷ more) other_sign
+    ∙ ap (λ ls. joined (sign ∷ []) ls) (first_line test fails content more all))
     ∙ all_items_cons (sign ∷ content) (all_lines more) items others stands h)
 
 -- ---- bytes
@@ -84,37 +99,51 @@ bytes_from (b ∷ l) all i = at_index i (within (length (b ∷ l)) i)
     at_index i (inl h) = All-get_or (λ x. x < 256) (b ∷ l) i 0 h all
     at_index i (inr h) = rw (get_or_past (b ∷ l) i 0 h) (omega arith)
 
-adds-bytes : (l : List ℕ) → All (λ b. b < 256) l → 1 ≤ length l → length l ≤ 32 → Adds (byte_line l) (byte_ticks l)
+adds-bytes : (l : List ℕ) → All (λ b. b < 256) l → 1 ≤ length l → length l ≤ 32
+    → Adds (byte_line l) (byte_ticks l)
 adds-bytes l all some few =
     let decoded : decode_of (encode_lower l) ≡ Ok l = decode_of-encode_lower l (bytes_from l all) in
-    let digits : list_all is_hex_digit (encode_lower l) ≡ true = hex_digits (encode_lower l) l decoded in
+    let digits : list_all is_hex_digit (encode_lower l) ≡ true =
+    hex_digits (encode_lower l) l decoded in
     let stands : line_items (43 ∷ encode_lower l) ≡ Some (byte_ticks l) =
     line_items-plain (43 ∷ encode_lower l) refl
-    ∙ (ap content_items (without_return-same (43 ∷ encode_lower l) (no_return is_hex_digit refl 43 (encode_lower l) refl digits))
+    ∙ (ap content_items (without_return-same (43 ∷ encode_lower l)
+    (no_return is_hex_digit refl 43 (encode_lower l) refl digits))
     ∙ byte_items-right (encode_lower l) l decoded some few) in
-    adds-line is_hex_digit 43 (encode_lower l) (byte_ticks l) refl (λ e. absurd (omega arith)) digits stands
+    adds-line is_hex_digit 43 (encode_lower l) (byte_ticks l) refl (λ e. absurd (omega arith))
+    digits stands
 
 -- so many lines of bytes, from one of them on
 adds-lines : (l : List ℕ) (a n : ℕ) → All (λ b. b < 256) l → 32 * (a + n) ≤ length l + 31
-    → Adds (flat_map (λ i. byte_line (take 32 (drop (32 * i) l))) (range_with_len a n)) (byte_ticks (take (32 * n) (drop (32 * a) l)))
+    → Adds (flat_map (λ i. byte_line (take 32 (drop (32 * i) l))) (range_with_len a n))
+    (byte_ticks (take (32 * n) (drop (32 * a) l)))
 adds-lines l a zero all enough = let e : 32 * 0 ≡ 0 = omega arith in
-    adds-as [] [] [] (byte_ticks (take (32 * 0) (drop (32 * a) l))) refl (ap (λ k. byte_ticks (take k (drop (32 * a) l))) (sym e)) adds-nil
+    adds-as [] [] [] (byte_ticks (take (32 * 0) (drop (32 * a) l))) refl
+    (ap (λ k. byte_ticks (take k (drop (32 * a) l))) (sym e)) adds-nil
 adds-lines l a (suc n) all enough =
-    let here : 1 ≤ length (take 32 (drop (32 * a) l)) = simp (length-take, length-drop) (omega arith) in
+    let here : 1 ≤ length (take 32 (drop (32 * a) l)) =
+    simp (length-take, length-drop) (omega arith) in
     let few : length (take 32 (drop (32 * a) l)) ≤ 32 = simp length-take (omega arith) in
-    let bytes_here : All (λ b. b < 256) (take 32 (drop (32 * a) l)) = All-take (λ b. b < 256) 32 (drop (32 * a) l) (All-drop (λ b. b < 256) (32 * a) l all) in
+    let bytes_here : All (λ b. b < 256) (take 32 (drop (32 * a) l)) =
+    All-take (λ b. b < 256) 32 (drop (32 * a) l) (All-drop (λ b. b < 256) (32 * a) l all) in
     let enough' : 32 * (a + 1 + n) ≤ length l + 31 = omega arith in
     let step : 32 * suc n ≡ 32 + 32 * n = omega arith in
     let next : 32 * a + 32 ≡ 32 * (a + 1) = omega arith in
-    let items : byte_ticks (take 32 (drop (32 * a) l)) ++ byte_ticks (take (32 * n) (drop (32 * (a + 1)) l)) ≡ byte_ticks (take (32 * suc n) (drop (32 * a) l)) =
+    let items : byte_ticks (take 32 (drop (32 * a) l))
+    ++ byte_ticks (take (32 * n) (drop (32 * (a + 1)) l))
+    ≡ byte_ticks (take (32 * suc n) (drop (32 * a) l)) =
     sym (ap (λ k. byte_ticks (take k (drop (32 * a) l))) step
     ∙ (ap byte_ticks (take-add 32 (32 * n) (drop (32 * a) l))
-    ∙ (map-append (λ b. tick (Byte b)) (take 32 (drop (32 * a) l)) (take (32 * n) (drop 32 (drop (32 * a) l)))
-    ∙ ap (λ x. byte_ticks (take 32 (drop (32 * a) l)) ++ byte_ticks (take (32 * n) x)) (drop-drop 32 (32 * a) l ∙ ap (λ k. drop k l) next)))) in
+    ∙ (map-append (λ b. tick (Byte b)) (take 32 (drop (32 * a) l))
+    (take (32 * n) (drop 32 (drop (32 * a) l)))
+    ∙ ap (λ x. byte_ticks (take 32 (drop (32 * a) l)) ++ byte_ticks (take (32 * n) x))
+    (drop-drop 32 (32 * a) l ∙ ap (λ k. drop k l) next)))) in
     let first : List ℕ = byte_line (take 32 (drop (32 * a) l)) in
-    let others : List ℕ = flat_map (λ i. byte_line (take 32 (drop (32 * i) l))) (range_with_len (a + 1) n) in
+    let others : List ℕ = flat_map (λ i. byte_line (take 32 (drop (32 * i) l)))
+    (range_with_len (a + 1) n) in
     adds-as (first ++ others) (first ++ others) _ _ refl items
-    (adds-append first others (byte_ticks (take 32 (drop (32 * a) l))) (byte_ticks (take (32 * n) (drop (32 * (a + 1)) l)))
+    (adds-append first others (byte_ticks (take 32 (drop (32 * a) l)))
+    (byte_ticks (take (32 * n) (drop (32 * (a + 1)) l)))
     (adds-bytes (take 32 (drop (32 * a) l)) bytes_here here few)
     (adds-lines l (a + 1) n all enough'))
 
@@ -137,7 +166,8 @@ counts n some fits = decimal_by_steps (λ n digits. 0 < n → IsCount n digits) 
     digit : (n : ℕ) → is_decimal_digit (48 + n % 10) ≡ true
     digit n = grind arith
 
-    more : (n : ℕ) (digits : List ℕ) → 10 ≤ n → (0 < n / 10 → IsCount (n / 10) digits) → 0 < n → IsCount n (digits ++ (48 + n % 10) ∷ [])
+    more : (n : ℕ) (digits : List ℕ) → 10 ≤ n → (0 < n / 10 → IsCount (n / 10) digits) → 0 < n
+        → IsCount n (digits ++ (48 + n % 10) ∷ [])
     more n digits big before some =
         let rest = before (omega arith) in
         let number : number_after 0 digits ≡ n / 10 = rest.number in
@@ -154,29 +184,40 @@ adds-silence : (n : ℕ) → 0 < n → n ≤ 1000000 → Adds (silence_line n) (
 adds-silence n some few =
     let fits : n < 2 ^ 64 = omega arith in
     let count : IsCount n (decimal n) = counts n some fits in
-    let digits : list_all is_decimal_digit (decimal n) ≡ true = digits_of_count (decimal n) count.plain in
+    let digits : list_all is_decimal_digit (decimal n) ≡ true =
+    digits_of_count (decimal n) count.plain in
     let stands : line_items (45 ∷ decimal n) ≡ Some (replicate n (tick Silent)) =
     line_items-plain (45 ∷ decimal n) refl
-    ∙ (ap content_items (without_return-same (45 ∷ decimal n) (no_return is_decimal_digit refl 45 (decimal n) refl digits))
+    ∙ (ap content_items (without_return-same (45 ∷ decimal n)
+    (no_return is_decimal_digit refl 45 (decimal n) refl digits))
     ∙ silence_items-right (decimal n) n count.plain count.number few) in
-    adds-line is_decimal_digit 45 (decimal n) (replicate n (tick Silent)) refl (λ e. absurd (omega arith)) digits stands
+    adds-line is_decimal_digit 45 (decimal n) (replicate n (tick Silent)) refl
+    (λ e. absurd (omega arith)) digits stands
 
 -- full lines, of a size that one line may have, and then what is left
-adds-full : (size full : ℕ) → 0 < size → size ≤ 1000000 → Adds (flat_map silence_line (replicate full size)) (replicate (size * full) (tick Silent))
+adds-full : (size full : ℕ) → 0 < size → size ≤ 1000000
+    → Adds (flat_map silence_line (replicate full size)) (replicate (size * full) (tick Silent))
 adds-full size zero some few = let e : size * 0 ≡ 0 = omega arith in
-    adds-as [] [] [] (replicate (size * 0) (tick Silent)) refl (ap (λ k. replicate k (tick Silent)) (sym e)) adds-nil
+    adds-as [] [] [] (replicate (size * 0) (tick Silent)) refl
+    (ap (λ k. replicate k (tick Silent)) (sym e)) adds-nil
 adds-full size (suc full) some few =
     let e : size + size * full ≡ size * suc full = omega arith in
-    adds-as (silence_line size ++ flat_map silence_line (replicate full size)) (silence_line size ++ flat_map silence_line (replicate full size)) _ _ refl
-    (replicate-append-replicate size (size * full) (tick Silent) ∙ ap (λ k. replicate k (tick Silent)) e)
-    (adds-append (silence_line size) (flat_map silence_line (replicate full size)) (replicate size (tick Silent)) (replicate (size * full) (tick Silent))
+    adds-as (silence_line size ++ flat_map silence_line (replicate full size))
+    (silence_line size ++ flat_map silence_line (replicate full size)) _ _ refl
+    (replicate-append-replicate size (size * full) (tick Silent)
+    ∙ ap (λ k. replicate k (tick Silent)) e)
+    (adds-append (silence_line size) (flat_map silence_line (replicate full size))
+    (replicate size (tick Silent)) (replicate (size * full) (tick Silent))
     (adds-silence size some few) (adds-full size full some few))
 
-adds-left : (left : ℕ) → left ≤ 1000000 → Adds (cond (left == 0) [] (silence_line left)) (replicate left (tick Silent))
+adds-left : (left : ℕ) → left ≤ 1000000
+    → Adds (cond (left == 0) [] (silence_line left)) (replicate left (tick Silent))
 adds-left zero few = adds-nil
 adds-left (suc left) few =
     let e : (suc left == 0) ≡ false = test_of (suc left) 0 (λ e. absurd (omega arith)) in
-    adds-as (silence_line (suc left)) (cond (suc left == 0) [] (silence_line (suc left))) (replicate (suc left) (tick Silent)) (replicate (suc left) (tick Silent)) (sym (rw e refl)) refl (adds-silence (suc left) (omega arith) few)
+    adds-as (silence_line (suc left)) (cond (suc left == 0) [] (silence_line (suc left)))
+    (replicate (suc left) (tick Silent)) (replicate (suc left) (tick Silent)) (sym (rw e refl))
+    refl (adds-silence (suc left) (omega arith) few)
 
 -- ---- stretches
 
@@ -195,36 +236,54 @@ AreRight (s ∷ more) = IsRight s × AreRight more
 adds-stretch : (s : Stretch) → IsRight s → Adds (stretch_lines s) (items_of_stretch s)
 adds-stretch (bytes l) right =
     let enough : 32 * (0 + (length l + 31) / 32) ≤ length l + 31 = omega arith in
-    let all : length (drop (32 * 0) l) ≤ 32 * ((length l + 31) / 32) = simp length-drop (omega arith) in
+    let all : length (drop (32 * 0) l) ≤ 32 * ((length l + 31) / 32) =
+    simp length-drop (omega arith) in
     let e : 32 * 0 ≡ 0 = omega arith in
-    adds-as (stretch_lines (bytes l)) (stretch_lines (bytes l)) (byte_ticks (take (32 * ((length l + 31) / 32)) (drop (32 * 0) l))) (byte_ticks l) refl (ap byte_ticks (take_all (32 * ((length l + 31) / 32)) (drop (32 * 0) l) all ∙ ap (λ k. drop k l) e))
+    adds-as (stretch_lines (bytes l)) (stretch_lines (bytes l))
+    (byte_ticks (take (32 * ((length l + 31) / 32)) (drop (32 * 0) l))) (byte_ticks l) refl
+    (ap byte_ticks (take_all (32 * ((length l + 31) / 32)) (drop (32 * 0) l) all
+    ∙ ap (λ k. drop k l) e))
     (adds-lines l 0 ((length l + 31) / 32) right enough)
 adds-stretch (silence n) right =
     let left : n % 1000000 ≤ 1000000 = omega arith in
     let e : 1000000 * (n / 1000000) + n % 1000000 ≡ n = omega arith in
     adds-as (stretch_lines (silence n)) (stretch_lines (silence n))
-    (replicate (1000000 * (n / 1000000)) (tick Silent) ++ replicate (n % 1000000) (tick Silent)) (replicate n (tick Silent)) refl
-    (replicate-append-replicate (1000000 * (n / 1000000)) (n % 1000000) (tick Silent) ∙ ap (λ k. replicate k (tick Silent)) e)
-    (adds-append (flat_map silence_line (replicate (n / 1000000) 1000000)) (cond (n % 1000000 == 0) [] (silence_line (n % 1000000)))
-    (replicate (1000000 * (n / 1000000)) (tick Silent)) (replicate (n % 1000000) (tick Silent)) (adds-full 1000000 (n / 1000000) (omega arith) (omega arith)) (adds-left (n % 1000000) left))
+    (replicate (1000000 * (n / 1000000)) (tick Silent) ++ replicate (n % 1000000) (tick Silent))
+    (replicate n (tick Silent)) refl
+    (replicate-append-replicate (1000000 * (n / 1000000)) (n % 1000000) (tick Silent)
+    ∙ ap (λ k. replicate k (tick Silent)) e)
+    (adds-append (flat_map silence_line (replicate (n / 1000000) 1000000))
+    (cond (n % 1000000 == 0) [] (silence_line (n % 1000000)))
+    (replicate (1000000 * (n / 1000000)) (tick Silent)) (replicate (n % 1000000) (tick Silent))
+    (adds-full 1000000 (n / 1000000) (omega arith) (omega arith))
+    (adds-left (n % 1000000) left))
 
-adds-stretches : (parts : List Stretch) → AreRight parts → Adds (flat_map stretch_lines parts) (flat_map items_of_stretch parts)
+adds-stretches : (parts : List Stretch) → AreRight parts
+    → Adds (flat_map stretch_lines parts) (flat_map items_of_stretch parts)
 adds-stretches [] right = adds-nil
-adds-stretches (s ∷ parts) right = adds-append (stretch_lines s) (flat_map stretch_lines parts) (items_of_stretch s) (flat_map items_of_stretch parts) (adds-stretch s right.0) (adds-stretches parts right.1)
+adds-stretches (s ∷ parts) right = adds-append (stretch_lines s) (flat_map stretch_lines parts)
+    (items_of_stretch s) (flat_map items_of_stretch parts) (adds-stretch s right.0)
+    (adds-stretches parts right.1)
 
-with_tick-right : (t : Tick) (parts : List Stretch) → IsTick t → AreRight parts → AreRight (with_tick t parts)
-with_tick-right (Byte b) [] fits right = (All-cons (λ x. x < 256) b [] fits (All-nil (λ x. x < 256)), tt)
-with_tick-right (Byte b) (bytes l ∷ more) fits right = (All-cons (λ x. x < 256) b l fits right.0, right.1)
-with_tick-right (Byte b) (silence n ∷ more) fits right = (All-cons (λ x. x < 256) b [] fits (All-nil (λ x. x < 256)), right)
+with_tick-right : (t : Tick) (parts : List Stretch) → IsTick t → AreRight parts
+    → AreRight (with_tick t parts)
+with_tick-right (Byte b) [] fits right =
+    (All-cons (λ x. x < 256) b [] fits (All-nil (λ x. x < 256)), tt)
+with_tick-right (Byte b) (bytes l ∷ more) fits right =
+    (All-cons (λ x. x < 256) b l fits right.0, right.1)
+with_tick-right (Byte b) (silence n ∷ more) fits right =
+    (All-cons (λ x. x < 256) b [] fits (All-nil (λ x. x < 256)), right)
 with_tick-right Silent [] fits right = (tt, tt)
 with_tick-right Silent (bytes l ∷ more) fits right = (tt, right)
 with_tick-right Silent (silence n ∷ more) fits right = (tt, right.1)
 
 stretches-right : (ticks : List Tick) → AreTicks ticks → AreRight (stretches ticks)
 stretches-right [] are = tt
-stretches-right (t ∷ ticks) are = with_tick-right t (stretches ticks) are.0 (stretches-right ticks are.1)
+stretches-right (t ∷ ticks) are = with_tick-right t (stretches ticks) are.0
+    (stretches-right ticks are.1)
 
-with_tick-items : (t : Tick) (parts : List Stretch) → flat_map items_of_stretch (with_tick t parts) ≡ tick t ∷ flat_map items_of_stretch parts
+with_tick-items : (t : Tick) (parts : List Stretch)
+    → flat_map items_of_stretch (with_tick t parts) ≡ tick t ∷ flat_map items_of_stretch parts
 with_tick-items (Byte b) [] = refl
 with_tick-items (Byte b) (bytes l ∷ more) = refl
 with_tick-items (Byte b) (silence n ∷ more) = refl
@@ -234,7 +293,8 @@ with_tick-items Silent (silence n ∷ more) = refl
 
 stretches-items : (ticks : List Tick) → flat_map items_of_stretch (stretches ticks) ≡ map tick ticks
 stretches-items [] = refl
-stretches-items (t ∷ ticks) = with_tick-items t (stretches ticks) ∙ ap (λ l. tick t ∷ l) (stretches-items ticks)
+stretches-items (t ∷ ticks) = with_tick-items t (stretches ticks)
+    ∙ ap (λ l. tick t ∷ l) (stretches-items ticks)
 
 marks_in-ticks : (ticks : List Tick) → marks_in (map tick ticks) ≡ 0
 marks_in-ticks [] = refl
@@ -245,7 +305,8 @@ unfolding lines_of line_items
 no_line = refl
 
 -- The canonical text stands for its ticks,
-pub canonical_text-stands : (ticks : List Tick) → AreTicks ticks → IsTickText 0 (canonical_text ticks) (map tick ticks)
+pub canonical_text-stands : (ticks : List Tick) → AreTicks ticks
+    → IsTickText 0 (canonical_text ticks) (map tick ticks)
 canonical_text-stands ticks are = record {
   lines = ap (λ t. all_items (all_lines t)) (sym (append-nil (canonical_text ticks)))
       ∙ (adds-stretches (stretches ticks) (stretches-right ticks are) [] [] no_line
@@ -263,14 +324,18 @@ map_tick-same (t ∷ a) (u ∷ b) h =
     rw (first, map_tick-same a b others) refl
 
 -- and two lists with the same text are equal.
-pub canonical_text-same : (a b : List Tick) → AreTicks a → AreTicks b → canonical_text a ≡ canonical_text b → a ≡ b
+pub canonical_text-same : (a b : List Tick) → AreTicks a → AreTicks b
+    → canonical_text a ≡ canonical_text b → a ≡ b
 canonical_text-same a b are bre same =
     let text_a = canonical_text-stands a are in
     let text_b = canonical_text-stands b bre in
-    let items : Some (map tick a) ≡ Some (map tick b) = sym text_a.lines ∙ (ap (λ t. all_items (all_lines t)) same ∙ text_b.lines) in
+    let items : Some (map tick a) ≡ Some (map tick b) =
+    sym text_a.lines ∙ (ap (λ t. all_items (all_lines t)) same ∙ text_b.lines) in
     let one : map tick a ≡ map tick b = cc in
     map_tick-same a b one
 
 -- So a text that is the canonical one stands for the ticks.
-pub whole_text : (ticks : List Tick) (text : List ℕ) → text ≡ canonical_text ticks → AreTicks ticks → IsTickText 0 text (map tick ticks)
-whole_text ticks text is are = let P : List ℕ → Type 0 = λ t. IsTickText 0 t (map tick ticks) in subst P (sym is) (canonical_text-stands ticks are)
+pub whole_text : (ticks : List Tick) (text : List ℕ) → text ≡ canonical_text ticks → AreTicks ticks
+    → IsTickText 0 text (map tick ticks)
+whole_text ticks text is are = let P : List ℕ → Type 0 = λ t. IsTickText 0 t (map tick ticks) in
+    subst P (sym is) (canonical_text-stands ticks are)

@@ -1,5 +1,6 @@
 -- How a text goes on that no byte of is refused.
-use Rattle.std.proofs.Common.{◌≡◌, ◌∙◌, ℕ, ◌+◌, ◌*◌, ◌<◌, List, [], ◌∷◌, ◌++◌, length, replicate, Some, refl, ap, sym, arith, append_assoc, append-nil}
+use Rattle.std.proofs.Common.{◌≡◌, ◌∙◌, ℕ, ◌+◌, ◌*◌, ◌<◌, List, [], ◌∷◌, ◌++◌, length, replicate}
+use Rattle.std.proofs.Common.{Some, refl, ap, sym, arith, append_assoc, append-nil}
 use Rattle.yasir_ticks.specs.Ticks.{Item, items_of_run, marks_in}
 use Rattle.yasir_ticks.specs.TickText.{lines_of, line_items, all_items, ended_items, BeginsTickText}
 use Rattle.yasir_ticks.specs.Reader.{Reads, items_of_content, IsAt}
@@ -9,12 +10,17 @@ use Rattle.yasir_ticks.specs.declared.run.Run.TheVariants.{Nothing, Bytes, Silen
 use Rattle.yasir_ticks.specs.declared.place.Content.{Content}
 use Rattle.yasir_ticks.specs.declared.place.Content.TheVariants.{NoTick, KeptBytes, SilentTicks}
 use Rattle.yasir_ticks.specs.declared.place.Place.{Place}
-use Rattle.yasir_ticks.specs.declared.place.Place.TheVariants.{Start, Comment, Pairs, HalfPair, Minus, Number, Returned, Refused}
-use Rattle.yasir_ticks.proofs.Lines.{all_lines, joined, all_lines-append, mark_lines, all_lines-marks}
-use Rattle.yasir_ticks.proofs.Items.{marks_in-append, marks_in-bytes, marks_in-silent, all_items_both, all_items_cons, all_items-marks}
-use Rattle.yasir_ticks.proofs.Steps.{closes_start, closes_comment, closes_pairs, closes_number, closes_returned, accepts_high, accepts_low}
+use Rattle.yasir_ticks.specs.declared.place.Place.TheVariants.{Start, Comment, Pairs, HalfPair}
+use Rattle.yasir_ticks.specs.declared.place.Place.TheVariants.{Minus, Number, Returned, Refused}
+use Rattle.yasir_ticks.proofs.Lines.{all_lines, joined, all_lines-append, mark_lines}
+use Rattle.yasir_ticks.proofs.Lines.{all_lines-marks}
+use Rattle.yasir_ticks.proofs.Items.{marks_in-append, marks_in-bytes, marks_in-silent}
+use Rattle.yasir_ticks.proofs.Items.{all_items_both, all_items_cons, all_items-marks}
+use Rattle.yasir_ticks.proofs.Steps.{closes_start, closes_comment, closes_pairs, closes_number}
+use Rattle.yasir_ticks.proofs.Steps.{closes_returned, accepts_high, accepts_low}
 
-pub marks_in-content : (content : Content) (bytes : List ℕ) → marks_in (items_of_content content bytes) ≡ 0
+pub marks_in-content : (content : Content) (bytes : List ℕ)
+    → marks_in (items_of_content content bytes) ≡ 0
 marks_in-content NoTick bytes = refl
 marks_in-content KeptBytes bytes = marks_in-bytes bytes
 marks_in-content (SilentTicks n) bytes = marks_in-silent n
@@ -32,7 +38,8 @@ pub record Completion (line : List ℕ) : Type 0 where
   pub stands : line_items (line ++ more) ≡ Some items
   pub unmarked : marks_in items ≡ 0
 
-completes : (place : Place) (bytes line : List ℕ) (content : Content) → Closes place bytes content → Reads place bytes line → Completion line
+completes : (place : Place) (bytes line : List ℕ) (content : Content) → Closes place bytes content
+    → Reads place bytes line → Completion line
 unfolding lines_of
 completes place bytes line content c r = record {
   more = [];
@@ -52,10 +59,12 @@ completes_zero line c = record {
   unmarked = c.unmarked;
 }
 
-completes_half : (high : ℕ) (bytes line : List ℕ) → Reads (HalfPair high) bytes line → Completion line
+completes_half : (high : ℕ) (bytes line : List ℕ) → Reads (HalfPair high) bytes line
+    → Completion line
 completes_half high bytes line r =
     completes_zero line (completes Pairs (bytes ++ (high * 16 + 0) ∷ []) (line ++ 48 ∷ []) KeptBytes
-    (closes_pairs (bytes ++ (high * 16 + 0) ∷ []) (some bytes)) ((accepts_low bytes 48 high 0 refl).reads (λ e. absurd (omega arith)) line r))
+    (closes_pairs (bytes ++ (high * 16 + 0) ∷ []) (some bytes))
+    ((accepts_low bytes 48 high 0 refl).reads (λ e. absurd (omega arith)) line r))
   where
     some : (bytes : List ℕ) → 0 < length (bytes ++ (high * 16 + 0) ∷ [])
     some [] = omega arith
@@ -73,34 +82,54 @@ completes_minus line r = record {
 
 pub completion : (place : Place) (bytes line : List ℕ) → Reads place bytes line → Completion line
 completion Start bytes line r = completes Start bytes line NoTick (closes_start bytes) r
-completion (Comment n) bytes line r = completes (Comment n) bytes line NoTick (closes_comment n bytes) r
+completion (Comment n) bytes line r = completes (Comment n) bytes line NoTick
+    (closes_comment n bytes) r
 completion Pairs [] line r =
-    completes_zero line (completes_half 0 [] (line ++ 48 ∷ []) ((accepts_high [] 48 0 refl (omega arith)).reads (λ e. absurd (omega arith)) line r))
-completion Pairs (b ∷ bytes) line r = completes Pairs (b ∷ bytes) line KeptBytes (closes_pairs (b ∷ bytes) (omega arith)) r
+    completes_zero line (completes_half 0 [] (line ++ 48 ∷ [])
+    ((accepts_high [] 48 0 refl (omega arith)).reads (λ e. absurd (omega arith)) line r))
+completion Pairs (b ∷ bytes) line r = completes Pairs (b ∷ bytes) line KeptBytes
+    (closes_pairs (b ∷ bytes) (omega arith)) r
 completion (HalfPair high) bytes line r = completes_half high bytes line r
 completion Minus bytes line r = completes_minus line r
-completion (Number n) bytes line r = completes (Number n) bytes line (SilentTicks n) (closes_number n bytes) r
-completion (Returned content) bytes line r = completes (Returned content) bytes line content (closes_returned content bytes) r
+completion (Number n) bytes line r = completes (Number n) bytes line (SilentTicks n)
+    (closes_number n bytes) r
+completion (Returned content) bytes line r =
+    completes (Returned content) bytes line content (closes_returned content bytes) r
 completion (Refused why) bytes line r = absurd r
 
-completed_lines : {line : List ℕ} (c : Completion line) (left : ℕ) → all_lines (c.more ++ mark_lines left) ≡ (c.more ++ []) ∷ replicate left (37 ∷ [])
-completed_lines c left = all_lines-append c.more (mark_lines left) ∙ rw (c.single, all_lines-marks left) refl
+completed_lines : {line : List ℕ} (c : Completion line) (left : ℕ)
+    → all_lines (c.more ++ mark_lines left) ≡ (c.more ++ []) ∷ replicate left (37 ∷ [])
+completed_lines c left = all_lines-append c.more (mark_lines left)
+    ∙ rw (c.single, all_lines-marks left) refl
 
 -- a text goes on by what its last line lacks, and then by the marks that are left
-pub begins_at : {place : Place} {bytes : List ℕ} {line left marks : ℕ} {text : List ℕ} → IsAt place bytes line left marks text → BeginsTickText marks text
+pub begins_at : {place : Place} {bytes : List ℕ} {line left marks : ℕ} {text : List ℕ}
+    → IsAt place bytes line left marks text → BeginsTickText marks text
 begins_at {place} {bytes} {line} {left} {marks} {text} at =
     let c = completion place bytes (lines_of text).last at.last in
     let m = all_items-marks left in
-    let lines : all_lines (text ++ (c.more ++ mark_lines left)) ≡ (lines_of text).ended ++ ((lines_of text).last ++ (c.more ++ [])) ∷ replicate left (37 ∷ []) =
+    let lines : all_lines (text ++ (c.more ++ mark_lines left))
+    ≡ (lines_of text).ended ++ ((lines_of text).last ++ (c.more ++ []))
+    ∷ replicate left (37 ∷ []) =
     all_lines-append text (c.more ++ mark_lines left)
     ∙ ap (λ ls. (lines_of text).ended ++ joined (lines_of text).last ls) (completed_lines c left) in (
       c.more ++ mark_lines left,
       ended_items text ++ (c.items ++ m.0),
       record {
         lines = ap all_items lines
-            ∙ all_items_both (lines_of text).ended (((lines_of text).last ++ (c.more ++ [])) ∷ replicate left (37 ∷ [])) (ended_items text) (c.items ++ m.0) at.ended
-            (all_items_cons ((lines_of text).last ++ (c.more ++ [])) (replicate left (37 ∷ [])) c.items m.0
+            ∙ all_items_both (lines_of text).ended
+            (((lines_of text).last ++ (c.more ++ [])) ∷ replicate left (37 ∷ []))
+            (ended_items text) (c.items ++ m.0) at.ended
+            (all_items_cons ((lines_of text).last ++ (c.more ++ [])) (replicate left (37 ∷ []))
+            c.items m.0
             (ap (λ x. line_items ((lines_of text).last ++ x)) (append-nil c.more) ∙ c.stands) m.1);
-        marked = omega (arith, marks_in-append (ended_items text) (c.items ++ m.0), marks_in-append c.items m.0, c.unmarked, m.2, at.marked);
+        marked = omega (
+          arith,
+          marks_in-append (ended_items text) (c.items ++ m.0),
+          marks_in-append c.items m.0,
+          c.unmarked,
+          m.2,
+          at.marked,
+        );
       },
     )

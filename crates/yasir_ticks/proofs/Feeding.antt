@@ -1,11 +1,15 @@
 -- One byte more at a place of a text, and its end.
-use Rattle.std.proofs.Common.{◌≡◌, ◌≢◌, inl, inr, ◌∙◌, ◌==◌, ℕ, ◌+◌, List, [], ◌∷◌, ◌++◌, Some, None, Result, Ok, Err, refl, ap, sym, arith, append_assoc, append-nil, unwrap_or, length-append}
+use Rattle.std.proofs.Common.{◌≡◌, ◌≢◌, inl, inr, ◌∙◌, ◌==◌, ℕ, ◌+◌, List, [], ◌∷◌, ◌++◌, Some}
+use Rattle.std.proofs.Common.{None, Result, Ok, Err, refl, ap, sym, arith, append_assoc, append-nil}
+use Rattle.std.proofs.Common.{unwrap_or, length-append}
 use Rattle.std.specs.Prelude.{OnOk, OnErr, IfOk, IfErr}
 use Rattle.std.specs.List.{flat_map}
 use Rattle.std.proofs.lemmas.Bool.{cases_eq}
 use Rattle.std.proofs.lemmas.Grind.{flat_map-append}
 use Rattle.yasir_ticks.specs.Ticks.{Item, items_of_run, marks_in}
-use Rattle.yasir_ticks.specs.TickText.{Lines, lines_of, line_items, all_items, ended_items, line_after, fault_after, fault_at_end, IsTickText, BeginsTickText, IsRefusedAfter}
+use Rattle.yasir_ticks.specs.TickText.{Lines, lines_of, line_items, all_items, ended_items}
+use Rattle.yasir_ticks.specs.TickText.{line_after, fault_after, fault_at_end, IsTickText}
+use Rattle.yasir_ticks.specs.TickText.{BeginsTickText, IsRefusedAfter}
 use Rattle.yasir_ticks.specs.Reader.{IsAt, StandsFor}
 use Rattle.yasir_ticks.specs.ReaderStep.{Accepts, Refuses, Steps, Stops}
 use Rattle.yasir_ticks.specs.declared.fault.BadTicks.{BadTicks}
@@ -14,37 +18,47 @@ use Rattle.yasir_ticks.specs.declared.run.Run.{Run}
 use Rattle.yasir_ticks.specs.declared.place.Place.{Place}
 use Rattle.yasir_ticks.specs.declared.place.Place.TheVariants.{Start}
 use Rattle.yasir_ticks.specs.declared.reader.TickReader.{TickReader}
-use Rattle.yasir_ticks.proofs.Lines.{all_lines, joined, lines_of-lf, lines_of-more, all_lines-append, all_lines-lf, all_lines-byte, all_lines-first}
-use Rattle.yasir_ticks.proofs.Items.{marks_in-append, all_items_parts, line_items_parts, all_items_both, all_items_cons}
+use Rattle.yasir_ticks.proofs.Lines.{all_lines, joined, lines_of-lf, lines_of-more}
+use Rattle.yasir_ticks.proofs.Lines.{all_lines-append, all_lines-lf, all_lines-byte}
+use Rattle.yasir_ticks.proofs.Lines.{all_lines-first}
+use Rattle.yasir_ticks.proofs.Items.{marks_in-append, all_items_parts, line_items_parts}
+use Rattle.yasir_ticks.proofs.Items.{all_items_both, all_items_cons}
 use Rattle.yasir_ticks.proofs.Contents.{test_of}
 use Rattle.yasir_ticks.proofs.Completions.{marks_in-run, begins_at}
 
 module _ (text : List ℕ) where
   -- the last line goes on, or ends
-  pub items_more : (b : ℕ) (run : Run) → b ≢ 10 → items_of_run run ≡ [] → ended_items (text ++ b ∷ []) ≡ ended_items text ++ items_of_run run
+  pub items_more : (b : ℕ) (run : Run) → b ≢ 10 → items_of_run run ≡ []
+      → ended_items (text ++ b ∷ []) ≡ ended_items text ++ items_of_run run
   items_more b run n e = rw (lines_of-more text b n, e) (sym (append-nil (ended_items text)))
 
   items_lf : (run : Run) → line_items (lines_of text).last ≡ Some (items_of_run run)
       → ended_items (text ++ 10 ∷ []) ≡ ended_items text ++ items_of_run run
   items_lf run stands =
       let items : List ℕ → List Item = λ l. unwrap_or (line_items l) [] in
-      let whole : flat_map items ((lines_of text).ended ++ (lines_of text).last ∷ []) ≡ ended_items text ++ items_of_run run =
+      let whole : flat_map items ((lines_of text).ended ++ (lines_of text).last ∷ [])
+      ≡ ended_items text ++ items_of_run run =
       flat_map-append items (lines_of text).ended ((lines_of text).last ∷ [])
       ∙ ap (λ o. ended_items text ++ (unwrap_or o [] ++ [])) stands
       ∙ ap (λ x. ended_items text ++ x) (append-nil (items_of_run run)) in
       rw (lines_of-lf text) whole
 
   -- all lines, where the last one has a right form
-  items_whole : (run : Run) → line_items (lines_of text).last ≡ Some (items_of_run run) → all_items (lines_of text).ended ≡ Some (ended_items text)
+  items_whole : (run : Run) → line_items (lines_of text).last ≡ Some (items_of_run run)
+      → all_items (lines_of text).ended ≡ Some (ended_items text)
       → all_items (all_lines text) ≡ Some (ended_items text ++ items_of_run run)
   items_whole run stands ended =
-      all_items_both (lines_of text).ended ((lines_of text).last ∷ []) (ended_items text) (items_of_run run ++ []) ended
+      all_items_both (lines_of text).ended ((lines_of text).last ∷ []) (ended_items text)
+      (items_of_run run ++ []) ended
       (all_items_cons (lines_of text).last [] (items_of_run run) [] stands refl)
       ∙ ap (λ x. Some (ended_items text ++ x)) (append-nil (items_of_run run))
 
-module _ (place new_place : Place) (bytes new_bytes : List ℕ) (line left marks : ℕ) (text : List ℕ) (at : IsAt place bytes line left marks text) where
+module _ (place new_place : Place) (bytes new_bytes : List ℕ) (line left marks : ℕ) (text : List ℕ)
+    (at : IsAt place bytes line left marks text) where
   -- a byte within a line
-  pub at_more : (b : ℕ) (run : Run) → b ≢ 10 → Accepts place bytes b (items_of_run run) new_place new_bytes → IsAt new_place new_bytes line left marks (text ++ b ∷ [])
+  pub at_more : (b : ℕ) (run : Run) → b ≢ 10
+      → Accepts place bytes b (items_of_run run) new_place new_bytes
+      → IsAt new_place new_bytes line left marks (text ++ b ∷ [])
   at_more b run n a = record {
     ended = rw (lines_of-more text b n) at.ended;
     marked = rw (lines_of-more text b n) at.marked;
@@ -53,18 +67,31 @@ module _ (place new_place : Place) (bytes new_bytes : List ℕ) (line left marks
   }
 
   -- the LF of a line
-  at_lf : (run : Run) → Accepts place bytes 10 (items_of_run run) new_place new_bytes → IsAt new_place new_bytes (line + 1) left marks (text ++ 10 ∷ [])
+  at_lf : (run : Run) → Accepts place bytes 10 (items_of_run run) new_place new_bytes
+      → IsAt new_place new_bytes (line + 1) left marks (text ++ 10 ∷ [])
   at_lf run a =
       let stands = a.stands refl (lines_of text).last at.last in
       let same = items_lf text run stands in
       record {
-        ended = ap (λ (x : Lines). all_items x.ended) (lines_of-lf text) ∙ items_whole text run stands at.ended ∙ ap Some (sym same);
-        marked = rw same (omega (arith, marks_in-append (ended_items text) (items_of_run run), marks_in-run run, at.marked));
-        counted = rw (lines_of-lf text) (omega (arith, length-append (lines_of text).ended ((lines_of text).last ∷ []), at.counted));
+        ended = ap (λ (x : Lines). all_items x.ended) (lines_of-lf text)
+            ∙ items_whole text run stands at.ended ∙ ap Some (sym same);
+        marked = rw same (omega (
+          arith,
+          marks_in-append (ended_items text) (items_of_run run),
+          marks_in-run run,
+          at.marked,
+        ));
+        counted = rw (lines_of-lf text)
+            (omega (
+              arith,
+              length-append (lines_of text).ended ((lines_of text).last ∷ []),
+              at.counted,
+            ));
         last = rw (lines_of-lf text, a.start refl) refl;
       }
 
--- all lines of a text with a byte behind it and more, where the last line so far is a front of one of them
+-- all lines of a text with a byte behind it and more, where the last line so far is a front of one
+-- of them
 pub record Split (text : List ℕ) (b : ℕ) (more : List ℕ) (line : List ℕ) : Type 0 where
   pub others : List (List ℕ)
   pub lines : all_lines (text ++ b ∷ more) ≡ (lines_of text).ended ++ line ∷ others
@@ -77,61 +104,88 @@ split_lf text more = record {
       ∙ ap (λ l. (lines_of text).ended ++ l ∷ all_lines more) (append-nil (lines_of text).last);
 }
 
-split_byte : (text : List ℕ) (b : ℕ) (more : List ℕ) → b ≢ 10 → (l : List ℕ) × Split text b more ((lines_of text).last ++ b ∷ l)
+split_byte : (text : List ℕ) (b : ℕ) (more : List ℕ) → b ≢ 10
+    → (l : List ℕ) × Split text b more ((lines_of text).last ++ b ∷ l)
 split_byte text b more n =
     let first = all_lines-first more in (
       first.0,
       record {
         others = first.1;
         lines = all_lines-append text (b ∷ more)
-            ∙ ap (λ ls. (lines_of text).ended ++ joined (lines_of text).last ls) (all_lines-byte b more n ∙ ap (joined (b ∷ [])) first.2);
+            ∙ ap (λ ls. (lines_of text).ended ++ joined (lines_of text).last ls)
+            (all_lines-byte b more n ∙ ap (joined (b ∷ [])) first.2);
       },
     )
 
 -- the items of the line in the middle
-middle : (text : List ℕ) (b : ℕ) (more line : List ℕ) (marks : ℕ) (items : List Item) → Split text b more line
-    → all_items (lines_of text).ended ≡ Some (ended_items text) → marks_in (ended_items text) + 0 ≡ marks → IsTickText marks (text ++ b ∷ more) items
+middle : (text : List ℕ) (b : ℕ) (more line : List ℕ) (marks : ℕ) (items : List Item)
+    → Split text b more line
+    → all_items (lines_of text).ended ≡ Some (ended_items text)
+    → marks_in (ended_items text) + 0 ≡ marks → IsTickText marks (text ++ b ∷ more) items
     → (own : List Item) × (line_items line ≡ Some own) × (marks_in own ≡ 0)
 middle text b more line marks items s ended marked it =
-    let front = all_items_parts (lines_of text).ended (line ∷ s.others) items (sym (ap all_items s.lines) ∙ it.lines) in
+    let front = all_items_parts (lines_of text).ended (line ∷ s.others) items
+    (sym (ap all_items s.lines) ∙ it.lines) in
     let back = line_items_parts line s.others front.back front.more_is in
-    let same : front.front ≡ ended_items text = cc (front.first_is, ended) in
-    (back.front, back.first_is, omega (arith, it.marked, ap marks_in front.whole, marks_in-append front.front front.back, ap marks_in back.whole, marks_in-append back.front back.back, ap marks_in same))
+    let same : front.front ≡ ended_items text = cc (front.first_is, ended) in (
+      back.front,
+      back.first_is,
+      omega (
+        arith,
+        it.marked,
+        ap marks_in front.whole,
+        marks_in-append front.front front.back,
+        ap marks_in back.whole,
+        marks_in-append back.front back.back,
+        ap marks_in same,
+      ),
+    )
 
-module _ (place : Place) (bytes : List ℕ) (line marks : ℕ) (text : List ℕ) (at : IsAt place bytes line 0 marks text) where
+module _ (place : Place) (bytes : List ℕ) (line marks : ℕ) (text : List ℕ)
+    (at : IsAt place bytes line 0 marks text) where
   -- no text goes on so
-  refused_at : (b : ℕ) (why : TickFault) → Refuses place bytes b why → ¬ BeginsTickText marks (text ++ b ∷ [])
+  refused_at : (b : ℕ) (why : TickFault) → Refuses place bytes b why
+      → ¬ BeginsTickText marks (text ++ b ∷ [])
   refused_at b why r (more, items, it) =
-      let whole : IsTickText marks (text ++ b ∷ more) items = rw (← append_assoc text (b ∷ []) more) it in
+      let whole : IsTickText marks (text ++ b ∷ more) items =
+      rw (← append_assoc text (b ∷ []) more) it in
       elim (cases_eq b 10) [
         | inl e ↦
-            let own = middle text b more (lines_of text).last marks items (rw e (split_lf text more)) at.ended at.marked whole in
+            let own = middle text b more (lines_of text).last marks items
+            (rw e (split_lf text more)) at.ended at.marked whole in
             cc (own.1, r.ended e (lines_of text).last at.last)
         | inr n ↦
             let s = split_byte text b more n in
-            let own = middle text b more ((lines_of text).last ++ b ∷ s.0) marks items s.1 at.ended at.marked whole in
+            let own = middle text b more ((lines_of text).last ++ b ∷ s.0) marks items s.1 at.ended
+            at.marked whole in
             omega (arith, r.wrong n (lines_of text).last at.last s.0 own.0 own.1, own.2)
       ]
 
 -- ---- what a step of a reader says
 
-module _ (old new : TickReader) (b marks : ℕ) (text : List ℕ) (stood : StandsFor old marks text) where
-  fed_at : (run : Run) → Steps old b (Ok run) new → IsAt new.place new.bytes.items new.line 0 marks (text ++ b ∷ [])
+module _ (old new : TickReader) (b marks : ℕ) (text : List ℕ)
+    (stood : StandsFor old marks text) where
+  fed_at : (run : Run) → Steps old b (Ok run) new
+      → IsAt new.place new.bytes.items new.line 0 marks (text ++ b ∷ [])
   fed_at run s =
       elim (cases_eq b 10) [
         | inl e ↦
             let counted : new.line ≡ old.line + 1 = s.case.1 ∙ rw (ap (λ x. x == 10) e) refl in
-            rw (counted, e) (at_lf old.place new.place old.bytes.items new.bytes.items old.line 0 marks text stood.at run (rw e at s.case.0))
+            rw (counted, e) (at_lf old.place new.place old.bytes.items new.bytes.items old.line 0
+            marks text stood.at run (rw e at s.case.0))
         | inr n ↦
             let counted : new.line ≡ old.line = s.case.1 ∙ rw (test_of b 10 n) refl in
-            rw counted (at_more old.place new.place old.bytes.items new.bytes.items old.line 0 marks text stood.at b run n s.case.0)
+            rw counted (at_more old.place new.place old.bytes.items new.bytes.items old.line 0 marks
+            text stood.at b run n s.case.0)
       ]
 
-  pub fed_stands : (result : Result Run BadTicks) → Steps old b result new → OnOk result (StandsFor new marks (text ++ b ∷ []))
+  pub fed_stands : (result : Result Run BadTicks) → Steps old b result new
+      → OnOk result (StandsFor new marks (text ++ b ∷ []))
   fed_stands (Ok run) s = record { at = fed_at run s }
   fed_stands (Err bad) s = tt
 
-  pub fed_begins : (result : Result Run BadTicks) → Steps old b result new → OnOk result (BeginsTickText marks (text ++ b ∷ []))
+  pub fed_begins : (result : Result Run BadTicks) → Steps old b result new
+      → OnOk result (BeginsTickText marks (text ++ b ∷ []))
   fed_begins (Ok run) s = begins_at (fed_at run s)
   fed_begins (Err bad) s = tt
 
@@ -145,39 +199,51 @@ module _ (old new : TickReader) (b marks : ℕ) (text : List ℕ) (stood : Stand
   fed_run (Err bad) s = tt
 
   pub fed_refused : (result : Result Run BadTicks) → Steps old b result new
-      → IfErr result (λ bad. IsRefusedAfter marks text b × (bad.line ≡ line_after text) × (bad.why ≡ fault_after text b))
+      → IfErr result (λ bad. IsRefusedAfter marks text b × (bad.line ≡ line_after text)
+      × (bad.why ≡ fault_after text b))
   fed_refused (Ok run) s = tt
   fed_refused (Err bad) s = (
     record {
       begins = begins_at stood.at;
-      refused = refused_at old.place old.bytes.items old.line marks text stood.at b bad.why s.case.0;
+      refused = refused_at old.place old.bytes.items old.line marks text stood.at b bad.why
+          s.case.0;
     },
     s.case.1 ∙ stood.at.counted,
     sym (s.case.0.cause (lines_of text).last stood.at.last),
   )
 
 -- a refused byte leaves the reader in its line
-pub fed_line : (old new : TickReader) (b : ℕ) (result : Result Run BadTicks) → Steps old b result new → OnErr result (new.line ≡ old.line)
+pub fed_line : (old new : TickReader) (b : ℕ) (result : Result Run BadTicks)
+    → Steps old b result new → OnErr result (new.line ≡ old.line)
 fed_line old new b (Ok run) s = tt
 fed_line old new b (Err bad) s = s.case.2.line ∙ s.case.1
 
-module _ (reader : TickReader) (marks : ℕ) (text : List ℕ) (stood : StandsFor reader marks text) where
+module _ (reader : TickReader) (marks : ℕ) (text : List ℕ)
+    (stood : StandsFor reader marks text) where
   pub ended_right : (result : Result Run BadTicks) → Stops reader result
       → IfOk result (λ run. IsTickText marks text (ended_items text ++ items_of_run run))
   ended_right (Ok run) s = record {
     lines = items_whole text run (s.case.0 (lines_of text).last stood.at.last) stood.at.ended;
-    marked = omega (arith, marks_in-append (ended_items text) (items_of_run run), marks_in-run run, stood.at.marked);
+    marked = omega (
+      arith,
+      marks_in-append (ended_items text) (items_of_run run),
+      marks_in-run run,
+      stood.at.marked,
+    );
   }
   ended_right (Err bad) s = tt
 
-  wrong_end : line_items (lines_of text).last ≡ None → ¬ ((items : List Item) × IsTickText marks text items)
+  wrong_end : line_items (lines_of text).last ≡ None
+      → ¬ ((items : List Item) × IsTickText marks text items)
   wrong_end none (items, it) =
-      let whole = all_items_parts (lines_of text).ended ((lines_of text).last ∷ []) items it.lines in
+      let whole = all_items_parts (lines_of text).ended ((lines_of text).last ∷ []) items
+      it.lines in
       let own = line_items_parts (lines_of text).last [] whole.back whole.more_is in
       cc (own.first_is, none)
 
   pub ended_refused : (result : Result Run BadTicks) → Stops reader result
-      → IfErr result (λ bad. (¬ ((items : List Item) × IsTickText marks text items)) × (bad.line ≡ line_after text) × (bad.why ≡ fault_at_end text))
+      → IfErr result (λ bad. (¬ ((items : List Item) × IsTickText marks text items))
+      × (bad.line ≡ line_after text) × (bad.why ≡ fault_at_end text))
   ended_refused (Ok run) s = tt
   ended_refused (Err bad) s =
       let none = s.case.0.wrong (lines_of text).last stood.at.last in (

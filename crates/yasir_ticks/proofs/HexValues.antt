@@ -1,5 +1,7 @@
 -- The table of hex digits' values.
-use Rattle.std.proofs.Common.{◌≡◌, ◌∙◌, ◌==◌, ◌&&◌, ℕ, ◌+◌, ◌≤◌, ◌<◌, zero, suc, Bool, true, List, [], ◌∷◌, length, get_or, Option, Some, None, unwrap_or, refl, ap, arith}
+use Rattle.std.proofs.Common.{◌≡◌, ◌∙◌, ◌==◌, ◌&&◌, ℕ, ◌+◌, ◌≤◌, ◌<◌, zero, suc, Bool, true, List}
+use Rattle.std.proofs.Common.{[], ◌∷◌, length, get_or, Option, Some, None, unwrap_or, refl, ap}
+use Rattle.std.proofs.Common.{arith}
 use Rattle.std.proofs.lemmas.Bool.{and_parts}
 use Rattle.hex.specs.Hex.{hex_digit_value}
 use Rattle.yasir_ticks.specs.declared.digit.TheConstants.{HEX_VALUES}
@@ -16,13 +18,16 @@ agrees n (v ∷ table) = v == value_or_16 n && agrees (suc n) table
 eq_of : (a b : ℕ) → (a == b) ≡ true → a ≡ b
 eq_of a b h = grind arith
 
-agrees_at : (n : ℕ) (table : List ℕ) → agrees n table ≡ true → (i m d : ℕ) → n + i ≡ m → i < length table → get_or table i d ≡ value_or_16 m
+agrees_at : (n : ℕ) (table : List ℕ) → agrees n table ≡ true → (i m d : ℕ) → n + i ≡ m
+    → i < length table → get_or table i d ≡ value_or_16 m
 agrees_at n [] h i m d e l = absurd (omega arith)
 agrees_at n (v ∷ table) h zero m d e l =
     let same : n ≡ m = omega arith in
-    eq_of v (value_or_16 n) (and_parts (v == value_or_16 n) (agrees (suc n) table) h).0 ∙ ap value_or_16 same
+    eq_of v (value_or_16 n) (and_parts (v == value_or_16 n) (agrees (suc n) table) h).0
+    ∙ ap value_or_16 same
 agrees_at n (v ∷ table) h (suc i) m d e l =
-    agrees_at (suc n) table (and_parts (v == value_or_16 n) (agrees (suc n) table) h).1 i m d (omega arith) (omega arith)
+    agrees_at (suc n) table (and_parts (v == value_or_16 n) (agrees (suc n) table) h).1 i m d
+    (omega arith) (omega arith)
 
 table_agrees : agrees 0 HEX_VALUES ≡ true
 table_agrees = refl

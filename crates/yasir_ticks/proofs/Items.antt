@@ -1,5 +1,6 @@
 -- The items of lines, and how many marks stand among them.
-use Rattle.std.proofs.Common.{◌≡◌, ◌∙◌, ℕ, ◌+◌, zero, suc, List, [], ◌∷◌, ◌++◌, map, replicate, Option, Some, None, refl, ap, sym, arith, append_assoc, option_map}
+use Rattle.std.proofs.Common.{◌≡◌, ◌∙◌, ℕ, ◌+◌, zero, suc, List, [], ◌∷◌, ◌++◌, map, replicate}
+use Rattle.std.proofs.Common.{Option, Some, None, refl, ap, sym, arith, append_assoc, option_map}
 use Rattle.std.specs.Option.{option_and_then}
 use Rattle.yasir_ticks.specs.Ticks.{Item, marks_in}
 use Rattle.yasir_ticks.specs.Ticks.Item.{tick, mark}
@@ -36,7 +37,8 @@ both_nil (Some a) = refl
 pub all_items-append : (a b : List (List ℕ)) → all_items (a ++ b) ≡ both (all_items a) (all_items b)
 all_items-append [] b = both_nil (all_items b)
 all_items-append (l ∷ ls) b =
-    ap (both (line_items l)) (all_items-append ls b) ∙ both_assoc (line_items l) (all_items ls) (all_items b)
+    ap (both (line_items l)) (all_items-append ls b)
+    ∙ both_assoc (line_items l) (all_items ls) (all_items b)
 
 -- what some items in two parts are
 pub record Parts (first more : Option (List Item)) (items : List Item) : Type 0 where
@@ -46,27 +48,43 @@ pub record Parts (first more : Option (List Item)) (items : List Item) : Type 0 
   pub more_is : more ≡ Some back
   pub whole : items ≡ front ++ back
 
-both_parts : (first more : Option (List Item)) (items : List Item) → both first more ≡ Some items → Parts first more items
+both_parts : (first more : Option (List Item)) (items : List Item) → both first more ≡ Some items
+    → Parts first more items
 both_parts None more items h = cc
 both_parts (Some a) None items h = cc
-both_parts (Some a) (Some b) items h = record { front = a; back = b; first_is = refl; more_is = refl; whole = cc }
+both_parts (Some a) (Some b) items h = record {
+  front = a;
+  back = b;
+  first_is = refl;
+  more_is = refl;
+  whole = cc;
+}
 
-pub all_items_parts : (a b : List (List ℕ)) (items : List Item) → all_items (a ++ b) ≡ Some items → Parts (all_items a) (all_items b) items
-all_items_parts a b items h = both_parts (all_items a) (all_items b) items (sym (all_items-append a b) ∙ h)
+pub all_items_parts : (a b : List (List ℕ)) (items : List Item) → all_items (a ++ b) ≡ Some items
+    → Parts (all_items a) (all_items b) items
+all_items_parts a b items h = both_parts (all_items a) (all_items b) items
+    (sym (all_items-append a b) ∙ h)
 
-pub line_items_parts : (l : List ℕ) (ls : List (List ℕ)) (items : List Item) → all_items (l ∷ ls) ≡ Some items → Parts (line_items l) (all_items ls) items
+pub line_items_parts : (l : List ℕ) (ls : List (List ℕ)) (items : List Item)
+    → all_items (l ∷ ls) ≡ Some items → Parts (line_items l) (all_items ls) items
 line_items_parts l ls items h = both_parts (line_items l) (all_items ls) items h
 
-pub all_items_both : (a b : List (List ℕ)) (i j : List Item) → all_items a ≡ Some i → all_items b ≡ Some j → all_items (a ++ b) ≡ Some (i ++ j)
+pub all_items_both : (a b : List (List ℕ)) (i j : List Item) → all_items a ≡ Some i
+    → all_items b ≡ Some j → all_items (a ++ b) ≡ Some (i ++ j)
 all_items_both a b i j p q = all_items-append a b ∙ rw (p, q) refl
 
-pub all_items_cons : (l : List ℕ) (ls : List (List ℕ)) (i j : List Item) → line_items l ≡ Some i → all_items ls ≡ Some j → all_items (l ∷ ls) ≡ Some (i ++ j)
+pub all_items_cons : (l : List ℕ) (ls : List (List ℕ)) (i j : List Item) → line_items l ≡ Some i
+    → all_items ls ≡ Some j → all_items (l ∷ ls) ≡ Some (i ++ j)
 all_items_cons l ls i j p q = rw (p, q) refl
 
 -- lines of a mark each
-pub all_items-marks : (n : ℕ) → (items : List Item) × (all_items (replicate n (37 ∷ [])) ≡ Some items) × (marks_in items ≡ n)
+pub all_items-marks : (n : ℕ) → (items : List Item)
+    × (all_items (replicate n (37 ∷ [])) ≡ Some items) × (marks_in items ≡ n)
 unfolding line_items
 all_items-marks zero = ([], refl, refl)
 all_items-marks (suc n) =
-    let rest = all_items-marks n in
-    (mark ∷ rest.0, all_items_cons (37 ∷ []) (replicate n (37 ∷ [])) (mark ∷ []) rest.0 refl rest.1, ap suc rest.2)
+    let rest = all_items-marks n in (
+      mark ∷ rest.0,
+      all_items_cons (37 ∷ []) (replicate n (37 ∷ [])) (mark ∷ []) rest.0 refl rest.1,
+      ap suc rest.2,
+    )

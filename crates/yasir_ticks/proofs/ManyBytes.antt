@@ -1,5 +1,8 @@
 -- Several bytes of a text, one after the other.
-use Rattle.std.proofs.Common.{◌≡◌, ◌≢◌, ◌∙◌, ℕ, suc, ◌+◌, ◌-◌, ◌*◌, ◌<◌, ◌≤◌, List, [], ◌∷◌, ◌++◌, length, take, drop, get_or, unwrap_or, Option, Some, None, is_some, refl, ap, sym, subst, arith, append_assoc, append-nil, length-append, length-drop}
+use Rattle.std.proofs.Common.{◌≡◌, ◌≢◌, ◌∙◌, ℕ, suc, ◌+◌, ◌-◌, ◌*◌, ◌<◌, ◌≤◌, List, [], ◌∷◌, ◌++◌}
+use Rattle.std.proofs.Common.{length, take, drop, get_or, unwrap_or, Option, Some, None, is_some}
+use Rattle.std.proofs.Common.{refl, ap, sym, subst, arith, append_assoc, append-nil, length-append}
+use Rattle.std.proofs.Common.{length-drop}
 use Rattle.hex.specs.Hex.{hex_digit_value}
 use Rattle.std.proofs.lemmas.List.{take_more, get_or-take, length-take, take_all}
 use Rattle.std.proofs.lemmas.Bool.{eq-eqb}
@@ -25,10 +28,13 @@ goes_on_nothing a = record {
 }
 
 -- and then some more
-pub goes_on_then : (a b c : TickReader) (x y : List ℕ) → GoesOn a x b → GoesOn b y c → GoesOn a (x ++ y) c
+pub goes_on_then : (a b c : TickReader) (x y : List ℕ) → GoesOn a x b → GoesOn b y c
+    → GoesOn a (x ++ y) c
 goes_on_then a b c x y f g = record {
-  stands = λ marks text s. subst (StandsFor c marks) (append_assoc text x y) (g.stands marks (text ++ x) (f.stands marks text s));
-  quiet = λ marks text s. ap ended_items (sym (append_assoc text x y)) ∙ g.quiet marks (text ++ x) (f.stands marks text s) ∙ f.quiet marks text s;
+  stands = λ marks text s. subst (StandsFor c marks) (append_assoc text x y)
+      (g.stands marks (text ++ x) (f.stands marks text s));
+  quiet = λ marks text s. ap ended_items (sym (append_assoc text x y))
+      ∙ g.quiet marks (text ++ x) (f.stands marks text s) ∙ f.quiet marks text s;
   lines = omega (arith, f.lines, g.lines, length-append x y);
 }
 
@@ -36,18 +42,23 @@ quiet_byte : (text : List ℕ) (b : ℕ) → b ≢ 10 → ended_items (text ++ b
 quiet_byte text b n = rw (lines_of-more text b n) refl
 
 -- the two digits of a byte
-pub goes_on_pair : (old new : TickReader) (h l high low : ℕ) → old.place ≡ Pairs → new.place ≡ Pairs → new.line ≡ old.line
+pub goes_on_pair : (old new : TickReader) (h l high low : ℕ) → old.place ≡ Pairs → new.place ≡ Pairs
+    → new.line ≡ old.line
     → Some high ≡ hex_digit_value h → Some low ≡ hex_digit_value l → length old.bytes.items < 32
     → new.bytes.items ≡ old.bytes.items ++ (high * 16 + low) ∷ [] → GoesOn old (h ∷ l ∷ []) new
 goes_on_pair old new h l high low p q e first second room kept = record {
   stands = λ marks text s.
       let at : IsAt Pairs old.bytes.items old.line 0 marks text = rw p at s.at in
-      let half = at_more Pairs (HalfPair high) old.bytes.items old.bytes.items old.line 0 marks text at h Nothing not_first
+      let half = at_more Pairs (HalfPair high) old.bytes.items old.bytes.items old.line 0 marks text
+      at h Nothing not_first
       (accepts_high old.bytes.items h high (sym first) room) in
-      let whole = at_more (HalfPair high) Pairs old.bytes.items (old.bytes.items ++ (high * 16 + low) ∷ []) old.line 0 marks (text ++ h ∷ []) half l Nothing not_second
+      let whole = at_more (HalfPair high) Pairs old.bytes.items
+      (old.bytes.items ++ (high * 16 + low) ∷ []) old.line 0 marks (text ++ h ∷ []) half l
+      Nothing not_second
       (accepts_low old.bytes.items l high low (sym second)) in
       record { at = rw (q, e, kept, ← append_assoc text (h ∷ []) (l ∷ [])) whole };
-  quiet = λ marks text s. rw (← append_assoc text (h ∷ []) (l ∷ [])) (quiet_byte (text ++ h ∷ []) l not_second ∙ quiet_byte text h not_first);
+  quiet = λ marks text s. rw (← append_assoc text (h ∷ []) (l ∷ []))
+      (quiet_byte (text ++ h ∷ []) l not_second ∙ quiet_byte text h not_first);
   lines = omega arith;
 }
   where
@@ -58,7 +69,8 @@ goes_on_pair old new h l high low p q e first second room kept = record {
     not_second = hex_not_lf l (ap is_some (sym second))
 
 -- one byte more of a comment
-accepts_comment : (n : ℕ) (bytes : List ℕ) (b : ℕ) → b ≢ 10 → n < 120 → Accepts (Comment n) bytes b [] (Comment (n + 1)) bytes
+accepts_comment : (n : ℕ) (bytes : List ℕ) (b : ℕ) → b ≢ 10 → n < 120
+    → Accepts (Comment n) bytes b [] (Comment (n + 1)) bytes
 accepts_comment n bytes b l h = record {
   nothing = λ _. refl;
   reads = λ _ line r. record {
@@ -71,26 +83,40 @@ accepts_comment n bytes b l h = record {
   stands = λ e. absurd (l e);
 }
 
-comment_at : (more : List ℕ) (n m : ℕ) (bytes : List ℕ) (line marks : ℕ) (text : List ℕ) → IsAt (Comment n) bytes line 0 marks text
-    → ((k : ℕ) → k < length more → get_or more k 0 ≢ 10) → n + length more ≡ m → m ≤ 120 → IsAt (Comment m) bytes line 0 marks (text ++ more)
+comment_at : (more : List ℕ) (n m : ℕ) (bytes : List ℕ) (line marks : ℕ) (text : List ℕ)
+    → IsAt (Comment n) bytes line 0 marks text
+    → ((k : ℕ) → k < length more → get_or more k 0 ≢ 10) → n + length more ≡ m → m ≤ 120
+    → IsAt (Comment m) bytes line 0 marks (text ++ more)
 comment_at [] n m bytes line marks text at free sum within =
     let same : n ≡ m = omega arith in rw (← same, append-nil text) at
 comment_at (b ∷ more) n m bytes line marks text at free sum within =
-    let step = at_more (Comment n) (Comment (n + 1)) bytes bytes line 0 marks text at b Nothing (free 0 (omega arith)) (accepts_comment n bytes b (free 0 (omega arith)) (omega arith)) in
-    rw (← append_assoc text (b ∷ []) more) (comment_at more (n + 1) m bytes line marks (text ++ b ∷ []) step (λ k h. free (suc k) (omega arith)) (omega arith) within)
+    let step = at_more (Comment n) (Comment (n + 1)) bytes bytes line 0 marks text
+    at b Nothing (free 0 (omega arith))
+    (accepts_comment n bytes b (free 0 (omega arith)) (omega arith)) in
+    rw (← append_assoc text (b ∷ []) more)
+    (comment_at more (n + 1) m bytes line marks (text ++ b ∷ []) step
+    (λ k h. free (suc k) (omega arith)) (omega arith) within)
 
-quiet_bytes : (more text : List ℕ) → ((k : ℕ) → k < length more → get_or more k 0 ≢ 10) → ended_items (text ++ more) ≡ ended_items text
+quiet_bytes : (more text : List ℕ) → ((k : ℕ) → k < length more → get_or more k 0 ≢ 10)
+    → ended_items (text ++ more) ≡ ended_items text
 quiet_bytes [] text free = rw (append-nil text) refl
 quiet_bytes (b ∷ more) text free =
-    rw (← append_assoc text (b ∷ []) more) (quiet_bytes more (text ++ b ∷ []) (λ k h. free (suc k) (omega arith)) ∙ quiet_byte text b (free 0 (omega arith)))
+    rw (← append_assoc text (b ∷ []) more)
+    (quiet_bytes more (text ++ b ∷ []) (λ k h. free (suc k) (omega arith))
+    ∙ quiet_byte text b (free 0 (omega arith)))
 
 -- bytes of a comment
-pub goes_on_comment : (old new : TickReader) (n m : ℕ) (more : List ℕ) → old.place ≡ Comment n → new.place ≡ Comment m → new.line ≡ old.line
-    → new.bytes.items ≡ old.bytes.items → ((k : ℕ) → k < length more → get_or more k 0 ≢ 10) → n + length more ≡ m → m ≤ 120 → GoesOn old more new
+pub goes_on_comment : (old new : TickReader) (n m : ℕ) (more : List ℕ) → old.place ≡ Comment n
+    → new.place ≡ Comment m → new.line ≡ old.line
+    → new.bytes.items ≡ old.bytes.items → ((k : ℕ) → k < length more → get_or more k 0 ≢ 10)
+    → n + length more ≡ m → m ≤ 120 → GoesOn old more new
 goes_on_comment old new n m more p q e kept free sum within = record {
   stands = λ marks text s.
       let at : IsAt (Comment n) old.bytes.items old.line 0 marks text = rw p at s.at in
-      record { at = rw (q, e, kept) (comment_at more n m old.bytes.items old.line marks text at free sum within) };
+      record {
+        at = rw (q, e, kept) (comment_at more n m old.bytes.items old.line marks text at free
+            sum within);
+      };
   quiet = λ marks text s. quiet_bytes more text free;
   lines = omega arith;
 }
@@ -99,8 +125,10 @@ goes_on_comment old new n m more p q e kept free sum within = record {
 pub take_pair : (bytes : List ℕ) (n : ℕ) → n + 1 < length bytes
     → take (n + 2) bytes ≡ take n bytes ++ get_or bytes n 0 ∷ get_or bytes (n + 1) 0 ∷ []
 take_pair bytes n h =
-    let more : take (n + 1 + 1) bytes ≡ take (n + 1) bytes ++ get_or bytes (n + 1) 0 ∷ [] = take_more bytes (n + 1) 0 h in
-    let first : take (n + 1) bytes ≡ take n bytes ++ get_or bytes n 0 ∷ [] = take_more bytes n 0 (omega arith) in
+    let more : take (n + 1 + 1) bytes ≡ take (n + 1) bytes ++ get_or bytes (n + 1) 0 ∷ [] =
+    take_more bytes (n + 1) 0 h in
+    let first : take (n + 1) bytes ≡ take n bytes ++ get_or bytes n 0 ∷ [] =
+    take_more bytes n 0 (omega arith) in
     let sum : n + 2 ≡ n + 1 + 1 = omega arith in
     ap (λ k. take k bytes) sum ∙ more ∙ ap (λ x. x ++ get_or bytes (n + 1) 0 ∷ []) first
     ∙ append_assoc (take n bytes) (get_or bytes n 0 ∷ []) (get_or bytes (n + 1) 0 ∷ [])
@@ -109,21 +137,30 @@ take_pair bytes n h =
 pub goes_on_slice : (a b c : TickReader) (bytes : List ℕ) (n m : ℕ) → GoesOn a (take n bytes) b
     → GoesOn b (take m (take (length bytes - n) (drop n bytes))) c → GoesOn a (take (n + m) bytes) c
 goes_on_slice a b c bytes n m f g =
-    let rest : take (length bytes - n) (drop n bytes) ≡ drop n bytes = take_all (length bytes - n) (drop n bytes) (omega (arith, length-drop n bytes)) in
-    rw (take-add n m bytes) (goes_on_then a b c (take n bytes) (take m (drop n bytes)) f (subst (λ x. GoesOn b (take m x) c) rest g))
+    let rest : take (length bytes - n) (drop n bytes) ≡ drop n bytes =
+    take_all (length bytes - n) (drop n bytes) (omega (arith, length-drop n bytes)) in
+    rw (take-add n m bytes) (goes_on_then a b c (take n bytes) (take m (drop n bytes)) f
+    (subst (λ x. GoesOn b (take m x) c) rest g))
 
 -- a byte more of a slice
-pub goes_on_byte : (a b c : TickReader) (bytes : List ℕ) (n : ℕ) → n < length bytes → GoesOn a (take n bytes) b → GoesOn b (get_or bytes n 0 ∷ []) c
+pub goes_on_byte : (a b c : TickReader) (bytes : List ℕ) (n : ℕ) → n < length bytes
+    → GoesOn a (take n bytes) b → GoesOn b (get_or bytes n 0 ∷ []) c
     → GoesOn a (take (n + 1) bytes) c
-goes_on_byte a b c bytes n h f g = rw (take_more bytes n 0 h) (goes_on_then a b c (take n bytes) (get_or bytes n 0 ∷ []) f g)
+goes_on_byte a b c bytes n h f g = rw (take_more bytes n 0 h)
+    (goes_on_then a b c (take n bytes) (get_or bytes n 0 ∷ []) f g)
 
 -- a text with a byte more of a slice
-pub text_more : (text bytes : List ℕ) (n : ℕ) → n < length bytes → (text ++ take n bytes) ++ get_or bytes n 0 ∷ [] ≡ text ++ take (n + 1) bytes
-text_more text bytes n h = append_assoc text (take n bytes) (get_or bytes n 0 ∷ []) ∙ ap (λ x. text ++ x) (sym (take_more bytes n 0 h))
+pub text_more : (text bytes : List ℕ) (n : ℕ) → n < length bytes
+    → (text ++ take n bytes) ++ get_or bytes n 0 ∷ [] ≡ text ++ take (n + 1) bytes
+text_more text bytes n h = append_assoc text (take n bytes) (get_or bytes n 0 ∷ [])
+    ∙ ap (λ x. text ++ x) (sym (take_more bytes n 0 h))
 
 -- a byte that was fed
-pub goes_on_fed : (old new : TickReader) (b : ℕ) → ((marks : ℕ) (text : List ℕ) → StandsFor old marks text → StandsFor new marks (text ++ b ∷ []))
-    → ((marks : ℕ) (text : List ℕ) → StandsFor old marks text → ended_items (text ++ b ∷ []) ≡ ended_items text ++ []) → new.line ≤ old.line + 1
+pub goes_on_fed : (old new : TickReader) (b : ℕ)
+    → ((marks : ℕ) (text : List ℕ) → StandsFor old marks text
+    → StandsFor new marks (text ++ b ∷ []))
+    → ((marks : ℕ) (text : List ℕ) → StandsFor old marks text
+    → ended_items (text ++ b ∷ []) ≡ ended_items text ++ []) → new.line ≤ old.line + 1
     → GoesOn old (b ∷ []) new
 goes_on_fed old new b stands run lines = record {
   stands = stands;
@@ -132,8 +169,10 @@ goes_on_fed old new b stands run lines = record {
 }
 
 -- what a search for an LF says of the bytes before it
-pub free_front : (bytes : List ℕ) (room : ℕ) (found : Option ℕ) → room ≤ length bytes → IsFirstByte (is_byte 10) (take room bytes) found
-    → (unwrap_or found room ≤ room) × ((k : ℕ) → k < length (take (unwrap_or found room) bytes) → get_or (take (unwrap_or found room) bytes) k 0 ≢ 10)
+pub free_front : (bytes : List ℕ) (room : ℕ) (found : Option ℕ) → room ≤ length bytes
+    → IsFirstByte (is_byte 10) (take room bytes) found
+    → (unwrap_or found room ≤ room) × ((k : ℕ) → k < length (take (unwrap_or found room) bytes)
+    → get_or (take (unwrap_or found room) bytes) k 0 ≢ 10)
 free_front bytes room None fits none = (
   omega arith,
   λ k h e. none k (omega arith) h (eq-eqb _ 10 e),
@@ -144,10 +183,17 @@ free_front bytes room (Some place) fits first =
       λ k h e.
           let before : k < place = omega (arith, length-take place bytes) in
           let within : k < room = omega arith in
-          first.0.before k (omega arith) before (eq-eqb _ 10 (get_or-take room bytes k 0 within ∙ sym (get_or-take place bytes k 0 before) ∙ e)),
+          first.0.before k (omega arith) before
+          (eq-eqb _ 10 (get_or-take room bytes k 0 within
+          ∙ sym (get_or-take place bytes k 0 before) ∙ e)),
     )
 
 -- a place behind some bytes of the rest of a slice lies within it, unless these are all
-pub within_slice : (bytes : List ℕ) (n m : ℕ) → n ≤ length bytes → m ≤ length (take (length bytes - n) (drop n bytes)) → (n + m ≡ length bytes → ⊥)
+pub within_slice : (bytes : List ℕ) (n m : ℕ) → n ≤ length bytes
+    → m ≤ length (take (length bytes - n) (drop n bytes)) → (n + m ≡ length bytes → ⊥)
     → n + m < length bytes
-within_slice bytes n m h k other = omega (arith, length-take (length bytes - n) (drop n bytes), length-drop n bytes)
+within_slice bytes n m h k other = omega (
+  arith,
+  length-take (length bytes - n) (drop n bytes),
+  length-drop n bytes,
+)

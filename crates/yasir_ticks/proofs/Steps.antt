@@ -1,5 +1,7 @@
 -- What each byte does at each place of a line.
-use Rattle.std.proofs.Common.{◌≡◌, ◌≢◌, ◌∙◌, ◌==◌, ◌&&◌, ◌||◌, ℕ, ◌+◌, ◌*◌, ◌-◌, ◌%◌, ◌≤◌, ◌<◌, suc, Bool, true, false, not, List, [], ◌∷◌, ◌++◌, length, Option, Some, None, Ok, is_some, refl, ap, sym, cond, arith, append_assoc, leb}
+use Rattle.std.proofs.Common.{◌≡◌, ◌≢◌, ◌∙◌, ◌==◌, ◌&&◌, ◌||◌, ℕ, ◌+◌, ◌*◌, ◌-◌, ◌%◌, ◌≤◌, ◌<◌, suc}
+use Rattle.std.proofs.Common.{Bool, true, false, not, List, [], ◌∷◌, ◌++◌, length, Option, Some}
+use Rattle.std.proofs.Common.{None, Ok, is_some, refl, ap, sym, cond, arith, append_assoc, leb}
 use Rattle.std.specs.List.{list_all}
 use Rattle.std.specs.Option.{option_map_or}
 use Rattle.std.proofs.lemmas.Bool.{both_ways, and_parts}
@@ -7,7 +9,9 @@ use Rattle.std.proofs.lemmas.List.{length-append}
 use Rattle.hex.specs.Hex.{decode_of, decode_pairs, is_hex_digit, hex_digit_value}
 use Rattle.yasir_ticks.specs.Ticks.{Item, marks_in}
 use Rattle.yasir_ticks.specs.Ticks.Item.{mark}
-use Rattle.yasir_ticks.specs.TickText.{line_items, content_items, without_return, ends_in_return, byte_items, is_plain_decimal, is_decimal_digit, number_after, fault_in_line, ends_content}
+use Rattle.yasir_ticks.specs.TickText.{line_items, content_items, without_return, ends_in_return}
+use Rattle.yasir_ticks.specs.TickText.{byte_items, is_plain_decimal, is_decimal_digit, number_after}
+use Rattle.yasir_ticks.specs.TickText.{fault_in_line, ends_content}
 use Rattle.yasir_ticks.specs.Place.{is_foreign}
 use Rattle.yasir_ticks.specs.Reader.{Reads, starts_comment, items_of_content}
 use Rattle.yasir_ticks.specs.ReaderStep.{Accepts, Refuses, Closes, IsOpen}
@@ -16,9 +20,16 @@ use Rattle.yasir_ticks.specs.declared.fault.TickFault.TheVariants.{Char, Odd, Lo
 use Rattle.yasir_ticks.specs.declared.place.Content.{Content}
 use Rattle.yasir_ticks.specs.declared.place.Content.TheVariants.{NoTick, KeptBytes, SilentTicks}
 use Rattle.yasir_ticks.specs.declared.place.Place.{Place}
-use Rattle.yasir_ticks.specs.declared.place.Place.TheVariants.{Start, Comment, Pairs, HalfPair, Minus, Number, Returned, Refused}
-use Rattle.yasir_ticks.proofs.Contents.{test_of, line_items-plain, without_return-same, line_items-byte, line_items-return, line_items-return_open, line_items-return_inside}
-use Rattle.yasir_ticks.proofs.Digits.{hex_digits, hex_length, byte_items-bad, byte_items-odd, byte_items-long, byte_items-right, decode_of-more, silence_items-bad, silence_items-right, silence_items-big, silence_items-zero, number_after-append, number_after-grows, is_plain_decimal-more}
+use Rattle.yasir_ticks.specs.declared.place.Place.TheVariants.{Start, Comment, Pairs, HalfPair}
+use Rattle.yasir_ticks.specs.declared.place.Place.TheVariants.{Minus, Number, Returned, Refused}
+use Rattle.yasir_ticks.proofs.Contents.{test_of, line_items-plain, without_return-same}
+use Rattle.yasir_ticks.proofs.Contents.{line_items-byte, line_items-return, line_items-return_open}
+use Rattle.yasir_ticks.proofs.Contents.{line_items-return_inside}
+use Rattle.yasir_ticks.proofs.Digits.{hex_digits, hex_length, byte_items-bad, byte_items-odd}
+use Rattle.yasir_ticks.proofs.Digits.{byte_items-long, byte_items-right, decode_of-more}
+use Rattle.yasir_ticks.proofs.Digits.{silence_items-bad, silence_items-right, silence_items-big}
+use Rattle.yasir_ticks.proofs.Digits.{silence_items-zero, number_after-append, number_after-grows}
+use Rattle.yasir_ticks.proofs.Digits.{is_plain_decimal-more}
 
 -- ---- bytes that aren't LF or CR
 
@@ -35,7 +46,8 @@ pub digit_not_cr : (b : ℕ) → is_decimal_digit b ≡ true → b ≢ 13
 digit_not_cr b h e = both_ways (is_decimal_digit b) (ap is_decimal_digit e) h
 
 -- a line of bytes that pass a test that CR doesn't pass ends in no CR
-ends_in_return-none : (test : ℕ → Bool) → test 13 ≡ false → (c : ℕ) (x : List ℕ) → c ≢ 13 → list_all test x ≡ true → ends_in_return (c ∷ x) ≡ false
+ends_in_return-none : (test : ℕ → Bool) → test 13 ≡ false → (c : ℕ) (x : List ℕ) → c ≢ 13
+    → list_all test x ≡ true → ends_in_return (c ∷ x) ≡ false
 ends_in_return-none test h c [] n g = test_of c 13 n
 ends_in_return-none test h c (d ∷ x) n g =
     let parts = and_parts (test d) (list_all test x) g in
@@ -49,16 +61,20 @@ pub record IsPlain (line : List ℕ) : Type 0 where
 pub plain_pairs : (bytes digits : List ℕ) → decode_of digits ≡ Ok bytes → IsPlain (43 ∷ digits)
 plain_pairs bytes digits e = record {
   apart = refl;
-  whole = ends_in_return-none is_hex_digit refl 43 digits (λ e. absurd (omega arith)) (hex_digits digits bytes e);
+  whole = ends_in_return-none is_hex_digit refl 43 digits (λ e. absurd (omega arith))
+      (hex_digits digits bytes e);
 }
 
-pub plain_half_pair : (bytes digits : List ℕ) (digit high : ℕ) → decode_of digits ≡ Ok bytes → hex_digit_value digit ≡ Some high → IsPlain (43 ∷ (digits ++ digit ∷ []))
+pub plain_half_pair : (bytes digits : List ℕ) (digit high : ℕ) → decode_of digits ≡ Ok bytes
+    → hex_digit_value digit ≡ Some high → IsPlain (43 ∷ (digits ++ digit ∷ []))
 plain_half_pair bytes digits digit high e v = record {
   apart = refl;
-  whole = ends_in_return-none is_hex_digit refl 43 (digits ++ digit ∷ []) (λ e. absurd (omega arith)) (all_more digits (hex_digits digits bytes e) (ap is_some v));
+  whole = ends_in_return-none is_hex_digit refl 43 (digits ++ digit ∷ [])
+      (λ e. absurd (omega arith)) (all_more digits (hex_digits digits bytes e) (ap is_some v));
 }
   where
-    all_more : (x : List ℕ) → list_all is_hex_digit x ≡ true → is_hex_digit digit ≡ true → list_all is_hex_digit (x ++ digit ∷ []) ≡ true
+    all_more : (x : List ℕ) → list_all is_hex_digit x ≡ true → is_hex_digit digit ≡ true
+        → list_all is_hex_digit (x ++ digit ∷ []) ≡ true
     all_more [] h g = rw g refl
     all_more (c ∷ x) h g =
         let parts = and_parts (is_hex_digit c) (list_all is_hex_digit x) h in
@@ -68,15 +84,18 @@ pub plain_number : (digits : List ℕ) → is_plain_decimal digits ≡ true → 
 plain_number [] h = cc
 plain_number (c ∷ x) h = record {
   apart = refl;
-  whole = ends_in_return-none is_decimal_digit refl 45 (c ∷ x) (λ e. absurd (omega arith)) (and_parts (not (c == 48)) (list_all is_decimal_digit (c ∷ x)) h).1;
+  whole = ends_in_return-none is_decimal_digit refl 45 (c ∷ x) (λ e. absurd (omega arith))
+      (and_parts (not (c == 48)) (list_all is_decimal_digit (c ∷ x)) h).1;
 }
 
 -- at the places where a byte may be foreign
-pub foreign_plain : (place : Place) (b : ℕ) (bytes line : List ℕ) → is_foreign place b ≡ true → Reads place bytes line → IsPlain line
+pub foreign_plain : (place : Place) (b : ℕ) (bytes line : List ℕ) → is_foreign place b ≡ true
+    → Reads place bytes line → IsPlain line
 foreign_plain Start b bytes line h r = rw r (record { apart = refl; whole = refl })
 foreign_plain (Comment n) b bytes line h r = cc
 foreign_plain Pairs b bytes line h r = rw r.is (plain_pairs bytes r.digits r.decoded)
-foreign_plain (HalfPair high) b bytes line h r = rw r.is (plain_half_pair bytes r.digits r.digit high r.decoded r.value)
+foreign_plain (HalfPair high) b bytes line h r =
+    rw r.is (plain_half_pair bytes r.digits r.digit high r.decoded r.value)
 foreign_plain Minus b bytes line h r = rw r (record { apart = refl; whole = refl })
 foreign_plain (Number n) b bytes line h r = rw r.is (plain_number r.digits r.plain)
 foreign_plain (Returned content) b bytes line h r = cc
@@ -84,7 +103,8 @@ foreign_plain (Refused why) b bytes line h r = absurd r
 
 -- such a line stands for what stands on it
 pub plain_items : (line : List ℕ) → IsPlain line → line_items line ≡ content_items line
-plain_items line p = line_items-plain line p.apart ∙ ap content_items (without_return-same line p.whole)
+plain_items line p = line_items-plain line p.apart
+    ∙ ap content_items (without_return-same line p.whole)
 
 -- ---- where a line may end
 
@@ -107,16 +127,19 @@ comment_long after h = rw (beyond (length after) h) refl
     beyond n h = grind arith
 
 pub closes_comment : (n : ℕ) (bytes : List ℕ) → Closes (Comment n) bytes NoTick
-closes_comment n bytes = record { stands = λ line r. rw r.is (comment_items r.after (rw r.long r.fits)) }
+closes_comment n bytes =
+    record { stands = λ line r. rw r.is (comment_items r.after (rw r.long r.fits)) }
 
 pub closes_pairs : (bytes : List ℕ) → 0 < length bytes → Closes Pairs bytes KeptBytes
 closes_pairs bytes h = record {
-  stands = λ line r. rw r.is (plain_items (43 ∷ r.digits) (plain_pairs bytes r.digits r.decoded) ∙ byte_items-right r.digits bytes r.decoded (omega arith) r.fits);
+  stands = λ line r. rw r.is (plain_items (43 ∷ r.digits) (plain_pairs bytes r.digits r.decoded)
+      ∙ byte_items-right r.digits bytes r.decoded (omega arith) r.fits);
 }
 
 pub closes_number : (n : ℕ) (bytes : List ℕ) → Closes (Number n) bytes (SilentTicks n)
 closes_number n bytes = record {
-  stands = λ line r. rw r.is (plain_items (45 ∷ r.digits) (plain_number r.digits r.plain) ∙ silence_items-right r.digits n r.plain r.number r.fits);
+  stands = λ line r. rw r.is (plain_items (45 ∷ r.digits) (plain_number r.digits r.plain)
+      ∙ silence_items-right r.digits n r.plain r.number r.fits);
 }
 
 pub closes_returned : (content : Content) (bytes : List ℕ) → Closes (Returned content) bytes content
@@ -128,39 +151,54 @@ closes_returned content bytes = record {
 
 pub open_pairs : (bytes : List ℕ) → length bytes ≡ 0 → IsOpen Pairs bytes Empty
 open_pairs bytes h = record {
-  wrong = λ line r. rw r.is (plain_items (43 ∷ r.digits) (plain_pairs bytes r.digits r.decoded) ∙ no_bytes r.digits (omega (arith, hex_length r.digits bytes r.decoded)));
-  cause = λ line next e r. rw r.is (empty_cause r.digits next (plain_pairs bytes r.digits r.decoded).whole e (omega (arith, hex_length r.digits bytes r.decoded)));
+  wrong = λ line r. rw r.is (plain_items (43 ∷ r.digits) (plain_pairs bytes r.digits r.decoded)
+      ∙ no_bytes r.digits (omega (arith, hex_length r.digits bytes r.decoded)));
+  cause = λ line next e r. rw r.is
+      (empty_cause r.digits next (plain_pairs bytes r.digits r.decoded).whole e
+      (omega (arith, hex_length r.digits bytes r.decoded)));
 }
   where
     no_bytes : (digits : List ℕ) → length digits ≡ 0 → byte_items digits ≡ None
     no_bytes [] h = refl
     no_bytes (d ∷ digits) h = absurd (omega arith)
 
-    empty_cause : (digits : List ℕ) (next : Option ℕ) → ends_in_return (43 ∷ digits) ≡ false → ends_content next ≡ true → length digits ≡ 0
+    empty_cause : (digits : List ℕ) (next : Option ℕ) → ends_in_return (43 ∷ digits) ≡ false
+        → ends_content next ≡ true → length digits ≡ 0
         → fault_in_line (43 ∷ digits) next ≡ Empty
     empty_cause [] next w e h = rw e refl
     empty_cause (d ∷ digits) next w e h = absurd (omega arith)
 
-odd_length : (digits bytes : List ℕ) (digit : ℕ) → decode_of digits ≡ Ok bytes → length (digits ++ digit ∷ []) ≡ suc (2 * length bytes)
-odd_length digits bytes digit e = omega (arith, length-append digits (digit ∷ []), hex_length digits bytes e)
+odd_length : (digits bytes : List ℕ) (digit : ℕ) → decode_of digits ≡ Ok bytes
+    → length (digits ++ digit ∷ []) ≡ suc (2 * length bytes)
+odd_length digits bytes digit e = omega (
+  arith,
+  length-append digits (digit ∷ []),
+  hex_length digits bytes e,
+)
 
 odd_of : (n k : ℕ) → n ≡ suc (2 * k) → n % 2 ≡ 1
 odd_of n k e = omega arith
 
-odd_cause : (digits : List ℕ) (next : Option ℕ) (k : ℕ) → ends_in_return (43 ∷ digits) ≡ false → ends_content next ≡ true → length digits ≡ suc (2 * k)
+odd_cause : (digits : List ℕ) (next : Option ℕ) (k : ℕ) → ends_in_return (43 ∷ digits) ≡ false
+    → ends_content next ≡ true → length digits ≡ suc (2 * k)
     → fault_in_line (43 ∷ digits) next ≡ Odd
 odd_cause digits next k w e h = rw (w, e, h, odd_of (suc (2 * k)) k refl) (tests k)
   where
-    tests : (k : ℕ) → cond (suc (2 * k) == 0) Empty (cond (1 == 1) Odd (cond (option_map_or is_hex_digit next false && suc (2 * k) == 64) Long Char)) ≡ Odd
+    tests : (k : ℕ) → cond (suc (2 * k) == 0) Empty
+        (cond (1 == 1) Odd (cond (option_map_or is_hex_digit next false && suc (2 * k) == 64) Long
+        Char)) ≡ Odd
     tests k = rw (test_of (suc (2 * k)) 0 (λ e. absurd (omega arith))) refl
 
 pub open_half_pair : (high : ℕ) (bytes : List ℕ) → IsOpen (HalfPair high) bytes Odd
 open_half_pair high bytes = record {
   wrong = λ line r. rw r.is (
-      plain_items (43 ∷ (r.digits ++ r.digit ∷ [])) (plain_half_pair bytes r.digits r.digit high r.decoded r.value)
-      ∙ byte_items-odd (r.digits ++ r.digit ∷ []) (odd_of _ (length bytes) (odd_length r.digits bytes r.digit r.decoded)));
+      plain_items (43 ∷ (r.digits ++ r.digit ∷ []))
+      (plain_half_pair bytes r.digits r.digit high r.decoded r.value)
+      ∙ byte_items-odd (r.digits ++ r.digit ∷ [])
+      (odd_of _ (length bytes) (odd_length r.digits bytes r.digit r.decoded)));
   cause = λ line next e r. rw r.is (odd_cause (r.digits ++ r.digit ∷ []) next (length bytes)
-      (plain_half_pair bytes r.digits r.digit high r.decoded r.value).whole e (odd_length r.digits bytes r.digit r.decoded));
+      (plain_half_pair bytes r.digits r.digit high r.decoded r.value).whole e
+      (odd_length r.digits bytes r.digit r.decoded));
 }
 
 pub open_minus : (bytes : List ℕ) → IsOpen Minus bytes Empty
@@ -182,14 +220,21 @@ open_refused why bytes = record {
 accepts : {place new_place : Place} {bytes new_bytes : List ℕ} {b : ℕ} → b ≢ 10
     → ((line : List ℕ) → Reads place bytes line → Reads new_place new_bytes (line ++ b ∷ []))
     → Accepts place bytes b [] new_place new_bytes
-accepts n f = record { nothing = λ _. refl; reads = λ _. f; start = λ e. absurd (n e); stands = λ e. absurd (n e) }
+accepts n f = record {
+  nothing = λ _. refl;
+  reads = λ _. f;
+  start = λ e. absurd (n e);
+  stands = λ e. absurd (n e);
+}
 
 pub accepts_plus : (bytes : List ℕ) → Accepts Start bytes 43 [] Pairs []
 unfolding decode_pairs
 accepts_plus bytes =
-    accepts (λ e. absurd (omega arith)) (λ line r. rw r (record { digits = []; is = refl; decoded = refl; fits = omega arith }))
+    accepts (λ e. absurd (omega arith))
+    (λ line r. rw r (record { digits = []; is = refl; decoded = refl; fits = omega arith }))
 
-pub accepts_high : (bytes : List ℕ) (b high : ℕ) → hex_digit_value b ≡ Some high → length bytes < 32 → Accepts Pairs bytes b [] (HalfPair high) bytes
+pub accepts_high : (bytes : List ℕ) (b high : ℕ) → hex_digit_value b ≡ Some high → length bytes < 32
+    → Accepts Pairs bytes b [] (HalfPair high) bytes
 accepts_high bytes b high v h =
     accepts (hex_not_lf b (ap is_some v)) (λ line r. record {
       digits = r.digits;
@@ -200,7 +245,8 @@ accepts_high bytes b high v h =
       fits = h;
     })
 
-pub accepts_low : (bytes : List ℕ) (b high low : ℕ) → hex_digit_value b ≡ Some low → Accepts (HalfPair high) bytes b [] Pairs (bytes ++ (high * 16 + low) ∷ [])
+pub accepts_low : (bytes : List ℕ) (b high low : ℕ) → hex_digit_value b ≡ Some low
+    → Accepts (HalfPair high) bytes b [] Pairs (bytes ++ (high * 16 + low) ∷ [])
 accepts_low bytes b high low v =
     accepts (hex_not_lf b (ap is_some v)) (λ line r. record {
       digits = r.digits ++ r.digit ∷ b ∷ [];
@@ -209,7 +255,8 @@ accepts_low bytes b high low v =
       fits = omega (arith, length-append bytes ((high * 16 + low) ∷ []), r.fits);
     })
 
-pub accepts_digit : (n : ℕ) (bytes : List ℕ) (b : ℕ) → is_decimal_digit b ≡ true → n * 10 + (b - 48) ≤ 1000000
+pub accepts_digit : (n : ℕ) (bytes : List ℕ) (b : ℕ) → is_decimal_digit b ≡ true
+    → n * 10 + (b - 48) ≤ 1000000
     → Accepts (Number n) bytes b [] (Number (n * 10 + (b - 48))) bytes
 accepts_digit n bytes b d h =
     accepts (digit_not_lf b d) (λ line r. record {
@@ -221,7 +268,8 @@ accepts_digit n bytes b d h =
     })
 
 -- the CR behind a content
-pub accepts_return : (place : Place) (bytes : List ℕ) (content : Content) → is_foreign place 13 ≡ true → Closes place bytes content
+pub accepts_return : (place : Place) (bytes : List ℕ) (content : Content)
+    → is_foreign place 13 ≡ true → Closes place bytes content
     → Accepts place bytes 13 [] (Returned content) bytes
 accepts_return place bytes content f c =
     accepts (λ e. absurd (omega arith)) (λ line r. record {
@@ -232,7 +280,8 @@ accepts_return place bytes content f c =
     })
 
 -- the LF of a line
-pub accepts_lf : (place : Place) (bytes new_bytes : List ℕ) (content : Content) → Closes place bytes content
+pub accepts_lf : (place : Place) (bytes new_bytes : List ℕ) (content : Content)
+    → Closes place bytes content
     → Accepts place bytes 10 (items_of_content content bytes) Start new_bytes
 accepts_lf place bytes new_bytes content c = record {
   nothing = λ n. absurd (n refl);
@@ -244,7 +293,8 @@ accepts_lf place bytes new_bytes content c = record {
 -- ---- a byte that may not stand where it stands
 
 refuses : {place : Place} {bytes : List ℕ} {b : ℕ} {why : TickFault} → b ≢ 10
-    → ((line : List ℕ) → Reads place bytes line → (more : List ℕ) → line_items (line ++ b ∷ more) ≡ None)
+    → ((line : List ℕ) → Reads place bytes line → (more : List ℕ)
+    → line_items (line ++ b ∷ more) ≡ None)
     → ((line : List ℕ) → Reads place bytes line → fault_in_line line (Some b) ≡ why)
     → Refuses place bytes b why
 refuses n f c = record {
@@ -253,29 +303,36 @@ refuses n f c = record {
   cause = c;
 }
 
-pub refuses_open_return : (place : Place) (bytes : List ℕ) (why : TickFault) → is_foreign place 13 ≡ true → IsOpen place bytes why → Refuses place bytes 13 why
+pub refuses_open_return : (place : Place) (bytes : List ℕ) (why : TickFault)
+    → is_foreign place 13 ≡ true → IsOpen place bytes why → Refuses place bytes 13 why
 refuses_open_return place bytes why f o =
     refuses (λ e. absurd (omega arith))
     (λ line r more. let p = foreign_plain place 13 bytes line f r in
     line_items-return_open line more p.apart (sym (plain_items line p) ∙ o.wrong line r))
     (λ line r. o.cause line (Some 13) refl r)
 
-pub refuses_comment : (n : ℕ) (bytes : List ℕ) (b : ℕ) → 120 ≤ n → b ≢ 10 → Refuses (Comment n) bytes b Long
+pub refuses_comment : (n : ℕ) (bytes : List ℕ) (b : ℕ) → 120 ≤ n → b ≢ 10
+    → Refuses (Comment n) bytes b Long
 refuses_comment n bytes b h l =
     refuses l
-    (λ line r more. rw r.is (comment_long (r.after ++ b ∷ more) (omega (arith, length-append r.after (b ∷ more), r.long))))
+    (λ line r more. rw r.is (comment_long (r.after ++ b ∷ more)
+    (omega (arith, length-append r.after (b ∷ more), r.long))))
     (λ line r. rw r.is refl)
 
 -- a byte behind a content: if no content goes on with it, no line does
 refuses_inside : {place : Place} {bytes : List ℕ} {b : ℕ} {why : TickFault} → b ≢ 10 → b ≢ 13
-    → ((line : List ℕ) → Reads place bytes line → (more : List ℕ) → starts_comment (line ++ b ∷ more) ≡ false)
-    → ((line : List ℕ) → Reads place bytes line → (more : List ℕ) → content_items (line ++ b ∷ more) ≡ None)
+    → ((line : List ℕ) → Reads place bytes line → (more : List ℕ)
+    → starts_comment (line ++ b ∷ more) ≡ false)
+    → ((line : List ℕ) → Reads place bytes line → (more : List ℕ)
+    → content_items (line ++ b ∷ more) ≡ None)
     → ((line : List ℕ) → Reads place bytes line → fault_in_line line (Some b) ≡ why)
     → Refuses place bytes b why
 refuses_inside {b = b} l c apart f cause =
-    refuses l (λ line r more. line_items-byte line b more (apart line r more) c ∙ f line r (without_return more)) cause
+    refuses l (λ line r more. line_items-byte line b more (apart line r more) c
+    ∙ f line r (without_return more)) cause
 
-pub refuses_long : (bytes : List ℕ) (b : ℕ) → is_hex_digit b ≡ true → 32 ≤ length bytes → Refuses Pairs bytes b Long
+pub refuses_long : (bytes : List ℕ) (b : ℕ) → is_hex_digit b ≡ true → 32 ≤ length bytes
+    → Refuses Pairs bytes b Long
 refuses_long bytes b d h =
     refuses_inside (hex_not_lf b d) (hex_not_cr b d) (λ line r more. rw r.is refl)
     (λ line r more. rw r.is (byte_items-long (r.digits ++ b ∷ more)
@@ -283,36 +340,59 @@ refuses_long bytes b d h =
     (λ line r. rw r.is (long_cause r.digits (plain_pairs bytes r.digits r.decoded).whole
     (omega (arith, hex_length r.digits bytes r.decoded, r.fits))))
   where
-    long_cause : (digits : List ℕ) → ends_in_return (43 ∷ digits) ≡ false → length digits ≡ 64 → fault_in_line (43 ∷ digits) (Some b) ≡ Long
-    long_cause digits w e = rw (w, test_of b 10 (hex_not_lf b d), test_of b 13 (hex_not_cr b d), d, e) refl
+    long_cause : (digits : List ℕ) → ends_in_return (43 ∷ digits) ≡ false → length digits ≡ 64
+        → fault_in_line (43 ∷ digits) (Some b) ≡ Long
+    long_cause digits w e = rw (
+      w,
+      test_of b 10 (hex_not_lf b d),
+      test_of b 13 (hex_not_cr b d),
+      d,
+      e,
+    ) refl
 
 pub refuses_zero : (bytes : List ℕ) → Refuses Minus bytes 48 Count
 refuses_zero bytes =
-    refuses_inside (λ e. absurd (omega arith)) (λ e. absurd (omega arith)) (λ line r more. rw r refl)
+    refuses_inside (λ e. absurd (omega arith)) (λ e. absurd (omega arith))
+    (λ line r more. rw r refl)
     (λ line r more. rw r (silence_items-zero more))
     (λ line r. rw r refl)
 
-pub refuses_count : (n : ℕ) (bytes : List ℕ) (b : ℕ) → is_decimal_digit b ≡ true → 1000000 < n * 10 + (b - 48) → Refuses (Number n) bytes b Count
+pub refuses_count : (n : ℕ) (bytes : List ℕ) (b : ℕ) → is_decimal_digit b ≡ true
+    → 1000000 < n * 10 + (b - 48) → Refuses (Number n) bytes b Count
 refuses_count n bytes b d h =
     refuses_inside (digit_not_lf b d) (digit_not_cr b d) (λ line r more. rw r.is refl)
     (λ line r more. rw r.is (silence_items-big (r.digits ++ b ∷ more)
-    (omega (arith, number_after-append 0 r.digits b more, number_after-grows (10 * number_after 0 r.digits + (b - 48)) more, r.number))))
+    (omega (
+      arith,
+      number_after-append 0 r.digits b more,
+      number_after-grows (10 * number_after 0 r.digits + (b - 48)) more,
+      r.number,
+    ))))
     (λ line r. rw r.is (count_cause r.digits (plain_number r.digits r.plain).whole))
   where
-    count_cause : (digits : List ℕ) → ends_in_return (45 ∷ digits) ≡ false → fault_in_line (45 ∷ digits) (Some b) ≡ Count
-    count_cause digits w = rw (w, test_of b 10 (digit_not_lf b d), test_of b 13 (digit_not_cr b d), d) refl
+    count_cause : (digits : List ℕ) → ends_in_return (45 ∷ digits) ≡ false
+        → fault_in_line (45 ∷ digits) (Some b) ≡ Count
+    count_cause digits w = rw (
+      w,
+      test_of b 10 (digit_not_lf b d),
+      test_of b 13 (digit_not_cr b d),
+      d,
+    ) refl
 
-pub refuses_after_return : (content : Content) (bytes : List ℕ) (b : ℕ) → b ≢ 10 → Refuses (Returned content) bytes b Char
+pub refuses_after_return : (content : Content) (bytes : List ℕ) (b : ℕ) → b ≢ 10
+    → Refuses (Returned content) bytes b Char
 refuses_after_return content bytes b l =
     refuses l
-    (λ line r more. rw (r.is, append_assoc r.before (13 ∷ []) (b ∷ more)) (line_items-return_inside r.before b more r.apart))
+    (λ line r more. rw (r.is, append_assoc r.before (13 ∷ []) (b ∷ more))
+    (line_items-return_inside r.before b more r.apart))
     (λ line r. rw r.is (return_cause r.before r.apart))
   where
     ends : (c : ℕ) (x : List ℕ) → ends_in_return (c ∷ (x ++ 13 ∷ [])) ≡ true
     ends c [] = refl
     ends c (d ∷ x) = ends d x
 
-    return_cause : (x : List ℕ) → starts_comment x ≡ false → fault_in_line (x ++ 13 ∷ []) (Some b) ≡ Char
+    return_cause : (x : List ℕ) → starts_comment x ≡ false
+        → fault_in_line (x ++ 13 ∷ []) (Some b) ≡ Char
     return_cause [] h = refl
     return_cause (c ∷ x) h = rw (h, ends c x) refl
 
@@ -325,37 +405,47 @@ or_false true q h = cc
 or_false false q h = (refl, h)
 
 -- a first byte of a line that is none of the signs: no line begins so, but a mark
-pub refuses_start : (bytes : List ℕ) (b : ℕ) → is_foreign Start b ≡ true → b ≢ 10 → b ≢ 13 → Refuses Start bytes b Char
+pub refuses_start : (bytes : List ℕ) (b : ℕ) → is_foreign Start b ≡ true → b ≢ 10 → b ≢ 13
+    → Refuses Start bytes b Char
 refuses_start bytes b f l c = record {
-  wrong = λ _ line r more items e. only_mark (without_return more) items (sym (line_of line r more) ∙ e);
+  wrong = λ _ line r more items e. only_mark (without_return more) items
+      (sym (line_of line r more) ∙ e);
   ended = λ e. absurd (l e);
   cause = λ line r. rw r refl;
 }
   where
     signs : ((b == 35) ≡ false) × ((b == 43) ≡ false) × ((b == 45) ≡ false)
     signs =
-        let one = or_false (b == 35 || b == 43) (b == 45) (not_true (b == 35 || b == 43 || b == 45) f) in
+        let one = or_false (b == 35 || b == 43) (b == 45)
+        (not_true (b == 35 || b == 43 || b == 45) f) in
         let two = or_false (b == 35) (b == 43) one.0 in
         (two.0, two.1, one.1)
 
-    line_of : (line : List ℕ) → line ≡ [] → (more : List ℕ) → line_items (line ++ b ∷ more) ≡ content_items (b ∷ without_return more)
+    line_of : (line : List ℕ) → line ≡ [] → (more : List ℕ)
+        → line_items (line ++ b ∷ more) ≡ content_items (b ∷ without_return more)
     line_of line r more = rw r (line_items-byte [] b more signs.0 c)
 
-    by_percent : (t : Bool) (n : ℕ) (items : List Item) → cond t (cond (n == 0) (Some (mark ∷ [])) None) None ≡ Some items → 0 < marks_in items
+    by_percent : (t : Bool) (n : ℕ) (items : List Item)
+        → cond t (cond (n == 0) (Some (mark ∷ [])) None) None ≡ Some items → 0 < marks_in items
     by_percent false n items e = cc
     by_percent true n items e = by_length (n == 0) items e
       where
-        by_length : (t : Bool) (items : List Item) → cond t (Some (mark ∷ [])) None ≡ Some items → 0 < marks_in items
+        by_length : (t : Bool) (items : List Item) → cond t (Some (mark ∷ [])) None ≡ Some items
+            → 0 < marks_in items
         by_length false items e = cc
         by_length true items e = let same : mark ∷ [] ≡ items = cc in rw (← same) (omega arith)
 
-    only_mark : (more : List ℕ) (items : List Item) → content_items (b ∷ more) ≡ Some items → 0 < marks_in items
+    only_mark : (more : List ℕ) (items : List Item) → content_items (b ∷ more) ≡ Some items
+        → 0 < marks_in items
     only_mark more items e =
-        let same : content_items (b ∷ more) ≡ cond (b == 37) (cond (length more == 0) (Some (mark ∷ [])) None) None = rw (signs.1, signs.2) refl in
+        let same : content_items (b ∷ more)
+        ≡ cond (b == 37) (cond (length more == 0) (Some (mark ∷ [])) None) None =
+        rw (signs.1, signs.2) refl in
         by_percent (b == 37) (length more) items (sym same ∙ e)
 
 -- a byte that no content of this sign has
-refuses_behind_sign : (place : Place) (bytes : List ℕ) (b : ℕ) → is_foreign place b ≡ true → b ≢ 10 → b ≢ 13
+refuses_behind_sign : (place : Place) (bytes : List ℕ) (b : ℕ) → is_foreign place b ≡ true → b ≢ 10
+    → b ≢ 13
     → (sign : ℕ) → (sign == 35) ≡ false
     → ((line : List ℕ) → Reads place bytes line → (x : List ℕ) × (line ≡ sign ∷ x))
     → ((x more : List ℕ) → content_items (sign ∷ (x ++ b ∷ more)) ≡ None)
@@ -364,10 +454,12 @@ refuses_behind_sign : (place : Place) (bytes : List ℕ) (b : ℕ) → is_foreig
 refuses_behind_sign place bytes b f l c sign h form none cause =
     refuses_inside l c (λ line r more. rw (form line r).1 h)
     (λ line r more. let x = form line r in rw x.1 (none x.0 more))
-    (λ line r. let x = form line r in rw x.1 (cause x.0 (rw x.1 at (foreign_plain place b bytes line f r).whole)))
+    (λ line r. let x = form line r in rw x.1
+    (cause x.0 (rw x.1 at (foreign_plain place b bytes line f r).whole)))
 
 -- another byte that is no part of the content
-pub refuses_foreign : (place : Place) (bytes : List ℕ) (b : ℕ) → is_foreign place b ≡ true → b ≢ 10 → b ≢ 13 → Refuses place bytes b Char
+pub refuses_foreign : (place : Place) (bytes : List ℕ) (b : ℕ) → is_foreign place b ≡ true → b ≢ 10
+    → b ≢ 13 → Refuses place bytes b Char
 refuses_foreign Start bytes b f l c = refuses_start bytes b f l c
 refuses_foreign (Comment n) bytes b f l c = cc
 refuses_foreign Pairs bytes b f l c =

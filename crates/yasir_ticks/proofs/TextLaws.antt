@@ -8,19 +8,28 @@ use Rattle.yasir_ticks.proofs.Lines.{joined, all_lines, all_lines-append}
 use Rattle.yasir_ticks.proofs.Items.{all_items_parts, line_items_parts}
 
 -- lines that all have a right form stand for the items of each
-flat-all_items : (ls : List (List ℕ)) (items : List Item) → all_items ls ≡ Some items → flat_map (λ l. unwrap_or (line_items l) []) ls ≡ items
+flat-all_items : (ls : List (List ℕ)) (items : List Item) → all_items ls ≡ Some items
+    → flat_map (λ l. unwrap_or (line_items l) []) ls ≡ items
 flat-all_items [] items h = cc
 flat-all_items (l ∷ ls) items h =
     let parts = line_items_parts l ls items h in
-    let rest : flat_map (λ l. unwrap_or (line_items l) []) ls ≡ parts.back = flat-all_items ls parts.back parts.more_is in
-    ap (λ o. unwrap_or o [] ++ flat_map (λ l. unwrap_or (line_items l) []) ls) parts.first_is ∙ ap (λ r. parts.front ++ r) rest ∙ sym parts.whole
+    let rest : flat_map (λ l. unwrap_or (line_items l) []) ls ≡ parts.back =
+    flat-all_items ls parts.back parts.more_is in
+    ap (λ o. unwrap_or o [] ++ flat_map (λ l. unwrap_or (line_items l) []) ls) parts.first_is
+    ∙ ap (λ r. parts.front ++ r) rest ∙ sym parts.whole
 
 -- the items of a right text begin with those of the lines that a beginning of it has ended
-pub ended_items-begin : (marks : ℕ) (x y : List ℕ) (items : List Item) → IsTickText marks (x ++ y) items → (more : List Item) × (items ≡ ended_items x ++ more)
+pub ended_items-begin : (marks : ℕ) (x y : List ℕ) (items : List Item)
+    → IsTickText marks (x ++ y) items → (more : List Item) × (items ≡ ended_items x ++ more)
 ended_items-begin marks x y items right =
-    let parts = all_items_parts (lines_of x).ended (joined (lines_of x).last (all_lines y)) items (sym (ap all_items (all_lines-append x y)) ∙ right.lines) in
-    (parts.back, parts.whole ∙ ap (λ l. l ++ parts.back) (sym (flat-all_items (lines_of x).ended parts.front parts.first_is)))
+    let parts = all_items_parts (lines_of x).ended (joined (lines_of x).last (all_lines y)) items
+    (sym (ap all_items (all_lines-append x y)) ∙ right.lines) in (
+      parts.back,
+      parts.whole ∙ ap (λ l. l ++ parts.back)
+          (sym (flat-all_items (lines_of x).ended parts.front parts.first_is)),
+    )
 
 -- a text stands for one list of items alone
-pub IsTickText-one : (marks : ℕ) (text : List ℕ) (items others : List Item) → IsTickText marks text items → IsTickText marks text others → items ≡ others
+pub IsTickText-one : (marks : ℕ) (text : List ℕ) (items others : List Item)
+    → IsTickText marks text items → IsTickText marks text others → items ≡ others
 IsTickText-one marks text items others right other = let both = sym right.lines ∙ other.lines in cc

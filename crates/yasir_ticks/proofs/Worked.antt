@@ -3,15 +3,18 @@ use Rattle.std.proofs.Common.{◌≡◌, [], ◌∷◌, ◌++◌, replicate, cod
 use Rattle.std.specs.Fmt.{digits}
 use Rattle.hex.specs.Hex.{decode_pairs, encode_with}
 use Rattle.yasir_ticks.specs.Ticks.Item.{tick, mark}
-use Rattle.yasir_ticks.specs.TickText.{lines_of, line_items, silence_items, IsTickText, fault_after, fault_at_end, line_after}
+use Rattle.yasir_ticks.specs.TickText.{lines_of, line_items, silence_items, IsTickText, fault_after}
+use Rattle.yasir_ticks.specs.TickText.{fault_at_end, line_after}
 use Rattle.yasir_ticks.specs.CanonicalText.{canonical_text, stretch_lines}
 use Rattle.yasir_ticks.specs.CanonicalText.Stretch.{silence}
-use Rattle.yasir_ticks.specs.declared.fault.TickFault.TheVariants.{Char, Odd, Long, Count, Empty, Mark}
+use Rattle.yasir_ticks.specs.declared.fault.TickFault.TheVariants.{Char, Odd, Long, Count, Empty}
+use Rattle.yasir_ticks.specs.declared.fault.TickFault.TheVariants.{Mark}
 use Rattle.yasir_ticks.specs.declared.tick.Tick.TheVariants.{Silent, Byte}
 use Rattle.yasir_ticks.proofs.Digits.{silence_items-right, silence_items-big}
 
 -- a last line without LF, and each kind of line, with LF or with CR and LF
-accepts_each_kind : IsTickText 1 (codes "+0aF5" ++ 13 ∷ 10 ∷ 10 ∷ codes "# a" ++ 13 ∷ 10 ∷ 13 ∷ 10 ∷ codes "%" ++ 10 ∷ codes "-3")
+accepts_each_kind : IsTickText 1 (codes "+0aF5" ++ 13 ∷ 10 ∷ 10 ∷ codes "# a" ++ 13 ∷ 10 ∷ 13 ∷ 10
+    ∷ codes "%" ++ 10 ∷ codes "-3")
     (tick (Byte 10) ∷ tick (Byte 245) ∷ mark ∷ tick Silent ∷ tick Silent ∷ tick Silent ∷ [])
 unfolding lines_of line_items decode_pairs
 accepts_each_kind = record { lines = refl; marked = refl }
@@ -114,11 +117,13 @@ module _ where
 canonical_nothing : canonical_text [] ≡ []
 canonical_nothing = refl
 
-canonical_short : canonical_text (Byte 1 ∷ Byte 171 ∷ Silent ∷ Silent ∷ Byte 0 ∷ []) ≡ codes "+01ab" ++ 10 ∷ codes "-2" ++ 10 ∷ codes "+00" ++ 10 ∷ []
+canonical_short : canonical_text (Byte 1 ∷ Byte 171 ∷ Silent ∷ Silent ∷ Byte 0 ∷ [])
+    ≡ codes "+01ab" ++ 10 ∷ codes "-2" ++ 10 ∷ codes "+00" ++ 10 ∷ []
 unfolding encode_with digits
 canonical_short = refl
 
-canonical_34_bytes : canonical_text (replicate 34 (Byte 0)) ≡ 43 ∷ replicate 64 48 ++ 10 ∷ codes "+0000" ++ 10 ∷ []
+canonical_34_bytes : canonical_text (replicate 34 (Byte 0))
+    ≡ 43 ∷ replicate 64 48 ++ 10 ∷ codes "+0000" ++ 10 ∷ []
 unfolding encode_with
 canonical_34_bytes = refl
 
@@ -126,6 +131,7 @@ canonical_32_bytes : canonical_text (replicate 32 (Byte 0)) ≡ 43 ∷ replicate
 unfolding encode_with
 canonical_32_bytes = refl
 
-canonical_long_silence : stretch_lines (silence 2000003) ≡ codes "-1000000" ++ 10 ∷ codes "-1000000" ++ 10 ∷ codes "-3" ++ 10 ∷ []
+canonical_long_silence : stretch_lines (silence 2000003)
+    ≡ codes "-1000000" ++ 10 ∷ codes "-1000000" ++ 10 ∷ codes "-3" ++ 10 ∷ []
 unfolding digits
 canonical_long_silence = refl

@@ -1,5 +1,7 @@
--- Bursts of a line: the line is cut wherever `cut` or more silent ticks stand together. The start of the line counts as quiet.
-use Rattle.std.specs.Prelude.{ℕ, suc, ◌+◌, ◌-◌, ◌≤◌, nat_lt, List, [], ◌∷◌, ◌++◌, length, if◌then◌else◌}
+-- Bursts of a line: the line is cut wherever `cut` or more silent ticks stand together. The start
+-- of the line counts as quiet.
+use Rattle.std.specs.Prelude.{ℕ, suc, ◌+◌, ◌-◌, ◌≤◌, nat_lt, List, [], ◌∷◌, ◌++◌, length}
+use Rattle.std.specs.Prelude.{if◌then◌else◌}
 use Rattle.yasir_ticks.specs.Ticks.{silent}
 use Rattle.yasir_ticks.specs.declared.TheConstants.{T3_5_TICKS}
 use Rattle.yasir_ticks.specs.declared.tick.Tick.{Tick}
@@ -10,7 +12,8 @@ pub record Burst : Type 0 where
   pub start : ℕ
   pub body : List Tick
 
--- A byte at tick n, before these bursts: it joins one that starts fewer than `cut` silent ticks after it.
+-- A byte at tick n, before these bursts: it joins one that starts fewer than `cut` silent ticks
+-- after it.
 unfoldable pub with_byte : ℕ → ℕ → ℕ → List Burst → List Burst
 with_byte cut n b [] = record { start = n; body = Byte b ∷ [] } ∷ []
 with_byte cut n b (d ∷ ds) =

@@ -1,5 +1,7 @@
--- The canonical tick text of a list of ticks: maximal runs of bytes and of silence, cut into lines as long as may be.
-use Rattle.std.specs.Prelude.{ℕ, suc, ◌+◌, ◌*◌, ◌/◌, ◌%◌, ◌==◌, if◌then◌else◌, List, [], ◌∷◌, ◌++◌, length, take, drop, replicate}
+-- The canonical tick text of a list of ticks: maximal runs of bytes and of silence, cut into lines
+-- as long as may be.
+use Rattle.std.specs.Prelude.{ℕ, suc, ◌+◌, ◌*◌, ◌/◌, ◌%◌, ◌==◌, if◌then◌else◌, List, [], ◌∷◌, ◌++◌}
+use Rattle.std.specs.Prelude.{length, take, drop, replicate}
 use Rattle.std.specs.List.{flat_map, range_with_len}
 use Rattle.std.specs.Fmt.{decimal}
 use Rattle.hex.specs.Hex.{encode_lower}
@@ -31,9 +33,11 @@ byte_line l = plus_sign ∷ (encode_lower l ++ line_feed ∷ [])
 abbrev pub silence_line : ℕ → List ℕ
 silence_line n = minus_sign ∷ (decimal n ++ line_feed ∷ [])
 
--- lines of 32 bytes, the last one shorter where need be; lines of 1000000 silent ticks, the last one smaller where need be
+-- lines of 32 bytes, the last one shorter where need be; lines of 1000000 silent ticks, the last
+-- one smaller where need be
 abbrev pub stretch_lines : Stretch → List ℕ
-stretch_lines (bytes l) = flat_map (λ i. byte_line (take 32 (drop (32 * i) l))) (range_with_len 0 ((length l + 31) / 32))
+stretch_lines (bytes l) = flat_map (λ i. byte_line (take 32 (drop (32 * i) l)))
+    (range_with_len 0 ((length l + 31) / 32))
 stretch_lines (silence n) =
     flat_map silence_line (replicate (n / 1000000) 1000000)
     ++ (if n % 1000000 == 0 then [] else silence_line (n % 1000000))

@@ -1,16 +1,20 @@
--- What a reader of tick text stands for: a text with a number of marks, up to some place of its last line.
-use Rattle.std.specs.Prelude.{◌≡◌, ℕ, ◌+◌, ◌≤◌, ◌<◌, ◌==◌, Bool, true, false, List, [], ◌∷◌, ◌++◌, length, map, replicate, Some, Ok}
+-- What a reader of tick text stands for: a text with a number of marks, up to some place of its
+-- last line.
+use Rattle.std.specs.Prelude.{◌≡◌, ℕ, ◌+◌, ◌≤◌, ◌<◌, ◌==◌, Bool, true, false, List, [], ◌∷◌, ◌++◌}
+use Rattle.std.specs.Prelude.{length, map, replicate, Some, Ok}
 use Rattle.hex.specs.Hex.{decode_of, hex_digit_value}
 use Rattle.yasir_ticks.specs.Characters.{plus_sign, minus_sign, number_sign, carriage_return}
 use Rattle.yasir_ticks.specs.Ticks.{Item, marks_in}
 use Rattle.yasir_ticks.specs.Ticks.Item.{tick}
-use Rattle.yasir_ticks.specs.TickText.{lines_of, all_items, ended_items, line_after, content_items, is_plain_decimal, number_after}
+use Rattle.yasir_ticks.specs.TickText.{lines_of, all_items, ended_items, line_after, content_items}
+use Rattle.yasir_ticks.specs.TickText.{is_plain_decimal, number_after}
 use Rattle.yasir_ticks.specs.declared.fault.BadTicks.{BadTicks}
 use Rattle.yasir_ticks.specs.declared.tick.Tick.TheVariants.{Silent, Byte}
 use Rattle.yasir_ticks.specs.declared.place.Content.{Content}
 use Rattle.yasir_ticks.specs.declared.place.Content.TheVariants.{NoTick, KeptBytes, SilentTicks}
 use Rattle.yasir_ticks.specs.declared.place.Place.{Place}
-use Rattle.yasir_ticks.specs.declared.place.Place.TheVariants.{Start, Comment, Pairs, HalfPair, Minus, Number, Returned, Refused}
+use Rattle.yasir_ticks.specs.declared.place.Place.TheVariants.{Start, Comment, Pairs, HalfPair}
+use Rattle.yasir_ticks.specs.declared.place.Place.TheVariants.{Minus, Number, Returned, Refused}
 use Rattle.yasir_ticks.specs.declared.reader.TickReader.{TickReader}
 
 -- what a line stands for whose content this is, the bytes of a `+` line being these
@@ -73,7 +77,8 @@ Reads (Returned content) bytes line = IsReturned content bytes line
 Reads (Refused why) bytes line = ⊥
 
 -- A text with so many marks, of which these are left, brings a reader to this place.
-pub record IsAt (place : Place) (bytes : List ℕ) (line left marks : ℕ) (text : List ℕ) : Type 0 where
+pub record IsAt (place : Place) (bytes : List ℕ) (line left marks : ℕ) (text : List ℕ) :
+    Type 0 where
   pub ended : all_items (lines_of text).ended ≡ Some (ended_items text)
   pub marked : marks_in (ended_items text) + left ≡ marks
   pub counted : line ≡ line_after text

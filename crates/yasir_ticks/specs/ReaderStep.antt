@@ -1,5 +1,6 @@
 -- What one byte of a tick text, or its end, does at a place of its line.
-use Rattle.std.specs.Prelude.{◌≡◌, ℕ, ◌+◌, ◌<◌, ◌==◌, ◌≢◌, true, List, [], ◌∷◌, ◌++◌, Option, Some, None, Result, Ok, Err, if◌then◌else◌}
+use Rattle.std.specs.Prelude.{◌≡◌, ℕ, ◌+◌, ◌<◌, ◌==◌, ◌≢◌, true, List, [], ◌∷◌, ◌++◌, Option, Some}
+use Rattle.std.specs.Prelude.{None, Result, Ok, Err, if◌then◌else◌}
 use Rattle.yasir_ticks.specs.Characters.{line_feed}
 use Rattle.yasir_ticks.specs.Ticks.{Item, items_of_run, marks_in}
 use Rattle.yasir_ticks.specs.Place.{ended_has_ticks}
@@ -19,56 +20,70 @@ abbrev pub items_of_ended : Option Content → List ℕ → List Item
 items_of_ended None bytes = []
 items_of_ended (Some content) bytes = items_of_content content bytes
 
--- A byte that goes on with the line brings its reader to the new place; an LF ends the line, which stands for the items.
-pub record Accepts (place : Place) (bytes : List ℕ) (b : ℕ) (items : List Item) (new_place : Place) (new_bytes : List ℕ) : Type 0 where
+-- A byte that goes on with the line brings its reader to the new place; an LF ends the line, which
+-- stands for the items.
+pub record Accepts (place : Place) (bytes : List ℕ) (b : ℕ) (items : List Item) (new_place : Place)
+    (new_bytes : List ℕ) : Type 0 where
   pub nothing : b ≢ line_feed → items ≡ []
-  pub reads : b ≢ line_feed → (line : List ℕ) → Reads place bytes line → Reads new_place new_bytes (line ++ b ∷ [])
+  pub reads : b ≢ line_feed → (line : List ℕ) → Reads place bytes line
+      → Reads new_place new_bytes (line ++ b ∷ [])
   pub start : b ≡ line_feed → new_place ≡ Start
-  pub stands : b ≡ line_feed → (line : List ℕ) → Reads place bytes line → line_items line ≡ Some items
+  pub stands : b ≡ line_feed → (line : List ℕ) → Reads place bytes line
+      → line_items line ≡ Some items
 
--- No line of a right form goes on with this byte, unless it is a mark, and none is left; an LF ends a line of no right form.
+-- No line of a right form goes on with this byte, unless it is a mark, and none is left; an LF ends
+-- a line of no right form.
 pub record Refuses (place : Place) (bytes : List ℕ) (b : ℕ) (why : TickFault) : Type 0 where
   pub wrong : b ≢ line_feed → (line : List ℕ) → Reads place bytes line
-      → (more : List ℕ) (items : List Item) → line_items (line ++ b ∷ more) ≡ Some items → 0 < marks_in items
+      → (more : List ℕ) (items : List Item) → line_items (line ++ b ∷ more) ≡ Some items
+      → 0 < marks_in items
   pub ended : b ≡ line_feed → (line : List ℕ) → Reads place bytes line → line_items line ≡ None
   pub cause : (line : List ℕ) → Reads place bytes line → fault_in_line line (Some b) ≡ why
 
 -- A line that ends here stands for this content.
 pub record Closes (place : Place) (bytes : List ℕ) (content : Content) : Type 0 where
-  pub stands : (line : List ℕ) → Reads place bytes line → line_items line ≡ Some (items_of_content content bytes)
+  pub stands : (line : List ℕ) → Reads place bytes line
+      → line_items line ≡ Some (items_of_content content bytes)
 
 -- A line that ends here, by a CR, an LF or the end of the text, has no right form.
 pub record IsOpen (place : Place) (bytes : List ℕ) (why : TickFault) : Type 0 where
   pub wrong : (line : List ℕ) → Reads place bytes line → line_items line ≡ None
-  pub cause : (line : List ℕ) (next : Option ℕ) → ends_content next ≡ true → Reads place bytes line → fault_in_line line next ≡ why
+  pub cause : (line : List ℕ) (next : Option ℕ) → ends_content next ≡ true → Reads place bytes line
+      → fault_in_line line next ≡ why
 
 abbrev pub line_with : ℕ → ℕ → ℕ
 line_with line b = if b == line_feed then line + 1 else line
 
 abbrev pub AdvanceCase : TickReader → ℕ → Result (Option Content) TickFault → TickReader → Type 0
 AdvanceCase old b (Ok ended) new =
-    Accepts old.place old.bytes.items b (items_of_ended ended new.bytes.items) new.place new.bytes.items
-    × (new.line ≡ line_with old.line b) × (b ≢ line_feed → ended ≡ None) × (ended_has_ticks ended new.bytes.items ≡ true)
+    Accepts old.place old.bytes.items b (items_of_ended ended new.bytes.items) new.place
+    new.bytes.items
+    × (new.line ≡ line_with old.line b) × (b ≢ line_feed → ended ≡ None)
+    × (ended_has_ticks ended new.bytes.items ≡ true)
 AdvanceCase old b (Err why) new =
     Refuses old.place old.bytes.items b why × (new.line ≡ old.line) × (new.place ≡ Refused why)
 
 -- one byte at a reader, up to the run of a line that it ends
-pub record Advances (old : TickReader) (b : ℕ) (result : Result (Option Content) TickFault) (new : TickReader) : Type 0 where
+pub record Advances (old : TickReader) (b : ℕ) (result : Result (Option Content) TickFault)
+    (new : TickReader) : Type 0 where
   pub case : AdvanceCase old b result new
 
 abbrev pub StepCase : TickReader → ℕ → Result Run BadTicks → TickReader → Type 0
 StepCase old b (Ok run) new =
-    Accepts old.place old.bytes.items b (items_of_run run) new.place new.bytes.items × (new.line ≡ line_with old.line b)
+    Accepts old.place old.bytes.items b (items_of_run run) new.place new.bytes.items
+    × (new.line ≡ line_with old.line b)
     × (items_of_run run ≡ [] → run ≡ Nothing)
 StepCase old b (Err bad) new =
     Refuses old.place old.bytes.items b bad.why × (bad.line ≡ old.line) × HasRefused new bad
 
 -- one byte at a reader
-pub record Steps (old : TickReader) (b : ℕ) (result : Result Run BadTicks) (new : TickReader) : Type 0 where
+pub record Steps (old : TickReader) (b : ℕ) (result : Result Run BadTicks) (new : TickReader) :
+    Type 0 where
   pub case : StepCase old b result new
 
 abbrev pub EndCase : TickReader → Result Run BadTicks → Type 0
-EndCase reader (Ok run) = ((line : List ℕ) → Reads reader.place reader.bytes.items line → line_items line ≡ Some (items_of_run run))
+EndCase reader (Ok run) = ((line : List ℕ) → Reads reader.place reader.bytes.items line
+    → line_items line ≡ Some (items_of_run run))
     × (items_of_run run ≡ [] → run ≡ Nothing)
 EndCase reader (Err bad) = IsOpen reader.place reader.bytes.items bad.why × (bad.line ≡ reader.line)
 

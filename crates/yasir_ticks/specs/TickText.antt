@@ -1,15 +1,20 @@
 -- Tick text: a recorded line as text, one line of text for a run of bytes, of silence, or a mark.
 -- The format is this project's own; docs/TICK_TEXT.md has it in full.
-use Rattle.std.specs.Prelude.{◌≡◌, ℕ, ◌+◌, ◌*◌, ◌-◌, ◌==◌, ◌&&◌, ◌||◌, ◌%◌, nat_le, suc, Bool, true, false, not, if◌then◌else◌, List, [], ◌∷◌, ◌++◌, length, map, replicate, Option, Some, None, is_some, unwrap_or, option_map, option_and_then}
+use Rattle.std.specs.Prelude.{◌≡◌, ℕ, ◌+◌, ◌*◌, ◌-◌, ◌==◌, ◌&&◌, ◌||◌, ◌%◌, nat_le, suc, Bool, true}
+use Rattle.std.specs.Prelude.{false, not, if◌then◌else◌, List, [], ◌∷◌, ◌++◌, length, map}
+use Rattle.std.specs.Prelude.{replicate, Option, Some, None, is_some, unwrap_or, option_map}
+use Rattle.std.specs.Prelude.{option_and_then}
 use Rattle.std.specs.List.{flat_map, list_all}
 use Rattle.std.specs.Option.{option_map_or}
 use Rattle.std.specs.Result.{result_ok}
 use Rattle.hex.specs.Hex.{decode_of, is_hex_digit}
-use Rattle.yasir_ticks.specs.Characters.{plus_sign, minus_sign, percent_sign, number_sign, carriage_return, line_feed, digit_zero, digit_nine}
+use Rattle.yasir_ticks.specs.Characters.{plus_sign, minus_sign, percent_sign, number_sign}
+use Rattle.yasir_ticks.specs.Characters.{carriage_return, line_feed, digit_zero, digit_nine}
 use Rattle.yasir_ticks.specs.Ticks.{Item, marks_in}
 use Rattle.yasir_ticks.specs.Ticks.Item.{tick, mark}
 use Rattle.yasir_ticks.specs.declared.fault.TickFault.{TickFault}
-use Rattle.yasir_ticks.specs.declared.fault.TickFault.TheVariants.{Char, Odd, Long, Count, Empty, Mark}
+use Rattle.yasir_ticks.specs.declared.fault.TickFault.TheVariants.{Char, Odd, Long, Count, Empty}
+use Rattle.yasir_ticks.specs.declared.fault.TickFault.TheVariants.{Mark}
 use Rattle.yasir_ticks.specs.declared.tick.Tick.TheVariants.{Silent, Byte}
 
 -- A text cut at each LF: the lines that an LF ended, and the last line, which may be empty.
@@ -71,7 +76,8 @@ without_return [] = []
 without_return (c ∷ []) = if c == carriage_return then [] else c ∷ []
 without_return (c ∷ d ∷ x) = c ∷ without_return (d ∷ x)
 
--- what a line stands for: `#` and at most 120 bytes are a comment, in which a CR is a byte like any other
+-- what a line stands for: `#` and at most 120 bytes are a comment, in which a CR is a byte like any
+-- other
 unfoldable pub line_items : List ℕ → Option (List Item)
 line_items [] = Some []
 line_items (c ∷ x) =
@@ -82,7 +88,8 @@ line_items (c ∷ x) =
 -- what these lines stand for; none where one of them has no right form
 abbrev pub all_items : List (List ℕ) → Option (List Item)
 all_items [] = Some []
-all_items (l ∷ ls) = option_and_then (λ items. option_map (λ more. items ++ more) (all_items ls)) (line_items l)
+all_items (l ∷ ls) = option_and_then (λ items. option_map (λ more. items ++ more) (all_items ls))
+    (line_items l)
 
 -- The text stands for these items, and has exactly so many marks.
 pub record IsTickText (marks : ℕ) (text : List ℕ) (items : List Item) : Type 0 where
@@ -91,7 +98,8 @@ pub record IsTickText (marks : ℕ) (text : List ℕ) (items : List Item) : Type
 
 -- The text is the beginning of a right text with so many marks.
 abbrev pub BeginsTickText : ℕ → List ℕ → Type 0
-BeginsTickText marks text = (more : List ℕ) × (items : List Item) × IsTickText marks (text ++ more) items
+BeginsTickText marks text = (more : List ℕ) × (items : List Item)
+    × IsTickText marks (text ++ more) items
 
 -- The refused place of a text: the end of its shortest prefix that begins no right text.
 pub record IsRefusedAfter (marks : ℕ) (before : List ℕ) (byte : ℕ) : Type 0 where

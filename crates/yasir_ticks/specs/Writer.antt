@@ -1,5 +1,7 @@
--- What a writer of tick text stands for: ticks, the lines that it has answered, and a line that isn't filled yet.
-use Rattle.std.specs.Prelude.{◌≡◌, ℕ, suc, ◌+◌, ◌*◌, ◌<◌, ◌⊎◌, Bool, true, false, nat_lt, List, [], ◌∷◌, ◌++◌, length}
+-- What a writer of tick text stands for: ticks, the lines that it has answered, and a line that
+-- isn't filled yet.
+use Rattle.std.specs.Prelude.{◌≡◌, ℕ, suc, ◌+◌, ◌*◌, ◌<◌, ◌⊎◌, Bool, true, false, nat_lt, List, []}
+use Rattle.std.specs.Prelude.{◌∷◌, ◌++◌, length}
 use Rattle.std.specs.List.{flat_map}
 use Rattle.yasir_ticks.specs.Ticks.{AreTicks}
 use Rattle.yasir_ticks.specs.CanonicalText.{Stretch, stretches, stretch_lines}
@@ -10,7 +12,8 @@ use Rattle.yasir_ticks.specs.declared.tick.Tick.{Tick}
 use Rattle.yasir_ticks.specs.declared.tick.Tick.TheVariants.{Silent, Byte}
 use Rattle.yasir_ticks.specs.declared.writer.TickWriter.{TickWriter}
 
--- The last stretch is one of bytes: filled lines, which were answered with all before them, and then the rest.
+-- The last stretch is one of bytes: filled lines, which were answered with all before them, and
+-- then the rest.
 pub record EndsInBytes (rest : List ℕ) (parts : List Stretch) (answered : List ℕ) : Type 0 where
   pub front : List Stretch
   pub filled : List ℕ
@@ -33,7 +36,8 @@ pub record IsUntouched (parts : List Stretch) (answered : List ℕ) : Type 0 whe
 
 -- all of these stretches but this line was answered
 abbrev pub Leaves : Run → List Stretch → List ℕ → Type 0
-Leaves Nothing parts answered = IsUntouched parts answered ⊎ (EndsInBytes [] parts answered ⊎ EndsInSilence 0 parts answered)
+Leaves Nothing parts answered = IsUntouched parts answered
+    ⊎ (EndsInBytes [] parts answered ⊎ EndsInSilence 0 parts answered)
 Leaves (Bytes line) parts answered = (0 < length line.items) × EndsInBytes line.items parts answered
 Leaves (Silence n) parts answered = (0 < n) × EndsInSilence n parts answered
 
@@ -52,9 +56,11 @@ grown (silence n ∷ []) (Byte b) = silence n ∷ bytes (b ∷ []) ∷ []
 grown (silence n ∷ []) Silent = silence (suc n) ∷ []
 grown (s ∷ r ∷ more) t = s ∷ grown (r ∷ more) t
 
--- A tick leaves the new line where the old one was left, and completes the line of this text, or none.
+-- A tick leaves the new line where the old one was left, and completes the line of this text, or
+-- none.
 pub record Writes (old : Run) (t : Tick) (text : List ℕ) (new : Run) : Type 0 where
-  pub leaves : (parts : List Stretch) (answered : List ℕ) → Leaves old parts answered → Leaves new (grown parts t) (answered ++ text)
+  pub leaves : (parts : List Stretch) (answered : List ℕ) → Leaves old parts answered
+      → Leaves new (grown parts t) (answered ++ text)
 
 -- a tick completes no line: it joins the one that isn't filled, and doesn't fill it, or begins one
 abbrev pub joins : Run → Tick → Bool

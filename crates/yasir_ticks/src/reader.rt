@@ -1,4 +1,5 @@
-ghost use Rattle.std.specs.Prelude.{◌≡◌, ℕ, ◌+◌, ◌-◌, ◌*◌, ◌<◌, ◌≤◌, ◌^◌, ◌==◌, ◌++◌, ◌∷◌, [], List, true, length, IsTrue, MatchResult, Some, if◌then◌else◌};
+ghost use Rattle.std.specs.Prelude.{◌≡◌, ℕ, ◌+◌, ◌-◌, ◌*◌, ◌<◌, ◌≤◌, ◌^◌, ◌==◌, ◌++◌, ◌∷◌, []};
+ghost use Rattle.std.specs.Prelude.{List, true, length, IsTrue, MatchResult, Some, if◌then◌else◌};
 ghost use Rattle.hex.specs.Hex.{hex_digit_value, is_hex_digit};
 ghost use Rattle.yasir_ticks.specs.Characters.{line_feed, carriage_return};
 ghost use Rattle.yasir_ticks.specs.Place.{has_ticks, is_sound, is_foreign};
@@ -30,7 +31,9 @@ impl TickReader {
     ghost use Rattle.yasir_ticks.specs.declared.fault.TickFault.{TickFault};
     ghost use Rattle.yasir_ticks.specs.declared.fault.BadTicks.{BadTicks};
     ghost use Rattle.yasir_ticks.specs.Ticks.{Item, items_of_run};
-    ghost use Rattle.yasir_ticks.specs.TickText.{IsTickText, BeginsTickText, IsRefusedAfter, ended_items, line_after, fault_after, fault_at_end};
+    ghost use Rattle.yasir_ticks.specs.TickText.{IsTickText, BeginsTickText, IsRefusedAfter};
+    ghost use Rattle.yasir_ticks.specs.TickText.{ended_items, line_after, fault_after};
+    ghost use Rattle.yasir_ticks.specs.TickText.{fault_at_end};
     ghost use Rattle.yasir_ticks.specs.Reader.{StandsFor, HasRefused, reader_line};
     ghost use Rattle.yasir_ticks.specs.ReaderStep.{Advances, Steps, Stops, Closes, IsOpen};
 
@@ -41,7 +44,7 @@ impl TickReader {
         ensures begins { BeginsTickText marks [] }
         ensures line { reader_line result ≡ 1 }
     {
-        let _ = marks;
+        prove!(marks == 0);
         TickReader {
             line: 1,
             place: Place::Start,
@@ -59,8 +62,10 @@ impl TickReader {
     /// What the line stands for if it ends here.
     fn content(&self) -> Result<Content, TickFault>
         ensures ticks { IfOk result (λ content. has_ticks content self.now.bytes.items ≡ true) }
-        ensures content { MatchResult result (Closes self.now.place self.now.bytes.items) (IsOpen self.now.place self.now.bytes.items) }
-        ensures refused { (why : TickFault) → self.now.place ≡ Place.Refused why → result ≡ Err why }
+        ensures content { MatchResult result (Closes self.now.place self.now.bytes.items)
+            (IsOpen self.now.place self.now.bytes.items) }
+        ensures refused { (why : TickFault) → self.now.place ≡ Place.Refused why
+            → result ≡ Err why }
     {
         match self.place {
             Place::Start | Place::Comment(_) => Ok(Content::NoTick),
@@ -252,7 +257,8 @@ impl TickReader {
     fn advance(&mut self, b: u8) -> Advance
         requires { reader_line self.old < 2 ^ 32 - 1 }
         ensures step { Advances self.old b result self.new }
-        ensures for_good { (why : TickFault) → self.old.place ≡ Place.Refused why → (result ≡ Err why) × (self.new ≡ self.old) }
+        ensures for_good { (why : TickFault) → self.old.place ≡ Place.Refused why
+            → (result ≡ Err why) × (self.new ≡ self.old) }
     {
         match self.place {
             Place::Pairs => self.in_pairs(b),
@@ -271,7 +277,8 @@ impl TickReader {
     fn step(&mut self, b: u8) -> Result<Run, BadTicks>
         requires { reader_line self.old < 2 ^ 32 - 1 }
         ensures step { Steps self.old b result self.new }
-        ensures for_good { (bad : BadTicks) → HasRefused self.old bad → (result ≡ Err bad) × (self.new ≡ self.old) }
+        ensures for_good { (bad : BadTicks) → HasRefused self.old bad
+            → (result ≡ Err bad) × (self.new ≡ self.old) }
     {
         match self.advance(b) {
             Ok(None) => Ok(Run::Nothing),
@@ -283,8 +290,8 @@ impl TickReader {
         }
     }
 
-    /// Takes the next byte of the text, and answers the run of the line that this byte ends, or `Nothing`.
-    /// A refused byte is answered for good.
+    /// Takes the next byte of the text, and answers the run of the line that this byte ends, or
+    /// `Nothing`. A refused byte is answered for good.
     #[inline]
     pub fn feed(&mut self, b: u8) -> Result<Run, BadTicks>
         requires { reader_line self.old < 2 ^ 32 - 1 }
@@ -294,18 +301,21 @@ impl TickReader {
             → OnOk result (BeginsTickText marks (text ++ b ∷ [])) }
         // The runs are those of the lines that ended.
         ensures run { (marks : ℕ) (text : List ℕ) → StandsFor self.old marks text
-            → IfOk result (λ run. ended_items (text ++ b ∷ []) ≡ ended_items text ++ items_of_run run) }
+            → IfOk result (λ run. ended_items (text ++ b ∷ [])
+            ≡ ended_items text ++ items_of_run run) }
         // It is `Nothing` exactly where no line with ticks ended.
         ensures nothing { IfOk result (λ run. items_of_run run ≡ [] → run ≡ Run.Nothing) }
         // It refuses the text at its refused place, and nowhere else.
         ensures refused { (marks : ℕ) (text : List ℕ) → StandsFor self.old marks text
             → IfErr result (λ bad. IsRefusedAfter marks text b
             × (bad.line ≡ line_after text) × (bad.why ≡ fault_after text b)) }
-        ensures line { OnOk result (reader_line self.new ≡ (if b == line_feed then reader_line self.old + 1 else reader_line self.old)) }
+        ensures line { OnOk result (reader_line self.new
+            ≡ (if b == line_feed then reader_line self.old + 1 else reader_line self.old)) }
         ensures line_kept { OnErr result (reader_line self.new ≡ reader_line self.old) }
         ensures line_by_one { reader_line self.new ≤ reader_line self.old + 1 }
         ensures remembered { IfErr result (λ bad. HasRefused self.new bad) }
-        ensures for_good { (bad : BadTicks) → HasRefused self.old bad → (result ≡ Err bad) × (self.new ≡ self.old) }
+        ensures for_good { (bad : BadTicks) → HasRefused self.old bad
+            → (result ≡ Err bad) × (self.new ≡ self.old) }
     {
         self.step(b)
     }

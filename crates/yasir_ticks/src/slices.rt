@@ -1,5 +1,7 @@
-//! Several bytes of a tick text at once: what stands most in a text, pairs of digits and comments, goes by in one loop each.
-ghost use Rattle.std.specs.Prelude.{◌≡◌, ◌≢◌, ℕ, ◌+◌, ◌-◌, ◌<◌, ◌≤◌, ◌^◌, ◌++◌, List, [], length, take, slice_index, Ok, OnOk, IfOk, IfErr};
+//! Several bytes of a tick text at once: what stands most in a text, pairs of digits and comments,
+//! goes by in one loop each.
+ghost use Rattle.std.specs.Prelude.{◌≡◌, ◌≢◌, ℕ, ◌+◌, ◌-◌, ◌<◌, ◌≤◌, ◌^◌, ◌++◌, List, [], length};
+ghost use Rattle.std.specs.Prelude.{take, slice_index, Ok, OnOk, IfOk, IfErr};
 
 use crate::digit::hex_value;
 use crate::place::Place;
@@ -12,7 +14,8 @@ use memchr::memchr;
 pub struct Fed {
     /// How many bytes it took, from the first one on.
     pub taken: usize,
-    /// The run of the line that the last of them ended, or `Nothing`; or the refusal of the byte behind them.
+    /// The run of the line that the last of them ended, or `Nothing`; or the refusal of the byte
+    /// behind them.
     pub run: Result<Run, BadTicks>,
 }
 
@@ -21,11 +24,13 @@ impl TickReader {
     ghost use Rattle.yasir_ticks.specs.declared.place.Place.TheVariants.{Pairs, Comment};
     ghost use Rattle.yasir_ticks.specs.declared.run.Run.TheVariants.{Nothing};
     ghost use Rattle.yasir_ticks.specs.Ticks.{items_of_run};
-    ghost use Rattle.yasir_ticks.specs.TickText.{BeginsTickText, IsRefusedAfter, ended_items, line_after, fault_after};
+    ghost use Rattle.yasir_ticks.specs.TickText.{BeginsTickText, IsRefusedAfter, ended_items};
+    ghost use Rattle.yasir_ticks.specs.TickText.{line_after, fault_after};
     ghost use Rattle.yasir_ticks.specs.Reader.{StandsFor, HasRefused, reader_line};
     ghost use Rattle.yasir_ticks.specs.Slices.{GoesOn};
 
-    // Takes whole pairs of digits from the front, as long as there is room. Answers how many bytes these are.
+    // Takes whole pairs of digits from the front, as long as there is room. Answers how many bytes
+    // these are.
     #[inline]
     fn take_pairs(&mut self, bytes: &[u8]) -> usize
         requires { self.old.place ≡ Pairs }
@@ -48,7 +53,8 @@ impl TickReader {
         taken
     }
 
-    // Takes what stands before the next LF, as long as the comment may go on. Answers how many bytes these are.
+    // Takes what stands before the next LF, as long as the comment may go on. Answers how many
+    // bytes these are.
     #[inline]
     fn take_comment(&mut self, behind: u8, bytes: &[u8]) -> usize
         requires { self.old.place ≡ Comment behind }
@@ -70,7 +76,8 @@ impl TickReader {
     fn take_many(&mut self, bytes: &[u8]) -> usize
         ensures within { result ≤ length bytes.now }
         ensures goes { GoesOn self.old (take result bytes.now) self.new }
-        ensures for_good { (bad : BadTicks) → HasRefused self.old bad → (result ≡ 0) × (self.new ≡ self.old) }
+        ensures for_good { (bad : BadTicks) → HasRefused self.old bad
+            → (result ≡ 0) × (self.new ≡ self.old) }
     {
         match self.place {
             Place::Pairs => self.take_pairs(bytes),
@@ -79,8 +86,8 @@ impl TickReader {
         }
     }
 
-    /// Takes bytes of the text up to and with the first one that ends a line with ticks, or up to a refused one, or all of them.
-    /// It is as if they were fed one by one.
+    /// Takes bytes of the text up to and with the first one that ends a line with ticks, or up to a
+    /// refused one, or all of them. It is as if they were fed one by one.
     pub fn feed_some(&mut self, bytes: &[u8]) -> Fed
         requires { reader_line self.old + length bytes.now < 2 ^ 32 }
         ensures within { result.taken ≤ length bytes.now }
@@ -90,7 +97,8 @@ impl TickReader {
             → OnOk result.run (BeginsTickText marks (text ++ take result.taken bytes.now)) }
         // The run is that of the lines that ended.
         ensures run { (marks : ℕ) (text : List ℕ) → StandsFor self.old marks text
-            → IfOk result.run (λ run. ended_items (text ++ take result.taken bytes.now) ≡ ended_items text ++ items_of_run run) }
+            → IfOk result.run (λ run. ended_items (text ++ take result.taken bytes.now)
+            ≡ ended_items text ++ items_of_run run) }
         // It is `Nothing` exactly where no line with ticks ended.
         ensures nothing { IfOk result.run (λ run. items_of_run run ≡ [] → run ≡ Nothing) }
         // A line with ticks ended at the last byte that was taken, and none before.
@@ -100,12 +108,15 @@ impl TickReader {
         // Where no line with ticks ended, every byte was taken.
         ensures whole { result.run ≡ Ok Nothing → result.taken ≡ length bytes.now }
         ensures progress { 0 < length bytes.now → OnOk result.run (0 < result.taken) }
-        // It refuses the text at its refused place, and nowhere else; the lines that ended before have no ticks.
+        // It refuses the text at its refused place, and nowhere else; the lines that ended before
+        // have no ticks.
         ensures refused { (marks : ℕ) (text : List ℕ) → StandsFor self.old marks text
             → IfErr result.run (λ bad. (result.taken < length bytes.now)
-            × IsRefusedAfter marks (text ++ take result.taken bytes.now) (slice_index bytes.now result.taken)
+            × IsRefusedAfter marks (text ++ take result.taken bytes.now)
+            (slice_index bytes.now result.taken)
             × (bad.line ≡ line_after (text ++ take result.taken bytes.now))
-            × (bad.why ≡ fault_after (text ++ take result.taken bytes.now) (slice_index bytes.now result.taken))
+            × (bad.why ≡ fault_after (text ++ take result.taken bytes.now)
+            (slice_index bytes.now result.taken))
             × (ended_items (text ++ take result.taken bytes.now) ≡ ended_items text)) }
         ensures lines { reader_line self.new ≤ reader_line self.old + result.taken }
         ensures remembered { IfErr result.run (λ bad. HasRefused self.new bad) }

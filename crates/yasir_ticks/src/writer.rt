@@ -1,4 +1,5 @@
-ghost use Rattle.std.specs.Prelude.{◌≡◌, ℕ, ◌+◌, ◌*◌, ◌<◌, ◌≤◌, ◌^◌, ◌∷◌, ◌++◌, [], List, true, false, length};
+ghost use Rattle.std.specs.Prelude.{◌≡◌, ℕ, ◌+◌, ◌*◌, ◌<◌, ◌≤◌, ◌^◌, ◌∷◌, ◌++◌, [], List, true};
+ghost use Rattle.std.specs.Prelude.{false, length};
 ghost use Rattle.arrayvec.specs.ArrayVec.{array_vec_len};
 ghost use Rattle.yasir_ticks.specs.CanonicalText.{byte_line, silence_line};
 ghost use Rattle.yasir_ticks.specs.Line.{is_unfilled};
@@ -42,7 +43,8 @@ fn count_line(n: u32) -> LineText
     line
 }
 
-/// Writes ticks as canonical tick text, a line at a time: all answers joined are the text of the ticks pushed.
+/// Writes ticks as canonical tick text, a line at a time: all answers joined are the text of the
+/// ticks pushed.
 #[derive(Drop)]
 pub struct TickWriter {
     unfilled: Run,
@@ -80,7 +82,8 @@ impl TickWriter {
     fn extend_byte(&mut self, b: u8) -> bool
         ensures answer { result ≡ joins self.old.unfilled (Tick.Byte b) }
         ensures is_tick { IsTick (Tick.Byte b) }
-        ensures taken { result ≡ true → Writes self.old.unfilled (Tick.Byte b) [] self.new.unfilled }
+        ensures taken { result ≡ true → Writes self.old.unfilled (Tick.Byte b) []
+            self.new.unfilled }
         ensures left { result ≡ false → self.new ≡ self.old }
     {
         match &mut self.unfilled {
@@ -122,11 +125,13 @@ impl TickWriter {
         }
     }
 
-    /// Takes the next tick if it completes no line, and answers whether it did; where it did not, nothing changes.
+    /// Takes the next tick if it completes no line, and answers whether it did; where it did not,
+    /// nothing changes.
     #[inline]
     pub fn extend(&mut self, t: Tick) -> bool
         ensures answer { result ≡ has_room_for self.old t }
-        ensures taken { result ≡ true → (ticks : List Tick) (answered : List ℕ) → HasWritten self.old ticks answered
+        ensures taken { result ≡ true → (ticks : List Tick) (answered : List ℕ)
+            → HasWritten self.old ticks answered
             → HasWritten self.new (ticks ++ t ∷ []) answered }
         ensures left { result ≡ false → self.new ≡ self.old }
     {
@@ -136,7 +141,8 @@ impl TickWriter {
         }
     }
 
-    /// Takes bytes, one a tick, up to the first one that completes a line. Answers how many it took.
+    /// Takes bytes, one a tick, up to the first one that completes a line. Answers how many it
+    /// took.
     pub fn extend_bytes(&mut self, bytes: &[u8]) -> usize
         ensures within { result ≤ length bytes.now }
         ensures taken { (ticks : List Tick) (answered : List ℕ) → HasWritten self.old ticks answered
@@ -154,7 +160,8 @@ impl TickWriter {
         taken
     }
 
-    /// Takes silent ticks, so many at most, up to the first one that completes a line. Answers how many it took.
+    /// Takes silent ticks, so many at most, up to the first one that completes a line. Answers how
+    /// many it took.
     pub fn extend_silence(&mut self, ticks: u32) -> u32
         ensures within { result ≤ ticks }
         ensures taken { (line : List Tick) (answered : List ℕ) → HasWritten self.old line answered
@@ -212,8 +219,9 @@ impl TickWriter {
         }
     }
 
-    /// Takes a tick that completes a line, and answers this line. A tick completes the line that it fills (32 bytes, or
-    /// 1000000 silent ticks), and else the unfilled line of the other kind that stands before it.
+    /// Takes a tick that completes a line, and answers this line. A tick completes the line that it
+    /// fills (32 bytes, or 1000000 silent ticks), and else the unfilled line of the other kind that
+    /// stands before it.
     pub fn complete(&mut self, t: Tick) -> LineText
         requires { has_room_for self.old t ≡ false }
         ensures { (ticks : List Tick) (answered : List ℕ) → HasWritten self.old ticks answered

@@ -2,14 +2,17 @@ use Rattle.std.proofs.Common.{◌∙◌, refl}
 use Rattle.yasir_ticks.specs.TickText.{ended_items}
 use Rattle.yasir_ticks.specs.Ticks.{items_of_run}
 use Rattle.tick_drive.proofs.Moving.{gives_none}
-use Rattle.tick_drive.proofs.Driving.{progress_start, progress_quiet, progress_line, step_ends, finish_ends, line_ends, last_ends, last_line_ends, read_same}
+use Rattle.tick_drive.proofs.Driving.{progress_start, progress_quiet, progress_line, step_ends}
+use Rattle.tick_drive.proofs.Driving.{finish_ends, line_ends, last_ends, last_line_ends, read_same}
 use Rattle.tick_drive.proofs.input_loop.drive.Goals as goal
 
 pub loop-run-init : goal.loop-run-init
 loop-run-init g c = (
-  progress_start g.C.Consumer.meaning g.O.Sink g.L.Sink g.D.SlotDisk _ _ _ _ (c.new-intake.ensures (g.S.Source.left c.args.input.now))
+  progress_start g.C.Consumer.meaning g.O.Sink g.L.Sink g.D.SlotDisk
+      _ _ _ _ (c.new-intake.ensures (g.S.Source.left c.args.input.now))
       (gives_none g.C.Consumer.meaning g.O.Sink g.L.Sink g.D.SlotDisk _ c.requires.fresh.able
-      (λ kept image left. g.met.C.Consumer.safe_now _ _ image kept (g.met.D.SlotDisk.only_now _ image left)))
+      (λ kept image left. g.met.C.Consumer.safe_now _ _ image kept
+      (g.met.D.SlotDisk.only_now _ image left)))
       c.requires.fresh.none,
   refl,
 )
@@ -17,47 +20,74 @@ loop-run-init g c = (
 pub loop-run-preserved-in-Nothing : goal.loop-run-preserved-in-Nothing
 loop-run-preserved-in-Nothing g c =
     let progress = c.loop-run.invariant.0 in
-    let answer = (rw c.in-Ok-Some.field-0-is at c.in-Ok-Some.ensures.answer) _ _ progress.text progress.met in (
-      progress_quiet g.C.Consumer.meaning g.O.Sink g.L.Sink g.D.SlotDisk _ _ _ _ _ _ _ _ _ progress (rw c.in-Nothing.is at answer),
+    let answer = (rw c.in-Ok-Some.field-0-is at c.in-Ok-Some.ensures.answer) _ _ progress.text
+    progress.met in (
+      progress_quiet g.C.Consumer.meaning g.O.Sink g.L.Sink g.D.SlotDisk _ _ _ _ _ _ _ _ _ progress
+          (rw c.in-Nothing.is at answer),
       c.in-Ok-Some.ensures.cause.same refl ∙ c.loop-run.invariant.1,
     )
 
 pub loop-run-preserved : goal.loop-run-preserved
 loop-run-preserved g c =
     let progress = c.loop-run.invariant.0 in
-    let answer = (rw c.in-Ok-Some.field-0-is at c.in-Ok-Some.ensures.answer) _ _ progress.text progress.met in (
-      progress_line g.C.Consumer.meaning g.O.Sink g.L.Sink g.D.SlotDisk _ _ _ _ _ _ _ _ _ _ _ _ progress answer c.in-Ok.ensures.handed c.in-Ok.ensures.taken,
+    let answer = (rw c.in-Ok-Some.field-0-is at c.in-Ok-Some.ensures.answer) _ _ progress.text
+    progress.met in (
+      progress_line g.C.Consumer.meaning g.O.Sink g.L.Sink g.D.SlotDisk
+          _ _ _ _ _ _ _ _ _ _ _ _ progress answer c.in-Ok.ensures.handed c.in-Ok.ensures.taken,
       c.in-Ok-Some.ensures.cause.same refl ∙ c.loop-run.invariant.1,
     )
 
 pub returns-in-Err-hand_over : goal.returns-in-Err-hand_over
 returns-in-Err-hand_over g c =
     let progress = c.loop-run.invariant.0 in
-    let answer = (rw c.in-Ok-Some.field-0-is at c.in-Ok-Some.ensures.answer) _ _ progress.text progress.met in
-    let ends = line_ends g.C.Consumer.meaning g.O.Sink g.L.Sink g.D.SlotDisk _ _ _ _ _ _ _ _ _ _ _ _ progress answer c.in_default.not-Nothing c.in-Err-hand_over.ensures.handed in
-    record { driven = ends.0; read = read_same _ _ _ (c.in-Ok-Some.ensures.cause.same refl ∙ c.loop-run.invariant.1) ends.1 }
+    let answer = (rw c.in-Ok-Some.field-0-is at c.in-Ok-Some.ensures.answer) _ _ progress.text
+    progress.met in
+    let ends = line_ends g.C.Consumer.meaning g.O.Sink g.L.Sink g.D.SlotDisk
+    _ _ _ _ _ _ _ _ _ _ _ _ progress answer c.in_default.not-Nothing
+    c.in-Err-hand_over.ensures.handed in
+    record {
+      driven = ends.0;
+      read = read_same _ _ _ (c.in-Ok-Some.ensures.cause.same refl
+          ∙ c.loop-run.invariant.1) ends.1;
+    }
 
 pub returns-in-Err-clause-driven : goal.returns-in-Err-clause-driven
 returns-in-Err-clause-driven g c =
     let progress = c.loop-run.invariant.0 in
-    step_ends g.C.Consumer.meaning g.O.Sink g.L.Sink g.D.SlotDisk _ _ _ _ _ c.step.new.self _ _ _ _ progress (c.in-Err.ensures.answer _ _ progress.text progress.met)
+    step_ends g.C.Consumer.meaning g.O.Sink g.L.Sink g.D.SlotDisk _ _ _ _ _ c.step.new.self
+    _ _ _ _ progress (c.in-Err.ensures.answer _ _ progress.text progress.met)
 
 pub returns-in-Err-finish : goal.returns-in-Err-finish
 returns-in-Err-finish g c =
     let progress = c.loop-run.invariant.0 in
-    let met = (rw c.in-Ok-None.field-0-is at c.in-Ok-None.ensures.answer) _ _ progress.text progress.met in
-    let ends = finish_ends g.C.Consumer.meaning g.O.Sink g.L.Sink g.D.SlotDisk _ _ _ _ _ _ _ _ _ _ progress met (c.in-Err-finish.ensures _ progress.text met.fed) in
-    record { driven = ends.0; read = read_same _ _ _ (c.in-Ok-None.ensures.cause.same refl ∙ c.loop-run.invariant.1) ends.1 }
+    let met = (rw c.in-Ok-None.field-0-is at c.in-Ok-None.ensures.answer) _ _ progress.text
+    progress.met in
+    let ends = finish_ends g.C.Consumer.meaning g.O.Sink g.L.Sink g.D.SlotDisk
+    _ _ _ _ _ _ _ _ _ _ progress met (c.in-Err-finish.ensures _ progress.text met.fed) in
+    record {
+      driven = ends.0;
+      read = read_same _ _ _ (c.in-Ok-None.ensures.cause.same refl
+          ∙ c.loop-run.invariant.1) ends.1;
+    }
 
 pub returns-in-Ok-hand_over-clause-driven : goal.returns-in-Ok-hand_over-clause-driven
 returns-in-Ok-hand_over-clause-driven g c =
     let progress = c.loop-run.invariant.0 in
-    let met = (rw c.in-Ok-None.field-0-is at c.in-Ok-None.ensures.answer) _ _ progress.text progress.met in
-    last_ends g.C.Consumer.meaning g.O.Sink g.L.Sink g.D.SlotDisk _ _ _ _ _ _ _ _ _ _ _ _ progress met (c.in-Ok-finish.ensures _ progress.text met.fed) c.in-Ok-hand_over.ensures.handed
+    let met = (rw c.in-Ok-None.field-0-is at c.in-Ok-None.ensures.answer) _ _ progress.text
+    progress.met in
+    last_ends g.C.Consumer.meaning g.O.Sink g.L.Sink g.D.SlotDisk _ _ _ _ _ _ _ _ _ _ _ _ progress
+    met (c.in-Ok-finish.ensures _ progress.text met.fed) c.in-Ok-hand_over.ensures.handed
 
 pub returns-in-Err-hand_over-2 : goal.returns-in-Err-hand_over-2
 returns-in-Err-hand_over-2 g c =
     let progress = c.loop-run.invariant.0 in
-    let met = (rw c.in-Ok-None.field-0-is at c.in-Ok-None.ensures.answer) _ _ progress.text progress.met in
-    let ends = last_line_ends g.C.Consumer.meaning g.O.Sink g.L.Sink g.D.SlotDisk _ _ _ _ _ _ _ _ _ _ _ _ progress met (c.in-Ok-finish.ensures _ progress.text met.fed) c.in-Err-hand_over-2.ensures.handed in
-    record { driven = ends.0; read = read_same _ _ _ (c.in-Ok-None.ensures.cause.same refl ∙ c.loop-run.invariant.1) ends.1 }
+    let met = (rw c.in-Ok-None.field-0-is at c.in-Ok-None.ensures.answer) _ _ progress.text
+    progress.met in
+    let ends = last_line_ends g.C.Consumer.meaning g.O.Sink g.L.Sink g.D.SlotDisk
+    _ _ _ _ _ _ _ _ _ _ _ _ progress met (c.in-Ok-finish.ensures _ progress.text met.fed)
+    c.in-Err-hand_over-2.ensures.handed in
+    record {
+      driven = ends.0;
+      read = read_same _ _ _ (c.in-Ok-None.ensures.cause.same refl
+          ∙ c.loop-run.invariant.1) ends.1;
+    }

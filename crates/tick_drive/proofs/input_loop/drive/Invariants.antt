@@ -5,8 +5,10 @@ use Rattle.tick_drive.proofs.input_loop.drive.Given as goal
 
 abbrev pub invariant-loop-run : goal.invariant-loop-run
 invariant-loop-run g l =
-    Progress g.C.Consumer.meaning g.O.Sink g.L.Sink g.D.SlotDisk l.marks (g.S.Source.left l.fn.input) (g.S.Source.left l.input) l.intake
-    (state_of l.fn.consumer l.fn.out l.fn.log l.fn.disk) (state_of l.consumer l.out l.log l.disk) l.ticks
+    Progress g.C.Consumer.meaning g.O.Sink g.L.Sink g.D.SlotDisk l.marks
+    (g.S.Source.left l.fn.input) (g.S.Source.left l.input) l.intake
+    (state_of l.fn.consumer l.fn.out l.fn.log l.fn.disk) (state_of l.consumer l.out l.log l.disk)
+    l.ticks
     × (g.S.Source.faults l.input ≡ g.S.Source.faults l.fn.input)
 
 abbrev pub decreases-loop-run : goal.decreases-loop-run

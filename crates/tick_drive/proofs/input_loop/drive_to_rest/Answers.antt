@@ -19,12 +19,15 @@ take-requires g c =
 
 pub returns-in_default : goal.returns-in_default
 returns-in_default g c = record {
-  driven = other_ends g.C.Consumer.meaning g.O.Sink g.L.Sink g.D.SlotDisk _ c.args.rest _ _ _ _ _ c.in_default.not-Whole c.drive.ensures.driven;
+  driven = other_ends g.C.Consumer.meaning g.O.Sink g.L.Sink g.D.SlotDisk _ c.args.rest
+      _ _ _ _ _ c.in_default.not-Whole c.drive.ensures.driven;
   read = c.drive.ensures.read;
 }
 
 pub returns-in-Err-clause-driven : goal.returns-in-Err-clause-driven
-returns-in-Err-clause-driven g c = rest_stops g.C.Consumer.meaning g.O.Sink g.L.Sink g.D.SlotDisk _ c.args.rest _ _ _ _ _ _ c.in-Whole.ensures.driven c.in-Err.ensures
+returns-in-Err-clause-driven g c = rest_stops g.C.Consumer.meaning g.O.Sink g.L.Sink g.D.SlotDisk
+    _ c.args.rest _ _ _ _ _ _ c.in-Whole.ensures.driven c.in-Err.ensures
 
 pub returns-in-Ok-clause-driven : goal.returns-in-Ok-clause-driven
-returns-in-Ok-clause-driven g c = rest_taken g.C.Consumer.meaning g.O.Sink g.L.Sink g.D.SlotDisk _ c.args.rest _ _ _ _ _ c.in-Whole.ensures.driven c.in-Ok.ensures
+returns-in-Ok-clause-driven g c = rest_taken g.C.Consumer.meaning g.O.Sink g.L.Sink g.D.SlotDisk
+    _ c.args.rest _ _ _ _ _ c.in-Whole.ensures.driven c.in-Ok.ensures

@@ -1,4 +1,5 @@
-use Rattle.std.proofs.Common.{◌<◌, ◌-◌, ◌≡◌, ◌∙◌, ◌∷◌, ◌++◌, [], length, length-append, take, drop, get_or, ap, sym, subst, arith}
+use Rattle.std.proofs.Common.{◌<◌, ◌-◌, ◌≡◌, ◌∙◌, ◌∷◌, ◌++◌, [], length, length-append, take, drop}
+use Rattle.std.proofs.Common.{get_or, ap, sym, subst, arith}
 use Rattle.std.proofs.lemmas.List.{length-take}
 use Rattle.std.specs.Io.KnownBytes.{prepend_known}
 use Rattle.yasir_io.specs.Pieces.{kept_bytes}
@@ -13,7 +14,12 @@ returns-then-self-eq-MAX_INPUT_BYTES-clause-answer c = λ marks before now text 
   byte = get_or (kept_bytes c.args.self.now.pieces) 0 0;
   came = met_first _ now text _ c.requires met.source;
   full = sym met.count ∙ c.if-self-eq-MAX_INPUT_BYTES.true;
-  sum = omega (arith, met.count, c.if-self-eq-MAX_INPUT_BYTES.true, length-append text (get_or (kept_bytes c.args.self.now.pieces) 0 0 ∷ []));
+  sum = omega (
+    arith,
+    met.count,
+    c.if-self-eq-MAX_INPUT_BYTES.true,
+    length-append text (get_or (kept_bytes c.args.self.now.pieces) 0 0 ∷ []),
+  );
 }
 
 pub returns-in-Ok-clause-answer : goal.returns-in-Ok-clause-answer
@@ -22,9 +28,11 @@ returns-in-Ok-clause-answer c = λ marks before now text met.
     let slice = take c.min-within.result kept in
     let n = c.feed_some-taken.result.taken in
     let fed = c.feed_some-taken.ensures in
-    let some : 0 < n = rw c.in-Ok.is at (fed.progress (omega (arith, length-take c.min-within.result kept, ap length c.kept-kept.ensures))) in
+    let some : 0 < n = rw c.in-Ok.is at (fed.progress
+    (omega (arith, length-take c.min-within.result kept, ap length c.kept-kept.ensures))) in
     let whole = text_last text slice n fed.within some in
-    let source = subst (λ l. before ≡ prepend_known text (prepend_known l now)) (sym c.kept-kept.ensures) met.source in
+    let source = subst (λ l. before ≡ prepend_known text (prepend_known l now))
+    (sym c.kept-kept.ensures) met.source in
     let rest = c.skip.ensures.kept ∙ ap (λ l. drop n l) (sym c.kept-kept.ensures) in
     record {
       front = take (n - 1) slice;
@@ -34,11 +42,27 @@ returns-in-Ok-clause-answer c = λ marks before now text met.
         begins = rw c.in-Ok.is at (fed.begins marks text met.stands);
         source = met_slice before now text kept _ c.min-within.result n fed.within rest source;
         open_end = c.skip.ensures.ended ∙ met.open_end;
-        count = omega (arith, met.count, length-append text (take n slice), length-take n slice, fed.within);
-        within = omega (arith, met.count, met.within, length-append text (take n slice), length-take n slice, length-take c.min-within.result kept, fed.within, c.min-within.ensures);
+        count = omega (
+          arith,
+          met.count,
+          length-append text (take n slice),
+          length-take n slice,
+          fed.within,
+        );
+        within = omega (
+          arith,
+          met.count,
+          met.within,
+          length-append text (take n slice),
+          length-take n slice,
+          length-take c.min-within.result kept,
+          fed.within,
+          c.min-within.ensures,
+        );
       });
       ended = ap ended_items whole ∙ (rw c.in-Ok.is at (fed.run marks text met.stands));
-      quiet = λ ticks. let last = rw c.in-Ok.is at (fed.last marks text met.stands) in (last ticks).1;
+      quiet = λ ticks. let last = rw c.in-Ok.is at (fed.last marks text met.stands) in
+          (last ticks).1;
     }
 
 pub returns-in-Err-clause-answer : goal.returns-in-Err-clause-answer
@@ -47,7 +71,8 @@ returns-in-Err-clause-answer c = λ marks before now text met.
     let slice = take c.min-within.result kept in
     let n = c.feed_some-taken.result.taken in
     let refused = rw c.in-Err.is at (c.feed_some-taken.ensures.refused marks text met.stands) in
-    let source = subst (λ l. before ≡ prepend_known text (prepend_known l now)) (sym c.kept-kept.ensures) met.source in
+    let source = subst (λ l. before ≡ prepend_known text (prepend_known l now))
+    (sym c.kept-kept.ensures) met.source in
     record {
       front = take n slice;
       refused = record {

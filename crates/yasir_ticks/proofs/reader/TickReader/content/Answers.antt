@@ -1,5 +1,6 @@
 use Rattle.std.proofs.Common.{inl, inr, arith}
-use Rattle.yasir_ticks.proofs.Steps.{closes_start, closes_comment, closes_pairs, closes_number, closes_returned, open_pairs, open_half_pair, open_minus}
+use Rattle.yasir_ticks.proofs.Steps.{closes_start, closes_comment, closes_pairs, closes_number}
+use Rattle.yasir_ticks.proofs.Steps.{closes_returned, open_pairs, open_half_pair, open_minus}
 use Rattle.yasir_ticks.proofs.reader.TickReader.content.Goals as goal
 
 pub returns-in-Start-clause-content : goal.returns-in-Start-clause-content

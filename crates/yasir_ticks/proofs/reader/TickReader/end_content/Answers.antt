@@ -5,7 +5,8 @@ use Rattle.yasir_ticks.proofs.reader.TickReader.end_content.Goals as goal
 
 pub returns-in-Ok : goal.returns-in-Ok
 returns-in-Ok c =
-    step_on _ _ _ _ _ _ _ refl c.go.ensures.place c.go.ensures.bytes c.go.ensures.line c.go.ensures.ok (λ e. omega arith)
+    step_on _ _ _ _ _ _ _ refl c.go.ensures.place c.go.ensures.bytes c.go.ensures.line
+    c.go.ensures.ok (λ e. omega arith)
     (accepts_return _ _ _ c.requires c.in-Ok.ensures.content)
 
 pub returns-in-Err : goal.returns-in-Err

@@ -8,13 +8,16 @@ use Rattle.yasir_ticks.proofs.writer.TickWriter.complete_by_byte.Goals as goal
 pub returns-in-Bytes-clause-writes : goal.returns-in-Bytes-clause-writes
 returns-in-Bytes-clause-writes c =
     let full : 32 ≤ length c.in-Bytes.line.items + 1 =
-    ltb-false (length c.in-Bytes.line.items + 1) 32 (sym (ap (λ run. joins run (Byte c.args.b)) c.in-Bytes.is) ∙ c.requires) in
+    ltb-false (length c.in-Bytes.line.items + 1) 32
+    (sym (ap (λ run. joins run (Byte c.args.b)) c.in-Bytes.is) ∙ c.requires) in
     let enough : 31 ≤ length c.in-Bytes.line.items = omega arith in
     byte_fills _ c.in-Bytes.line _ _ _ c.in-Bytes.is c.args.self.now.room enough
     (rw (← c.take-filled.ensures.value) c.push.ensures.items) c.hex_line.ensures
 
 pub returns-in-Silence-clause-writes : goal.returns-in-Silence-clause-writes
-returns-in-Silence-clause-writes c = byte_ends_silence _ _ c.in-Silence.n _ _ c.in-Silence.is c.args.self.now.room c.count_line-line.ensures c.begin_bytes.ensures
+returns-in-Silence-clause-writes c = byte_ends_silence _ _ c.in-Silence.n _ _ c.in-Silence.is
+    c.args.self.now.room c.count_line-line.ensures c.begin_bytes.ensures
 
 pub returns-in-Nothing-clause-writes : goal.returns-in-Nothing-clause-writes
-returns-in-Nothing-clause-writes c = let both : true ≡ false = sym (ap (λ run. joins run (Byte c.args.b)) c.in-Nothing.is) ∙ c.requires in cc
+returns-in-Nothing-clause-writes c = let both : true ≡ false =
+    sym (ap (λ run. joins run (Byte c.args.b)) c.in-Nothing.is) ∙ c.requires in cc

@@ -8,11 +8,15 @@ use Rattle.yasir_ticks.proofs.writer.TickWriter.complete_by_silence.Goals as goa
 pub returns-in-Silence : goal.returns-in-Silence
 returns-in-Silence c =
     let full : 1000000 ≤ c.in-Silence.field-0 + 1 =
-    ltb-false (c.in-Silence.field-0 + 1) 1000000 (sym (ap (λ run. joins run Silent) c.in-Silence.is) ∙ c.requires) in
-    silence_fills _ c.in-Silence.field-0 _ c.in-Silence.is c.args.self.now.room full c.count_line.ensures
+    ltb-false (c.in-Silence.field-0 + 1) 1000000
+    (sym (ap (λ run. joins run Silent) c.in-Silence.is) ∙ c.requires) in
+    silence_fills _ c.in-Silence.field-0 _ c.in-Silence.is c.args.self.now.room full
+    c.count_line.ensures
 
 pub returns-in-Bytes : goal.returns-in-Bytes
-returns-in-Bytes c = silent_ends_bytes _ c.in-Bytes.line _ c.in-Bytes.is c.args.self.now.room c.hex_line-line.ensures
+returns-in-Bytes c = silent_ends_bytes _ c.in-Bytes.line _ c.in-Bytes.is c.args.self.now.room
+    c.hex_line-line.ensures
 
 pub returns-in-Nothing : goal.returns-in-Nothing
-returns-in-Nothing c = let both : true ≡ false = sym (ap (λ run. joins run Silent) c.in-Nothing.is) ∙ c.requires in cc
+returns-in-Nothing c = let both : true ≡ false =
+    sym (ap (λ run. joins run Silent) c.in-Nothing.is) ∙ c.requires in cc
