@@ -18,7 +18,7 @@ unfolding bit_step
 bit_step-masked p r mask p_fits mask_fits zero_sum =
     let lowest : bit_and r 1 ≡ r % 2 = and_mask r 1 in
     cond_both (nat_eq (r % 2) 1) (bit_xor (r / 2) p) (r / 2)
-        (λ x. bit_xor (r / 2) (bit_and p mask) ≡ x)
+    (λ x. bit_xor (r / 2) (bit_and p mask) ≡ x)
     (λ one. let odd : r % 2 ≡ 1 = eqb-true (r % 2) 1 one in
     let all_ones : mask ≡ 2 ^ 16 - 1 = omega arith in
     ap (λ m. bit_xor (r / 2) (bit_and p m)) all_ones
@@ -62,7 +62,7 @@ bit_steps-next p k n r next left e =
     let fewer : k - n - 1 ≡ k - (n + 1) = omega arith in
     let some : 0 < k - n = omega arith in
     rw e (ap (λ i. bit_steps p i (bit_step p r)) (sym fewer)
-        ∙ sym (bit_steps-first p (k - n) r some))
+    ∙ sym (bit_steps-first p (k - n) r some))
 
 -- all of k steps are done
 pub bit_steps-done : (p k n r : ℕ) → k ≤ n → bit_steps p (k - n) r ≡ r

@@ -36,7 +36,7 @@ module _ (p : ℕ) (high : 2 ^ 15 ≤ p) (fits : p < 2 ^ 16) where
   bit_step-fits r small =
       ⊎_elim
       (λ odd. let half : r / 2 < 2 ^ 16 = omega arith in
-          rw (bit_step-odd r odd) (xor_lt 16 (r / 2) p half fits))
+      rw (bit_step-odd r odd) (xor_lt 16 (r / 2) p half fits))
       (λ even. let e = bit_step-even r (parity r even) in omega arith)
       (cases_eq (r % 2) 1)
 
@@ -47,7 +47,7 @@ module _ (p : ℕ) (high : 2 ^ 15 ≤ p) (fits : p < 2 ^ 16) where
       let one : p / 2 ^ 15 ≡ 1 = omega arith in
       let top : bit_xor (r / 2) p / 2 ^ 15 ≡ 1 =
       xor_shr (r / 2) p 15 ∙ (ap (λ x. bit_xor x (p / 2 ^ 15)) none
-          ∙ (xor_zero_l (p / 2 ^ 15) ∙ one)) in
+      ∙ (xor_zero_l (p / 2 ^ 15) ∙ one)) in
       let e = bit_step-odd r odd in
       omega arith
 
@@ -55,7 +55,7 @@ module _ (p : ℕ) (high : 2 ^ 15 ≤ p) (fits : p < 2 ^ 16) where
   bit_step-above k r low small above =
       ⊎_elim
       (λ odd. let most = odd-high r small odd in
-          let power : 2 ^ k ≤ 2 ^ 15 = pow-le-pow_right {n = 2} (omega arith) low in omega arith)
+      let power : 2 ^ k ≤ 2 ^ 15 = pow-le-pow_right {n = 2} (omega arith) low in omega arith)
       (λ even. let e = bit_step-even r (parity r even) in let power = pow-succ' 2 k in omega arith)
       (cases_eq (r % 2) 1)
 
@@ -69,7 +69,7 @@ module _ (p : ℕ) (high : 2 ^ 15 ≤ p) (fits : p < 2 ^ 16) where
       let P : ℕ → Type 0 = λ i. 2 ^ i ≤ r in
       let less : n + k ≤ 15 = omega arith in
       bit_steps-above n k (bit_step p r) less (bit_step-fits r small)
-          (bit_step-above (n + k) r less small (subst P e above))
+      (bit_step-above (n + k) r less small (subst P e above))
 
   -- No bit set was shifted out where the register ends below 256.
   bit_steps-low : (n r : ℕ) → n ≤ 8 → r < 2 ^ 16 → bit_steps p n r < 2 ^ 8
@@ -83,7 +83,7 @@ module _ (p : ℕ) (high : 2 ^ 15 ≤ p) (fits : p < 2 ^ 16) where
       let all : n + (15 - n) ≡ 15 = omega arith in
       let P : ℕ → Type 0 = λ i. 2 ^ i ≤ bit_step p r in
       let above = bit_steps-above n (15 - n) (bit_step p r) (omega arith) (bit_step-fits r small)
-          (subst P (sym all) (odd-high r small odd)) in
+      (subst P (sym all) (odd-high r small odd)) in
       let power : 2 ^ 8 ≤ 2 ^ (15 - n) = pow-le-pow_right {n = 2} (omega arith) k in
       absurd (omega arith))
       (λ even.
@@ -92,7 +92,7 @@ module _ (p : ℕ) (high : 2 ^ 15 ≤ p) (fits : p < 2 ^ 16) where
       let e = bit_step-even r none in
       let twice : r ≡ 2 * bit_step p r = omega arith in
       twice ∙ (ap (λ x. 2 * x) half ∙ (sym (mul_assoc 2 (2 ^ n) (bit_steps p n (bit_step p r)))
-          ∙ ap (λ x. x * bit_steps p n (bit_step p r)) (sym (pow-succ' 2 n)))))
+      ∙ ap (λ x. x * bit_steps p n (bit_step p r)) (sym (pow-succ' 2 n)))))
       (cases_eq (r % 2) 1)
 
   pub bit_steps-shift : (n v : ℕ) → bit_steps p n (2 ^ n * v) ≡ v
@@ -100,19 +100,19 @@ module _ (p : ℕ) (high : 2 ^ 15 ≤ p) (fits : p < 2 ^ 16) where
   bit_steps-shift zero v = omega arith
   bit_steps-shift (suc n) v =
       let e : 2 ^ suc n * v ≡ 2 * (2 ^ n * v) =
-          ap (λ x. x * v) (pow-succ' 2 n) ∙ mul_assoc 2 (2 ^ n) v in
+      ap (λ x. x * v) (pow-succ' 2 n) ∙ mul_assoc 2 (2 ^ n) v in
       let even : 2 * (2 ^ n * v) % 2 ≡ 0 = omega arith in
       let half : 2 * (2 ^ n * v) / 2 ≡ 2 ^ n * v = omega arith in
       ap (λ x. bit_steps p n (bit_step p x)) e
       ∙ (ap (λ x. bit_steps p n x) (bit_step-even (2 * (2 ^ n * v)) even ∙ half)
-          ∙ bit_steps-shift n v)
+      ∙ bit_steps-shift n v)
 
   -- The register's own low byte shifts it right by a byte,
   pub byte_step-own : (r : ℕ) → r < 2 ^ 16 → byte_step p r (r % 256) ≡ r / 256
   byte_step-own r small =
       let low : bit_xor r (r % 256) % 2 ^ 8 ≡ 0 =
       xor_mod r (r % 256) 8 ∙ (ap (λ x. bit_xor (r % 256) x) (mod-eq_of_lt (omega arith))
-          ∙ xor_self (r % 256)) in
+      ∙ xor_self (r % 256)) in
       let none : r % 256 / 2 ^ 8 ≡ 0 = omega arith in
       let top : bit_xor r (r % 256) / 2 ^ 8 ≡ r / 256 =
       xor_shr r (r % 256) 8 ∙ (ap (λ x. bit_xor (r / 2 ^ 8) x) none ∙ xor_zero_r (r / 2 ^ 8)) in
@@ -126,12 +126,12 @@ module _ (p : ℕ) (high : 2 ^ 15 ≤ p) (fits : p < 2 ^ 16) where
       let e : byte_step p r b ≡ bit_steps p 8 (bit_xor r b) = byte_step_lem p r b in
       let wide : b < 2 ^ 16 = omega arith in
       let shifted : bit_xor r b ≡ 2 ^ 8 * bit_steps p 8 (bit_xor r b) =
-          bit_steps-low 8 (bit_xor r b) (omega arith) (xor_lt 16 r b small wide) (omega arith) in
+      bit_steps-low 8 (bit_xor r b) (omega arith) (xor_lt 16 r b small wide) (omega arith) in
       let none : b / 2 ^ 8 ≡ 0 = omega arith in
       let top : bit_xor r b / 2 ^ 8 ≡ r / 256 =
-          xor_shr r b 8 ∙ (ap (λ x. bit_xor (r / 2 ^ 8) x) none ∙ xor_zero_r (r / 2 ^ 8)) in
+      xor_shr r b 8 ∙ (ap (λ x. bit_xor (r / 2 ^ 8) x) none ∙ xor_zero_r (r / 2 ^ 8)) in
       let apart : bit_xor (r % 2 ^ 8) (b % 2 ^ 8) ≡ 0 =
-          sym (xor_mod r b 8) ∙ (let z : bit_xor r b % 2 ^ 8 ≡ 0 = omega arith in z) in
+      sym (xor_mod r b 8) ∙ (let z : bit_xor r b % 2 ^ 8 ≡ 0 = omega arith in z) in
       let same = xor-zero (r % 2 ^ 8) (b % 2 ^ 8) apart in
       (omega arith, omega arith)
 
@@ -164,8 +164,8 @@ module _ (p : ℕ) (high : 2 ^ 15 ≤ p) (fits : p < 2 ^ 16) where
   crc-fits r [] small bytes = rw (crc-nil p r) small
   crc-fits r (b ∷ x) small bytes =
       rw (crc-cons p r b x) (crc-fits (byte_step p r b) x
-          (byte_step-fits r b small (All-head (λ n. n < 256) b x bytes))
-          (All-tail (λ n. n < 256) b x bytes))
+      (byte_step-fits r b small (All-head (λ n. n < 256) b x bytes))
+      (All-tail (λ n. n < 256) b x bytes))
 
   pub crc-append : (r : ℕ) (x : List ℕ) (b : ℕ) → crc p r (x ++ b ∷ []) ≡ byte_step p (crc p r x) b
   unfolding crc
@@ -186,7 +186,7 @@ module _ (p : ℕ) (high : 2 ^ 15 ≤ p) (fits : p < 2 ^ 16) where
       let here = crc-fits r x small bytes in
       let last : byte_step p (crc p r x) low ≡ high' =
       byte_step-zero (byte_step p (crc p r x) low) high' (byte_step-fits (crc p r x) low here first)
-          second (sym (crc-two r x low high') ∙ none) in
+      second (sym (crc-two r x low high') ∙ none) in
       let both = byte_step-low (crc p r x) low here first (omega arith) in
       ap (λ b. b ∷ high' ∷ []) both.0 ∙ ap (λ b. crc p r x % 256 ∷ b ∷ []) (sym last ∙ both.1)
 

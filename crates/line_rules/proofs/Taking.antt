@@ -26,7 +26,7 @@ module _ {V : Type 0} (rules : Rules) (stands : V → List ℕ → Type 0) (old 
         let more : (x ++ take n part) ++ b ∷ [] ≡ x ++ take (n + 1) part =
         append_assoc x (take n part) (b ∷ [])
         ∙ ap (λ y. x ++ y) (ap (λ c. take n part ++ c ∷ []) same
-            ∙ sym (take_more part n 0 within)) in
+        ∙ sym (take_more part n 0 within)) in
         subst (stands next) more (takes (x ++ take n part) (taken.stands_for x before));
     had_room = λ x k before below.
         ⊎_elim

@@ -84,4 +84,8 @@ impl LineRules for FourBytes {
     fn left(&self) -> u16 {
         0
     }
+
+    fn spoiled(&self, b: u8) -> u8 {
+        if b == 0 { b ^ 1 } else { b }
+    }
 }

@@ -2,6 +2,7 @@ ghost use Rattle.std.specs.Prelude.{◌≡◌, ℕ, ◌<◌, ◌≤◌, Bool, tr
 ghost use Rattle.std.specs.Prelude.{length, take};
 ghost use Rattle.line_rules.specs.Bytes.{AreBytes};
 ghost use Rattle.line_rules.specs.Rules.{Rules, fills_room, is_frame_of, head_of, left_of};
+ghost use Rattle.line_rules.specs.Rules.{spoil_of};
 ghost use Rattle.line_rules.specs.RulesLaws.{IsLawful, IsHeaded, IsFramed, IsFilling, HasNumbers};
 ghost use Rattle.line_rules.specs.Spoiling.{IsSpoiling};
 
@@ -102,4 +103,10 @@ pub trait LineRules: Drop {
     /// How many bytes the frame still lacks that begins with a good header; 0 where there is none.
     fn left(&self) -> u16
         ensures { (x : List ℕ) → stands self.now x → result ≡ left_of rules x };
+
+    /// What is sent after these bytes in place of `b`, where `b` would be the last byte and all of
+    /// them are to be no frame. There must be room for it.
+    fn spoiled(&self, b: u8) -> u8
+        requires { is_full self.now ≡ false }
+        ensures { (x : List ℕ) → stands self.now x → result ≡ spoil_of rules x b };
 }

@@ -22,7 +22,7 @@ twice : (a b p : ℕ) → bit_xor (bit_xor a p) (bit_xor b p) ≡ bit_xor a b
 twice a b p =
     xor_assoc a p (bit_xor b p)
     ∙ ap (bit_xor a) (ap (bit_xor p) (xor_comm b p) ∙ sym (xor_assoc p p b)
-        ∙ ap (λ z. bit_xor z b) (xor_self p) ∙ xor_zero_l b)
+    ∙ ap (λ z. bit_xor z b) (xor_self p) ∙ xor_zero_l b)
 
 module _ (p : ℕ) (high : 2 ^ 15 ≤ p) (fits : p < 2 ^ 16) where
   -- ---- steps are linear
@@ -35,36 +35,36 @@ module _ (p : ℕ) (high : 2 ^ 15 ≤ p) (fits : p < 2 ^ 16) where
       (λ odd_x. ⊎_elim
       (λ odd_y.
       let even : bit_xor x y % 2 ≡ 0 = low ∙ ap (λ u. bit_xor u (y % 2)) odd_x
-          ∙ ap (bit_xor 1) odd_y in
+      ∙ ap (bit_xor 1) odd_y in
       bit_step-even p high fits (bit_xor x y) even ∙ rest ∙ sym (twice (x / 2) (y / 2) p)
       ∙ sym (ap (λ u. bit_xor u (bit_step p y)) (bit_step-odd p high fits x odd_x)
-          ∙ ap (bit_xor (bit_xor (x / 2) p)) (bit_step-odd p high fits y odd_y)))
+      ∙ ap (bit_xor (bit_xor (x / 2) p)) (bit_step-odd p high fits y odd_y)))
       (λ not_y.
       let even_y : y % 2 ≡ 0 = omega arith in
       let odd : bit_xor x y % 2 ≡ 1 = low ∙ ap (λ u. bit_xor u (y % 2)) odd_x
-          ∙ ap (bit_xor 1) even_y in
+      ∙ ap (bit_xor 1) even_y in
       bit_step-odd p high fits (bit_xor x y) odd ∙ ap (λ u. bit_xor u p) rest
-          ∙ front (x / 2) (y / 2) p
+      ∙ front (x / 2) (y / 2) p
       ∙ sym (ap (λ u. bit_xor u (bit_step p y)) (bit_step-odd p high fits x odd_x)
-          ∙ ap (bit_xor (bit_xor (x / 2) p)) (bit_step-even p high fits y even_y)))
+      ∙ ap (bit_xor (bit_xor (x / 2) p)) (bit_step-even p high fits y even_y)))
       (cases_eq (y % 2) 1))
       (λ not_x.
       let even_x : x % 2 ≡ 0 = omega arith in
       ⊎_elim
       (λ odd_y.
       let odd : bit_xor x y % 2 ≡ 1 = low ∙ ap (λ u. bit_xor u (y % 2)) even_x
-          ∙ ap (bit_xor 0) odd_y in
+      ∙ ap (bit_xor 0) odd_y in
       bit_step-odd p high fits (bit_xor x y) odd ∙ ap (λ u. bit_xor u p) rest
-          ∙ xor_assoc (x / 2) (y / 2) p
+      ∙ xor_assoc (x / 2) (y / 2) p
       ∙ sym (ap (λ u. bit_xor u (bit_step p y)) (bit_step-even p high fits x even_x)
-          ∙ ap (bit_xor (x / 2)) (bit_step-odd p high fits y odd_y)))
+      ∙ ap (bit_xor (x / 2)) (bit_step-odd p high fits y odd_y)))
       (λ not_y.
       let even_y : y % 2 ≡ 0 = omega arith in
       let even : bit_xor x y % 2 ≡ 0 = low ∙ ap (λ u. bit_xor u (y % 2)) even_x
-          ∙ ap (bit_xor 0) even_y in
+      ∙ ap (bit_xor 0) even_y in
       bit_step-even p high fits (bit_xor x y) even ∙ rest
       ∙ sym (ap (λ u. bit_xor u (bit_step p y)) (bit_step-even p high fits x even_x)
-          ∙ ap (bit_xor (x / 2)) (bit_step-even p high fits y even_y)))
+      ∙ ap (bit_xor (x / 2)) (bit_step-even p high fits y even_y)))
       (cases_eq (y % 2) 1))
       (cases_eq (x % 2) 1)
 
@@ -84,28 +84,28 @@ module _ (p : ℕ) (high : 2 ^ 15 ≤ p) (fits : p < 2 ^ 16) where
       let low : ℕ = bit_xor r b % 2 ^ 8 in
       let none : b / 2 ^ 8 ≡ 0 = omega arith in
       let top : bit_xor r b / 2 ^ 8 ≡ r / 256 =
-          xor_shr r b 8 ∙ (ap (λ x. bit_xor (r / 2 ^ 8) x) none ∙ xor_zero_r (r / 2 ^ 8)) in
+      xor_shr r b 8 ∙ (ap (λ x. bit_xor (r / 2 ^ 8) x) none ∙ xor_zero_r (r / 2 ^ 8)) in
       let own : bit_xor r b % 2 ^ 8 ≡ bit_xor (r % 256) b =
-          xor_mod r b 8 ∙ ap (bit_xor (r % 2 ^ 8)) (mod-eq_of_lt byte) in
+      xor_mod r b 8 ∙ ap (bit_xor (r % 2 ^ 8)) (mod-eq_of_lt byte) in
       let cleared : bit_xor (bit_xor r b) (bit_xor r b % 2 ^ 8) % 2 ^ 8 ≡ 0 =
       xor_mod (bit_xor r b) (bit_xor r b % 2 ^ 8) 8
-          ∙ (ap (λ x. bit_xor (bit_xor r b % 2 ^ 8) x) (mod-eq_of_lt (omega arith))
-          ∙ xor_self (bit_xor r b % 2 ^ 8)) in
+      ∙ (ap (λ x. bit_xor (bit_xor r b % 2 ^ 8) x) (mod-eq_of_lt (omega arith))
+      ∙ xor_self (bit_xor r b % 2 ^ 8)) in
       let no_top : bit_xor r b % 2 ^ 8 / 2 ^ 8 ≡ 0 = omega arith in
       let kept : bit_xor (bit_xor r b) (bit_xor r b % 2 ^ 8) / 2 ^ 8 ≡ bit_xor r b / 2 ^ 8 =
       xor_shr (bit_xor r b) (bit_xor r b % 2 ^ 8) 8
-          ∙ (ap (λ x. bit_xor (bit_xor r b / 2 ^ 8) x) no_top ∙ xor_zero_r (bit_xor r b / 2 ^ 8)) in
+      ∙ (ap (λ x. bit_xor (bit_xor r b / 2 ^ 8) x) no_top ∙ xor_zero_r (bit_xor r b / 2 ^ 8)) in
       let whole : bit_xor (bit_xor r b) (bit_xor r b % 2 ^ 8) ≡ 2 ^ 8 * (bit_xor r b / 2 ^ 8) =
-          omega arith in
+      omega arith in
       let parts : bit_xor r b ≡ bit_xor (bit_xor (bit_xor r b) (bit_xor r b % 2 ^ 8))
-          (bit_xor r b % 2 ^ 8) =
+      (bit_xor r b % 2 ^ 8) =
       sym (xor_assoc (bit_xor r b) (bit_xor r b % 2 ^ 8) (bit_xor r b % 2 ^ 8)
-          ∙ ap (bit_xor (bit_xor r b)) (xor_self (bit_xor r b % 2 ^ 8))
-          ∙ xor_zero_r (bit_xor r b)) in
+      ∙ ap (bit_xor (bit_xor r b)) (xor_self (bit_xor r b % 2 ^ 8))
+      ∙ xor_zero_r (bit_xor r b)) in
       byte_step_lem p r b ∙ ap (bit_steps p 8) parts
       ∙ bit_steps-xor 8 (bit_xor (bit_xor r b) (bit_xor r b % 2 ^ 8)) (bit_xor r b % 2 ^ 8)
       ∙ ap (λ x. bit_xor x (bit_steps p 8 (bit_xor r b % 2 ^ 8)))
-          (ap (bit_steps p 8) whole ∙ bit_steps-shift p high fits 8 (bit_xor r b / 2 ^ 8) ∙ top)
+      (ap (bit_steps p 8) whole ∙ bit_steps-shift p high fits 8 (bit_xor r b / 2 ^ 8) ∙ top)
       ∙ ap (λ x. bit_xor (r / 256) (bit_steps p 8 x)) own
 
 -- ---- the low byte, each of its 256 values
@@ -128,7 +128,7 @@ agrees_at (suc n) a h below =
     let both = and_parts (bit_steps 0xA001 8 n == whole_byte n) (agrees_below n) h in
     ⊎_elim
     (λ same. ap (bit_steps 0xA001 8) same ∙ eqb-true (bit_steps 0xA001 8 n) (whole_byte n) both.0
-        ∙ ap whole_byte (sym same))
+    ∙ ap whole_byte (sym same))
     (λ other. agrees_at n a both.1 (omega arith))
     (cases_eq a n)
 

@@ -38,12 +38,12 @@ frame_ending f body low high e =
     let n : length f - 2 ≡ length body = omega arith in
     let long : 2 ≤ length f = omega arith in
     let front : body_of f ≡ body = ap (λ i. take i f) n
-        ∙ (ap (λ x. take (length body) x) e ∙ take-append_seam body (low ∷ high ∷ [])) in
+    ∙ (ap (λ x. take (length body) x) e ∙ take-append_seam body (low ∷ high ∷ [])) in
     let back : drop (length f - 2) f ≡ low ∷ high ∷ [] =
     ap (λ i. drop i f) n ∙ (ap (λ x. drop (length body) x) e
-        ∙ drop-append_seam body (low ∷ high ∷ [])) in
+    ∙ drop-append_seam body (low ∷ high ∷ [])) in
     let both : get_or f (length f - 2) 0 ∷ get_or f (length f - 1) 0 ∷ [] ≡ low ∷ high ∷ [] =
-        sym (last_two f long) ∙ back in
+    sym (last_two f long) ∙ back in
     (front, cc, cc)
 
 pub HasRightEnding-ends : (f : List ℕ) → HasRightEnding f → EndsInCrc f
@@ -123,7 +123,7 @@ last_byte_decides f sent r long short fits is written low =
     let second : get_or sent 1 0 ≡ crc_rtu (body_of f) / 256 =
     ap (λ x. get_or x 1 0) written ∙ (mod-eq_of_lt high_fits ∙ ap (λ n. n / 256) is) in
     let first : get_or sent 0 0 ≡ crc_rtu (body_of f) % 256 =
-        ap (λ x. get_or x 0 0) written ∙ ap (λ n. n % 256) is in (
+    ap (λ x. get_or x 0 0) written ∙ ap (λ n. n % 256) is in (
       (λ same. IsFrame-of f long short (HasRightEnding-from f (omega arith)
           (record { low = low ∙ first; high = eqb-true _ _ same ∙ second }))),
       (λ frame. eq-eqb _ _ ((HasRightEnding-ends f (IsFrame-right f frame)).high ∙ sym second)),

@@ -13,11 +13,11 @@ use Rattle.line_rules.specs.Crc.{byte_step}
 use Rattle.line_rules.proofs.CrcLaws.{crc-nil}
 use Rattle.line_rules.proofs.CrcZero.{byte_step-zero, crc-zero, crc-own, crc-append}
 use Rattle.rtu_frame.specs.Crc.{crc_rtu}
-use Rattle.rtu_frame.specs.Frame.{HasRightEnding, is_frame, body_of}
+use Rattle.rtu_frame.specs.Frame.{HasRightEnding, is_frame, has_right_ending, body_of}
 use Rattle.rtu_frame.specs.Rtu.{RtuStandsFor}
 use Rattle.rtu_frame.specs.declared.rtu.Rtu.{Rtu}
 use Rattle.rtu_frame.proofs.FrameLaws.{last_two, IsFrame-of, IsFrame-right, is_frame-true}
-use Rattle.rtu_frame.proofs.FrameLaws.{is_frame-from}
+use Rattle.rtu_frame.proofs.FrameLaws.{is_frame-from, has_right_ending-true, has_right_ending-from}
 
 -- a byte alone, or none, never leaves the register 0
 crc_rtu-long : (x : List ℕ) → AreBytes x → crc_rtu x ≡ 0 → 2 ≤ length x
@@ -27,7 +27,7 @@ crc_rtu-long (b ∷ []) bytes none =
     let last = sym (crc-append 0xA001 (lit≤ tt) (lit< tt) 0xFFFF [] b) ∙ none in
     let e = crc-nil 0xA001 0xFFFF in
     let same : 0xFFFF ≡ b = byte_step-zero 0xA001 (lit≤ tt) (lit< tt) 0xFFFF b (lit< tt) byte
-        (ap (λ r. byte_step 0xA001 r b) (sym e) ∙ last) in
+    (ap (λ r. byte_step 0xA001 r b) (sym e) ∙ last) in
     absurd (omega arith)
 crc_rtu-long (b ∷ c ∷ x) bytes none = omega arith
 
@@ -42,25 +42,25 @@ crc_rtu-zero x bytes none =
     let parted = apart x long in
     let body : AreBytes (body_of x) = All-take (λ b. b < 256) (length x - 2) x bytes in
     let first : get_or x (length x - 2) 0 < 256 =
-        All-get_or (λ b. b < 256) x (length x - 2) 0 (omega arith) bytes in
+    All-get_or (λ b. b < 256) x (length x - 2) 0 (omega arith) bytes in
     let second : get_or x (length x - 1) 0 < 256 =
-        All-get_or (λ b. b < 256) x (length x - 1) 0 (omega arith) bytes in
+    All-get_or (λ b. b < 256) x (length x - 1) 0 (omega arith) bytes in
     record {
       body = body_of x;
       ends_in_crc = parted ∙ ap (λ y. body_of x ++ y)
           (crc-zero 0xA001 (lit≤ tt) (lit< tt) 0xFFFF (body_of x) _ _ (lit< tt) body first second
-              (ap crc_rtu (sym parted) ∙ none));
+          (ap crc_rtu (sym parted) ∙ none));
     }
 
 pub crc_rtu-right : (x : List ℕ) → AreBytes x → HasRightEnding x → crc_rtu x ≡ 0
 crc_rtu-right x bytes right =
     let front : take (length right.body) x ≡ right.body =
     ap (λ y. take (length right.body) y) right.ends_in_crc
-        ∙ take-append_seam right.body (low_first (crc_rtu right.body)) in
+    ∙ take-append_seam right.body (low_first (crc_rtu right.body)) in
     let P : List ℕ → Type 0 = AreBytes in
     ap crc_rtu right.ends_in_crc
     ∙ crc-own 0xA001 (lit≤ tt) (lit< tt) 0xFFFF right.body (lit< tt)
-        (subst P front (All-take (λ b. b < 256) (length right.body) x bytes))
+    (subst P front (All-take (λ b. b < 256) (length right.body) x bytes))
 
 -- the CRC tells a right ending
 pub right_ending_by_crc : (x : List ℕ) → AreBytes x
@@ -86,8 +86,12 @@ is_frame_by_crc x bytes short =
     (is_frame-true x, is_frame-from x)
 
 pub rtu_fresh : RtuStandsFor (record { len = 0; register = 0xFFFF }) []
-rtu_fresh = record { count = refl; check = sym (crc-nil 0xA001 0xFFFF); short = omega arith;
-    bytes = All-nil (λ b. b < 256) }
+rtu_fresh = record {
+  count = refl;
+  check = sym (crc-nil 0xA001 0xFFFF);
+  short = omega arith;
+  bytes = All-nil (λ b. b < 256);
+}
 
 pub rtu_take : (len register register' b : ℕ) → len < 256 → b < 256
     → register' ≡ byte_step 0xA001 register b
@@ -109,4 +113,18 @@ pub rtu_good : (value : Rtu) (x : List ℕ) → RtuStandsFor value x
 rtu_good value x stands =
     ap (λ n. nat_le 4 n && nat_eq value.register 0) stands.count
     ∙ (ap (λ r. nat_le 4 (length x) && nat_eq r 0) stands.check
-        ∙ is_frame_by_crc x stands.bytes stands.short)
+    ∙ is_frame_by_crc x stands.bytes stands.short)
+
+-- after one more byte the register tells a right ending
+pub rtu_ends_right : (value : Rtu) (next b : ℕ) (x : List ℕ) → RtuStandsFor value x → b < 256
+    → next ≡ byte_step 0xA001 value.register b
+    → nat_eq next 0 ≡ has_right_ending (x ++ b ∷ [])
+rtu_ends_right value next b x stands byte is =
+    let y : List ℕ = x ++ b ∷ [] in
+    let register : next ≡ crc_rtu y =
+    is ∙ (ap (λ r. byte_step 0xA001 r b) stands.check
+    ∙ sym (crc-append 0xA001 (lit≤ tt) (lit< tt) 0xFFFF x b)) in
+    ap (λ r. nat_eq r 0) register
+    ∙ same_from_decides (nat_eq (crc_rtu y) 0) (has_right_ending y)
+    (right_ending_by_crc y (All-push (λ n. n < 256) x b stands.bytes byte))
+    (has_right_ending-true y, has_right_ending-from y)

@@ -79,4 +79,33 @@ mod tests {
         );
         assert_eq!(rt; judged::<Rtu>(&[0; 257]), (256, true, false, Head::Good, 0));
     }
+
+    // What is sent for a last byte after these bytes, where all are to be no frame.
+    fn spoiled_after<R: LineRules>(bytes: &[u8], last: u8) -> Option<u8> {
+        let mut rules = R::fresh();
+        for byte in bytes {
+            if !rules.full() {
+                rules.take(*byte);
+            }
+        }
+        if rules.full() {
+            return None;
+        }
+        Some(rules.spoiled(last))
+    }
+
+    #[test]
+    fn spoiled_bytes(rt: HostRuntime) {
+        // the last byte of a right ending has its lowest bit turned, and any other stays
+        assert_eq!(rt;
+            spoiled_after::<Rtu>(b"\x01\x03\x00\x00\x00\x0A\xC5", 0xCD),
+            Some(0xCC)
+        );
+        assert_eq!(rt;
+            spoiled_after::<Rtu>(b"\x01\x03\x00\x00\x00\x0A\xC5", 0xCC),
+            Some(0xCC)
+        );
+        assert_eq!(rt; spoiled_after::<Rtu>(b"\x01\x7E", 0x80), Some(0x81));
+        assert_eq!(rt; spoiled_after::<Rtu>(b"", 0xFF), Some(0xFF));
+    }
 }

@@ -96,4 +96,10 @@ impl LineRules for Rtu {
     fn left(&self) -> u16 {
         0
     }
+
+    #[inline]
+    fn spoiled(&self, b: u8) -> u8 {
+        let register = after_whole_byte(self.register, b);
+        if register == 0 { b ^ 1 } else { b }
+    }
 }

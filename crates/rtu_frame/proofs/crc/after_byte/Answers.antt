@@ -13,7 +13,7 @@ loop-init c =
 pub loop-preserved : goal.loop-preserved
 loop-preserved c =
     bit_steps-next POLYNOMIAL 8 c.loop.counter c.loop.shifted _ (omega arith)
-        c.after_bit-shifted.ensures
+    c.after_bit-shifted.ensures
     ∙ c.loop.invariant
 
 pub returns : goal.returns

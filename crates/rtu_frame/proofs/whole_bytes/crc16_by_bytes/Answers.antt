@@ -8,14 +8,14 @@ use Rattle.rtu_frame.proofs.whole_bytes.crc16_by_bytes.Goals as goal
 pub loop-byte-preserved : goal.loop-byte-preserved
 loop-byte-preserved c =
     let e = crc-drop POLYNOMIAL c.loop-byte.register c.args.bytes.now c.loop-byte.byte-index
-        (omega arith) in
+    (omega arith) in
     ap (λ r. crc POLYNOMIAL r (drop (c.loop-byte.byte-index + 1) c.args.bytes.now))
-        c.after_whole_byte-register.ensures
+    c.after_whole_byte-register.ensures
     ∙ (sym e ∙ c.loop-byte.invariant)
 
 pub returns : goal.returns
 returns c =
     sym (crc-nil POLYNOMIAL c.loop-byte.register)
     ∙ (ap (λ x. crc POLYNOMIAL c.loop-byte.register x)
-        (sym (drop_of_length-le c.args.bytes.now (omega arith)))
+    (sym (drop_of_length-le c.args.bytes.now (omega arith)))
     ∙ c.loop-byte.invariant)

@@ -3,9 +3,11 @@ use Rattle.line_rules.proofs.Taking.{taken-none, taken-next}
 use Rattle.line_rules.proofs.line_rules.LineRules.take_some.Goals as goal
 
 pub loop-byte-init : goal.loop-byte-init
-loop-byte-init g c =
-    (refl, taken-none g.Self.LineRules.rules g.Self.LineRules.stands c.args.self.now
-        c.args.part.now)
+loop-byte-init g c = (
+  refl,
+  taken-none g.Self.LineRules.rules g.Self.LineRules.stands c.args.self.now
+      c.args.part.now,
+)
 
 pub returns-then-full-clause-within : goal.returns-then-full-clause-within
 returns-then-full-clause-within g c = omega (arith, c.loop-byte.invariant.0)
