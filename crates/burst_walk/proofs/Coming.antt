@@ -100,6 +100,18 @@ module _ {S N : Type 0} (w : Walker S N) where
       let early : w.tick s d < m = are.0 in
       cond-false _ _ _ (is_other (w.tick s d) m (λ same. omega arith)) ∙ noted-at (w.next s d) m ds are.1
 
+  -- a burst that waits has its note in the step of tick m, or has none yet
+  pub note-now : (s : S) (m : ℕ) (d : Burst) → w.tick s d ≡ m
+      → notes_at m (walked w s (d ∷ [])) ≡ record { tick = m; note = w.note s d } ∷ []
+  note-now s m d now =
+      cond-true _ _ _ (is_same (w.tick s d) m now)
+      ∙ ap (λ k. let n : Noted N = record { tick = k; note = w.note s d } in n ∷ []) now
+
+  pub note-later : (s : S) (m : ℕ) (waiting : Option Burst) → IfSome waiting (λ d. m + 1 ≤ w.tick s d)
+      → notes_at m (walked w s (waiting_part waiting)) ≡ []
+  note-later s m None later = refl
+  note-later s m (Some d) later = cond-false _ _ _ (is_other (w.tick s d) m (λ same. omega arith))
+
   module _ (begun : S) where
     -- nothing has come yet
     pub come-begun : HasCome w begun 0 [] begun [] None
@@ -186,18 +198,6 @@ module _ {S N : Type 0} (w : Walker S N) where
             none_yet : (o : Option Burst) → IfSome o (λ d. m ≤ w.tick s d) → notes_before m (walked w s (waiting_part o)) ≡ []
             none_yet None waits = refl
             none_yet (Some d) waits = before-late m (noted w s d) [] waits
-
-      -- the burst that waits has its note in this step, or has none yet
-      pub note-now : (d : Burst) → w.tick s d ≡ m
-          → notes_at m (walked w s (d ∷ [])) ≡ record { tick = m; note = w.note s d } ∷ []
-      note-now d now =
-          cond-true _ _ _ (is_same (w.tick s d) m now)
-          ∙ ap (λ k. let n : Noted N = record { tick = k; note = w.note s d } in n ∷ []) now
-
-      pub note-later : (waiting : Option Burst) → IfSome waiting (λ d. m + 1 ≤ w.tick s d)
-          → notes_at m (walked w s (waiting_part waiting)) ≡ []
-      note-later None later = refl
-      note-later (Some d) later = cond-false _ _ _ (is_other (w.tick s d) m (λ same. omega arith))
 
 module _ {S N : Type 0} (w : Walker S N) (causal : IsCausal w) (begun : S) (line : List Tick) where
   -- ---- taking a tick: the burst that waits before it is judged

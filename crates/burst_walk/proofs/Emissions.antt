@@ -53,14 +53,3 @@ tick_at-from d i from =
 
     after : (a b i : ℕ) → b ≤ i → (nat_le a i && nat_lt i b) ≡ false
     after a b i h = grind arith
-
-silent_at : (n k : ℕ) (y : List Tick) → k < n → get_or (silent n ++ y) k Silent ≡ Silent
-silent_at zero k y few = absurd (omega arith)
-silent_at (suc n) zero y few = refl
-silent_at (suc n) (suc k) y few = silent_at n k y (omega arith)
-
--- silence after some ticks is what their end stands for
-pub get_or-silence : (x : List Tick) (n k : ℕ) (y : List Tick) → k < length x + n → get_or (x ++ (silent n ++ y)) k Silent ≡ get_or x k Silent
-get_or-silence [] n k y few = let h : k < n = omega arith in silent_at n k y h
-get_or-silence (t ∷ x) n zero y few = refl
-get_or-silence (t ∷ x) n (suc k) y few = get_or-silence x n k y (omega arith)

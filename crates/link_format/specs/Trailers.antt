@@ -5,7 +5,7 @@ use Rattle.yasir_ticks.specs.declared.tick.Tick.TheVariants.{Silent, Byte}
 use Rattle.link_format.specs.declared.trailer.Trailer.{Trailer}
 
 -- the bytes that aren't sent yet
-abbrev pub bytes_left : Trailer → List ℕ
+abbrev pub bytes_left : {B : ℕ} → Trailer B → List ℕ
 bytes_left trailer = drop trailer.sent trailer.bytes.items
 
 -- the first of some bytes as a tick, or silence

@@ -1,7 +1,4 @@
-ghost use Rattle.std.specs.Prelude.{◌≡◌, [], ◌∷◌, ◌++◌, length, drop, IfSome, IfNone};
-ghost use Rattle.std.specs.Int.{bytes_high_first};
 ghost use Rattle.link_format.specs.Profile.{IsWordLen};
-ghost use Rattle.link_format.specs.Trailers.{bytes_left, first_of};
 
 use arrayvec::ArrayVec;
 use hmac_tag::TagBytes;
@@ -13,17 +10,23 @@ const ROOM: usize = 20;
 /// How many bytes a number has.
 const NUMBER_LEN: usize = 8;
 
-/// The trailer of the last sealed frame: its word, high byte first, and its tag. The bytes that were sent stand in front of
-/// those that are left.
+/// The trailer of the last sealed frame: its word of `B` bytes, high byte first, and its tag. The bytes that were sent stand in
+/// front of those that are left.
 #[derive(Drop)]
-pub struct Trailer {
+pub struct Trailer<const B: usize> {
     bytes: ArrayVec<u8, ROOM>,
     sent: usize,
+    ghost word: { IsWordLen B },
 }
 
-impl Trailer {
+impl<const B: usize> Trailer<B> {
+    ghost use Rattle.std.specs.Prelude.{◌≡◌, [], ◌∷◌, ◌++◌, drop, IfSome, IfNone};
+    ghost use Rattle.std.specs.Int.{bytes_high_first};
+    ghost use Rattle.link_format.specs.Trailers.{bytes_left, first_of};
+
     /// No trailer: nothing is left to be sent.
-    pub fn none() -> Trailer
+    pub fn none() -> Trailer<B>
+        requires word { IsWordLen B }
         ensures { bytes_left result ≡ [] }
     {
         Trailer {
@@ -32,16 +35,15 @@ impl Trailer {
         }
     }
 
-    /// The trailer of a number and its tag, with a word of `B` bytes.
-    pub fn new<const B: usize>(number: u64, tag: &TagBytes) -> Trailer
-        requires word { IsWordLen B }
-        ensures { bytes_left result ≡ bytes_high_first B number ++ tag.now.items }
+    /// Makes it the trailer of a number and its tag, all of which is left to be sent.
+    pub fn load(&mut self, number: u64, tag: &TagBytes)
+        ensures { bytes_left self.new ≡ bytes_high_first B number ++ tag.now.items }
     {
         let digits = number.to_be_bytes();
-        let mut bytes = ArrayVec::new();
-        let _ = bytes.try_extend_from_slice(&digits[NUMBER_LEN - B..]);
-        let _ = bytes.try_extend_from_slice(tag.as_slice());
-        Trailer { bytes, sent: 0 }
+        self.sent = 0;
+        self.bytes.clear();
+        let _ = self.bytes.try_extend_from_slice(&digits[NUMBER_LEN - B..]);
+        let _ = self.bytes.try_extend_from_slice(tag.as_slice());
     }
 
     // The next byte to be sent; none where all are.

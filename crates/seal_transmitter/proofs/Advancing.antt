@@ -1,78 +1,106 @@
 -- One more tick of a transmitter, over the values that it has before and after.
-use Rattle.std.proofs.Common.{◌≡◌, ◌∙◌, ℕ, ◌+◌, ◌<◌, ◌≤◌, false, List, [], ◌∷◌, ◌++◌, length, drop, refl, sym, ap, subst, arith, ⊎_elim, Option, Some, None, IfSome}
+use Rattle.std.proofs.Common.{◌≡◌, ◌∙◌, ℕ, ◌+◌, ◌<◌, ◌≤◌, false, List, [], ◌∷◌, ◌++◌, length, drop}
+use Rattle.std.proofs.Common.{refl, sym, ap, subst, arith, ⊎_elim, Option, Some, None, IfSome}
 use Rattle.std.proofs.lemmas.Bool.{cases_lt}
 use Rattle.std.specs.Int.{w64, to_be_bytes, bytes_high_first}
-use Rattle.yasir_ticks.specs.Bursts.{Burst, end_of}
+use Rattle.yasir_ticks.specs.Bursts.{Burst, bursts, end_of}
 use Rattle.yasir_ticks.specs.BurstsOf.{IsContiguous}
 use Rattle.yasir_ticks.specs.declared.tick.Tick.{Tick}
 use Rattle.yasir_ticks.specs.declared.tick.Tick.TheVariants.{Silent, Byte}
 use Rattle.yasir_ticks.proofs.BurstLaws.{alone, with_last}
 use Rattle.line_rules.specs.Rules.{Rules}
 use Rattle.line_rules.specs.RulesLaws.{IsLawful}
+use Rattle.line_rules.specs.declared.line_rules.LineRules.{Ghosts as LineRules}
 use Rattle.frame_ending.specs.declared.cut.Cut.{Cut}
 use Rattle.frame_ending.specs.declared.cut.Cut.TheVariants.{Start, Live, Extra, Closed}
 use Rattle.frame_ending.specs.LiveBytes.{live_bytes, live_end, has_extra}
-use Rattle.frame_ending.specs.Cuts.{cut_of}
+use Rattle.frame_ending.specs.Cuts.{cut_of, IsPassing}
 use Rattle.frame_ending.specs.SoFar.{last_burst, start_so_far, start_in, live_bytes_so_far, live_bytes_in}
 use Rattle.frame_ending.proofs.LastBurst.{last_burst-silent, last_burst-within}
+use Rattle.frame_ending.proofs.LiveTicks.{live_ticks-whole}
+use Rattle.frame_ending.proofs.Running.{with_byte_at, IsRunning, divided-running, silent-open, Closes, silent-closes, last-next, byte-starts, start-bytes, start-end, byte-lives, byte-over, passing-open, passing-byte}
+use Rattle.hmac_tag.specs.declared.tag.Mac.{Ghosts as Mac}
 use Rattle.hmac_tag.specs.Tag.{tag_text}
-use Rattle.seal_transmitter.specs.Profile.{Profile, HasTags, trailer}
-use Rattle.seal_transmitter.specs.Y18.{profile_by}
-use Rattle.seal_transmitter.specs.Sealing.{SealState, Judgement, judged, state_by, sealed, last_number}
+use Rattle.link_format.specs.NumberedFrame.{last_number}
+use Rattle.link_format.specs.Profile.{Profile, profile_of, HasTags, trailer}
+use Rattle.link_format.specs.Setup.{Setup}
+use Rattle.link_format.specs.Trailers.{first_of}
+use Rattle.sequence_journal.specs.declared.numbers.TheConstants.{LIMIT}
+use Rattle.seal_transmitter.specs.Sealing.{SealState, Judgement, judged, start_after, sealed}
 use Rattle.seal_transmitter.specs.Sealing.Judgement.{sealed_with, unsealed}
 use Rattle.seal_transmitter.specs.Answers.{AnswersTick, SealsWith}
-use Rattle.seal_transmitter.specs.Trailers.{first_of, noteless}
 use Rattle.seal_transmitter.specs.Stands.{HasWalked, Walks}
-use Rattle.seal_transmitter.specs.Between.{Advances, IsJudged, IsPassing}
+use Rattle.seal_transmitter.specs.Between.{IsJudged, noteless}
 use Rattle.seal_transmitter.specs.declared.note.SealNote.TheVariants.{Sealed, Unsealed}
+use Rattle.seal_transmitter.specs.declared.note.SealStep.{SealStep}
 use Rattle.seal_transmitter.specs.declared.note.UnsealedWhy.{UnsealedWhy}
-use Rattle.seal_transmitter.proofs.Steps.{with_byte_at, walked-nothing, walks-silent, walks-unsealed, walks-sealed, walks-early, walks-live, walks-extra, seals-late, seals-whole, walked-number}
-use Rattle.seal_transmitter.proofs.LiveTicks.{live_ticks-whole}
-use Rattle.seal_transmitter.proofs.CutRunning.{IsRunning, running-is, silent-open, Closes, silent-closes, last-next, byte-starts, start-bytes, start-end, byte-lives, byte-over, passing-open, passing-byte}
+use Rattle.seal_transmitter.proofs.Steps.{walked-begun, walked-divided, walks-silent, walks-unsealed, walks-sealed, walks-early, walks-live, walks-extra, seals-late, seals-whole, walked-number}
 
 -- where all bytes are live, the last one ends the burst
-whole-end : (rules : Rules) (lawful : IsLawful rules) (d : Burst) → IsContiguous 4 d.body → has_extra rules d ≡ false → live_end rules d ≡ end_of d
-whole-end rules lawful d knit none = ap (λ x. d.start + length x) (live_ticks-whole rules lawful d knit none)
+whole-end : (rules : Rules) (lawful : IsLawful rules) (d : Burst) → IsContiguous 4 d.body → has_extra rules d ≡ false
+    → live_end rules d ≡ end_of d
+whole-end rules lawful d contiguous none = ap (λ x. d.start + length x) (live_ticks-whole rules lawful d contiguous none)
 
-module _ {M : Type 0} (rules : Rules) (lawful : IsLawful rules) (code : List ℕ → List ℕ → List ℕ) (tag_len : ℕ)
-    (sized : (key text : List ℕ) → length (code key text) ≡ tag_len) (mac_stands : M → List ℕ → List ℕ → Type 0) (key : List ℕ) (direction floor : ℕ) where
+-- The walk over a line goes on by a tick, with this answer.
+pub record WalksOn {R M : Type 0} (proto : LineRules R) (code : Mac M) (word_len : ℕ) (setup : Setup) (last earliest : ℕ)
+    (left : List ℕ) (mac : M) (line : List Tick) (t : Tick) (step : SealStep) : Type 0 where
+  pub walks : Walks proto code word_len last earliest left mac setup (line ++ t ∷ [])
+  pub answers : AnswersTick (profile_of proto code word_len LIMIT setup) proto.rules setup.floor line t step
+
+module _ {R M : Type 0} (proto : LineRules R) (code : Mac M) (word_len : ℕ) (setup : Setup) where
   abbrev profile : Profile
-  profile = profile_by rules code tag_len key direction
+  profile = profile_of proto code word_len LIMIT setup
+
+  abbrev rules : Rules
+  rules = proto.rules
 
   tags : HasTags profile
-  tags = record { sized = λ number frame. sized key (tag_text rules.label direction frame number) }
+  tags = record { sized = λ number frame. code.tag_len setup.key (tag_text rules.label setup.direction frame number) }
 
-  pub walks-begun : (mac : M) (none : mac_stands mac key []) → Walks rules code tag_len mac_stands floor 0 [] mac key direction floor []
+  pub walks-begun : (mac : M) (none : code.stands mac setup.key [])
+      → Walks proto code word_len setup.floor 0 [] mac setup []
   walks-begun mac none = record {
     running = None;
-    walked = walked-nothing profile rules floor;
+    walked = walked-begun profile rules setup.floor;
     text = [];
     codes = none;
     text_is = tt;
   }
 
-  module _ (line : List Tick) (last free : ℕ) (left : List ℕ) (mac : M)
-      (old : Walks rules code tag_len mac_stands last free left mac key direction floor line) where
+  module _ (line : List Tick) (last earliest : ℕ) (left : List ℕ) (mac : M)
+      (old : Walks proto code word_len last earliest left mac setup line) where
     abbrev state : SealState
-    state = record { floor = last; free = free }
+    state = record { floor = last; earliest_start = earliest }
 
     abbrev m : ℕ
     m = length line
 
+    abbrev On : ℕ → ℕ → List ℕ → M → Tick → SealStep → Type 0
+    On number next to_send new t step = WalksOn proto code word_len setup number next to_send new line t step
+
+    abbrev WalkedBy : Option Burst → Type 0
+    WalkedBy running = HasWalked profile rules setup.floor m (bursts line) state left running
+
+    abbrev WalkedThen : Tick → SealState → List ℕ → Option Burst → Type 0
+    WalkedThen t next to_send running =
+        HasWalked profile rules setup.floor (length (line ++ t ∷ [])) (bursts (line ++ t ∷ [])) next to_send running
+
     runs : IsRunning line old.running
-    runs = running-is profile rules floor line state left old.running old.walked
+    runs = divided-running line old.walked.come.settled old.running
+        (walked-divided profile rules proto.lawful tags setup.floor line state left old.running old.walked)
 
     -- the last number used is that of the last sealed frame
-    pub number-is : last ≡ last_number floor (sealed profile rules floor line)
-    number-is = walked-number profile rules lawful tags floor line state left old.running old.walked
+    pub number-is : last ≡ last_number setup.floor (sealed profile rules setup.floor line)
+    number-is = walked-number profile rules proto.lawful tags setup.floor line state left old.running old.walked
 
     -- ---- silence
 
     -- silence that closes no burst
     pub advance-open : (cut_of rules line Silent ≡ Closed → ⊥)
-        → Advances rules code tag_len mac_stands last free (drop 1 left) mac key direction floor line Silent (noteless (first_of left))
+        → On last earliest (drop 1 left) mac Silent (noteless (first_of left))
     advance-open unclosed =
-        let step = walks-silent profile rules lawful tags floor line state left old.running old.walked (silent-open rules line old.running runs unclosed) in
+        let step = walks-silent profile rules proto.lawful tags setup.floor line state left old.running old.walked
+        (silent-open rules line old.running runs unclosed) in
         record {
           walks = record { running = old.running; walked = step.0; text = old.text; codes = old.codes; text_is = old.text_is };
           answers = step.1;
@@ -82,8 +110,8 @@ module _ {M : Type 0} (rules : Rules) (lawful : IsLawful rules) (code : List ℕ
     closes : cut_of rules line Silent ≡ Closed → Closes rules line old.running
     closes closed = silent-closes rules line old.running runs closed
 
-    closed-walked : (closed : cut_of rules line Silent ≡ Closed) → HasWalked profile rules floor line state left (Some (closes closed).burst)
-    closed-walked closed = let P : Option Burst → Type 0 = λ o. HasWalked profile rules floor line state left o in subst P (closes closed).is old.walked
+    closed-walked : (closed : cut_of rules line Silent ≡ Closed) → WalkedBy (Some (closes closed).burst)
+    closed-walked closed = let P : Option Burst → Type 0 = λ o. WalkedBy o in subst P (closes closed).is old.walked
 
     closed-last : (closed : cut_of rules line Silent ≡ Closed) → last_burst (line ++ Silent ∷ []) ≡ Some (closes closed).burst
     closed-last closed =
@@ -91,162 +119,167 @@ module _ {M : Type 0} (rules : Rules) (lawful : IsLawful rules) (code : List ℕ
         let run : IsRunning line (Some (closes closed).burst) = subst P (closes closed).is runs in
         last_burst-silent line ∙ run.0
 
-    closed-knit : (closed : cut_of rules line Silent ≡ Closed) → IsContiguous 4 (closes closed).burst.body
-    closed-knit closed = (last_burst-within (line ++ Silent ∷ []) (closes closed).burst (closed-last closed)).knit
+    closed-contiguous : (closed : cut_of rules line Silent ≡ Closed) → IsContiguous 4 (closes closed).burst.body
+    closed-contiguous closed = (last_burst-within (line ++ Silent ∷ []) (closes closed).burst (closed-last closed)).knit
 
-    closed-judged : (closed : cut_of rules line Silent ≡ Closed) (j : Judgement) → IsJudged profile rules last free (line ++ Silent ∷ []) j
-        → judged profile rules state (closes closed).burst ≡ j
+    closed-judged : (closed : cut_of rules line Silent ≡ Closed) (j : Judgement)
+        → IsJudged profile rules last earliest (line ++ Silent ∷ []) j → judged profile rules state (closes closed).burst ≡ j
     closed-judged closed j judge =
         let P : Option Burst → Type 0 = λ o. IfSome o (λ d. judged profile rules state d ≡ j) in
         subst P (closed-last closed) judge
 
-    pub advance-unsealed : (why : UnsealedWhy) → cut_of rules line Silent ≡ Closed → IsJudged profile rules last free (line ++ Silent ∷ []) (unsealed why)
-        → Advances rules code tag_len mac_stands last free (drop 1 left) mac key direction floor line Silent
+    pub advance-unsealed : (why : UnsealedWhy) → cut_of rules line Silent ≡ Closed
+        → IsJudged profile rules last earliest (line ++ Silent ∷ []) (unsealed why)
+        → On last earliest (drop 1 left) mac Silent
         (record { tick = first_of left; note = Some (Unsealed (start_so_far (line ++ Silent ∷ [])) why) })
     advance-unsealed why closed judge =
         let d : Burst = (closes closed).burst in
-        let step = walks-unsealed profile rules lawful tags floor line state left d why (closed-walked closed) (closes closed).at
+        let step = walks-unsealed profile rules proto.lawful tags setup.floor line state left d why (closed-walked closed) (closes closed).at
         (closed-judged closed (unsealed why) judge) in
         let start : d.start ≡ start_so_far (line ++ Silent ∷ []) = sym (ap start_in (closed-last closed)) in
-        let P : ℕ → Type 0 = λ n. AnswersTick profile rules floor line Silent (record { tick = first_of left; note = Some (Unsealed n why) }) in
+        let P : ℕ → Type 0 = λ n. AnswersTick profile rules setup.floor line Silent (record { tick = first_of left; note = Some (Unsealed n why) }) in
         record {
           walks = record { running = None; walked = step.0; text = old.text; codes = old.codes; text_is = tt };
           answers = subst P start step.1;
         }
 
     -- what the text of the running burst is
-    text-of : (d : Burst) → old.running ≡ Some d → free ≤ d.start → old.text ≡ rules.label ∷ direction ∷ live_bytes rules d
+    text-of : (d : Burst) → old.running ≡ Some d → earliest ≤ d.start → old.text ≡ rules.label ∷ setup.direction ∷ live_bytes rules d
     text-of d is late =
-        let P : Option Burst → Type 0 = λ o. IfSome o (λ d. free ≤ d.start → old.text ≡ rules.label ∷ direction ∷ live_bytes rules d) in
-        let known : free ≤ d.start → old.text ≡ rules.label ∷ direction ∷ live_bytes rules d = subst P is old.text_is in
+        let P : Option Burst → Type 0 = λ o. IfSome o (λ d. earliest ≤ d.start → old.text ≡ rules.label ∷ setup.direction ∷ live_bytes rules d) in
+        let known : earliest ≤ d.start → old.text ≡ rules.label ∷ setup.direction ∷ live_bytes rules d = subst P is old.text_is in
         known late
 
     -- the step that seals a burst
-    sealing : (number : ℕ) (closed : cut_of rules line Silent ≡ Closed) → IsJudged profile rules last free (line ++ Silent ∷ []) (sealed_with number)
+    sealing : (number : ℕ) (closed : cut_of rules line Silent ≡ Closed)
+        → IsJudged profile rules last earliest (line ++ Silent ∷ []) (sealed_with number)
         → (bytes : List ℕ) → bytes ≡ trailer profile number (live_bytes rules (closes closed).burst)
-        → HasWalked profile rules floor (line ++ Silent ∷ []) (state_by profile rules state (closes closed).burst (sealed_with number)) (drop 1 bytes) None
-        × AnswersTick profile rules floor line Silent
+        → WalkedThen Silent (record { floor = number; earliest_start = start_after profile rules (closes closed).burst }) (drop 1 bytes) None
+        × AnswersTick profile rules setup.floor line Silent
         (record { tick = first_of bytes; note = Some (Sealed number (closes closed).burst.start (length (live_bytes rules (closes closed).burst))) })
-        × SealsWith profile rules floor line Silent number
+        × SealsWith profile rules setup.floor line Silent number
     sealing number closed judge bytes is =
-        walks-sealed profile rules lawful tags floor line state left (closes closed).burst number bytes (closed-walked closed) (closes closed).at
+        walks-sealed profile rules proto.lawful tags setup.floor line state left (closes closed).burst number bytes (closed-walked closed) (closes closed).at
         (closed-judged closed (sealed_with number) judge) is
 
-    pub seals-with : (number : ℕ) → cut_of rules line Silent ≡ Closed → IsJudged profile rules last free (line ++ Silent ∷ []) (sealed_with number)
-        → SealsWith profile rules floor line Silent number
+    pub seals-with : (number : ℕ) → cut_of rules line Silent ≡ Closed
+        → IsJudged profile rules last earliest (line ++ Silent ∷ []) (sealed_with number)
+        → SealsWith profile rules setup.floor line Silent number
     seals-with number closed judge =
         (sealing number closed judge (trailer profile number (live_bytes rules (closes closed).burst)) refl).2
 
-    pub advance-sealed : (number next_free : ℕ) (bytes : List ℕ) (new : M) → cut_of rules line Silent ≡ Closed
-        → IsJudged profile rules last free (line ++ Silent ∷ []) (sealed_with number)
-        → next_free ≡ length line + 1 + (2 + tag_len) + 3
-        → ((text : List ℕ) → mac_stands mac key text → bytes ≡ bytes_high_first 2 number ++ code key (text ++ to_be_bytes w64 number))
-        → ((text : List ℕ) → mac_stands mac key text → mac_stands new key [])
-        → Advances rules code tag_len mac_stands number next_free (drop 1 bytes) new key direction floor line Silent
+    pub advance-sealed : (number next : ℕ) (bytes : List ℕ) (new : M) → cut_of rules line Silent ≡ Closed
+        → IsJudged profile rules last earliest (line ++ Silent ∷ []) (sealed_with number)
+        → next ≡ length line + 1 + (word_len + code.TAG) + 3
+        → ((text : List ℕ) → code.stands mac setup.key text
+        → bytes ≡ bytes_high_first word_len number ++ code.tag_of setup.key (text ++ to_be_bytes w64 number))
+        → ((text : List ℕ) → code.stands mac setup.key text → code.stands new setup.key [])
+        → On number next (drop 1 bytes) new Silent
         (record { tick = first_of bytes; note = Some (Sealed number (start_so_far (line ++ Silent ∷ [])) (length (live_bytes_so_far rules (line ++ Silent ∷ [])))) })
-    advance-sealed number next_free bytes new closed judge free_is tagged begun =
+    advance-sealed number next bytes new closed judge next_is tagged begun =
         let d : Burst = (closes closed).burst in
         let is_sealed = closed-judged closed (sealed_with number) judge in
-        let late = seals-late profile rules lawful tags floor line state left d number is_sealed in
-        let whole = seals-whole profile rules lawful tags floor line state left d number is_sealed in
+        let late = seals-late profile rules proto.lawful tags setup.floor line state left d number is_sealed in
+        let whole = seals-whole profile rules proto.lawful tags setup.floor line state left d number is_sealed in
         let text = text-of d (closes closed).is late in
         let is : bytes ≡ trailer profile number (live_bytes rules d) =
-        tagged old.text old.codes ∙ ap (λ x. bytes_high_first 2 number ++ code key (x ++ to_be_bytes w64 number)) text in
+        tagged old.text old.codes
+        ∙ ap (λ x. bytes_high_first word_len number ++ code.tag_of setup.key (x ++ to_be_bytes w64 number)) text in
         let step = sealing number closed judge bytes is in
-        let end : live_end rules d ≡ end_of d = whole-end rules lawful d (closed-knit closed) whole in
+        let end : live_end rules d ≡ end_of d = whole-end rules proto.lawful d (closed-contiguous closed) whole in
         let at = (closes closed).at in
-        let free : live_end rules d + 3 + (2 + tag_len) + 4 ≡ next_free = omega arith in
-        let P : ℕ → Type 0 = λ f. HasWalked profile rules floor (line ++ Silent ∷ []) (record { floor = number; free = f }) (drop 1 bytes) None in
-        let Q : Option Burst → Type 0 = λ o. AnswersTick profile rules floor line Silent
+        let earliest_is : live_end rules d + 3 + (word_len + code.TAG) + 4 ≡ next = omega arith in
+        let P : ℕ → Type 0 = λ f. WalkedThen Silent (record { floor = number; earliest_start = f }) (drop 1 bytes) None in
+        let Q : Option Burst → Type 0 = λ o. AnswersTick profile rules setup.floor line Silent
         (record { tick = first_of bytes; note = Some (Sealed number (start_in o) (length (live_bytes_in rules o))) }) in
         record {
-          walks = record { running = None; walked = subst P free step.0; text = []; codes = begun old.text old.codes; text_is = tt };
+          walks = record { running = None; walked = subst P earliest_is step.0; text = []; codes = begun old.text old.codes; text_is = tt };
           answers = subst Q (sym (closed-last closed)) step.1;
         }
 
     -- ---- a byte
 
-    abbrev next : ℕ → Burst
-    next b = with_byte_at m b old.running
+    abbrev next_burst : ℕ → Burst
+    next_burst b = with_byte_at m b old.running
 
-    next-start : (b : ℕ) → start_so_far (line ++ Byte b ∷ []) ≡ (next b).start
-    next-start b = ap start_in (last-next rules lawful line b old.running runs)
+    next-start : (b : ℕ) → start_so_far (line ++ Byte b ∷ []) ≡ (next_burst b).start
+    next-start b = ap start_in (last-next rules proto.lawful line b old.running runs)
 
     -- a byte of an early burst
-    pub advance-early : (b : ℕ) → start_so_far (line ++ Byte b ∷ []) < free
-        → Advances rules code tag_len mac_stands last free (drop 1 left) mac key direction floor line (Byte b) (noteless (first_of left))
+    pub advance-early : (b : ℕ) → start_so_far (line ++ Byte b ∷ []) < earliest
+        → On last earliest (drop 1 left) mac (Byte b) (noteless (first_of left))
     advance-early b early =
         let start = next-start b in
-        let step = walks-early profile rules lawful tags floor line state left old.running b old.walked (omega arith) in
+        let step = walks-early profile rules proto.lawful tags setup.floor line state left old.running b old.walked (omega arith) in
         record {
-          walks = record { running = Some (next b); walked = step.0; text = old.text; codes = old.codes; text_is = λ late. absurd (omega arith) };
+          walks = record { running = Some (next_burst b); walked = step.0; text = old.text; codes = old.codes; text_is = λ late. absurd (omega arith) };
           answers = step.1;
         }
 
     -- a live byte of any other burst
-    live-on : (b : ℕ) (new : M) (text : List ℕ) → free ≤ start_so_far (line ++ Byte b ∷ []) → live_end rules (next b) ≡ m + 1
-        → mac_stands new key text → text ≡ rules.label ∷ direction ∷ live_bytes rules (next b)
-        → Advances rules code tag_len mac_stands last free left new key direction floor line (Byte b) (noteless (Byte b))
+    live-on : (b : ℕ) (new : M) (text : List ℕ) → earliest ≤ start_so_far (line ++ Byte b ∷ []) → live_end rules (next_burst b) ≡ m + 1
+        → code.stands new setup.key text → text ≡ rules.label ∷ setup.direction ∷ live_bytes rules (next_burst b)
+        → On last earliest left new (Byte b) (noteless (Byte b))
     live-on b new text late end codes is =
         let start = next-start b in
-        let step = walks-live profile rules lawful tags floor line state left old.running b old.walked (omega arith) end in
-        let P : List ℕ → Type 0 = λ l. HasWalked profile rules floor (line ++ Byte b ∷ []) state l (Some (next b)) in
+        let step = walks-live profile rules proto.lawful tags setup.floor line state left old.running b old.walked (omega arith) end in
+        let P : List ℕ → Type 0 = λ l. WalkedThen (Byte b) state l (Some (next_burst b)) in
         record {
-          walks = record { running = Some (next b); walked = subst P (sym step.0) step.1; text = text; codes = codes; text_is = λ h. is };
+          walks = record { running = Some (next_burst b); walked = subst P (sym step.0) step.1; text = text; codes = codes; text_is = λ h. is };
           answers = step.2;
         }
 
-    pub advance-begin : (b : ℕ) (new : M) → cut_of rules line (Byte b) ≡ Start b → free ≤ start_so_far (line ++ Byte b ∷ [])
-        → mac_stands new key (rules.label ∷ direction ∷ b ∷ [])
-        → Advances rules code tag_len mac_stands last free left new key direction floor line (Byte b) (noteless (Byte b))
+    pub advance-begin : (b : ℕ) (new : M) → cut_of rules line (Byte b) ≡ Start b → earliest ≤ start_so_far (line ++ Byte b ∷ [])
+        → code.stands new setup.key (rules.label ∷ setup.direction ∷ b ∷ [])
+        → On last earliest left new (Byte b) (noteless (Byte b))
     advance-begin b new starts late codes =
-        let none = byte-starts rules lawful line b old.running runs starts in
-        let is : next b ≡ alone m b = ap (λ o. with_byte_at m b o) none in
-        let end : live_end rules (next b) ≡ m + 1 = ap (λ d. live_end rules d) is ∙ start-end rules lawful line b in
-        let bytes : live_bytes rules (next b) ≡ b ∷ [] = ap (λ d. live_bytes rules d) is ∙ start-bytes rules lawful line b in
-        live-on b new (rules.label ∷ direction ∷ b ∷ []) late end codes (ap (λ h. rules.label ∷ direction ∷ h) (sym bytes))
+        let none = byte-starts rules proto.lawful line b old.running runs starts in
+        let is : next_burst b ≡ alone m b = ap (λ o. with_byte_at m b o) none in
+        let end : live_end rules (next_burst b) ≡ m + 1 = ap (λ d. live_end rules d) is ∙ start-end rules proto.lawful line b in
+        let bytes : live_bytes rules (next_burst b) ≡ b ∷ [] = ap (λ d. live_bytes rules d) is ∙ start-bytes rules proto.lawful line b in
+        live-on b new (rules.label ∷ setup.direction ∷ b ∷ []) late end codes (ap (λ h. rules.label ∷ setup.direction ∷ h) (sym bytes))
 
-    pub advance-live : (b : ℕ) (new : M) → cut_of rules line (Byte b) ≡ Live b → free ≤ start_so_far (line ++ Byte b ∷ [])
-        → ((text : List ℕ) → mac_stands mac key text → mac_stands new key (text ++ b ∷ []))
-        → Advances rules code tag_len mac_stands last free left new key direction floor line (Byte b) (noteless (Byte b))
+    pub advance-live : (b : ℕ) (new : M) → cut_of rules line (Byte b) ≡ Live b → earliest ≤ start_so_far (line ++ Byte b ∷ [])
+        → ((text : List ℕ) → code.stands mac setup.key text → code.stands new setup.key (text ++ b ∷ []))
+        → On last earliest left new (Byte b) (noteless (Byte b))
     advance-live b new lives late more =
-        let on = byte-lives rules lawful line b old.running runs lives in
-        let is : next b ≡ with_last on.burst m b = ap (λ o. with_byte_at m b o) on.is in
+        let on = byte-lives rules proto.lawful line b old.running runs lives in
+        let is : next_burst b ≡ with_last on.burst m b = ap (λ o. with_byte_at m b o) on.is in
         let start : start_so_far (line ++ Byte b ∷ []) ≡ on.burst.start = next-start b ∙ ap (λ (d : Burst). d.start) is in
         let text = text-of on.burst on.is (omega arith) in
         live-on b new (old.text ++ b ∷ []) late (ap (λ d. live_end rules d) is ∙ on.end) (more old.text old.codes)
-        (ap (λ x. x ++ b ∷ []) text ∙ ap (λ h. rules.label ∷ direction ∷ h) (sym on.bytes ∙ sym (ap (λ d. live_bytes rules d) is)))
+        (ap (λ x. x ++ b ∷ []) text ∙ ap (λ h. rules.label ∷ setup.direction ∷ h) (sym on.bytes ∙ sym (ap (λ d. live_bytes rules d) is)))
 
     -- a byte of it that isn't live
-    pub advance-extra : (b : ℕ) → cut_of rules line (Byte b) ≡ Extra b → free ≤ start_so_far (line ++ Byte b ∷ [])
-        → Advances rules code tag_len mac_stands last free (drop 1 left) mac key direction floor line (Byte b) (noteless (first_of left))
+    pub advance-extra : (b : ℕ) → cut_of rules line (Byte b) ≡ Extra b → earliest ≤ start_so_far (line ++ Byte b ∷ [])
+        → On last earliest (drop 1 left) mac (Byte b) (noteless (first_of left))
     advance-extra b extra late =
-        let on = byte-over rules lawful line b old.running runs extra in
-        let is : next b ≡ with_last on.burst m b = ap (λ o. with_byte_at m b o) on.is in
+        let on = byte-over rules proto.lawful line b old.running runs extra in
+        let is : next_burst b ≡ with_last on.burst m b = ap (λ o. with_byte_at m b o) on.is in
         let same : start_so_far (line ++ Byte b ∷ []) ≡ on.burst.start = next-start b ∙ ap (λ (d : Burst). d.start) is in
         let start = next-start b in
         let text = text-of on.burst on.is (omega arith) in
-        let end : live_end rules (next b) ≤ m = let e = ap (λ d. live_end rules d) is in let le = on.end in omega arith in
-        let step = walks-extra profile rules lawful tags floor line state left old.running b old.walked (omega arith) end in
-        let P : List ℕ → Type 0 = λ l. HasWalked profile rules floor (line ++ Byte b ∷ []) state (drop 1 l) (Some (next b)) in
-        let Q : List ℕ → Type 0 = λ l. AnswersTick profile rules floor line (Byte b) (noteless (first_of l)) in
+        let end : live_end rules (next_burst b) ≤ m = let e = ap (λ d. live_end rules d) is in let le = on.end in omega arith in
+        let step = walks-extra profile rules proto.lawful tags setup.floor line state left old.running b old.walked (omega arith) end in
+        let P : List ℕ → Type 0 = λ l. WalkedThen (Byte b) state (drop 1 l) (Some (next_burst b)) in
+        let Q : List ℕ → Type 0 = λ l. AnswersTick profile rules setup.floor line (Byte b) (noteless (first_of l)) in
         record {
           walks = record {
-            running = Some (next b);
+            running = Some (next_burst b);
             walked = subst P (sym step.0) step.1;
             text = old.text;
             codes = old.codes;
-            text_is = λ h. text ∙ ap (λ h. rules.label ∷ direction ∷ h) (sym on.bytes ∙ sym (ap (λ d. live_bytes rules d) is));
+            text_is = λ h. text ∙ ap (λ h. rules.label ∷ setup.direction ∷ h) (sym on.bytes ∙ sym (ap (λ d. live_bytes rules d) is));
           };
           answers = subst Q (sym step.0) step.2;
         }
 
     -- any tick that is neither forwarded nor closes a burst
     pub advance-passing : (t : Tick) (cut : Cut) → cut_of rules line t ≡ cut → IsPassing cut
-        → Advances rules code tag_len mac_stands last free (drop 1 left) mac key direction floor line t (noteless (first_of left))
+        → On last earliest (drop 1 left) mac t (noteless (first_of left))
     advance-passing Silent cut is passing = advance-open (λ closed. absurd (passing-open rules line cut passing (sym is ∙ closed)))
     advance-passing (Byte b) cut is passing =
         ⊎_elim
         (λ early. advance-early b early)
         (λ late. advance-extra b (passing-byte rules line b cut is passing) late)
-        (cases_lt (start_so_far (line ++ Byte b ∷ [])) free)
+        (cases_lt (start_so_far (line ++ Byte b ∷ [])) earliest)

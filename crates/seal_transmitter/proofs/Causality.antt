@@ -8,22 +8,23 @@ use Rattle.yasir_ticks.specs.BurstsOf.{IsContiguous}
 use Rattle.yasir_ticks.specs.declared.tick.Tick.{Tick}
 use Rattle.yasir_ticks.specs.declared.tick.Tick.TheVariants.{Silent, Byte}
 use Rattle.yasir_ticks.proofs.BurstsOfLaws.{contiguous-more}
+use Rattle.yasir_ticks.proofs.SilenceLaws.{get_or-silence}
 use Rattle.line_rules.specs.Rules.{Rules}
 use Rattle.line_rules.specs.RulesLaws.{IsLawful}
 use Rattle.frame_ending.specs.LiveBytes.{live_bytes, live_ticks, has_extra}
 use Rattle.frame_ending.proofs.LastBurst.{IsWithin}
+use Rattle.frame_ending.proofs.LiveTicks.{live_ticks-whole, live_ticks-before}
 use Rattle.frame_ending.proofs.BurstSteps.{longer-end}
 use Rattle.burst_walk.specs.Laid.{tick_at}
 use Rattle.burst_walk.specs.Causal.{IsCausal, MayGoOn, AddsOneTick, going_on}
 use Rattle.burst_walk.specs.Longer.{Extends}
-use Rattle.burst_walk.proofs.Emissions.{tick_at-none, tick_at-before, tick_at-from, get_or-silence}
+use Rattle.burst_walk.proofs.Emissions.{tick_at-none, tick_at-before, tick_at-from}
 use Rattle.burst_walk.proofs.Walks.{adds_one_tick}
 use Rattle.burst_walk.proofs.Longer.{extends}
-use Rattle.seal_transmitter.specs.Profile.{Profile, trailer}
+use Rattle.link_format.specs.Profile.{Profile, trailer}
 use Rattle.seal_transmitter.specs.Sealing.{SealState, Judgement, judged, forwarded, emission_by, sealer}
 use Rattle.seal_transmitter.specs.Sealing.Judgement.{sealed_with, unsealed}
 use Rattle.seal_transmitter.specs.declared.note.UnsealedWhy.TheVariants.{Early, Form, Spent}
-use Rattle.seal_transmitter.proofs.LiveTicks.{live_ticks-whole, live_ticks-before}
 
 -- ---- judgements
 
@@ -31,7 +32,7 @@ abbrev pub judge_by : Bool → Bool → Bool → ℕ → Judgement
 judge_by early wrong last number = cond early (unsealed Early) (cond wrong (unsealed Form) (cond last (unsealed Spent) (sealed_with number)))
 
 pub judged-is : (profile : Profile) (rules : Rules) (s : SealState) (d : Burst)
-    → judged profile rules s d ≡ judge_by (nat_lt d.start s.free) (has_extra rules d || not (rules.is_frame (live_bytes rules d))) (s.floor == profile.limit) (suc s.floor)
+    → judged profile rules s d ≡ judge_by (nat_lt d.start s.earliest_start) (has_extra rules d || not (rules.is_frame (live_bytes rules d))) (s.floor == profile.limit) (suc s.floor)
 unfolding judged
 judged-is profile rules s d = refl
 
@@ -88,7 +89,7 @@ module _ (profile : Profile) (rules : Rules) (lawful : IsLawful rules) where
   emission-shown d i (unsealed Form) knit not_early right before = refl
   emission-shown d i (unsealed Spent) knit not_early right before = refl
 
-  pub emission-judged : (s : SealState) (d : Burst) (i : ℕ) → IsContiguous 4 d.body → nat_lt d.start s.free ≡ false → i < end_of d + 3
+  pub emission-judged : (s : SealState) (d : Burst) (i : ℕ) → IsContiguous 4 d.body → nat_lt d.start s.earliest_start ≡ false → i < end_of d + 3
       → tick_at (emission_by profile rules d (judged profile rules s d)) i ≡ shown d i
   emission-judged s d i knit late before =
       let wrong : Bool = has_extra rules d || not (rules.is_frame (live_bytes rules d)) in
@@ -100,7 +101,7 @@ module _ (profile : Profile) (rules : Rules) (lawful : IsLawful rules) where
       (sealed-right false wrong (s.floor == profile.limit) (suc s.floor) n (sym is ∙ sealed)))
       before
 
-  pub emission-early : (s : SealState) (d : Burst) → nat_lt d.start s.free ≡ true → emission_by profile rules d (judged profile rules s d) ≡ []
+  pub emission-early : (s : SealState) (d : Burst) → nat_lt d.start s.earliest_start ≡ true → emission_by profile rules d (judged profile rules s d) ≡ []
   emission-early s d early =
       ap (λ j. emission_by profile rules d j)
       (judged-is profile rules s d
@@ -135,7 +136,7 @@ module _ (profile : Profile) (rules : Rules) (lawful : IsLawful rules) where
       (λ early. ap (λ emissions. tick_at emissions i) (emission-early s (going_on d m b) early ∙ sym (emission-early s d early)))
       (λ late. emission-judged s (going_on d m b) i knit late new
       ∙ (shown-stays d m b i may before ∙ sym (emission-judged s d i may.contiguous late old)))
-      (cases_Bool (nat_lt d.start s.free))
+      (cases_Bool (nat_lt d.start s.earliest_start))
 
   emission-dark : (d : Burst) (i : ℕ) (j : Judgement) → i < d.start → tick_at (emission_by profile rules d j) i ≡ Silent
   emission-dark d i (sealed_with n) before =

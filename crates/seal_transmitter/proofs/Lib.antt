@@ -1,11 +1,8 @@
 pub mod Worked
-pub mod LiveTicks
 pub mod Causality
-pub mod Profiles
 pub mod Numbers
 pub mod StepLemmas
 pub mod Steps
-pub mod CutRunning
 pub mod Advancing
 pub mod Stepping
 pub mod Judging

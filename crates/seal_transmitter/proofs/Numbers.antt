@@ -13,8 +13,9 @@ use Rattle.burst_walk.specs.Walk.{Noted, noted, walked, notes_before}
 use Rattle.burst_walk.specs.Longer.{Begins}
 use Rattle.burst_walk.proofs.Spread.{AreSpread, bursts-spread}
 use Rattle.burst_walk.proofs.Walks.{before-early, before-late, none_before}
-use Rattle.seal_transmitter.specs.Profile.{Profile}
-use Rattle.seal_transmitter.specs.Sealing.{SealState, SealEntry, SealedFrame, Judgement, judged, state_by, entry_by, sealer, at_floor, sealed_in, seal_notes, sealed, AreNumberedFrom}
+use Rattle.link_format.specs.NumberedFrame.{NumberedFrame, AreNumberedFrom}
+use Rattle.link_format.specs.Profile.{Profile}
+use Rattle.seal_transmitter.specs.Sealing.{SealState, FullNote, Judgement, judged, state_by, note_by, sealer, at_floor, sealed_in, seal_notes, sealed}
 use Rattle.seal_transmitter.specs.Sealing.Judgement.{sealed_with, unsealed}
 use Rattle.seal_transmitter.proofs.Causality.{judge_by, judged-is, sealer-causal, sealer-extends}
 
@@ -25,18 +26,18 @@ sealed-number false false true number n is = cc
 sealed-number false false false number n is = cc
 
 -- the frames among these notes
-abbrev pub frames_in : List (Noted SealEntry) → List SealedFrame
+abbrev pub frames_in : List (Noted FullNote) → List NumberedFrame
 frames_in notes = filter_map (λ n. sealed_in n.note) notes
 
 module _ (profile : Profile) (rules : Rules) (lawful : IsLawful rules) where
   judged-number : (s : SealState) (d : Burst) (n : ℕ) → judged profile rules s d ≡ sealed_with n → n ≡ suc s.floor
   judged-number s d n is =
-      sealed-number (nat_lt d.start s.free) (has_extra rules d || not (rules.is_frame (live_bytes rules d))) (s.floor == profile.limit) (suc s.floor) n
+      sealed-number (nat_lt d.start s.earliest_start) (has_extra rules d || not (rules.is_frame (live_bytes rules d))) (s.floor == profile.limit) (suc s.floor) n
       (sym (judged-is profile rules s d) ∙ is)
 
-  one_more : (s : SealState) (d : Burst) (tick : ℕ) (more : List (Noted SealEntry)) (j : Judgement) → ((n : ℕ) → j ≡ sealed_with n → n ≡ suc s.floor)
+  one_more : (s : SealState) (d : Burst) (tick : ℕ) (more : List (Noted FullNote)) (j : Judgement) → ((n : ℕ) → j ≡ sealed_with n → n ≡ suc s.floor)
       → AreNumberedFrom (state_by profile rules s d j).floor (frames_in more)
-      → AreNumberedFrom s.floor (frames_in (record { tick = tick; note = entry_by rules d j } ∷ more))
+      → AreNumberedFrom s.floor (frames_in (record { tick = tick; note = note_by rules d j } ∷ more))
   one_more s d tick more (sealed_with n) right rest =
       let next : n ≡ s.floor + 1 = right n refl ∙ omega arith in
       let P : ℕ → Type 0 = λ k. n ∷ map (λ f. f.number) (frames_in more) ≡ k ∷ range_with_len (k + 1) (length (frames_in more)) in
@@ -48,7 +49,7 @@ module _ (profile : Profile) (rules : Rules) (lawful : IsLawful rules) where
   numbered s n m [] spread = record { numbers = refl }
   numbered s n m (d ∷ ds) spread =
       let next : SealState = state_by profile rules s d (judged profile rules s d) in
-      let P : List (Noted SealEntry) → Type 0 = λ notes. AreNumberedFrom s.floor (frames_in notes) in
+      let P : List (Noted FullNote) → Type 0 = λ notes. AreNumberedFrom s.floor (frames_in notes) in
       ⊎_elim
       (λ early. subst P (sym (before-early m (noted (sealer profile rules) s d) (walked (sealer profile rules) next ds) early))
       (one_more s d (end_of d + 3) (notes_before m (walked (sealer profile rules) next ds)) (judged profile rules s d) (judged-number s d)

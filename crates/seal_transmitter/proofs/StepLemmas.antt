@@ -1,22 +1,26 @@
--- What stands on the link, and what is noted, where the line of the device goes on.
-use Rattle.std.proofs.Common.{◌≡◌, ◌∙◌, ◌==◌, ◌&&◌, ℕ, suc, ◌+◌, ◌-◌, ◌<◌, ◌≤◌, nat_lt, nat_le, true, false, List, [], ◌∷◌, ◌++◌, length, map, drop, refl, sym, ap, arith, append_assoc, length-append, get_or, ◌⊎◌, inl, inr, ⊎_elim}
-use Rattle.std.proofs.lemmas.Bool.{cases_lt, cond-false}
+-- What stands on the link where the line of the device goes on.
+use Rattle.std.proofs.Common.{◌≡◌, ◌∙◌, ◌&&◌, ℕ, suc, ◌+◌, ◌-◌, ◌<◌, ◌≤◌, nat_lt, nat_le, true}
+use Rattle.std.proofs.Common.{false, List, [], ◌∷◌, ◌++◌, length, map, drop, refl, sym, ap, arith}
+use Rattle.std.proofs.Common.{append_assoc, length-append, get_or, ◌⊎◌, inl, inr, ⊎_elim}
+use Rattle.std.proofs.lemmas.Bool.{cases_lt}
 use Rattle.std.proofs.lemmas.List.{get_or_past, get_or-map, get_or-append_right, length-map}
 use Rattle.yasir_ticks.specs.Ticks.{silent}
-use Rattle.yasir_ticks.specs.Bursts.{Burst, end_of, AreClosed}
+use Rattle.yasir_ticks.specs.Bursts.{Burst, end_of}
 use Rattle.yasir_ticks.specs.declared.tick.Tick.{Tick}
 use Rattle.yasir_ticks.specs.declared.tick.Tick.TheVariants.{Silent, Byte}
 use Rattle.line_rules.specs.Rules.{Rules}
 use Rattle.frame_ending.specs.LiveBytes.{live_bytes, live_ticks, live_end}
 use Rattle.frame_ending.proofs.Pauses.{up_to_byte-le}
 use Rattle.burst_walk.specs.Laid.{tick_at}
-use Rattle.burst_walk.specs.Walk.{Noted, noted, walked, emitted, state_after, notes_before, notes_at}
+use Rattle.burst_walk.specs.Walk.{Noted, walked, emitted, state_after}
+use Rattle.burst_walk.specs.HasCome.{AreNoted}
 use Rattle.burst_walk.proofs.Emissions.{tick_at-none, tick_at-from}
-use Rattle.burst_walk.proofs.Walks.{before-early}
-use Rattle.seal_transmitter.specs.Profile.{Profile, trailer}
-use Rattle.seal_transmitter.specs.Sealing.{SealState, SealEntry, Judgement, judged, state_by, entry_by, emission_by, forwarded, sealer, last_number}
+use Rattle.link_format.specs.NumberedFrame.{last_number}
+use Rattle.link_format.specs.Profile.{Profile, trailer}
+use Rattle.link_format.specs.Trailers.{first_of}
+use Rattle.seal_transmitter.specs.Sealing.{SealState, FullNote, Judgement, judged, state_by, note_by}
+use Rattle.seal_transmitter.specs.Sealing.{emission_by, forwarded, trailing, sealer}
 use Rattle.seal_transmitter.specs.Sealing.Judgement.{sealed_with, unsealed}
-use Rattle.seal_transmitter.specs.Trailers.{first_of}
 use Rattle.seal_transmitter.specs.Stands.{sent_at}
 use Rattle.seal_transmitter.specs.declared.note.UnsealedWhy.TheVariants.{Early, Form, Spent}
 use Rattle.seal_transmitter.proofs.Numbers.{frames_in}
@@ -113,77 +117,64 @@ module _ (profile : Profile) (rules : Rules) where
 
   -- a sealed emission after three silent ticks: its trailer
   pub sealed-from : (d : Burst) (bytes : List ℕ) (i : ℕ) → live_end rules d + 3 ≤ i
-      → get_or (forwarded rules d (silent 3 ++ map (λ b. Byte b) bytes)).body (i - d.start) Silent ≡ sent_at (live_end rules d + 3) bytes i
+      → get_or (forwarded rules d (trailing bytes)).body (i - d.start) Silent ≡ sent_at (live_end rules d + 3) bytes i
   sealed-from d bytes i from =
       let n : ℕ = length (live_ticks rules d) in
       let first : n ≤ i - d.start = omega arith in
       let second : 3 ≤ i - d.start - n = omega arith in
       let same : i - d.start - n - 3 ≡ i - (live_end rules d + 3) = omega arith in
-      get_or-append_right (live_ticks rules d) (silent 3 ++ map (λ b. Byte b) bytes) n (i - d.start) Silent refl first
+      get_or-append_right (live_ticks rules d) (trailing bytes) n (i - d.start) Silent refl first
       ∙ (get_or-append_right (silent 3) (map (λ b. Byte b) bytes) 3 (i - d.start - n) Silent refl second
       ∙ ap (λ k. get_or (map (λ b. Byte b) bytes) k Silent) same)
 
-  sealed-bright : (d : Burst) (bytes : List ℕ) (i : ℕ) → live_end rules d + 3 ≤ i → IsBright (forwarded rules d (silent 3 ++ map (λ b. Byte b) bytes)) i
+  sealed-bright : (d : Burst) (bytes : List ℕ) (i : ℕ) → live_end rules d + 3 ≤ i → IsBright (forwarded rules d (trailing bytes)) i
   sealed-bright d bytes i from begun within =
-      let long : length (live_ticks rules d ++ (silent 3 ++ map (λ b. Byte b) bytes)) ≡ length (live_ticks rules d) + (3 + length bytes) = simp (length-append, length-map) (omega arith) in
+      let long : length (live_ticks rules d ++ (trailing bytes)) ≡ length (live_ticks rules d) + (3 + length bytes) = simp (length-append, length-map) (omega arith) in
       let few : i - (live_end rules d + 3) < length bytes = omega arith in (
         get_or bytes (i - (live_end rules d + 3)) 0,
         sealed-from d bytes i from ∙ get_or-map (λ b. Byte b) bytes (i - (live_end rules d + 3)) 0 Silent few,
       )
 
-  emission-overlays : (d : Burst) (i : ℕ) (j : Judgement) → end_of d + 3 ≤ i → Overlays (emission_by profile rules d j) i
+  emission-overlays : (d : Burst) (i : ℕ) (j : Judgement) → end_of d + 3 ≤ i
+      → Overlays (emission_by profile rules d j) i
   emission-overlays d i (sealed_with n) later =
+      let bytes : List ℕ = trailer profile n (live_bytes rules d) in
       let end = live_end-within d in
       let from : live_end rules d + 3 ≤ i = omega arith in
-      overlays-one (forwarded rules d (silent 3 ++ map (λ b. Byte b) (trailer profile n (live_bytes rules d)))) i
-      (sealed-bright d (trailer profile n (live_bytes rules d)) i from)
+      overlays-one (forwarded rules d (trailing bytes)) i (sealed-bright d bytes i from)
   emission-overlays d i (unsealed Early) later = overlays-none i
-  emission-overlays d i (unsealed Form) later = let past : end_of d ≤ i = omega arith in overlays-outside (forwarded rules d []) i (inr (forwarded-dark d i past))
-  emission-overlays d i (unsealed Spent) later = let past : end_of d ≤ i = omega arith in overlays-outside (forwarded rules d []) i (inr (forwarded-dark d i past))
+  emission-overlays d i (unsealed Form) later =
+      let past : end_of d ≤ i = omega arith in
+      overlays-outside (forwarded rules d []) i (inr (forwarded-dark d i past))
+  emission-overlays d i (unsealed Spent) later =
+      let past : end_of d ≤ i = omega arith in
+      overlays-outside (forwarded rules d []) i (inr (forwarded-dark d i past))
 
-  pub closed-overlays : (s : SealState) (closed : List Burst) (m i : ℕ) → AreClosed 4 m closed → m ≤ i → Overlays (emitted (sealer profile rules) s closed) i
-  closed-overlays s [] m i are later = overlays-none i
-  closed-overlays s (d ∷ closed) m i are later =
-      let close = are.0 in
+  pub noted-overlays : (s : SealState) (ds : List Burst) (m i : ℕ) → AreNoted (sealer profile rules) s m ds
+      → m ≤ i → Overlays (emitted (sealer profile rules) s ds) i
+  noted-overlays s [] m i are later = overlays-none i
+  noted-overlays s (d ∷ ds) m i are later =
+      let j : Judgement = judged profile rules s d in
+      let next : SealState = state_by profile rules s d j in
+      let close : end_of d + 3 < m = are.0 in
       let past : end_of d + 3 ≤ i = omega arith in
-      overlays-append (emission_by profile rules d (judged profile rules s d)) (emitted (sealer profile rules) (state_by profile rules s d (judged profile rules s d)) closed) i
-      (emission-overlays d i (judged profile rules s d) past)
-      (closed-overlays (state_by profile rules s d (judged profile rules s d)) closed m i are.1 later)
+      overlays-append (emission_by profile rules d j) (emitted (sealer profile rules) next ds) i
+      (emission-overlays d i j past) (noted-overlays next ds m i are.1 later)
 
-  -- ---- notes of closed bursts
+  -- ---- numbers of bursts
 
-  pub closed-quiet : (s : SealState) (closed : List Burst) (m : ℕ) → AreClosed 4 m closed → notes_at m (walked (sealer profile rules) s closed) ≡ []
-  closed-quiet s [] m are = refl
-  closed-quiet s (d ∷ closed) m are =
-      let close = are.0 in
-      let early : end_of d + 3 < m = omega arith in
-      cond-false _ _ _ (is_other (end_of d + 3) m early)
-      ∙ closed-quiet (state_by profile rules s d (judged profile rules s d)) closed m are.1
-    where
-      is_other : (a b : ℕ) → a < b → (a == b) ≡ false
-      is_other a b h = grind arith
-
-  pub closed-noted : (s : SealState) (closed : List Burst) (m : ℕ) → AreClosed 4 m closed
-      → notes_before m (walked (sealer profile rules) s closed) ≡ walked (sealer profile rules) s closed
-  closed-noted s [] m are = refl
-  closed-noted s (d ∷ closed) m are =
-      let close = are.0 in
-      let early : end_of d + 3 < m = omega arith in
-      let next : SealState = state_by profile rules s d (judged profile rules s d) in
-      before-early m (noted (sealer profile rules) s d) (walked (sealer profile rules) next closed) early
-      ∙ ap (λ l. noted (sealer profile rules) s d ∷ l) (closed-noted next closed m are.1)
-
-  number-more : (s : SealState) (d : Burst) (tick floor : ℕ) (j : Judgement) (more : List (Noted SealEntry))
+  number-more : (s : SealState) (d : Burst) (tick floor : ℕ) (j : Judgement) (more : List (Noted FullNote))
       → floor ≡ last_number (state_by profile rules s d j).floor (frames_in more)
-      → floor ≡ last_number s.floor (frames_in (record { tick = tick; note = entry_by rules d j } ∷ more))
+      → floor ≡ last_number s.floor (frames_in (record { tick = tick; note = note_by rules d j } ∷ more))
   number-more s d tick floor (sealed_with n) more rest = rest
   number-more s d tick floor (unsealed why) more rest = rest
 
   -- the last number among the notes is the floor of the state
-  pub closed-number : (s : SealState) (closed : List Burst)
-      → (state_after (sealer profile rules) s closed).floor ≡ last_number s.floor (frames_in (walked (sealer profile rules) s closed))
-  closed-number s [] = refl
-  closed-number s (d ∷ closed) =
+  pub noted-number : (s : SealState) (ds : List Burst)
+      → (state_after (sealer profile rules) s ds).floor
+      ≡ last_number s.floor (frames_in (walked (sealer profile rules) s ds))
+  noted-number s [] = refl
+  noted-number s (d ∷ ds) =
       let next : SealState = state_by profile rules s d (judged profile rules s d) in
-      number-more s d (end_of d + 3) (state_after (sealer profile rules) next closed).floor (judged profile rules s d)
-      (walked (sealer profile rules) next closed) (closed-number next closed)
+      number-more s d (end_of d + 3) (state_after (sealer profile rules) next ds).floor
+      (judged profile rules s d) (walked (sealer profile rules) next ds) (noted-number next ds)

@@ -1,73 +1,61 @@
 -- One more tick of the device: how far the walk then has come, and what the step answers.
-use Rattle.std.proofs.Common.{◌≡◌, ◌∙◌, ◌==◌, ◌||◌, not, ℕ, zero, suc, ◌+◌, ◌-◌, ◌<◌, ◌≤◌, nat_lt, Bool, true, false, List, [], ◌∷◌, ◌++◌, length, map, drop, refl, sym, ap, subst, arith, append_assoc, length-append, get_or, ⊎_elim, Option, Some, None, IfSome}
-use Rattle.std.proofs.lemmas.Bool.{cases_lt, lt-ltb, le-ltb, cond-true, cond-false}
-use Rattle.std.proofs.lemmas.List.{append-nil, get_or_past, map-append, length-replicate}
-use Rattle.std.proofs.Math.Seq.{get_or-append_seam}
+use Rattle.std.proofs.Common.{◌≡◌, ◌∙◌, ◌==◌, ◌||◌, not, ℕ, zero, suc, ◌+◌, ◌-◌, ◌<◌, ◌≤◌, nat_lt, Bool}
+use Rattle.std.proofs.Common.{true, false, List, [], ◌∷◌, ◌++◌, length, drop, refl, sym, ap, subst, arith}
+use Rattle.std.proofs.Common.{get_or, ⊎_elim, Option, Some, None, IfSome}
+use Rattle.std.proofs.lemmas.Bool.{cases_lt, lt-ltb, le-ltb}
+use Rattle.std.proofs.lemmas.List.{append-nil, get_or_past}
 use Rattle.std.specs.List.{filter_map}
-use Rattle.std.proofs.lemmas.List.Elements.{filter-append}
-use Rattle.yasir_ticks.specs.Ticks.{silent}
 use Rattle.yasir_ticks.specs.Bursts.{Burst, bursts, bursts_from, end_of, AreClosed}
-use Rattle.yasir_ticks.specs.BurstsOf.{IsContiguous, one}
+use Rattle.yasir_ticks.specs.BurstsOf.{IsContiguous}
 use Rattle.yasir_ticks.specs.declared.TheConstants.{T3_5_TICKS}
 use Rattle.yasir_ticks.specs.declared.tick.Tick.{Tick}
 use Rattle.yasir_ticks.specs.declared.tick.Tick.TheVariants.{Silent, Byte}
-use Rattle.yasir_ticks.proofs.BurstLaws.{alone, with_last, extended, extended-closed, extended-joins, bursts_from-byte, bursts_from-silent, AreClosed-later, AreClosed-more}
-use Rattle.yasir_ticks.proofs.BurstsOfLaws.{contiguous-more}
 use Rattle.line_rules.specs.Rules.{Rules}
 use Rattle.line_rules.specs.RulesLaws.{IsLawful}
+use Rattle.frame_ending.specs.Divided.{IsDivided}
 use Rattle.frame_ending.specs.LiveBytes.{up_to_byte, live_bytes, live_ticks, live_end, has_extra}
-use Rattle.frame_ending.proofs.LastBurst.{IsWithin}
-use Rattle.frame_ending.proofs.BurstSteps.{longer-end}
+use Rattle.frame_ending.proofs.Dividing.{longer-line, divided-within, byte-ends, byte-begun, byte-knit, byte-last}
+use Rattle.frame_ending.proofs.LiveTicks.{live_ticks-whole}
+use Rattle.frame_ending.proofs.Running.{with_byte_at}
 use Rattle.burst_walk.specs.Laid.{tick_at}
-use Rattle.burst_walk.specs.Walk.{Noted, noted, walked, emitted, state_after, notes_before, notes_at}
-use Rattle.burst_walk.specs.Causal.{AddsOneTick}
+use Rattle.burst_walk.specs.Walk.{Walker, Noted, walked, emitted, notes_at}
+use Rattle.burst_walk.specs.HasCome.{HasCome, AreNoted, waiting_part}
+use Rattle.burst_walk.specs.Answers.{told_notes, note_in}
+use Rattle.burst_walk.proofs.Coming.{come-begun, come-waits, come-noted, come-silent, come-joined, come-alone, notes_before-come, notes-step, answers-step, note-now, note-later}
 use Rattle.burst_walk.proofs.Emissions.{tick_at-none, tick_at-from}
-use Rattle.burst_walk.proofs.Spread.{AreSpread, EndBy, bursts-spread, bursts-end}
-use Rattle.burst_walk.proofs.LastNote.{last_contiguous, last_ends}
-use Rattle.burst_walk.proofs.Walks.{emitted-append, walked-append, state_after-append, before-late}
-use Rattle.seal_transmitter.specs.Profile.{Profile, HasTags, trailer, trailer_len}
-use Rattle.seal_transmitter.specs.Sealing.{SealState, SealEntry, judged, state_by, entry_by, emission_by, forwarded, sealer, sealed_in, at_floor, seal_notes, link_line, sealed, last_number}
+use Rattle.link_format.specs.NumberedFrame.{last_number}
+use Rattle.link_format.specs.Profile.{Profile, HasTags, trailer, trailer_len}
+use Rattle.link_format.specs.Trailers.{first_of}
+use Rattle.link_format.proofs.Profiles.{length-trailer}
+use Rattle.seal_transmitter.specs.Sealing.{SealState, FullNote, Judgement, judged, state_by, note_by, emission_by}
+use Rattle.seal_transmitter.specs.Sealing.{forwarded, trailing, sealer, sealed_in, at_floor, seal_notes}
+use Rattle.seal_transmitter.specs.Sealing.{start_after, sealed}
 use Rattle.seal_transmitter.specs.Sealing.Judgement.{sealed_with, unsealed}
-use Rattle.seal_transmitter.specs.Answers.{AnswersTick, SealsWith, note_of, answered_notes, note_in}
-use Rattle.seal_transmitter.specs.Trailers.{first_of, noteless}
-use Rattle.seal_transmitter.specs.Stands.{HasWalked, running_part, sent_at}
+use Rattle.seal_transmitter.specs.Answers.{AnswersTick, SealsWith, brief_note}
+use Rattle.seal_transmitter.specs.Between.{noteless}
+use Rattle.seal_transmitter.specs.Stands.{HasWalked, sent_at}
 use Rattle.seal_transmitter.specs.declared.note.SealNote.TheVariants.{Sealed, Unsealed}
 use Rattle.seal_transmitter.specs.declared.note.SealStep.{SealStep}
 use Rattle.seal_transmitter.specs.declared.note.UnsealedWhy.{UnsealedWhy}
 use Rattle.seal_transmitter.specs.declared.note.UnsealedWhy.TheVariants.{Early, Form, Spent}
-use Rattle.seal_transmitter.proofs.Causality.{judge_by, judged-is, sealed-right, no_extra, sealer-adds_one_tick, emission-judged, emission-early, shown-from}
-use Rattle.seal_transmitter.proofs.LiveTicks.{live_ticks-whole}
-use Rattle.seal_transmitter.proofs.Profiles.{length-trailer}
-use Rattle.seal_transmitter.proofs.StepLemmas.{or_else, or_else-silent, sent-first, sent-later, closed-overlays, closed-quiet, closed-noted, closed-number, sealed-from, live_end-within, forwarded-past}
+use Rattle.seal_transmitter.proofs.Causality.{judge_by, judged-is, sealed-right, no_extra, sealer-causal, emission-judged, emission-early, shown-from}
+use Rattle.seal_transmitter.proofs.StepLemmas.{or_else, or_else-silent, sent-first, sent-later, noted-overlays, noted-number, sealed-from, live_end-within, forwarded-past}
 
--- the running burst after a byte at tick m
-abbrev pub with_byte_at : ℕ → ℕ → Option Burst → Burst
-with_byte_at m b None = alone m b
-with_byte_at m b (Some d) = with_last d m b
-
--- a line that is longer by one tick
-longer : (line : List Tick) (t : Tick) → length (line ++ t ∷ []) ≡ length line + 1
-longer line t = length-append line (t ∷ [])
-
-none_left : (left : List ℕ) (m free : ℕ) → (0 < length left → m + length left + 4 ≤ free) → free ≤ m → left ≡ []
-none_left [] m free in_time late = refl
-none_left (b ∷ left) m free in_time late =
+none_left : (left : List ℕ) (m earliest : ℕ) → (0 < length left → m + length left + 4 ≤ earliest) → earliest ≤ m
+    → left ≡ []
+none_left [] m earliest in_time late = refl
+none_left (b ∷ left) m earliest in_time late =
     let some : 0 < length (b ∷ left) = omega arith in
     let soon = in_time some in
     absurd (omega arith)
 
-left-in_time : (left : List ℕ) (m free : ℕ) → (0 < length left → m + length left + 4 ≤ free) → 0 < length (drop 1 left) → m + 1 + length (drop 1 left) + 4 ≤ free
-left-in_time [] m free in_time some = absurd (omega arith)
-left-in_time (b ∷ left) m free in_time some =
+left-in_time : (left : List ℕ) (m earliest : ℕ) → (0 < length left → m + length left + 4 ≤ earliest)
+    → 0 < length (drop 1 left) → m + 1 + length (drop 1 left) + 4 ≤ earliest
+left-in_time [] m earliest in_time some = absurd (omega arith)
+left-in_time (b ∷ left) m earliest in_time some =
     let now : 0 < length (b ∷ left) = omega arith in
     let soon = in_time now in
     omega arith
-
-not_now : (m n : ℕ) → (n ≡ m → ⊥) → (n == m) ≡ false
-not_now m n other = grind arith
-
-now : (m n : ℕ) → n ≡ m → (n == m) ≡ true
-now m n same = grind arith
 
 early-unsealed : (wrong last : Bool) (number n : ℕ) → judge_by true wrong last number ≡ sealed_with n → ⊥
 early-unsealed wrong last number n is = cc
@@ -78,444 +66,427 @@ unfolding up_to_byte
 up_to_byte-full zero [] long = refl
 up_to_byte-full zero (t ∷ x) long = absurd (omega arith)
 up_to_byte-full (suc k) [] long = refl
-up_to_byte-full (suc k) (Silent ∷ x) long = let rest : length (up_to_byte (suc k) x) ≡ length x = omega arith in ap (λ l. Silent ∷ l) (up_to_byte-full (suc k) x rest)
-up_to_byte-full (suc k) (Byte b ∷ x) long = let rest : length (up_to_byte k x) ≡ length x = omega arith in ap (λ l. Byte b ∷ l) (up_to_byte-full k x rest)
+up_to_byte-full (suc k) (Silent ∷ x) long =
+    let rest : length (up_to_byte (suc k) x) ≡ length x = omega arith in
+    ap (λ l. Silent ∷ l) (up_to_byte-full (suc k) x rest)
+up_to_byte-full (suc k) (Byte b ∷ x) long =
+    let rest : length (up_to_byte k x) ≡ length x = omega arith in
+    ap (λ l. Byte b ∷ l) (up_to_byte-full k x rest)
 
 module _ (profile : Profile) (rules : Rules) (floor : ℕ) where
-  -- how far a walk has come, by the number of its ticks
-  walked-at : (line : List Tick) (s : SealState) (left : List ℕ) (running : Option Burst) (m : ℕ) (closed : List Burst)
-      → length line ≡ m → bursts line ≡ closed ++ running_part running → AreClosed 4 m closed → IfSome running (λ d. m < end_of d + 4)
-      → state_after (sealer profile rules) (at_floor floor) closed ≡ s
-      → ((i : ℕ) → m ≤ i → tick_at (emitted (sealer profile rules) (at_floor floor) closed) i ≡ sent_at m left i)
-      → (0 < length left → m + length left + 4 ≤ s.free) → HasWalked profile rules floor line s left running
-  walked-at line s left running m closed long is are near state sends in_time =
-      let P : ℕ → Type 0 = λ k. AreClosed 4 k closed → IfSome running (λ d. k < end_of d + 4)
-      → ((i : ℕ) → k ≤ i → tick_at (emitted (sealer profile rules) (at_floor floor) closed) i ≡ sent_at k left i)
-      → (0 < length left → k + length left + 4 ≤ s.free) → HasWalked profile rules floor line s left running in
-      let Q : P (length line) = λ a b c d. record { closed = closed; is = is; are_closed = a; is_running = b; state = state; sends = c; in_time = d } in
-      subst P long Q are near sends in_time
-
   -- a transmitter at rest
-  pub walked-nothing : HasWalked profile rules floor [] (at_floor floor) [] None
-  unfolding bursts_from tick_at
-  walked-nothing = record { closed = []; is = refl; are_closed = tt; is_running = tt; state = refl; sends = λ i from. refl; in_time = λ some. absurd (omega arith) }
+  pub walked-nothing : HasWalked profile rules floor 0 [] (at_floor floor) [] None
+  unfolding tick_at
+  walked-nothing = record {
+    emissions = [];
+    come = come-begun (sealer profile rules) (at_floor floor);
+    sends = λ i from. refl;
+    in_time = λ some. absurd (omega arith);
+  }
 
-module _ (profile : Profile) (rules : Rules) (lawful : IsLawful rules) (tags : HasTags profile) (floor : ℕ) (line : List Tick) (s : SealState) (left : List ℕ) where
-  -- ---- what the walk so far says of a longer line
+  pub walked-begun : HasWalked profile rules floor 0 (bursts []) (at_floor floor) [] None
+  unfolding bursts_from
+  walked-begun = walked-nothing
 
-  -- the emissions of closed bursts, and then these
-  link-more : (running : Option Burst) (so_far : HasWalked profile rules floor line s left running) (more : List Burst) (i : ℕ) → length line ≤ i
-      → tick_at (emitted (sealer profile rules) (at_floor floor) (so_far.closed ++ more)) i ≡ or_else (sent_at (length line) left i) (tick_at (emitted (sealer profile rules) s more) i)
+  -- noted bursts are closed
+  noted-closed : (s : SealState) (m : ℕ) (ds : List Burst) → AreNoted (sealer profile rules) s m ds
+      → AreClosed T3_5_TICKS m ds
+  noted-closed s m [] are = tt
+  noted-closed s m (d ∷ ds) are =
+      let early : end_of d + 3 < m = are.0 in
+      (omega arith, noted-closed (state_by profile rules s d (judged profile rules s d)) m ds are.1)
+
+  open-now : (m : ℕ) (running : Option Burst) → IfSome running (λ d. m ≤ end_of d + 3)
+      → IfSome running (λ d. m < end_of d + T3_5_TICKS)
+  open-now m None waits = tt
+  open-now m (Some d) waits = omega arith
+
+  come-state : (m : ℕ) (ds : List Burst) (s next : SealState) (emissions : List Burst) (running : Option Burst)
+      → s ≡ next → HasCome (sealer profile rules) (at_floor floor) m ds s emissions running
+      → HasCome (sealer profile rules) (at_floor floor) m ds next emissions running
+  come-state m ds s next emissions running same come =
+      let P : SealState → Type 0 = λ x. HasCome (sealer profile rules) (at_floor floor) m ds x emissions running in
+      subst P same come
+
+module _ (profile : Profile) (rules : Rules) (lawful : IsLawful rules) (tags : HasTags profile) (floor : ℕ)
+    (line : List Tick) (s : SealState) (left : List ℕ) where
+  abbrev walker : Walker SealState FullNote
+  walker = sealer profile rules
+
+  abbrev m : ℕ
+  m = length line
+
+  abbrev Walked : Option Burst → Type 0
+  Walked running = HasWalked profile rules floor m (bursts line) s left running
+
+  -- the walk after a further tick, with this state, these bytes to send and this running burst
+  abbrev WalkedThen : Tick → SealState → List ℕ → Option Burst → Type 0
+  WalkedThen t next to_send running =
+      HasWalked profile rules floor (length (line ++ t ∷ [])) (bursts (line ++ t ∷ [])) next to_send running
+
+  -- the tick is taken, and the burst that runs is to be judged
+  abbrev Taken : (running now : Option Burst) → Walked running → Tick → Type 0
+  Taken running now so_far t =
+      HasCome walker (at_floor floor) m (bursts (line ++ t ∷ [])) s so_far.emissions now
+
+  abbrev judgement_now : Burst → Judgement
+  judgement_now d = judged profile rules s d
+
+  -- so the line is divided
+  pub walked-divided : (running : Option Burst) (so_far : Walked running) → IsDivided line so_far.come.settled running
+  walked-divided running so_far = record {
+    is = so_far.come.is;
+    are_closed = noted-closed profile rules floor (at_floor floor) m so_far.come.settled so_far.come.are_noted;
+    is_running = open-now profile rules floor m running so_far.come.waits;
+  }
+
+  -- ---- taking a tick
+
+  take-silent : (running : Option Burst) (so_far : Walked running) → Taken running running so_far Silent
+  take-silent running so_far =
+      come-silent walker (sealer-causal profile rules lawful) (at_floor floor) line s so_far.emissions running so_far.come
+
+  take-byte : (running : Option Burst) (b : ℕ) (so_far : Walked running)
+      → Taken running (Some (with_byte_at m b running)) so_far (Byte b)
+  take-byte None b so_far =
+      let divided = walked-divided None so_far in
+      let P : List Burst → Type 0 = λ ds. AreClosed T3_5_TICKS m ds in
+      let whole : bursts line ≡ so_far.come.settled = so_far.come.is ∙ append-nil so_far.come.settled in
+      come-alone walker (sealer-causal profile rules lawful) (at_floor floor) line s so_far.emissions b so_far.come
+      (subst P (sym whole) divided.are_closed)
+  take-byte (Some d) b so_far =
+      come-joined walker (sealer-causal profile rules lawful) (at_floor floor) line s so_far.emissions b d so_far.come
+
+  -- ---- what a taken tick makes of the walk
+
+  -- the link from here on: what is still to be sent, and what else is emitted
+  link-more : (running : Option Burst) (so_far : Walked running) (more : List Burst) (i : ℕ) → m ≤ i
+      → tick_at (so_far.emissions ++ more) i ≡ or_else (sent_at m left i) (tick_at more i)
   link-more running so_far more i from =
-      ap (λ x. tick_at x i) (emitted-append (sealer profile rules) (at_floor floor) so_far.closed more)
-      ∙ (closed-overlays profile rules (at_floor floor) so_far.closed (length line) i so_far.are_closed from
-      (emitted (sealer profile rules) (state_after (sealer profile rules) (at_floor floor) so_far.closed) more)
-      ∙ (ap (λ t. or_else t (tick_at (emitted (sealer profile rules) (state_after (sealer profile rules) (at_floor floor) so_far.closed) more) i)) (so_far.sends i from)
-      ∙ ap (λ x. or_else (sent_at (length line) left i) (tick_at (emitted (sealer profile rules) x more) i)) so_far.state))
+      let come = so_far.come in
+      ap (λ x. tick_at (x ++ more) i) (sym come.emits)
+      ∙ (noted-overlays profile rules (at_floor floor) come.settled m i come.are_noted from more
+      ∙ (ap (λ x. or_else (tick_at x i) (tick_at more i)) come.emits
+      ∙ ap (λ t. or_else t (tick_at more i)) (so_far.sends i from)))
 
-  notes-more : (running : Option Burst) (so_far : HasWalked profile rules floor line s left running) (more : List Burst)
-      → notes_at (length line) (walked (sealer profile rules) (at_floor floor) (so_far.closed ++ more)) ≡ notes_at (length line) (walked (sealer profile rules) s more)
-  notes-more running so_far more =
-      let after : SealState = state_after (sealer profile rules) (at_floor floor) so_far.closed in
-      ap (λ x. notes_at (length line) x) (walked-append (sealer profile rules) (at_floor floor) so_far.closed more)
-      ∙ (filter-append (λ n. n.tick == length line) (walked (sealer profile rules) (at_floor floor) so_far.closed) (walked (sealer profile rules) after more)
-      ∙ (ap (λ l. l ++ notes_at (length line) (walked (sealer profile rules) after more)) (closed-quiet profile rules (at_floor floor) so_far.closed (length line) so_far.are_closed)
-      ∙ ap (λ x. notes_at (length line) (walked (sealer profile rules) x more)) so_far.state))
+  -- a step that notes nothing
+  walks-on : (running now : Option Burst) (so_far : Walked running) (t : Tick) → Taken running now so_far t
+      → IfSome now (λ d. m + 1 ≤ end_of d + 3) → WalkedThen t s (drop 1 left) now
+  walks-on running now so_far t taken later =
+      let P : ℕ → Type 0 = λ k. HasWalked profile rules floor k (bursts (line ++ t ∷ [])) s (drop 1 left) now in
+      subst P (sym (longer-line line t))
+      (record {
+        emissions = so_far.emissions;
+        come = come-waits walker (at_floor floor) m (bursts (line ++ t ∷ [])) s so_far.emissions now taken later;
+        sends = λ i from. let before : m ≤ i = omega arith in so_far.sends i before ∙ sent-later m left i from;
+        in_time = left-in_time left m s.earliest_start so_far.in_time;
+      })
 
-  step-notes : (running : Option Burst) (so_far : HasWalked profile rules floor line s left running) (t : Tick) (more : List Burst)
-      → bursts (line ++ t ∷ []) ≡ so_far.closed ++ more
-      → seal_notes profile rules floor (line ++ t ∷ []) ≡ seal_notes profile rules floor line ++ notes_at (length line) (walked (sealer profile rules) s more)
-  step-notes running so_far t more is =
-      let on : AddsOneTick (sealer profile rules) (at_floor floor) line t = sealer-adds_one_tick profile rules lawful (at_floor floor) line t in
-      on.notes
-      ∙ ap (λ x. seal_notes profile rules floor line ++ x)
-      (ap (λ ds. notes_at (length line) (walked (sealer profile rules) (at_floor floor) ds)) is ∙ notes-more running so_far more)
-
-  -- what a step answers, by the bursts that aren't closed
-  answers : (running : Option Burst) (so_far : HasWalked profile rules floor line s left running) (t : Tick) (more : List Burst) (step : SealStep)
-      → bursts (line ++ t ∷ []) ≡ so_far.closed ++ more
-      → or_else (sent_at (length line) left (length line)) (tick_at (emitted (sealer profile rules) s more) (length line)) ≡ step.tick
-      → answered_notes (notes_at (length line) (walked (sealer profile rules) s more)) ≡ note_in (length line) step.note
+  -- what a step answers, by the burst that runs
+  answers : (running now : Option Burst) (so_far : Walked running) (t : Tick) (step : SealStep) → Taken running now so_far t
+      → or_else (sent_at m left m) (tick_at (emitted walker s (waiting_part now)) m) ≡ step.tick
+      → told_notes brief_note (notes_at m (walked walker s (waiting_part now))) ≡ note_in m step.note
       → AnswersTick profile rules floor line t step
-  answers running so_far t more step is tick note =
-      let on : AddsOneTick (sealer profile rules) (at_floor floor) line t = sealer-adds_one_tick profile rules lawful (at_floor floor) line t in
-      let here : length line ≤ length line = omega arith in
-      record {
-        tick = on.ticks
-            ∙ ap (λ x. link_line profile rules floor line ++ x ∷ [])
-            (ap (λ ds. tick_at (emitted (sealer profile rules) (at_floor floor) ds) (length line)) is
-            ∙ (link-more running so_far more (length line) here ∙ tick));
-        note = ap answered_notes (step-notes running so_far t more is)
-            ∙ (map-append (λ n. record { tick = n.tick; note = note_of n.note }) (seal_notes profile rules floor line) (notes_at (length line) (walked (sealer profile rules) s more))
-            ∙ ap (λ x. answered_notes (seal_notes profile rules floor line) ++ x) note);
-      }
+  answers running now so_far t step taken tick note =
+      let here : m ≤ m = omega arith in
+      answers-step walker (sealer-causal profile rules lawful) (at_floor floor) line s so_far.emissions t now taken
+      brief_note step.tick step.note
+      (link-more running so_far (emitted walker s (waiting_part now)) m here ∙ tick) note
 
   -- ---- one burst that isn't closed
 
-  emission-alone : (d : Burst) (i : ℕ) → tick_at (emitted (sealer profile rules) s (d ∷ [])) i ≡ tick_at (emission_by profile rules d (judged profile rules s d)) i
-  emission-alone d i = ap (λ x. tick_at x i) (append-nil (emission_by profile rules d (judged profile rules s d)))
-
-  note-other : (d : Burst) → (end_of d + 3 ≡ length line → ⊥) → notes_at (length line) (walked (sealer profile rules) s (d ∷ [])) ≡ []
-  note-other d other = cond-false _ _ _ (not_now (length line) (end_of d + 3) other)
-
-  note-now : (d : Burst) → end_of d + 3 ≡ length line
-      → notes_at (length line) (walked (sealer profile rules) s (d ∷ [])) ≡ record { tick = length line; note = entry_by rules d (judged profile rules s d) } ∷ []
-  note-now d same =
-      cond-true _ _ _ (now (length line) (end_of d + 3) same)
-      ∙ ap (λ k. let n : Noted SealEntry = record { tick = k; note = entry_by rules d (judged profile rules s d) } in n ∷ []) same
-
-  running-within : (d : Burst) → HasWalked profile rules floor line s left (Some d) → IsWithin (length line) d
-  running-within d so_far =
-      let P : List Burst → Type 0 = λ ds. AreSpread T3_5_TICKS 0 ds in
-      let Q : List Burst → Type 0 = λ ds. EndBy (length line) ds in
-      record {
-        knit = last_contiguous 0 so_far.closed d (subst P so_far.is (bursts-spread line));
-        within = last_ends (length line) so_far.closed d (subst Q so_far.is (bursts-end line));
-      }
+  emission-alone : (d : Burst) (i : ℕ)
+      → tick_at (emitted walker s (d ∷ [])) i ≡ tick_at (emission_by profile rules d (judgement_now d)) i
+  emission-alone d i =
+      ap (λ x. tick_at x i) (append-nil (emission_by profile rules d (judgement_now d)))
 
   -- the emission shows the live bytes up to the third silent tick
-  emission-live : (d : Burst) (i : ℕ) → IsContiguous 4 d.body → s.free ≤ d.start → d.start ≤ i → i < end_of d + 3
-      → tick_at (emission_by profile rules d (judged profile rules s d)) i ≡ get_or (live_ticks rules d) (i - d.start) Silent
-  emission-live d i knit late from before =
-      emission-judged profile rules lawful s d i knit (le-ltb d.start s.free late) before ∙ shown-from profile rules lawful d i from
+  emission-live : (d : Burst) (i : ℕ) → IsContiguous 4 d.body → s.earliest_start ≤ d.start → d.start ≤ i → i < end_of d + 3
+      → tick_at (emission_by profile rules d (judgement_now d)) i ≡ get_or (live_ticks rules d) (i - d.start) Silent
+  emission-live d i whole late from before =
+      emission-judged profile rules lawful s d i whole (le-ltb d.start s.earliest_start late) before
+      ∙ shown-from profile rules lawful d i from
 
-  emission-nothing : (d : Burst) (i : ℕ) → d.start < s.free → tick_at (emission_by profile rules d (judged profile rules s d)) i ≡ Silent
+  emission-nothing : (d : Burst) (i : ℕ) → d.start < s.earliest_start
+      → tick_at (emission_by profile rules d (judgement_now d)) i ≡ Silent
   emission-nothing d i early =
-      ap (λ x. tick_at x i) (emission-early profile rules lawful s d (lt-ltb d.start s.free early)) ∙ tick_at-none i
+      ap (λ x. tick_at x i) (emission-early profile rules lawful s d (lt-ltb d.start s.earliest_start early))
+      ∙ tick_at-none i
 
   -- behind the live bytes it is dark
   emission-past : (d : Burst) (i : ℕ) → IsContiguous 4 d.body → d.start ≤ i → live_end rules d ≤ i → i < end_of d + 3
-      → tick_at (emission_by profile rules d (judged profile rules s d)) i ≡ Silent
-  emission-past d i knit from past before =
+      → tick_at (emission_by profile rules d (judgement_now d)) i ≡ Silent
+  emission-past d i whole from past before =
       ⊎_elim
       (λ early. emission-nothing d i early)
       (λ late.
       let beyond : length (live_ticks rules d) ≤ i - d.start = omega arith in
-      emission-live d i knit late from before ∙ get_or_past (live_ticks rules d) (i - d.start) Silent beyond)
-      (cases_lt d.start s.free)
+      emission-live d i whole late from before ∙ get_or_past (live_ticks rules d) (i - d.start) Silent beyond)
+      (cases_lt d.start s.earliest_start)
 
-  emission-unsealed : (d : Burst) (why : UnsealedWhy) (i : ℕ) → end_of d ≤ i → tick_at (emission_by profile rules d (unsealed why)) i ≡ Silent
+  emission-unsealed : (d : Burst) (why : UnsealedWhy) (i : ℕ) → end_of d ≤ i
+      → tick_at (emission_by profile rules d (unsealed why)) i ≡ Silent
   emission-unsealed d Early i past = tick_at-none i
   emission-unsealed d Form i past = forwarded-past profile rules d i past
   emission-unsealed d Spent i past = forwarded-past profile rules d i past
 
+  -- where the link is silent but for what is still to be sent
+  only-sent : (dark : List Burst) → tick_at dark m ≡ Silent
+      → or_else (sent_at m left m) (tick_at dark m) ≡ first_of left
+  only-sent dark is =
+      ap (λ t. or_else (sent_at m left m) t) is ∙ (or_else-silent (sent_at m left m) ∙ sent-first m left)
+
   -- ---- a silent tick that closes no burst
 
-  quiet : (running : Option Burst) → HasWalked profile rules floor line s left running → IfSome running (λ d. length line + 1 < end_of d + 4)
-      → HasWalked profile rules floor (line ++ Silent ∷ []) s (drop 1 left) running
-  quiet running so_far near =
-      let le : length line ≤ length line + 1 = omega arith in
-      walked-at profile rules floor (line ++ Silent ∷ []) s (drop 1 left) running (length line + 1) so_far.closed (longer line Silent)
-      (bursts_from-silent 4 0 line ∙ so_far.is)
-      (AreClosed-later 4 (length line) (length line + 1) so_far.closed le so_far.are_closed) near so_far.state
-      (λ i from. let before : length line ≤ i = omega arith in so_far.sends i before ∙ sent-later (length line) left i from)
-      (left-in_time left (length line) s.free so_far.in_time)
-
-  quiet-answers : (running : Option Burst) → HasWalked profile rules floor line s left running → IfSome running (λ d. length line + 1 < end_of d + 4)
+  quiet-answers : (running : Option Burst) → Walked running → IfSome running (λ d. m + 1 < end_of d + T3_5_TICKS)
       → AnswersTick profile rules floor line Silent (noteless (first_of left))
   quiet-answers None so_far near =
-      answers None so_far Silent [] (noteless (first_of left)) (bursts_from-silent 4 0 line ∙ so_far.is)
-      (ap (λ t. or_else (sent_at (length line) left (length line)) t) (tick_at-none (length line))
-      ∙ (or_else-silent (sent_at (length line) left (length line)) ∙ sent-first (length line) left))
-      refl
+      answers None None so_far Silent (noteless (first_of left)) (take-silent None so_far)
+      (only-sent [] (tick_at-none m)) refl
   quiet-answers (Some d) so_far near =
-      let within = running-within d so_far in
+      let within = divided-within line so_far.come.settled d (walked-divided (Some d) so_far) in
       let ends = within.within in
-      let close : length line + 1 < end_of d + 4 = near in
+      let close : m + 1 < end_of d + 4 = near in
       let live = live_end-within profile rules d in
-      let other : end_of d + 3 ≡ length line → ⊥ = λ same. omega arith in
-      answers (Some d) so_far Silent (d ∷ []) (noteless (first_of left)) (bursts_from-silent 4 0 line ∙ so_far.is)
-      (ap (λ t. or_else (sent_at (length line) left (length line)) t)
-      (emission-alone d (length line) ∙ emission-past d (length line) within.knit (omega arith) (omega arith) (omega arith))
-      ∙ (or_else-silent (sent_at (length line) left (length line)) ∙ sent-first (length line) left))
-      (ap answered_notes (note-other d other))
+      let later : m + 1 ≤ end_of d + 3 = omega arith in
+      let dark = emission-past d m within.knit (omega arith) (omega arith) (omega arith) in
+      answers (Some d) (Some d) so_far Silent (noteless (first_of left)) (take-silent (Some d) so_far)
+      (only-sent (emitted walker s (d ∷ [])) (emission-alone d m ∙ dark))
+      (ap (λ x. told_notes brief_note x) (note-later walker s m (Some d) later))
 
-  pub walks-silent : (running : Option Burst) → HasWalked profile rules floor line s left running → IfSome running (λ d. length line + 1 < end_of d + 4)
-      → HasWalked profile rules floor (line ++ Silent ∷ []) s (drop 1 left) running
+  open-later : (running : Option Burst) → IfSome running (λ d. m + 1 < end_of d + T3_5_TICKS)
+      → IfSome running (λ d. m + 1 ≤ end_of d + 3)
+  open-later None near = tt
+  open-later (Some d) near = omega arith
+
+  pub walks-silent : (running : Option Burst) → Walked running → IfSome running (λ d. m + 1 < end_of d + T3_5_TICKS)
+      → WalkedThen Silent s (drop 1 left) running
       × AnswersTick profile rules floor line Silent (noteless (first_of left))
-  walks-silent running so_far near = (quiet running so_far near, quiet-answers running so_far near)
+  walks-silent running so_far near = (
+    walks-on running running so_far Silent (take-silent running so_far) (open-later running near),
+    quiet-answers running so_far near,
+  )
 
   -- ---- a silent tick that closes a burst
 
-  closes : (d : Burst) (next : SealState) (to_send : List ℕ) → HasWalked profile rules floor line s left (Some d) → length line + 1 ≡ end_of d + 4
-      → state_by profile rules s d (judged profile rules s d) ≡ next
-      → ((i : ℕ) → length line ≤ i → or_else (sent_at (length line) left i) (tick_at (emission_by profile rules d (judged profile rules s d)) i) ≡ sent_at (length line) to_send i)
-      → (0 < length to_send → length line + length to_send + 4 ≤ next.free)
-      → HasWalked profile rules floor (line ++ Silent ∷ []) next (drop 1 to_send) None
+  abbrev SendsThen : Burst → List ℕ → Type 0
+  SendsThen d to_send = (i : ℕ) → m ≤ i
+      → or_else (sent_at m left i) (tick_at (emission_by profile rules d (judgement_now d)) i) ≡ sent_at m to_send i
+
+  closes : (d : Burst) (next : SealState) (to_send : List ℕ) → Walked (Some d) → m + 1 ≡ end_of d + T3_5_TICKS
+      → state_by profile rules s d (judgement_now d) ≡ next → SendsThen d to_send
+      → (0 < length to_send → m + length to_send + T3_5_TICKS ≤ next.earliest_start)
+      → WalkedThen Silent next (drop 1 to_send) None
   closes d next to_send so_far closing state sends in_time =
-      let le : length line ≤ length line + 1 = omega arith in
-      let last : end_of d + 4 ≤ length line + 1 = omega arith in
-      walked-at profile rules floor (line ++ Silent ∷ []) next (drop 1 to_send) None (length line + 1) (so_far.closed ++ d ∷ []) (longer line Silent)
-      (bursts_from-silent 4 0 line ∙ (so_far.is ∙ sym (append-nil (so_far.closed ++ d ∷ []))))
-      (AreClosed-more 4 (length line + 1) so_far.closed d (AreClosed-later 4 (length line) (length line + 1) so_far.closed le so_far.are_closed) last)
-      tt
-      (state_after-append (sealer profile rules) (at_floor floor) so_far.closed (d ∷ [])
-      ∙ (ap (λ x. state_by profile rules x d (judged profile rules x d)) so_far.state ∙ state))
-      (λ i from.
-      let before : length line ≤ i = omega arith in
-      link-more (Some d) so_far (d ∷ []) i before
-      ∙ (ap (λ t. or_else (sent_at (length line) left i) t) (emission-alone d i)
-      ∙ (sends i before ∙ sent-later (length line) to_send i from)))
-      (left-in_time to_send (length line) next.free in_time)
+      let ds : List Burst = bursts (line ++ Silent ∷ []) in
+      let emission : List Burst = emission_by profile rules d (judgement_now d) in
+      let now : end_of d + 3 ≡ m = omega arith in
+      let P : ℕ → Type 0 = λ k. HasWalked profile rules floor k ds next (drop 1 to_send) None in
+      subst P (sym (longer-line line Silent))
+      (record {
+        emissions = so_far.emissions ++ emission;
+        come = come-state profile rules floor (m + 1) ds (state_by profile rules s d (judgement_now d)) next
+            (so_far.emissions ++ emission) None state
+            (come-noted walker (at_floor floor) m ds s so_far.emissions d (take-silent (Some d) so_far) now);
+        sends = λ i from. let before : m ≤ i = omega arith in
+            link-more (Some d) so_far emission i before ∙ (sends i before ∙ sent-later m to_send i from);
+        in_time = left-in_time to_send m next.earliest_start in_time;
+      })
 
-  close-answers : (d : Burst) (to_send : List ℕ) (step : SealStep) → HasWalked profile rules floor line s left (Some d) → length line + 1 ≡ end_of d + 4
-      → or_else (sent_at (length line) left (length line)) (tick_at (emission_by profile rules d (judged profile rules s d)) (length line)) ≡ step.tick
-      → Some (note_of (entry_by rules d (judged profile rules s d))) ≡ step.note
+  close-answers : (d : Burst) (step : SealStep) → Walked (Some d) → m + 1 ≡ end_of d + T3_5_TICKS
+      → or_else (sent_at m left m) (tick_at (emission_by profile rules d (judgement_now d)) m) ≡ step.tick
+      → Some (brief_note (note_by rules d (judgement_now d))) ≡ step.note
       → AnswersTick profile rules floor line Silent step
-  close-answers d to_send step so_far closing tick note =
-      let same : end_of d + 3 ≡ length line = omega arith in
-      answers (Some d) so_far Silent (d ∷ []) step (bursts_from-silent 4 0 line ∙ so_far.is)
-      (ap (λ t. or_else (sent_at (length line) left (length line)) t) (emission-alone d (length line)) ∙ tick)
-      (ap answered_notes (note-now d same) ∙ ap (λ o. note_in (length line) o) note)
+  close-answers d step so_far closing tick note =
+      let now : end_of d + 3 ≡ m = omega arith in
+      answers (Some d) (Some d) so_far Silent step (take-silent (Some d) so_far)
+      (ap (λ t. or_else (sent_at m left m) t) (emission-alone d m) ∙ tick)
+      (ap (λ x. told_notes brief_note x) (note-now walker s m d now) ∙ ap (λ o. note_in m o) note)
 
-  pub walks-unsealed : (d : Burst) (why : UnsealedWhy) → HasWalked profile rules floor line s left (Some d) → length line + 1 ≡ end_of d + 4
-      → judged profile rules s d ≡ unsealed why
-      → HasWalked profile rules floor (line ++ Silent ∷ []) s (drop 1 left) None
+  pub walks-unsealed : (d : Burst) (why : UnsealedWhy) → Walked (Some d) → m + 1 ≡ end_of d + T3_5_TICKS
+      → judgement_now d ≡ unsealed why
+      → WalkedThen Silent s (drop 1 left) None
       × AnswersTick profile rules floor line Silent (record { tick = first_of left; note = Some (Unsealed d.start why) })
   walks-unsealed d why so_far closing is =
-      let dark : (i : ℕ) → length line ≤ i → or_else (sent_at (length line) left i) (tick_at (emission_by profile rules d (judged profile rules s d)) i) ≡ sent_at (length line) left i =
-      λ i from.
+      let dark : SendsThen d left = λ i from.
       let past : end_of d ≤ i = omega arith in
-      ap (λ t. or_else (sent_at (length line) left i) t) (ap (λ j. tick_at (emission_by profile rules d j) i) is ∙ emission-unsealed d why i past)
-      ∙ or_else-silent (sent_at (length line) left i) in
-      let here : length line ≤ length line = omega arith in (
+      ap (λ t. or_else (sent_at m left i) t)
+      (ap (λ j. tick_at (emission_by profile rules d j) i) is ∙ emission-unsealed d why i past)
+      ∙ or_else-silent (sent_at m left i) in
+      let here : m ≤ m = omega arith in (
         closes d s left so_far closing (ap (λ j. state_by profile rules s d j) is) dark so_far.in_time,
-        close-answers d left (record { tick = first_of left; note = Some (Unsealed d.start why) }) so_far closing
-            (dark (length line) here ∙ sent-first (length line) left)
-            (ap (λ j. Some (note_of (entry_by rules d j))) is),
+        close-answers d (record { tick = first_of left; note = Some (Unsealed d.start why) }) so_far closing
+            (dark m here ∙ sent-first m left)
+            (ap (λ j. Some (brief_note (note_by rules d j))) is),
       )
 
   -- only a burst with no extra byte that starts late enough is sealed
-  pub seals-late : (d : Burst) (number : ℕ) → judged profile rules s d ≡ sealed_with number → s.free ≤ d.start
+  pub seals-late : (d : Burst) (number : ℕ) → judgement_now d ≡ sealed_with number → s.earliest_start ≤ d.start
   seals-late d number is =
+      let wrong : Bool = has_extra rules d || not (rules.is_frame (live_bytes rules d)) in
       ⊎_elim
-      (λ early. absurd (early-unsealed (has_extra rules d || not (rules.is_frame (live_bytes rules d))) (s.floor == profile.limit) (suc s.floor) number
-      (ap (λ e. judge_by e (has_extra rules d || not (rules.is_frame (live_bytes rules d))) (s.floor == profile.limit) (suc s.floor)) (sym (lt-ltb d.start s.free early))
+      (λ early. absurd (early-unsealed wrong (s.floor == profile.limit) (suc s.floor) number
+      (ap (λ e. judge_by e wrong (s.floor == profile.limit) (suc s.floor)) (sym (lt-ltb d.start s.earliest_start early))
       ∙ (sym (judged-is profile rules s d) ∙ is))))
       (λ late. late)
-      (cases_lt d.start s.free)
+      (cases_lt d.start s.earliest_start)
 
-  pub seals-whole : (d : Burst) (number : ℕ) → judged profile rules s d ≡ sealed_with number → has_extra rules d ≡ false
+  pub seals-whole : (d : Burst) (number : ℕ) → judgement_now d ≡ sealed_with number → has_extra rules d ≡ false
   seals-whole d number is =
+      let wrong : Bool = has_extra rules d || not (rules.is_frame (live_bytes rules d)) in
       no_extra (has_extra rules d) (not (rules.is_frame (live_bytes rules d)))
-      (sealed-right (nat_lt d.start s.free) (has_extra rules d || not (rules.is_frame (live_bytes rules d))) (s.floor == profile.limit) (suc s.floor) number
+      (sealed-right (nat_lt d.start s.earliest_start) wrong (s.floor == profile.limit) (suc s.floor) number
       (sym (judged-is profile rules s d) ∙ is))
 
   -- then the link is silent up to this step, and the trailer is sent from it on
-  sealed-sends : (d : Burst) (number : ℕ) (bytes : List ℕ) → HasWalked profile rules floor line s left (Some d) → live_end rules d + 3 ≡ length line
-      → judged profile rules s d ≡ sealed_with number → bytes ≡ trailer profile number (live_bytes rules d)
-      → (i : ℕ) → length line ≤ i → or_else (sent_at (length line) left i) (tick_at (emission_by profile rules d (judged profile rules s d)) i) ≡ sent_at (length line) bytes i
+  sealed-sends : (d : Burst) (number : ℕ) (bytes : List ℕ) → Walked (Some d) → live_end rules d + 3 ≡ m
+      → judgement_now d ≡ sealed_with number → bytes ≡ trailer profile number (live_bytes rules d) → SendsThen d bytes
   sealed-sends d number bytes so_far end is trailer_is i from =
       let late = seals-late d number is in
-      let none : left ≡ [] = none_left left (length line) s.free so_far.in_time (omega arith) in
+      let none : left ≡ [] = none_left left m s.earliest_start so_far.in_time (omega arith) in
       let begun : d.start ≤ i = omega arith in
       let past : live_end rules d + 3 ≤ i = omega arith in
-      ap (λ l. or_else (sent_at (length line) l i) (tick_at (emission_by profile rules d (judged profile rules s d)) i)) none
+      let sent : List ℕ = trailer profile number (live_bytes rules d) in
+      ap (λ l. or_else (sent_at m l i) (tick_at (emission_by profile rules d (judgement_now d)) i)) none
       ∙ (ap (λ j. tick_at (emission_by profile rules d j) i) is
-      ∙ (tick_at-from (forwarded rules d (silent 3 ++ map (λ b. Byte b) (trailer profile number (live_bytes rules d)))) i begun
-      ∙ (sealed-from profile rules d (trailer profile number (live_bytes rules d)) i past
-      ∙ (ap (λ k. sent_at k (trailer profile number (live_bytes rules d)) i) end
-      ∙ ap (λ l. sent_at (length line) l i) (sym trailer_is)))))
+      ∙ (tick_at-from (forwarded rules d (trailing sent)) i begun
+      ∙ (sealed-from profile rules d sent i past
+      ∙ (ap (λ k. sent_at k sent i) end ∙ ap (λ l. sent_at m l i) (sym trailer_is)))))
 
-  sealed-end : (d : Burst) (number : ℕ) → HasWalked profile rules floor line s left (Some d) → length line + 1 ≡ end_of d + 4
-      → judged profile rules s d ≡ sealed_with number → live_end rules d + 3 ≡ length line
+  sealed-end : (d : Burst) (number : ℕ) → Walked (Some d) → m + 1 ≡ end_of d + T3_5_TICKS
+      → judgement_now d ≡ sealed_with number → live_end rules d + 3 ≡ m
   sealed-end d number so_far closing is =
-      let within = running-within d so_far in
-      let long : length (live_ticks rules d) ≡ length d.body = ap length (live_ticks-whole rules lawful d within.knit (seals-whole d number is)) in
+      let within = divided-within line so_far.come.settled d (walked-divided (Some d) so_far) in
+      let long : length (live_ticks rules d) ≡ length d.body =
+      ap length (live_ticks-whole rules lawful d within.knit (seals-whole d number is)) in
       omega arith
 
-  seals : (d : Burst) (number : ℕ) → HasWalked profile rules floor line s left (Some d) → length line + 1 ≡ end_of d + 4
-      → judged profile rules s d ≡ sealed_with number → SealsWith profile rules floor line Silent number
+  seals : (d : Burst) (number : ℕ) → Walked (Some d) → m + 1 ≡ end_of d + T3_5_TICKS
+      → judgement_now d ≡ sealed_with number → SealsWith profile rules floor line Silent number
   seals d number so_far closing is =
-      let same : end_of d + 3 ≡ length line = omega arith in
+      let now : end_of d + 3 ≡ m = omega arith in
       record {
         start = d.start;
         frame = live_bytes rules d;
-        note = step-notes (Some d) so_far Silent (d ∷ []) (bursts_from-silent 4 0 line ∙ so_far.is)
+        note = notes-step walker (sealer-causal profile rules lawful) (at_floor floor) line s so_far.emissions
+            Silent (Some d) (take-silent (Some d) so_far)
             ∙ ap (λ x. seal_notes profile rules floor line ++ x)
-            (note-now d same ∙ ap (λ j. let n : Noted SealEntry = record { tick = length line; note = entry_by rules d j } in n ∷ []) is);
+            (note-now walker s m d now
+            ∙ ap (λ j. let n : Noted FullNote = record { tick = m; note = note_by rules d j } in n ∷ []) is);
       }
 
-  pub walks-sealed : (d : Burst) (number : ℕ) (bytes : List ℕ) → HasWalked profile rules floor line s left (Some d) → length line + 1 ≡ end_of d + 4
-      → judged profile rules s d ≡ sealed_with number → bytes ≡ trailer profile number (live_bytes rules d)
-      → HasWalked profile rules floor (line ++ Silent ∷ []) (record { floor = number; free = live_end rules d + 3 + trailer_len profile + 4 }) (drop 1 bytes) None
-      × AnswersTick profile rules floor line Silent (record { tick = first_of bytes; note = Some (Sealed number d.start (length (live_bytes rules d))) })
+  pub walks-sealed : (d : Burst) (number : ℕ) (bytes : List ℕ) → Walked (Some d) → m + 1 ≡ end_of d + T3_5_TICKS
+      → judgement_now d ≡ sealed_with number → bytes ≡ trailer profile number (live_bytes rules d)
+      → WalkedThen Silent (record { floor = number; earliest_start = start_after profile rules d }) (drop 1 bytes) None
+      × AnswersTick profile rules floor line Silent
+      (record { tick = first_of bytes; note = Some (Sealed number d.start (length (live_bytes rules d))) })
       × SealsWith profile rules floor line Silent number
   walks-sealed d number bytes so_far closing is trailer_is =
       let end = sealed-end d number so_far closing is in
       let sends = sealed-sends d number bytes so_far end is trailer_is in
-      let size : length bytes ≡ trailer_len profile = ap length trailer_is ∙ length-trailer profile tags number (live_bytes rules d) in
-      let here : length line ≤ length line = omega arith in (
-        closes d (record { floor = number; free = live_end rules d + 3 + trailer_len profile + 4 }) bytes so_far closing
-            (ap (λ j. state_by profile rules s d j) is) sends (λ some. omega arith),
-        close-answers d bytes (record { tick = first_of bytes; note = Some (Sealed number d.start (length (live_bytes rules d))) }) so_far closing
-            (sends (length line) here ∙ sent-first (length line) bytes)
-            (ap (λ j. Some (note_of (entry_by rules d j))) is),
+      let size : length bytes ≡ trailer_len profile =
+      ap length trailer_is ∙ length-trailer profile tags number (live_bytes rules d) in
+      let next : SealState = record { floor = number; earliest_start = start_after profile rules d } in
+      let here : m ≤ m = omega arith in (
+        closes d next bytes so_far closing (ap (λ j. state_by profile rules s d j) is) sends (λ some. omega arith),
+        close-answers d (record { tick = first_of bytes; note = Some (Sealed number d.start (length (live_bytes rules d))) })
+            so_far closing (sends m here ∙ sent-first m bytes)
+            (ap (λ j. Some (brief_note (note_by rules d j))) is),
         seals d number so_far closing is,
       )
 
   -- ---- a byte
 
-  byte-bursts : (running : Option Burst) (b : ℕ) (so_far : HasWalked profile rules floor line s left running)
-      → bursts (line ++ Byte b ∷ []) ≡ so_far.closed ++ with_byte_at (length line) b running ∷ []
-  byte-bursts None b so_far =
-      let here : 0 + length line ≡ length line = omega arith in
-      bursts_from-byte 4 0 (length line) b line here
-      ∙ (ap (λ ds. extended 4 (length line) b ds) (so_far.is ∙ append-nil so_far.closed)
-      ∙ extended-closed 4 (length line) b so_far.closed so_far.are_closed)
-  byte-bursts (Some d) b so_far =
-      let here : 0 + length line ≡ length line = omega arith in
-      bursts_from-byte 4 0 (length line) b line here
-      ∙ (ap (λ ds. extended 4 (length line) b ds) so_far.is
-      ∙ extended-joins 4 (length line) b so_far.closed d so_far.is_running)
+  module _ (running : Option Burst) (b : ℕ) (so_far : Walked running) where
+    abbrev d : Burst
+    d = with_byte_at m b running
 
-  -- the running burst then ends with the byte
-  byte-ends : (running : Option Burst) (b : ℕ) → HasWalked profile rules floor line s left running → end_of (with_byte_at (length line) b running) ≡ length line + 1
-  byte-ends None b so_far = refl
-  byte-ends (Some d) b so_far = longer-end (length line) b d (running-within d so_far)
+    abbrev closed : List Burst
+    closed = so_far.come.settled
 
-  byte-starts : (running : Option Burst) (b : ℕ) → HasWalked profile rules floor line s left running → (with_byte_at (length line) b running).start ≤ length line
-  byte-starts None b so_far = omega arith
-  byte-starts (Some d) b so_far = let within = running-within d so_far in let ends = within.within in omega arith
+    ends : end_of d ≡ m + 1
+    ends = byte-ends line closed b running (walked-divided running so_far)
 
-  byte-knit : (running : Option Burst) (b : ℕ) → HasWalked profile rules floor line s left running → IsContiguous 4 (with_byte_at (length line) b running).body
-  byte-knit None b so_far = one b
-  byte-knit (Some d) b so_far =
-      let within = running-within d so_far in
-      let close : length line < end_of d + 4 = so_far.is_running in
-      let few : length line - end_of d < 4 = omega arith in
-      contiguous-more 4 d.body (length line - end_of d) b within.knit few
+    whole : IsContiguous 4 d.body
+    whole = byte-knit line closed b running (walked-divided running so_far)
 
-  byte-last : (running : Option Burst) (b : ℕ) → HasWalked profile rules floor line s left running
-      → get_or (with_byte_at (length line) b running).body (length line - (with_byte_at (length line) b running).start) Silent ≡ Byte b
-  byte-last None b so_far = let none : length line - length line ≡ 0 = omega arith in ap (λ k. get_or (Byte b ∷ []) k Silent) none
-  byte-last (Some d) b so_far =
-      let within = running-within d so_far in
-      let ends = within.within in
-      let front : List Tick = d.body ++ silent (length line - end_of d) in
-      let long : length front ≡ length d.body + (length line - end_of d) =
-      length-append d.body (silent (length line - end_of d)) ∙ ap (λ k. length d.body + k) (length-replicate (length line - end_of d) Silent) in
-      let same : length line - d.start ≡ length front = omega arith in
-      ap (λ x. get_or x (length line - d.start) Silent) (sym (append_assoc d.body (silent (length line - end_of d)) (Byte b ∷ [])))
-      ∙ (ap (λ k. get_or (front ++ Byte b ∷ []) k Silent) same ∙ get_or-append_seam front (Byte b) [] Silent)
+    walks-byte : WalkedThen (Byte b) s (drop 1 left) (Some d)
+    walks-byte =
+        let end = ends in
+        let later : m + 1 ≤ end_of d + 3 = omega arith in
+        walks-on running (Some d) so_far (Byte b) (take-byte running b so_far) later
 
-  goes_on_with : (running : Option Burst) (b : ℕ) → HasWalked profile rules floor line s left running
-      → HasWalked profile rules floor (line ++ Byte b ∷ []) s (drop 1 left) (Some (with_byte_at (length line) b running))
-  goes_on_with running b so_far =
-      let le : length line ≤ length line + 1 = omega arith in
-      let ends = byte-ends running b so_far in
-      let near : length line + 1 < end_of (with_byte_at (length line) b running) + 4 = omega arith in
-      walked-at profile rules floor (line ++ Byte b ∷ []) s (drop 1 left) (Some (with_byte_at (length line) b running)) (length line + 1) so_far.closed (longer line (Byte b))
-      (byte-bursts running b so_far)
-      (AreClosed-later 4 (length line) (length line + 1) so_far.closed le so_far.are_closed) near so_far.state
-      (λ i from. let before : length line ≤ i = omega arith in so_far.sends i before ∙ sent-later (length line) left i from)
-      (left-in_time left (length line) s.free so_far.in_time)
+    byte-answers : (t : Tick) → or_else (sent_at m left m) (tick_at (emission_by profile rules d (judgement_now d)) m) ≡ t
+        → AnswersTick profile rules floor line (Byte b) (noteless t)
+    byte-answers t is =
+        let end = ends in
+        let later : m + 1 ≤ end_of d + 3 = omega arith in
+        answers running (Some d) so_far (Byte b) (noteless t) (take-byte running b so_far)
+        (ap (λ x. or_else (sent_at m left m) x) (emission-alone d m) ∙ is)
+        (ap (λ x. told_notes brief_note x) (note-later walker s m (Some d) later))
 
-  byte-answers : (running : Option Burst) (b : ℕ) (t : Tick) → HasWalked profile rules floor line s left running
-      → or_else (sent_at (length line) left (length line))
-      (tick_at (emission_by profile rules (with_byte_at (length line) b running) (judged profile rules s (with_byte_at (length line) b running))) (length line)) ≡ t
-      → AnswersTick profile rules floor line (Byte b) (noteless t)
-  byte-answers running b t so_far is =
-      let d : Burst = with_byte_at (length line) b running in
-      let ends : end_of d ≡ length line + 1 = byte-ends running b so_far in
-      let other : end_of d + 3 ≡ length line → ⊥ = λ same. omega arith in
-      answers running so_far (Byte b) (d ∷ []) (noteless t) (byte-bursts running b so_far)
-      (ap (λ x. or_else (sent_at (length line) left (length line)) x) (emission-alone d (length line)) ∙ is)
-      (ap answered_notes (note-other d other))
+    -- a byte of an early burst isn't forwarded
+    pub walks-early : d.start < s.earliest_start
+        → WalkedThen (Byte b) s (drop 1 left) (Some d) × AnswersTick profile rules floor line (Byte b) (noteless (first_of left))
+    walks-early early = (
+      walks-byte,
+      byte-answers (first_of left)
+          (ap (λ x. or_else (sent_at m left m) x) (emission-nothing d m early)
+          ∙ (or_else-silent (sent_at m left m) ∙ sent-first m left)),
+    )
 
-  pub walks-early : (running : Option Burst) (b : ℕ) → HasWalked profile rules floor line s left running
-      → (with_byte_at (length line) b running).start < s.free
-      → HasWalked profile rules floor (line ++ Byte b ∷ []) s (drop 1 left) (Some (with_byte_at (length line) b running))
-      × AnswersTick profile rules floor line (Byte b) (noteless (first_of left))
-  walks-early running b so_far early = (
-    goes_on_with running b so_far,
-    byte-answers running b (first_of left) so_far
-        (ap (λ t. or_else (sent_at (length line) left (length line)) t) (emission-nothing (with_byte_at (length line) b running) (length line) early)
-        ∙ (or_else-silent (sent_at (length line) left (length line)) ∙ sent-first (length line) left)),
-  )
+    -- where the burst isn't early, nothing is left to be sent
+    byte-none_left : s.earliest_start ≤ d.start → left ≡ []
+    byte-none_left late =
+        let begun = byte-begun line closed b running (walked-divided running so_far) in
+        none_left left m s.earliest_start so_far.in_time (omega arith)
 
-  -- nothing is left to be sent where a burst comes late enough
-  byte-none_left : (running : Option Burst) (b : ℕ) → HasWalked profile rules floor line s left running
-      → s.free ≤ (with_byte_at (length line) b running).start → left ≡ []
-  byte-none_left running b so_far late =
-      let begun = byte-starts running b so_far in
-      none_left left (length line) s.free so_far.in_time (omega arith)
+    walks-late : s.earliest_start ≤ d.start → WalkedThen (Byte b) s [] (Some d)
+    walks-late late =
+        let P : List ℕ → Type 0 = λ l. WalkedThen (Byte b) s (drop 1 l) (Some d) in
+        subst P (byte-none_left late) walks-byte
 
-  goes_on_late : (running : Option Burst) (b : ℕ) → HasWalked profile rules floor line s left running
-      → s.free ≤ (with_byte_at (length line) b running).start
-      → HasWalked profile rules floor (line ++ Byte b ∷ []) s [] (Some (with_byte_at (length line) b running))
-  goes_on_late running b so_far late =
-      let P : List ℕ → Type 0 = λ l. HasWalked profile rules floor (line ++ Byte b ∷ []) s l (Some (with_byte_at (length line) b running)) in
-      subst P (ap (λ l. drop 1 l) (byte-none_left running b so_far late)) (goes_on_with running b so_far)
+    late-answers : (t : Tick) → s.earliest_start ≤ d.start → tick_at (emission_by profile rules d (judgement_now d)) m ≡ t
+        → AnswersTick profile rules floor line (Byte b) (noteless t)
+    late-answers t late is =
+        byte-answers t
+        (ap (λ l. or_else (sent_at m l m) (tick_at (emission_by profile rules d (judgement_now d)) m)) (byte-none_left late)
+        ∙ is)
 
-  late-answers : (running : Option Burst) (b : ℕ) (t : Tick) → HasWalked profile rules floor line s left running
-      → s.free ≤ (with_byte_at (length line) b running).start
-      → tick_at (emission_by profile rules (with_byte_at (length line) b running) (judged profile rules s (with_byte_at (length line) b running))) (length line) ≡ t
-      → AnswersTick profile rules floor line (Byte b) (noteless t)
-  late-answers running b t so_far late is =
-      let d : Burst = with_byte_at (length line) b running in
-      byte-answers running b t so_far
-      (ap (λ l. or_else (sent_at (length line) l (length line)) (tick_at (emission_by profile rules d (judged profile rules s d)) (length line))) (byte-none_left running b so_far late)
-      ∙ is)
+    pub walks-live : s.earliest_start ≤ d.start → live_end rules d ≡ m + 1
+        → (left ≡ []) × WalkedThen (Byte b) s [] (Some d) × AnswersTick profile rules floor line (Byte b) (noteless (Byte b))
+    walks-live late live =
+        let end = ends in
+        let begun : d.start ≤ m = byte-begun line closed b running (walked-divided running so_far) in
+        let before : m < end_of d + 3 = omega arith in
+        let all : length (live_ticks rules d) ≡ length d.body = omega arith in (
+          byte-none_left late,
+          walks-late late,
+          late-answers (Byte b) late
+              (emission-live d m whole late begun before
+              ∙ (ap (λ x. get_or x (m - d.start) Silent) (up_to_byte-full (length (live_bytes rules d)) d.body all)
+              ∙ byte-last line closed b running (walked-divided running so_far))),
+        )
 
-  pub walks-live : (running : Option Burst) (b : ℕ) → HasWalked profile rules floor line s left running
-      → s.free ≤ (with_byte_at (length line) b running).start → live_end rules (with_byte_at (length line) b running) ≡ length line + 1
-      → (left ≡ []) × HasWalked profile rules floor (line ++ Byte b ∷ []) s [] (Some (with_byte_at (length line) b running))
-      × AnswersTick profile rules floor line (Byte b) (noteless (Byte b))
-  walks-live running b so_far late live =
-      let d : Burst = with_byte_at (length line) b running in
-      let ends : end_of d ≡ length line + 1 = byte-ends running b so_far in
-      let begun : d.start ≤ length line = byte-starts running b so_far in
-      let before : length line < end_of d + 3 = omega arith in
-      let all : length (live_ticks rules d) ≡ length d.body = omega arith in (
-        byte-none_left running b so_far late,
-        goes_on_late running b so_far late,
-        late-answers running b (Byte b) so_far late
-            (emission-live d (length line) (byte-knit running b so_far) late begun before
-            ∙ (ap (λ x. get_or x (length line - d.start) Silent) (up_to_byte-full (length (live_bytes rules d)) d.body all)
-            ∙ byte-last running b so_far)),
-      )
-
-  pub walks-extra : (running : Option Burst) (b : ℕ) → HasWalked profile rules floor line s left running
-      → s.free ≤ (with_byte_at (length line) b running).start → live_end rules (with_byte_at (length line) b running) ≤ length line
-      → (left ≡ []) × HasWalked profile rules floor (line ++ Byte b ∷ []) s [] (Some (with_byte_at (length line) b running))
-      × AnswersTick profile rules floor line (Byte b) (noteless Silent)
-  walks-extra running b so_far late extra =
-      let d : Burst = with_byte_at (length line) b running in
-      let ends : end_of d ≡ length line + 1 = byte-ends running b so_far in
-      let before : length line < end_of d + 3 = omega arith in (
-        byte-none_left running b so_far late,
-        goes_on_late running b so_far late,
-        late-answers running b Silent so_far late
-            (emission-past d (length line) (byte-knit running b so_far) (byte-starts running b so_far) extra before),
-      )
+    pub walks-extra : s.earliest_start ≤ d.start → live_end rules d ≤ m
+        → (left ≡ []) × WalkedThen (Byte b) s [] (Some d) × AnswersTick profile rules floor line (Byte b) (noteless Silent)
+    walks-extra late extra =
+        let end = ends in
+        let begun : d.start ≤ m = byte-begun line closed b running (walked-divided running so_far) in
+        let before : m < end_of d + 3 = omega arith in (
+          byte-none_left late,
+          walks-late late,
+          late-answers Silent late (emission-past d m whole begun extra before),
+        )
 
   -- ---- the last number
 
-  running-unnoted : (running : Option Burst) → HasWalked profile rules floor line s left running
-      → notes_before (length line) (walked (sealer profile rules) s (running_part running)) ≡ []
-  running-unnoted None so_far = refl
-  running-unnoted (Some d) so_far =
-      let close : length line < end_of d + 4 = so_far.is_running in
-      let waits : length line ≤ end_of d + 3 = omega arith in
-      before-late (length line) (noted (sealer profile rules) s d) [] waits
-
   -- The floor of the state is the last number used.
-  pub walked-number : (running : Option Burst) → HasWalked profile rules floor line s left running
-      → s.floor ≡ last_number floor (sealed profile rules floor line)
+  pub walked-number : (running : Option Burst) → Walked running → s.floor ≡ last_number floor (sealed profile rules floor line)
   walked-number running so_far =
-      let first : List (Noted SealEntry) = walked (sealer profile rules) (at_floor floor) so_far.closed in
-      let after : SealState = state_after (sealer profile rules) (at_floor floor) so_far.closed in
-      let last : List (Noted SealEntry) = walked (sealer profile rules) after (running_part running) in
-      let none : notes_before (length line) last ≡ [] =
-      ap (λ x. notes_before (length line) (walked (sealer profile rules) x (running_part running))) so_far.state ∙ running-unnoted running so_far in
-      let notes : seal_notes profile rules floor line ≡ first =
-      ap (λ ds. notes_before (length line) (walked (sealer profile rules) (at_floor floor) ds)) so_far.is
-      ∙ (ap (λ x. notes_before (length line) x) (walked-append (sealer profile rules) (at_floor floor) so_far.closed (running_part running))
-      ∙ (filter-append (λ n. nat_lt n.tick (length line)) first last
-      ∙ (ap (λ x. notes_before (length line) first ++ x) none
-      ∙ (append-nil (notes_before (length line) first)
-      ∙ closed-noted profile rules (at_floor floor) so_far.closed (length line) so_far.are_closed)))) in
-      ap (λ x. x.floor) (sym so_far.state)
-      ∙ (closed-number profile rules (at_floor floor) so_far.closed
+      let come = so_far.come in
+      let notes : seal_notes profile rules floor line ≡ walked walker (at_floor floor) come.settled =
+      notes_before-come walker (at_floor floor) m (bursts line) s so_far.emissions running come in
+      ap (λ x. x.floor) (sym come.state)
+      ∙ (noted-number profile rules (at_floor floor) come.settled
       ∙ ap (λ x. last_number floor (filter_map (λ n. sealed_in n.note) x)) (sym notes))

@@ -1,5 +1,5 @@
 -- The definitions of the transmitter on small lines of a Modbus RTU device, with a tag that stands in for HMAC.
-use Rattle.std.proofs.Common.{◌≡◌, ℕ, ◌==◌, ◌&&◌, nat_le, true, List, [], ◌∷◌, ◌++◌, length, map, take, replicate, refl, lit≤}
+use Rattle.std.proofs.Common.{◌≡◌, ℕ, ◌==◌, ◌&&◌, nat_le, true, List, [], ◌∷◌, ◌++◌, length, map, take, replicate, refl}
 use Rattle.yasir_ticks.specs.Ticks.{silent}
 use Rattle.yasir_ticks.specs.Bursts.{bursts_from, with_byte}
 use Rattle.yasir_ticks.specs.declared.tick.Tick.{Tick}
@@ -9,9 +9,9 @@ use Rattle.line_rules.specs.Rules.{Rules}
 use Rattle.frame_ending.specs.LiveBytes.{before_pause, up_to_byte}
 use Rattle.burst_walk.specs.Laid.{tick_at}
 use Rattle.burst_walk.specs.Walk.{Noted}
-use Rattle.seal_transmitter.specs.Profile.{Profile}
-use Rattle.seal_transmitter.specs.Sealing.{SealEntry, judged, seal_notes, link_line, sealed}
-use Rattle.seal_transmitter.specs.Sealing.SealEntry.{sealed_entry, unsealed_entry}
+use Rattle.link_format.specs.Profile.{Profile}
+use Rattle.seal_transmitter.specs.Sealing.{FullNote, judged, seal_notes, link_line, sealed}
+use Rattle.seal_transmitter.specs.Sealing.FullNote.{sealed_note, unsealed_note}
 use Rattle.seal_transmitter.specs.declared.note.UnsealedWhy.TheVariants.{Early, Form, Spent}
 
 -- frames of at most 256 bytes that end in their CRC, which leaves the register at 0
@@ -31,7 +31,7 @@ abbrev stand_in : ℕ → List ℕ → List ℕ
 stand_in number frame = take 12 (number ∷ frame ++ replicate 12 0xEE)
 
 abbrev profile : Profile
-profile = record { word_len = 2; some_word = lit≤ tt; tag_len = 12; tag = stand_in; limit = 281474976710655 }
+profile = record { word_len = 2; tag_len = 12; tag = stand_in; limit = 281474976710655 }
 
 abbrev on_line : List ℕ → List Tick
 on_line x = map (λ b. Byte b) x
@@ -43,7 +43,7 @@ READ_TEN_REGISTERS = 0x01 ∷ 0x03 ∷ 0x00 ∷ 0x00 ∷ 0x00 ∷ 0x0A ∷ 0xC5 
 abbrev READ_ONE_REGISTER : List ℕ
 READ_ONE_REGISTER = 0x01 ∷ 0x03 ∷ 0x00 ∷ 0x00 ∷ 0x00 ∷ 0x01 ∷ 0x84 ∷ 0x0A ∷ []
 
-abbrev noted_at : ℕ → SealEntry → Noted SealEntry
+abbrev noted_at : ℕ → FullNote → Noted FullNote
 noted_at tick entry = record { tick = tick; note = entry }
 
 -- ---- one frame
@@ -51,7 +51,7 @@ noted_at tick entry = record { tick = tick; note = entry }
 abbrev one_frame : List Tick
 one_frame = on_line READ_TEN_REGISTERS ++ silent 64
 
-one_frame-notes : seal_notes profile rtu 0 one_frame ≡ noted_at 11 (sealed_entry 1 0 READ_TEN_REGISTERS) ∷ []
+one_frame-notes : seal_notes profile rtu 0 one_frame ≡ noted_at 11 (sealed_note 1 0 READ_TEN_REGISTERS) ∷ []
 unfolding bursts_from with_byte before_pause up_to_byte tick_at judged crc byte_step bit_steps bit_step
 one_frame-notes = refl
 
@@ -69,7 +69,7 @@ one_frame-sealed = refl
 abbrev too_early : List Tick
 too_early = on_line READ_TEN_REGISTERS ++ silent 20 ++ on_line READ_ONE_REGISTER ++ silent 24
 
-too_early-notes : seal_notes profile rtu 0 too_early ≡ noted_at 11 (sealed_entry 1 0 READ_TEN_REGISTERS) ∷ noted_at 39 (unsealed_entry 28 Early) ∷ []
+too_early-notes : seal_notes profile rtu 0 too_early ≡ noted_at 11 (sealed_note 1 0 READ_TEN_REGISTERS) ∷ noted_at 39 (unsealed_note 28 Early) ∷ []
 unfolding bursts_from with_byte before_pause up_to_byte tick_at judged crc byte_step bit_steps bit_step
 too_early-notes = refl
 
@@ -82,7 +82,7 @@ too_early-link = refl
 abbrev soon_enough : List Tick
 soon_enough = on_line READ_TEN_REGISTERS ++ silent 21 ++ on_line READ_ONE_REGISTER ++ silent 24
 
-soon_enough-notes : seal_notes profile rtu 0 soon_enough ≡ noted_at 11 (sealed_entry 1 0 READ_TEN_REGISTERS) ∷ noted_at 40 (sealed_entry 2 29 READ_ONE_REGISTER) ∷ []
+soon_enough-notes : seal_notes profile rtu 0 soon_enough ≡ noted_at 11 (sealed_note 1 0 READ_TEN_REGISTERS) ∷ noted_at 40 (sealed_note 2 29 READ_ONE_REGISTER) ∷ []
 unfolding bursts_from with_byte before_pause up_to_byte tick_at judged crc byte_step bit_steps bit_step
 soon_enough-notes = refl
 
@@ -105,7 +105,7 @@ SLOW_REQUEST =
 abbrev slow_frame : List Tick
 slow_frame = SLOW_REQUEST ++ silent 24
 
-slow_frame-notes : seal_notes profile rtu 0 slow_frame ≡ noted_at 18 (sealed_entry 1 0 READ_TEN_REGISTERS) ∷ []
+slow_frame-notes : seal_notes profile rtu 0 slow_frame ≡ noted_at 18 (sealed_note 1 0 READ_TEN_REGISTERS) ∷ []
 unfolding bursts_from with_byte before_pause up_to_byte tick_at judged crc byte_step bit_steps bit_step
 slow_frame-notes = refl
 
@@ -118,7 +118,7 @@ slow_frame-link = refl
 abbrev paused : List Tick
 paused = on_line (0x01 ∷ 0x03 ∷ 0x00 ∷ []) ++ silent 2 ++ on_line (0x00 ∷ 0x00 ∷ 0x0A ∷ 0xC5 ∷ 0xCD ∷ []) ++ silent 24
 
-paused-notes : seal_notes profile rtu 0 paused ≡ noted_at 13 (unsealed_entry 0 Form) ∷ []
+paused-notes : seal_notes profile rtu 0 paused ≡ noted_at 13 (unsealed_note 0 Form) ∷ []
 unfolding bursts_from with_byte before_pause up_to_byte tick_at judged crc byte_step bit_steps bit_step
 paused-notes = refl
 
@@ -131,7 +131,7 @@ paused-link = refl
 abbrev byte_behind : List Tick
 byte_behind = on_line READ_TEN_REGISTERS ++ silent 3 ++ on_line (0 ∷ []) ++ silent 24
 
-byte_behind-notes : seal_notes profile rtu 0 byte_behind ≡ noted_at 15 (unsealed_entry 0 Form) ∷ []
+byte_behind-notes : seal_notes profile rtu 0 byte_behind ≡ noted_at 15 (unsealed_note 0 Form) ∷ []
 unfolding bursts_from with_byte before_pause up_to_byte tick_at judged crc byte_step bit_steps bit_step
 byte_behind-notes = refl
 
@@ -144,7 +144,7 @@ byte_behind-link = refl
 abbrev spent : List Tick
 spent = on_line READ_TEN_REGISTERS ++ silent 64
 
-spent-notes : seal_notes profile rtu 281474976710655 spent ≡ noted_at 11 (unsealed_entry 0 Spent) ∷ []
+spent-notes : seal_notes profile rtu 281474976710655 spent ≡ noted_at 11 (unsealed_note 0 Spent) ∷ []
 unfolding bursts_from with_byte before_pause up_to_byte tick_at judged crc byte_step bit_steps bit_step
 spent-notes = refl
 
@@ -157,7 +157,7 @@ spent-link = refl
 abbrev high_number : List Tick
 high_number = on_line READ_TEN_REGISTERS ++ silent 24
 
-high_number-notes : seal_notes profile rtu 65537 high_number ≡ noted_at 11 (sealed_entry 65538 0 READ_TEN_REGISTERS) ∷ []
+high_number-notes : seal_notes profile rtu 65537 high_number ≡ noted_at 11 (sealed_note 65538 0 READ_TEN_REGISTERS) ∷ []
 unfolding bursts_from with_byte before_pause up_to_byte tick_at judged crc byte_step bit_steps bit_step
 high_number-notes = refl
 

@@ -4,7 +4,6 @@
 mod laws;
 mod note;
 mod sealer;
-mod trailer;
 
 pub use hmac_tag::Dir;
 pub use laws::longer_lines;

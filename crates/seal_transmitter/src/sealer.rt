@@ -1,61 +1,60 @@
-ghost use Rattle.std.specs.Prelude.{◌≡◌, ℕ, ◌+◌, ◌<◌, ◌≤◌, nat_lt, List, [], ◌∷◌, ◌++◌, drop, Option, None, OnOk, OnErr, IfOk, IfNone};
-ghost use Rattle.yasir_io.specs.Causes.{HasCause};
-ghost use Rattle.yasir_io.specs.Disks.{Slots, LeavesOnly};
-ghost use Rattle.yasir_ticks.specs.declared.tick.Tick.{Tick};
-ghost use Rattle.yasir_ticks.specs.declared.tick.Tick.TheVariants.{Silent};
-ghost use Rattle.frame_ending.specs.declared.cut.Cut.{Cut};
-ghost use Rattle.frame_ending.specs.declared.cut.Cut.TheVariants.{Start, Live, Closed};
-ghost use Rattle.frame_ending.specs.SoFar.{start_so_far, live_bytes_so_far};
-ghost use Rattle.frame_ending.specs.Stands.{StandsFor as CutStandsFor};
-ghost use Rattle.hmac_tag.specs.Tag.{direction_number};
-ghost use Rattle.sequence_journal.specs.declared.journal.Journal.{Journal};
-ghost use Rattle.sequence_journal.specs.declared.numbers.TheConstants.{LIMIT};
-ghost use Rattle.sequence_journal.specs.Journal.{journal_floor, Fits, IsCrashSafe, HasFloorAtLeast};
-ghost use Rattle.seal_transmitter.specs.Y18.{tagged_by, profile_by};
-ghost use Rattle.seal_transmitter.specs.Sealing.{sealed, last_number};
-ghost use Rattle.seal_transmitter.specs.Sealing.Judgement.{sealed_with, unsealed};
-ghost use Rattle.seal_transmitter.specs.Answers.{AnswersTick, SealsWith, KeepsJournal, HasFailed};
-ghost use Rattle.seal_transmitter.specs.Trailers.{bytes_left, first_of, noteless};
-ghost use Rattle.seal_transmitter.specs.Stands.{StandsFor, ticks_taken};
-ghost use Rattle.seal_transmitter.specs.Between.{IsBetween, HasStepped, IsPassing, IsJudged, judgement_of, IsSealedNote, IsUnsealedNote};
-
-use crate::trailer::{Trailer, WORD_LEN};
 use crate::{SealNote, SealStep, UnsealedWhy};
 use frame_ending::{BurstCut, Cut};
 use hmac_tag::{Dir, Mac};
 use line_rules::LineRules;
+use link_format::Trailer;
 use sequence_journal::{Journal, JournalFault, LIMIT};
 use yasir_io::SlotDisk;
-use yasir_ticks::{MAX_TICKS, Tick};
+use yasir_ticks::{MAX_TICKS, T3_5_TICKS, Tick};
 
-/// How many silent ticks stand behind a trailer before the next burst may be sealed.
-const REST: u64 = 4;
-
-/// The transmitter, by the rules `R` of a protocol, with tags by `M`. It forwards the live bytes of a device's bursts, each in
-/// its own tick, and sends a trailer after each that is a frame: the low bytes of its number and its tag.
+/// The transmitter, by the rules `R` of a protocol, with words of `B` bytes and tags by `M`. It forwards the live bytes of a
+/// device's bursts, each in its own tick, and sends a trailer after each that is a frame: the low bytes of its number and its tag.
 ///
 /// It keeps no frame: each live byte goes into the text of the tag as it comes.
 #[derive(Drop)]
-pub struct Sealer<R, M> {
+pub struct Sealer<R, M, const B: usize> {
     cut: BurstCut<R>,
     mac: M,
     direction: Dir,
     // the first tick at which a burst that starts isn't early
-    free: u64,
-    trailer: Trailer,
+    earliest_start: u64,
+    trailer: Trailer<B>,
 }
 
-impl<R: LineRules, M: Mac> Sealer<R, M> {
+impl<R: LineRules, M: Mac, const B: usize> Sealer<R, M, B> {
+    ghost use Rattle.std.specs.Prelude.{◌≡◌, ℕ, ◌+◌, ◌<◌, ◌≤◌, nat_lt, List, [], ◌∷◌, ◌++◌, drop, Option};
+    ghost use Rattle.std.specs.Prelude.{None, OnOk, OnErr, IfOk, IfNone};
+    ghost use Rattle.yasir_ticks.specs.declared.tick.Tick.{Tick};
+    ghost use Rattle.yasir_ticks.specs.declared.tick.Tick.TheVariants.{Silent};
+    ghost use Rattle.frame_ending.specs.declared.cut.Cut.{Cut};
+    ghost use Rattle.frame_ending.specs.declared.cut.Cut.TheVariants.{Start, Live, Closed};
+    ghost use Rattle.frame_ending.specs.Cuts.{IsPassing};
+    ghost use Rattle.frame_ending.specs.SoFar.{start_so_far, live_bytes_so_far};
+    ghost use Rattle.frame_ending.specs.Stands.{StandsFor as CutStandsFor};
+    ghost use Rattle.link_format.specs.Profile.{IsWordLen, profile_of};
+    ghost use Rattle.link_format.specs.Setup.{Setup, setup_of};
+    ghost use Rattle.link_format.specs.Trailers.{bytes_left, first_of};
+    ghost use Rattle.sequence_journal.specs.declared.journal.Journal.{Journal};
+    ghost use Rattle.sequence_journal.specs.declared.numbers.TheConstants.{LIMIT};
+    ghost use Rattle.sequence_journal.specs.Journal.{journal_floor, Fits};
+    ghost use Rattle.seal_transmitter.specs.Sealing.Judgement.{sealed_with, unsealed};
+    ghost use Rattle.seal_transmitter.specs.Answers.{SealsWith, KeepsJournal};
+    ghost use Rattle.seal_transmitter.specs.Stands.{StandsFor, HasTaken, ticks_taken};
+    ghost use Rattle.seal_transmitter.specs.Between.{IsBetween, Judges, judgement_of, noteless};
+    ghost use Rattle.seal_transmitter.specs.Between.{IsSealedNote, IsUnsealedNote};
+
     /// A transmitter that has taken no tick, for a key of any length and a direction.
-    pub fn new(key: &[u8], dir: Dir) -> Sealer<R, M>
+    pub fn new(key: &[u8], dir: Dir) -> Sealer<R, M, B>
+        requires word { IsWordLen B }
         ensures taken { ticks_taken result ≡ 0 }
-        ensures stands { (journal : Journal) → StandsFor R.rules R.stands M.tag_of M.TAG M.stands result journal key.now (direction_number dir) (journal_floor journal) [] }
+        ensures stands { (journal : Journal) → StandsFor R.LineRules M.Mac result journal
+            (setup_of key.now dir (journal_floor journal)) [] }
     {
         Sealer {
             cut: BurstCut::new(),
             mac: M::with_key(key),
             direction: dir,
-            free: 0,
+            earliest_start: 0,
             trailer: Trailer::none(),
         }
     }
@@ -76,33 +75,16 @@ impl<R: LineRules, M: Mac> Sealer<R, M> {
         requires fits { Fits journal.old (D.told disk.old) }
 
         ensures taken { OnOk result (ticks_taken self.new ≡ ticks_taken self.old + 1) }
-        ensures stands { OnOk result ((key : List ℕ) (direction floor : ℕ) (line : List Tick)
-            → StandsFor R.rules R.stands M.tag_of M.TAG M.stands self.old journal.old key direction floor line
-            → StandsFor R.rules R.stands M.tag_of M.TAG M.stands self.new journal.new key direction floor (line ++ t ∷ [])) }
-        ensures answer { IfOk result (λ step. (key : List ℕ) (direction floor : ℕ) (line : List Tick)
-            → StandsFor R.rules R.stands M.tag_of M.TAG M.stands self.old journal.old key direction floor line
-            → AnswersTick (tagged_by M.tag_of M.TAG key R.LABEL direction) R.rules floor line t step) }
+        ensures step { IfOk result (λ step. (setup : Setup) (line : List Tick)
+            → StandsFor R.LineRules M.Mac self.old journal.old setup line
+            → HasTaken R.LineRules M.Mac self.new (journal_floor journal.new) setup line t step) }
 
-        // The journal, as the note says: a step that seals nothing leaves it as it was.
-        ensures journal { IfOk result (λ step. KeepsJournal D.told D.may_leave journal.old journal.new disk.old disk.new step.note) }
-        ensures fits { OnOk result (Fits journal.new (D.told disk.new)) }
-        ensures floor { OnOk result ((key : List ℕ) (direction floor : ℕ) (line : List Tick)
-            → StandsFor R.rules R.stands M.tag_of M.TAG M.stands self.old journal.old key direction floor line
-            → journal_floor journal.new ≡ last_number floor (sealed (tagged_by M.tag_of M.TAG key R.LABEL direction) R.rules floor (line ++ t ∷ []))) }
-
-        // A fault comes only in a step that seals.
-        ensures err { OnErr result (HasFailed journal.old journal.new (D.told disk.old) (D.told disk.new) (journal_floor journal.old + 1)) }
-        ensures err_seals { OnErr result ((key : List ℕ) (direction floor : ℕ) (line : List Tick)
-            → StandsFor R.rules R.stands M.tag_of M.TAG M.stands self.old journal.old key direction floor line
-            → SealsWith (tagged_by M.tag_of M.TAG key R.LABEL direction) R.rules floor line t (journal_floor journal.old + 1)) }
-
-        // A crash at any moment of the step leaves a floor that isn't below the one before it, and after it none below the
-        // journal's, where a crash before the step did so.
-        ensures crash_safe { IsCrashSafe journal.old (D.told disk.old) (D.may_leave disk.old) → IsCrashSafe journal.new (D.told disk.new) (D.may_leave disk.new) }
-        ensures any_moment { IsCrashSafe journal.old (D.told disk.old) (D.may_leave disk.old)
-            → LeavesOnly D.moment D.left_since disk.old disk.new (HasFloorAtLeast (journal_floor journal.old)) }
-
-        ensures cause { HasCause (D.faults disk.old) (D.faults disk.new) result }
+        // It fails only in a step that seals.
+        ensures err_seals { OnErr result ((setup : Setup) (line : List Tick)
+            → StandsFor R.LineRules M.Mac self.old journal.old setup line
+            → SealsWith (profile_of R.LineRules M.Mac B LIMIT setup) R.rules setup.floor line t
+            (journal_floor journal.old + 1)) }
+        ensures journal { KeepsJournal D.SlotDisk journal.old journal.new disk.old disk.new result }
     {
         match self.cut.step(t) {
             Cut::Start(byte) => Ok(self.begin(byte)),
@@ -115,9 +97,10 @@ impl<R: LineRules, M: Mac> Sealer<R, M> {
     // Whether the burst that is running or was the last is early.
     #[inline]
     fn is_early(&self) -> bool
-        ensures { (line : List Tick) → CutStandsFor R.rules R.stands self.now.cut line → result ≡ nat_lt (start_so_far line) self.now.free }
+        ensures { (line : List Tick) → CutStandsFor R.LineRules self.now.cut line
+            → result ≡ nat_lt (start_so_far line) self.now.earliest_start }
     {
-        self.cut.start() < self.free
+        self.cut.start() < self.earliest_start
     }
 
     // The next byte of the trailer, or silence.
@@ -138,9 +121,9 @@ impl<R: LineRules, M: Mac> Sealer<R, M> {
     fn pass(&mut self) -> SealStep
         ensures cut { self.new.cut ≡ self.old.cut }
         ensures note { result.note ≡ None }
-        ensures stepped { (last : ℕ) (key : List ℕ) (direction floor : ℕ) (line : List Tick) (t : Tick) (cut : Cut) → IsPassing cut
-            → IsBetween R.rules R.stands M.tag_of M.TAG M.stands self.old last key direction floor line t cut
-            → HasStepped R.rules R.stands M.tag_of M.TAG M.stands self.new last key direction floor line t result }
+        ensures step { (last : ℕ) (setup : Setup) (line : List Tick) (t : Tick) (cut : Cut) → IsPassing cut
+            → IsBetween R.LineRules M.Mac self.old last setup line t cut
+            → HasTaken R.LineRules M.Mac self.new last setup line t result }
     {
         self.send()
     }
@@ -150,9 +133,9 @@ impl<R: LineRules, M: Mac> Sealer<R, M> {
     fn begin(&mut self, byte: u8) -> SealStep
         ensures cut { self.new.cut ≡ self.old.cut }
         ensures note { result.note ≡ None }
-        ensures stepped { (last : ℕ) (key : List ℕ) (direction floor : ℕ) (line : List Tick) (t : Tick)
-            → IsBetween R.rules R.stands M.tag_of M.TAG M.stands self.old last key direction floor line t (Start byte)
-            → HasStepped R.rules R.stands M.tag_of M.TAG M.stands self.new last key direction floor line t result }
+        ensures step { (last : ℕ) (setup : Setup) (line : List Tick) (t : Tick)
+            → IsBetween R.LineRules M.Mac self.old last setup line t (Start byte)
+            → HasTaken R.LineRules M.Mac self.new last setup line t result }
     {
         if self.is_early() {
             return self.send();
@@ -170,9 +153,9 @@ impl<R: LineRules, M: Mac> Sealer<R, M> {
     fn go_on(&mut self, byte: u8) -> SealStep
         ensures cut { self.new.cut ≡ self.old.cut }
         ensures note { result.note ≡ None }
-        ensures stepped { (last : ℕ) (key : List ℕ) (direction floor : ℕ) (line : List Tick) (t : Tick)
-            → IsBetween R.rules R.stands M.tag_of M.TAG M.stands self.old last key direction floor line t (Live byte)
-            → HasStepped R.rules R.stands M.tag_of M.TAG M.stands self.new last key direction floor line t result }
+        ensures step { (last : ℕ) (setup : Setup) (line : List Tick) (t : Tick)
+            → IsBetween R.LineRules M.Mac self.old last setup line t (Live byte)
+            → HasTaken R.LineRules M.Mac self.new last setup line t result }
     {
         if self.is_early() {
             return self.send();
@@ -187,8 +170,8 @@ impl<R: LineRules, M: Mac> Sealer<R, M> {
     // Why the burst that is now closed isn't sealed; none where it is.
     fn unsealed_why(&self, journal: &Journal) -> Option<UnsealedWhy>
         ensures within { IfNone result (journal_floor journal.now < LIMIT) }
-        ensures judged { (key : List ℕ) (direction : ℕ) (line : List Tick) → CutStandsFor R.rules R.stands self.now.cut line
-            → IsJudged (profile_by R.rules M.tag_of M.TAG key direction) R.rules (journal_floor journal.now) self.now.free line
+        ensures judged { (setup : Setup) (line : List Tick) → CutStandsFor R.LineRules self.now.cut line
+            → Judges R.LineRules M.Mac self.now (journal_floor journal.now) setup line
             (judgement_of result (journal_floor journal.now + 1)) }
     {
         if self.is_early() {
@@ -216,19 +199,14 @@ impl<R: LineRules, M: Mac> Sealer<R, M> {
         requires fits { Fits journal.old (D.told disk.old) }
 
         ensures cut { OnOk result (self.new.cut ≡ self.old.cut) }
-        ensures stepped { IfOk result (λ step. (key : List ℕ) (direction floor : ℕ) (line : List Tick)
-            → IsBetween R.rules R.stands M.tag_of M.TAG M.stands self.old (journal_floor journal.old) key direction floor line Silent Closed
-            → HasStepped R.rules R.stands M.tag_of M.TAG M.stands self.new (journal_floor journal.new) key direction floor line Silent step) }
-        ensures journal { IfOk result (λ step. KeepsJournal D.told D.may_leave journal.old journal.new disk.old disk.new step.note) }
-        ensures fits { OnOk result (Fits journal.new (D.told disk.new)) }
-        ensures err { OnErr result (HasFailed journal.old journal.new (D.told disk.old) (D.told disk.new) (journal_floor journal.old + 1)) }
-        ensures err_seals { OnErr result ((key : List ℕ) (direction floor : ℕ) (line : List Tick)
-            → IsBetween R.rules R.stands M.tag_of M.TAG M.stands self.old (journal_floor journal.old) key direction floor line Silent Closed
-            → SealsWith (profile_by R.rules M.tag_of M.TAG key direction) R.rules floor line Silent (journal_floor journal.old + 1)) }
-        ensures crash_safe { IsCrashSafe journal.old (D.told disk.old) (D.may_leave disk.old) → IsCrashSafe journal.new (D.told disk.new) (D.may_leave disk.new) }
-        ensures any_moment { IsCrashSafe journal.old (D.told disk.old) (D.may_leave disk.old)
-            → LeavesOnly D.moment D.left_since disk.old disk.new (HasFloorAtLeast (journal_floor journal.old)) }
-        ensures cause { HasCause (D.faults disk.old) (D.faults disk.new) result }
+        ensures step { IfOk result (λ step. (setup : Setup) (line : List Tick)
+            → IsBetween R.LineRules M.Mac self.old (journal_floor journal.old) setup line Silent Closed
+            → HasTaken R.LineRules M.Mac self.new (journal_floor journal.new) setup line Silent step) }
+        ensures err_seals { OnErr result ((setup : Setup) (line : List Tick)
+            → IsBetween R.LineRules M.Mac self.old (journal_floor journal.old) setup line Silent Closed
+            → SealsWith (profile_of R.LineRules M.Mac B LIMIT setup) R.rules setup.floor line Silent
+            (journal_floor journal.old + 1)) }
+        ensures journal { KeepsJournal D.SlotDisk journal.old journal.new disk.old disk.new result }
     {
         match self.unsealed_why(journal) {
             Some(why) => Ok(self.leave(why)),
@@ -246,10 +224,10 @@ impl<R: LineRules, M: Mac> Sealer<R, M> {
     fn leave(&mut self, why: UnsealedWhy) -> SealStep
         ensures cut { self.new.cut ≡ self.old.cut }
         ensures note { IsUnsealedNote why result.note }
-        ensures stepped { (last : ℕ) (key : List ℕ) (direction floor : ℕ) (line : List Tick)
-            → IsBetween R.rules R.stands M.tag_of M.TAG M.stands self.old last key direction floor line Silent Closed
-            → IsJudged (profile_by R.rules M.tag_of M.TAG key direction) R.rules last self.old.free (line ++ Silent ∷ []) (unsealed why)
-            → HasStepped R.rules R.stands M.tag_of M.TAG M.stands self.new last key direction floor line Silent result }
+        ensures step { (last : ℕ) (setup : Setup) (line : List Tick)
+            → IsBetween R.LineRules M.Mac self.old last setup line Silent Closed
+            → Judges R.LineRules M.Mac self.old last setup (line ++ Silent ∷ []) (unsealed why)
+            → HasTaken R.LineRules M.Mac self.new last setup line Silent result }
     {
         SealStep {
             tick: self.trailer.next_tick(),
@@ -265,16 +243,16 @@ impl<R: LineRules, M: Mac> Sealer<R, M> {
         requires room { ticks_taken self.old ≤ MAX_TICKS }
         ensures cut { self.new.cut ≡ self.old.cut }
         ensures note { IsSealedNote number result.note }
-        ensures stepped { (last : ℕ) (key : List ℕ) (direction floor : ℕ) (line : List Tick)
-            → IsBetween R.rules R.stands M.tag_of M.TAG M.stands self.old last key direction floor line Silent Closed
-            → IsJudged (profile_by R.rules M.tag_of M.TAG key direction) R.rules last self.old.free (line ++ Silent ∷ []) (sealed_with number)
-            → HasStepped R.rules R.stands M.tag_of M.TAG M.stands self.new number key direction floor line Silent result }
+        ensures step { (last : ℕ) (setup : Setup) (line : List Tick)
+            → IsBetween R.LineRules M.Mac self.old last setup line Silent Closed
+            → Judges R.LineRules M.Mac self.old last setup (line ++ Silent ∷ []) (sealed_with number)
+            → HasTaken R.LineRules M.Mac self.new number setup line Silent result }
     {
         self.mac.update(&number.to_be_bytes());
         let tag = self.mac.finish();
-        self.trailer = Trailer::new(number, &tag);
+        self.trailer.load(number, &tag);
         // this tick is the trailer's first one
-        self.free = self.cut.ticks() + (WORD_LEN + M::TAG) as u64 + (REST - 1);
+        self.earliest_start = self.cut.ticks() + (B + M::TAG) as u64 + u64::from(T3_5_TICKS - 1);
         SealStep {
             tick: self.trailer.next_tick(),
             note: Some(SealNote::Sealed {
@@ -288,8 +266,8 @@ impl<R: LineRules, M: Mac> Sealer<R, M> {
     /// The live bytes of the burst that is running or was the last.
     #[inline]
     pub fn live_bytes(&self) -> &R
-        ensures { (journal : Journal) (key : List ℕ) (direction floor : ℕ) (line : List Tick)
-            → StandsFor R.rules R.stands M.tag_of M.TAG M.stands self.now journal key direction floor line
+        ensures { (journal : Journal) (setup : Setup) (line : List Tick)
+            → StandsFor R.LineRules M.Mac self.now journal setup line
             → R.stands result.now (live_bytes_so_far R.rules line) }
     {
         self.cut.rules()

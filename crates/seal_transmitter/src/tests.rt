@@ -23,9 +23,9 @@ fn tick_of(letter: u8) -> Tick {
 }
 
 // What the transmitter answers to each tick.
-fn steps<R: LineRules, M: Mac, D: SlotDisk>(
+fn steps<R: LineRules, M: Mac, D: SlotDisk, const B: usize>(
     alloc: Global,
-    sealer: &mut Sealer<R, M>,
+    sealer: &mut Sealer<R, M, B>,
     journal: &mut Journal,
     disk: &mut D,
     line: &[u8],
@@ -44,7 +44,7 @@ fn steps<R: LineRules, M: Mac, D: SlotDisk>(
 #[test]
 fn a_frame_is_sealed_and_another_burst_is_not(rt: HostRuntime) -> Result<(), Fail> {
     let key: [u8; 16] = 0x000102030405060708090a0b0c0d0e0f_u128.to_be_bytes();
-    let mut sealer: Sealer<Fours, HmacSha1> = Sealer::new(&key, Dir::Ab);
+    let mut sealer: Sealer<Fours, HmacSha1, 2> = Sealer::new(&key, Dir::Ab);
     let mut disk = SteadySlots::new(slot_of(0x10202), [0; 16]);
     let mut journal = Journal::load(&mut disk)?;
     let line: &[u8] = b"\x01\x02\x03\x04.....................\x05\x06....";
@@ -82,5 +82,5 @@ fn a_frame_is_sealed_and_another_burst_is_not(rt: HostRuntime) -> Result<(), Fai
 
 // A transmitter holds at most 280 bytes beside its rules and its code.
 const _: () = prove!(
-    size_of::<Sealer<Fours, HmacSha1>>() <= size_of::<Fours>() + size_of::<HmacSha1>() + 280
+    size_of::<Sealer<Fours, HmacSha1, 2>>() <= size_of::<Fours>() + size_of::<HmacSha1>() + 280
 );

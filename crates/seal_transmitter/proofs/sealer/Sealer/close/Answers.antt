@@ -1,31 +1,58 @@
-use Rattle.std.proofs.Common.{ℕ, ◌≡◌, ◌+◌, [], ◌∷◌, ◌++◌, sym, ap, subst}
+use Rattle.std.proofs.Common.{ℕ, ◌≡◌, ◌+◌, [], ◌∷◌, ◌++◌, rules, sym, ap, subst}
 use Rattle.yasir_ticks.specs.declared.tick.Tick.TheVariants.{Silent}
-use Rattle.sequence_journal.specs.Journal.{journal_floor}
-use Rattle.seal_transmitter.specs.Y18.{profile_by}
+use Rattle.link_format.specs.Trailers.{bytes_left}
+use Rattle.sequence_journal.specs.Journal.{journal_floor, HasFloorAtLeast}
+use Rattle.seal_transmitter.specs.Answers.{HasFailed}
 use Rattle.seal_transmitter.specs.Sealing.Judgement.{sealed_with}
-use Rattle.seal_transmitter.specs.Trailers.{bytes_left}
-use Rattle.seal_transmitter.specs.Between.{HasStepped, IsJudged}
+use Rattle.seal_transmitter.specs.Between.{Judges}
+use Rattle.seal_transmitter.specs.Stands.{HasTaken}
 use Rattle.seal_transmitter.proofs.Advancing.{seals-with}
 use Rattle.seal_transmitter.proofs.sealer.Sealer.close.Goals as goal
 
 pub returns-in_default-clause-err_seals : goal.returns-in_default-clause-err_seals
-returns-in_default-clause-err_seals g c = λ key direction floor line between.
-    seals-with g.R.LineRules.rules g.R.LineRules.lawful g.M.Mac.tag_of g.M.Mac.TAG g.M.Mac.tag_len g.M.Mac.stands key direction floor line
-    (journal_floor c.args.journal.now) c.args.self.now.free (bytes_left c.args.self.now.trailer) c.args.self.now.mac between.walks
-    (journal_floor c.args.journal.now + 1) between.is_cut (c.in-None.ensures.judged key direction (line ++ Silent ∷ []) between.cuts)
+returns-in_default-clause-err_seals g c = λ setup line between.
+    seals-with g.R.LineRules g.M.Mac g.row.B setup line
+    (journal_floor c.args.journal.now) c.args.self.now.earliest_start (bytes_left c.args.self.now.trailer) c.args.self.now.mac between.walks
+    (journal_floor c.args.journal.now + 1) between.is_cut (c.in-None.ensures.judged setup (line ++ Silent ∷ []) between.cuts)
 
-pub returns-in-Some-clause-stepped : goal.returns-in-Some-clause-stepped
-returns-in-Some-clause-stepped g c = λ key direction floor line between.
-    c.leave.ensures.stepped (journal_floor c.args.journal.now) key direction floor line between
-    (c.in-Some.ensures.judged key direction (line ++ Silent ∷ []) between.cuts)
+pub returns-in-Some-clause-step : goal.returns-in-Some-clause-step
+returns-in-Some-clause-step g c = λ setup line between.
+    c.leave.ensures.step (journal_floor c.args.journal.now) setup line between
+    (c.in-Some.ensures.judged setup (line ++ Silent ∷ []) between.cuts)
 
-pub returns-in-Ok-clause-stepped : goal.returns-in-Ok-clause-stepped
-returns-in-Ok-clause-stepped g c = λ key direction floor line between.
+pub returns-in-Ok-clause-step : goal.returns-in-Ok-clause-step
+returns-in-Ok-clause-step g c = λ setup line between.
     let number : journal_floor c.args.journal.now + 1 ≡ c.floor-number.result + 1 = ap (λ n. n + 1) (sym c.floor-number.ensures.value) in
-    let J : ℕ → Type 0 = λ n. IsJudged (profile_by g.R.LineRules.rules g.M.Mac.tag_of g.M.Mac.TAG key direction) g.R.LineRules.rules
-    (journal_floor c.args.journal.now) c.args.self.now.free (line ++ Silent ∷ []) (sealed_with n) in
-    let S : ℕ → Type 0 = λ n. HasStepped g.R.LineRules.rules g.R.LineRules.stands g.M.Mac.tag_of g.M.Mac.TAG g.M.Mac.stands
-    c.seal.new.self n key direction floor line Silent c.seal.result in
+    let J : ℕ → Type 0 = λ n. Judges g.R.LineRules g.M.Mac c.args.self.now (journal_floor c.args.journal.now) setup
+    (line ++ Silent ∷ []) (sealed_with n) in
+    let S : ℕ → Type 0 = λ n. HasTaken g.R.LineRules g.M.Mac c.seal.new.self n setup line Silent c.seal.result in
     subst S (sym c.in-Ok.ensures.floor)
-    (c.seal.ensures.stepped (journal_floor c.args.journal.now) key direction floor line between
-    (subst J number (c.in-None.ensures.judged key direction (line ++ Silent ∷ []) between.cuts)))
+    (c.seal.ensures.step (journal_floor c.args.journal.now) setup line between
+    (subst J number (c.in-None.ensures.judged setup (line ++ Silent ∷ []) between.cuts)))
+
+pub returns-in_default-clause-journal : goal.returns-in_default-clause-journal
+returns-in_default-clause-journal g c =
+    let F : ℕ → Type 0 = λ n. HasFailed c.args.journal.now c.commit.new.self (g.D.SlotDisk.told c.args.disk.now)
+    (g.D.SlotDisk.told c.commit.new.disk) n in
+    record {
+      commits = tt;
+      fits = tt;
+      failed = subst F (ap (λ n. n + 1) c.floor-number.ensures.value)
+          (record {
+            broken = c.in_default.ensures.broken;
+            floor = c.in_default.ensures.err_floor;
+            kept = c.in_default.ensures.err_kept;
+            slots = c.in_default.ensures.slots;
+            floor_told = c.in_default.ensures.floor_told;
+          });
+      crash_safe = λ safe.
+          let any = c.commit.ensures.any_moment safe.kept in
+          record {
+            kept = c.commit.ensures.kept safe.kept;
+            floors = λ slots image. let P : ℕ → Type 0 = λ n. HasFloorAtLeast n slots in
+                subst P (sym c.in_default.ensures.err_floor)
+                (any.each slots (g.met.D.SlotDisk.counts_now c.commit.new.disk (g.D.SlotDisk.moment c.args.disk.now) slots any.later image));
+          };
+      any_moment = λ safe. c.commit.ensures.any_moment safe.kept;
+      cause = search rules;
+    }
