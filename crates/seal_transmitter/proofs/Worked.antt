@@ -1,10 +1,11 @@
 -- The definitions of the transmitter on small lines of a Modbus RTU device, with a tag that stands in for HMAC.
-use Rattle.std.proofs.Common.{◌≡◌, ℕ, ◌==◌, ◌&&◌, nat_le, true, List, [], ◌∷◌, ◌++◌, length, map, take, replicate, refl}
+use Rattle.std.proofs.Common.{◌≡◌, ℕ, ◌==◌, ◌&&◌, nat_le, List, [], ◌∷◌, ◌++◌, length, map, take, replicate, refl}
 use Rattle.yasir_ticks.specs.Ticks.{silent}
 use Rattle.yasir_ticks.specs.Bursts.{bursts_from, with_byte}
 use Rattle.yasir_ticks.specs.declared.tick.Tick.{Tick}
 use Rattle.yasir_ticks.specs.declared.tick.Tick.TheVariants.{Silent, Byte}
 use Rattle.line_rules.specs.Crc.{crc, byte_step, bit_steps, bit_step}
+use Rattle.line_rules.specs.Headerless.{headerless}
 use Rattle.line_rules.specs.Rules.{Rules}
 use Rattle.frame_ending.specs.LiveBytes.{before_pause, up_to_byte}
 use Rattle.burst_walk.specs.Laid.{tick_at}
@@ -16,15 +17,8 @@ use Rattle.seal_transmitter.specs.declared.note.UnsealedWhy.TheVariants.{Early, 
 
 -- frames of at most 256 bytes that end in their CRC, which leaves the register at 0
 abbrev rtu : Rules
-rtu = record {
-  label = 1;
-  longest = 256;
-  room = λ x. 256;
-  is_frame = λ x. nat_le 4 (length x) && crc 0xA001 0xFFFF x == 0;
-  header_len = 0;
-  is_good_header = λ x. true;
-  size = λ x. length x;
-}
+rtu = headerless 1 256 (λ x. nat_le 4 (length x) && crc 0xA001 0xFFFF x == 0)
+    (λ x. nat_le 2 (length x) && crc 0xA001 0xFFFF x == 0)
 
 -- twelve bytes of the number and the frame
 abbrev stand_in : ℕ → List ℕ → List ℕ

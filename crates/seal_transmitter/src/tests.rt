@@ -2,12 +2,9 @@ ghost use Rattle.std.specs.Prelude.{◌≡◌, ◌<◌, length};
 ghost use Rattle.sequence_journal.specs.Journal.{Fits};
 ghost use Rattle.seal_transmitter.specs.Stands.{ticks_taken};
 
-mod fours;
-
 use super::*;
-use fours::Fours;
 use hmac_tag::{HmacSha1, Mac};
-use line_rules::LineRules;
+use line_rules::{FourBytes, LineRules};
 use sequence_journal::{Journal, slot_of};
 use std::alloc::Global;
 use std::test::Fail;
@@ -44,17 +41,17 @@ fn steps<R: LineRules, M: Mac, D: SlotDisk, const B: usize>(
 #[test]
 fn a_frame_is_sealed_and_another_burst_is_not(rt: HostRuntime) -> Result<(), Fail> {
     let key: [u8; 16] = 0x000102030405060708090a0b0c0d0e0f_u128.to_be_bytes();
-    let mut sealer: Sealer<Fours, HmacSha1, 2> = Sealer::new(&key, Dir::Ab);
+    let mut sealer: Sealer<FourBytes, HmacSha1, 2> = Sealer::new(&key, Dir::Ab);
     let mut disk = SteadySlots::new(slot_of(0x10202), [0; 16]);
     let mut journal = Journal::load(&mut disk)?;
-    let line: &[u8] = b"\x01\x02\x03\x04.....................\x05\x06....";
+    let line: &[u8] = b"\x01\x02\x03\x00.....................\x05\x06....";
     let steps = steps(rt.alloc(), &mut sealer, &mut journal, &mut disk, line)?;
 
     // The trailer is the word of number 0x10203, and its tag by openssl:
-    //   printf 0100010203040000000000010203 | xxd -r -p
+    //   printf 0100010203000000000000010203 | xxd -r -p
     //     | openssl dgst -sha1 -mac HMAC -macopt hexkey:000102030405060708090a0b0c0d0e0f | cut -c1-24
     let link: &[u8] =
-        b"\x01\x02\x03\x04...\x02\x03\x6d\x1c\x48\xa1\x8e\xdb\x2b\x63\xa8\x5b\x36\xb2....\x05\x06....";
+        b"\x01\x02\x03\x00...\x02\x03\xbb\x3b\x20\xfe\x5a\x05\xb7\x81\xaa\x48\x00\x13....\x05\x06....";
     assert_eq!(rt; steps.len(), link.len());
     for (i, (step, letter)) in steps.iter().zip(link).enumerate() {
         let note = match i {
@@ -82,5 +79,6 @@ fn a_frame_is_sealed_and_another_burst_is_not(rt: HostRuntime) -> Result<(), Fai
 
 // A transmitter holds at most 280 bytes beside its rules and its code.
 const _: () = prove!(
-    size_of::<Sealer<Fours, HmacSha1, 2>>() <= size_of::<Fours>() + size_of::<HmacSha1>() + 280
+    size_of::<Sealer<FourBytes, HmacSha1, 2>>()
+        <= size_of::<FourBytes>() + size_of::<HmacSha1>() + 280
 );
