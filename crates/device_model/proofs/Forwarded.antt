@@ -1,6 +1,8 @@
 -- What a transmitter forwards as a frame is what a device reads.
 use Rattle.std.proofs.Common.{◌≡◌, ◌∙◌, ℕ, ◌<◌, ◌≤◌, Bool, true, false, not, ◌&&◌, List, [], ◌∷◌}
-use Rattle.std.proofs.Common.{length, take, refl, sym, ap, subst, arith, ⊎_elim}
+use Rattle.std.proofs.Common.{◌+◌, nat_le, cond, length, take, map, refl, sym, ap, subst, arith}
+use Rattle.std.proofs.Common.{⊎_elim}
+use Rattle.std.specs.Prelude.{filter}
 use Rattle.std.specs.List.{All, Contains}
 use Rattle.std.proofs.lemmas.Bool.{cases_Bool, cases_lt, lt-ltb, le-ltb}
 use Rattle.std.proofs.lemmas.List.{take_all, length-take}
@@ -14,9 +16,13 @@ use Rattle.yasir_ticks.specs.BurstsOf.{IsContiguous, AreBursts}
 use Rattle.yasir_ticks.specs.declared.tick.Tick.{Tick}
 use Rattle.yasir_ticks.specs.declared.tick.Tick.TheVariants.{Silent, Byte}
 use Rattle.yasir_ticks.proofs.BurstsOfLaws.{bursts_from-are}
-use Rattle.frame_ending.specs.LiveBytes.{before_pause, has_pause, spelled, live_bytes, has_extra}
+use Rattle.frame_ending.specs.LiveBytes.{before_pause, has_pause, spelled, live_bytes}
 use Rattle.frame_ending.proofs.Pauses.{ended, knit-ends, before_pause-whole}
-use Rattle.device_model.specs.RtuReads.{has_silence, is_frame_body}
+use Rattle.device_model.specs.RtuReads.{has_silence, is_frame_body, is_read, frame_in}
+use Rattle.device_model.specs.RtuReads.{frames_read, rtu_reads}
+use Rattle.device_model.specs.Frames.{FrameRead}
+use Rattle.device_model.specs.Forwarded.{is_forwarded, frame_forwarded, is_ended_frame}
+use Rattle.device_model.specs.Forwarded.{frames_forwarded, rtu_forwarded}
 use Rattle.device_model.proofs.ReadLaws.{is_frame-long}
 
 -- ---- the bursts of a line are contiguous
@@ -90,7 +96,7 @@ module _ (d : Burst) (knit : IsContiguous 4 d.body) where
   live-all none few = live-first none ∙ take_all 256 (bytes_in d.body) few
 
   abbrev forwards : Bool
-  forwards = not (has_extra rtu_rules d) && is_frame (live_bytes rtu_rules d)
+  forwards = is_forwarded rtu_rules d
 
   -- fewer bytes are live than there are
   extra-fewer : length (live_bytes rtu_rules d) < length (bytes_in d.body) → forwards ≡ false
@@ -147,3 +153,34 @@ module _ (d : Burst) (knit : IsContiguous 4 d.body) where
 -- there is room for the live bytes
 pub live-short : (d : Burst) → length (live_bytes rtu_rules d) ≤ 256
 live-short d = let room = length-take 256 (spelled d) in omega arith
+
+-- ---- a line
+
+-- a burst that both tests or neither take, in front of others of which the same is taken
+cons-same : (d : Burst) (xs ys : List Burst) (read tell : Burst → FrameRead)
+    → map read xs ≡ map tell ys → (ended one other : Bool) → other ≡ one
+    → (one ≡ true → read d ≡ tell d)
+    → map read (cond (ended && one) (d ∷ xs) xs) ≡ map tell (cond (ended && other) (d ∷ ys) ys)
+cons-same d xs ys read tell same false one other tests frames = same
+cons-same d xs ys read tell same true true true tests frames =
+    ap (λ f. f ∷ map read xs) (frames refl) ∙ ap (λ l. tell d ∷ l) same
+cons-same d xs ys read tell same true false false tests frames = same
+cons-same d xs ys read tell same true true false tests frames = absurd (cc)
+cons-same d xs ys read tell same true false true tests frames = absurd (cc)
+
+read-same : (m n : ℕ) (line : List Tick) (ds : List Burst) → AreBursts 4 n line ds
+    → frames_read 4 2 m ds ≡ frames_forwarded rtu_rules m ds
+read-same m n line [] are = refl
+read-same m n line (d ∷ ds) are =
+    cons-same d (filter (is_read 4 2 m) ds) (filter (is_ended_frame rtu_rules m) ds)
+    frame_in (frame_forwarded rtu_rules)
+    (read-same m (end_of d) are.1 ds are.6)
+    (nat_le (end_of d + 4) m) (is_frame_body 2 d.body) (is_forwarded rtu_rules d)
+    (forwarded-same d are.4)
+    (λ framed. ap (λ f. let r : FrameRead = record { start = d.start; frame = f } in r)
+    (sym (forwarded-whole d are.4 framed)))
+
+-- the frames that a device reads of a line are those that are forwarded
+pub forwarded-read : (line : List Tick) → rtu_reads line ≡ rtu_forwarded line
+forwarded-read line =
+    read-same (length line) 0 line (bursts line) (bursts_from-are 4 0 line)

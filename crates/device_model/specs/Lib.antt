@@ -1,3 +1,4 @@
 pub mod Frames
 pub mod RtuReads
+pub mod Forwarded
 pub mod RtuDevice

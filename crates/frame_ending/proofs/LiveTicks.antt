@@ -1,4 +1,4 @@
--- The ticks up to the last live byte of a burst that goes on with a byte.
+-- The live ticks of a burst, as it goes on with a byte, and where they end.
 use Rattle.std.proofs.Common.{◌≡◌, ◌∙◌, ℕ, zero, suc, ◌+◌, ◌-◌, ◌<◌, ◌≤◌, nat_le, Bool, true, false}
 use Rattle.std.proofs.Common.{◌||◌, List, [], ◌∷◌, ◌++◌, length, take, refl, sym, ap, subst, arith}
 use Rattle.std.proofs.Common.{length-append, get_or, ⊎_elim}
@@ -11,9 +11,10 @@ use Rattle.yasir_ticks.specs.declared.tick.Tick.TheVariants.{Silent, Byte}
 use Rattle.line_rules.specs.Rules.{Rules, fills_room}
 use Rattle.line_rules.specs.RulesLaws.{IsLawful}
 use Rattle.frame_ending.specs.LiveBytes.{before_pause, has_pause, up_to_byte, spelled, live_bytes}
-use Rattle.frame_ending.specs.LiveBytes.{live_ticks, has_extra}
+use Rattle.frame_ending.specs.LiveBytes.{live_ticks, live_end, has_extra}
 use Rattle.frame_ending.proofs.LastBurst.{IsWithin}
 use Rattle.frame_ending.proofs.Pauses.{ended, knit-ends, up_to_byte-append, up_to_byte-all}
+use Rattle.frame_ending.proofs.Pauses.{up_to_byte-le}
 use Rattle.frame_ending.proofs.Rooms.{within_room-le}
 use Rattle.frame_ending.proofs.LiveSome.{live-some}
 use Rattle.frame_ending.proofs.BurstSteps.{live-le, live-over, live-more, live-all, longer-bytes}
@@ -88,6 +89,34 @@ module _ (rules : Rules) (lawful : IsLawful rules) where
         ∙ (get_or-silence d.body (m - end_of d) k (Byte b ∷ []) few
         ∙ ap (λ x. get_or x k Silent) (sym (open_now parts.0 parts.1))))
         (cases_Bool (paused || fills_room rules (live_bytes rules d)))
+
+-- ---- where the live ticks end
+
+-- no later than the burst
+pub live_end-within : (rules : Rules) (d : Burst) → live_end rules d ≤ end_of d
+live_end-within rules d =
+    let few = up_to_byte-le (length (live_bytes rules d)) d.body in
+    omega arith
+
+-- and with it where no byte is extra
+pub live_end-whole : (rules : Rules) → IsLawful rules → (d : Burst) → IsContiguous 4 d.body
+    → has_extra rules d ≡ false → live_end rules d ≡ end_of d
+live_end-whole rules lawful d contiguous none =
+    ap (λ x. d.start + length x) (live_ticks-whole rules lawful d contiguous none)
+
+-- where the ticks up to a byte are as many as all of them, they are all of them
+pub up_to_byte-full : (k : ℕ) (x : List Tick) → length (up_to_byte k x) ≡ length x
+    → up_to_byte k x ≡ x
+unfolding up_to_byte
+up_to_byte-full zero [] long = refl
+up_to_byte-full zero (t ∷ x) long = absurd (omega arith)
+up_to_byte-full (suc k) [] long = refl
+up_to_byte-full (suc k) (Silent ∷ x) long =
+    let rest : length (up_to_byte (suc k) x) ≡ length x = omega arith in
+    ap (λ l. Silent ∷ l) (up_to_byte-full (suc k) x rest)
+up_to_byte-full (suc k) (Byte b ∷ x) long =
+    let rest : length (up_to_byte k x) ≡ length x = omega arith in
+    ap (λ l. Byte b ∷ l) (up_to_byte-full k x rest)
 
 -- ---- what the live ticks are
 

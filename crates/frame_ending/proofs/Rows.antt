@@ -1,7 +1,7 @@
 -- What ticks are, computed from the definition: bytes with one silent tick between them, two silent
 -- ticks inside a burst, three and four silent ticks before a byte, and more bytes than there is
 -- room for.
-use Rattle.std.proofs.Common.{◌≡◌, ℕ, true, false, List, [], ◌∷◌, ◌++◌, length, refl}
+use Rattle.std.proofs.Common.{◌≡◌, ℕ, true, false, List, [], ◌∷◌, ◌++◌, refl}
 use Rattle.line_rules.specs.Rules.{Rules}
 use Rattle.line_rules.specs.Headerless.{headerless}
 use Rattle.yasir_ticks.specs.Ticks.{silent}

@@ -1,5 +1,5 @@
 -- A line up to now: its closed bursts, and the one that isn't closed yet.
-use Rattle.std.specs.Prelude.{◌≡◌, ℕ, ◌+◌, ◌<◌, List, [], ◌∷◌, ◌++◌, length, Option, Some, None}
+use Rattle.std.specs.Prelude.{◌≡◌, ◌+◌, ◌<◌, List, [], ◌∷◌, ◌++◌, length, Option, Some, None}
 use Rattle.std.specs.Prelude.{IfSome}
 use Rattle.yasir_ticks.specs.Bursts.{Burst, bursts, end_of, AreClosed}
 use Rattle.yasir_ticks.specs.declared.TheConstants.{T3_5_TICKS}
