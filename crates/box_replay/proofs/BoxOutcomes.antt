@@ -3,14 +3,14 @@ use Rattle.std.proofs.Common.{◌≡◌, ◌∙◌, ℕ, ◌+◌, ◌⊎◌, inl
 use Rattle.std.specs.Prelude.{IfSome, IsSomeAnd}
 use Rattle.std.proofs.Math.Seq.{take-append_seam, take-append-add}
 use Rattle.yasir_io.specs.Disks.{Slots, NoMore, OneImage, LeavesOnly}
-use Rattle.yasir_io.specs.Moments.{leaves_then, leaves_weaker}
+use Rattle.yasir_io.proofs.Moments.{leaves_then, leaves_weaker}
 use Rattle.yasir_ticks.specs.Ticks.{Item, ticks_in, silent}
 use Rattle.yasir_ticks.specs.declared.tick.Tick.{Tick}
 use Rattle.yasir_ticks.specs.declared.writer.TickWriter.{TickWriter}
 use Rattle.sequence_journal.specs.declared.journal.Journal.{Journal}
 use Rattle.sequence_journal.specs.Slots.{floor_of}
 use Rattle.sequence_journal.specs.Journal.{journal_floor, Fits, IsCrashSafe, HasFloorAtLeast, IsEitherFloor}
-use Rattle.sequence_journal.specs.FloorLaws.{kept_where_synced, floor_of_images}
+use Rattle.sequence_journal.proofs.FloorLaws.{kept_where_synced, floor_of_images}
 use Rattle.tick_drive.specs.Consumers.{Held, IsDiskCause}
 use Rattle.tick_drive.specs.Input.{Takes}
 use Rattle.tick_drive.specs.Drive.{is_write_stop, is_journal_stop}

@@ -3,7 +3,7 @@ use Rattle.std.specs.Prelude.{◌≡◌, ℕ, ◌<◌, ◌≤◌, List, [], ◌�
 use Rattle.yasir_ticks.specs.declared.tick.Tick.{Tick}
 use Rattle.yasir_io.specs.Disks.{Slots}
 use Rattle.sequence_journal.specs.Journal.{IsEitherFloor}
-use Rattle.sequence_journal.specs.Runs.{RiseFrom, last_from}
+use Rattle.sequence_journal.specs.Uptimes.{RiseFrom, last_from}
 
 -- What a box makes of a line, for a key, a direction and a floor of its journal: the other line, the lines of its notes, the last
 -- number that it has used, and all that it has used, in order.

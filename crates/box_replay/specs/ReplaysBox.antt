@@ -7,7 +7,7 @@ use Rattle.yasir_ticks.specs.TickText.{ended_items}
 use Rattle.yasir_ticks.specs.declared.tick.Tick.{Tick}
 use Rattle.sequence_journal.specs.Slots.{number_held, floor_of}
 use Rattle.sequence_journal.specs.Journal.{AreRead, HasFloorAtLeast, IsEitherFloor}
-use Rattle.sequence_journal.specs.Runs.{IsRun}
+use Rattle.sequence_journal.specs.Uptimes.{IsUptime}
 use Rattle.tick_drive.specs.Consumers.{Held}
 use Rattle.tick_drive.specs.Input.{Takes}
 use Rattle.tick_drive.specs.declared.consumer.Stop.TheVariants as stops
@@ -29,7 +29,7 @@ KeepsFloor n told_before images_before images_now = OneImage told_before images_
 -- Where a crash before the run left the slots as read, each image that one leaves now makes the whole a run with these numbers.
 abbrev pub LeavesRun : List ℕ → Option Slots → (Slots → Type 0) → (Slots → Type 0) → Type 0
 LeavesRun numbers told_before images_before images_now =
-    OneImage told_before images_before → (begins : Slots) → told_before ≡ Some begins → (c : Slots) → images_now c → IsRun begins numbers c
+    OneImage told_before images_before → (begins : Slots) → told_before ≡ Some begins → (c : Slots) → images_now c → IsUptime begins numbers c
 
 -- The sinks have got all that the box makes of this line, and each image of the disk has the last number of it, and makes a run with
 -- the numbers of it.

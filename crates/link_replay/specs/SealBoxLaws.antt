@@ -13,7 +13,7 @@ use Rattle.seal_transmitter.specs.Sealing.{SealedFrame, sealer, at_floor, sealed
 use Rattle.hmac_tag.specs.Tag.{tag_text}
 use Rattle.sequence_journal.specs.declared.journal.Journal.{Journal}
 use Rattle.sequence_journal.specs.Journal.{journal_floor}
-use Rattle.sequence_journal.specs.Runs.{RiseFrom, last_from}
+use Rattle.sequence_journal.specs.Uptimes.{RiseFrom, last_from}
 use Rattle.seal_transmitter.specs.Y18.{profile_by}
 use Rattle.seal_transmitter.specs.Trailers.{bytes_left}
 use Rattle.seal_transmitter.specs.Stands.{StandsFor}

@@ -1,2 +1,4 @@
+pub mod FloorLaws
+pub mod NumberLaws
 pub mod SlotLemmas
-mod RunLaws
+pub mod UptimeLaws

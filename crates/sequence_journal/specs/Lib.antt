@@ -1,5 +1,5 @@
-pub mod FloorLaws
+pub mod Commits
 pub mod Journal
 pub mod Numbers
 pub mod Slots
-pub mod Runs
+pub mod Uptimes

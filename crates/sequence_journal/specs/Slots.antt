@@ -1,5 +1,6 @@
 -- The numbers that slots hold, and the floor of two slots.
-use Rattle.std.specs.Prelude.{ℕ, ◌-◌, ◌&&◌, List, ◌++◌, map, max, nat_lt, nat_le, if◌then◌else◌, Option, Some, None}
+use Rattle.std.specs.Prelude.{ℕ, ◌-◌, ◌&&◌, List, ◌++◌, map, max, nat_lt, nat_le, if◌then◌else◌}
+use Rattle.std.specs.Prelude.{Option, Some, None}
 use Rattle.std.specs.Str.{bytes_eq}
 use Rattle.byteorder.specs.Endian.{big_bytes, big_number}
 use Rattle.yasir_io.specs.declared.disk.Slot.{Slot}
@@ -15,7 +16,8 @@ with_complement half = half ++ map (λ b. 255 - b) half
 unfoldable pub slot_bytes : ℕ → List ℕ
 slot_bytes n = with_complement (big_bytes 8 n)
 
--- the number that a slot holds: none where it isn't the slot of its first eight bytes, or where these are above the limit
+-- the number that a slot holds: none where it isn't the slot of its first eight bytes, or where
+-- these are above the limit
 unfoldable pub number_held : List ℕ → Option ℕ
 number_held slot =
     let n = big_number 8 slot in

@@ -6,7 +6,8 @@ use crate::slots::{floor_in, read_slots, write_and_sync};
 use thiserror::Error;
 use yasir_io::{Slot, SlotBytes, SlotDisk};
 
-/// A commit failed: the disk's count of faults rose. The journal is broken, and a later run loads it anew.
+/// A commit failed: the disk's count of faults rose. The journal is broken, and a later run loads
+/// it anew.
 #[derive(Clone, Copy, Debug, PartialEq, Eq, Error)]
 #[error("the journal's disk failed in a commit")]
 pub struct JournalFault;
@@ -43,12 +44,17 @@ pub struct Journal {
 }
 
 impl Journal {
-    ghost use Rattle.std.specs.Prelude.{◌≡◌, ℕ, ◌≤◌, ◌<◌, true, false, Some, None, Err, OnOk, OnErr, IfOk, IfErr, IfSome};
+    ghost use Rattle.std.specs.Prelude.{◌≡◌, ℕ, ◌≤◌, ◌<◌, true, false, Some, None, Err, OnOk};
+    ghost use Rattle.std.specs.Prelude.{OnErr, IfOk, IfErr, IfSome};
     ghost use Rattle.yasir_io.specs.declared.disk.Slot.TheVariants.{A, B};
     ghost use Rattle.yasir_io.specs.Causes.{HasCause};
     ghost use Rattle.yasir_io.specs.Disks.{Slots, NoMore, OneImage, LeavesOnly, other_slot};
     ghost use Rattle.sequence_journal.specs.Slots.{slot_bytes, floor_of};
-    ghost use Rattle.sequence_journal.specs.Journal.{journal_floor, kept_slot, is_broken, Fits, IsKept, IsBeside, HasFloorAtLeast, IsEitherFloor, told_with, MaySet, RefusesLoad, RefusesInit};
+    ghost use Rattle.sequence_journal.specs.Journal.{journal_floor, kept_slot, is_broken, Fits};
+    ghost use Rattle.sequence_journal.specs.Journal.{IsKept, IsBeside};
+    ghost use Rattle.sequence_journal.specs.Journal.{HasFloorAtLeast, IsCrashSafe, told_with};
+    ghost use Rattle.sequence_journal.specs.Journal.{RefusesLoad, RefusesInit};
+    ghost use Rattle.sequence_journal.specs.Commits.{HasCommitted, HasFailed};
 
     /// Makes a new journal at floor 0, in slot A, where neither slot holds a number.
     pub fn init<D: SlotDisk>(disk: &mut D) -> Result<Journal, InitError>
@@ -59,12 +65,15 @@ impl Journal {
         ensures synced { OnOk result (OneImage (D.told disk.new) (D.may_leave disk.new)) }
         ensures image { OnOk result ((c : Slots) → D.may_leave disk.new c → floor_of c ≡ Some 0) }
 
-        ensures refused { IfErr result (RefusesInit (D.told disk.old) (D.told disk.new) (D.faults disk.old) (D.faults disk.new)) }
+        ensures refused { IfErr result (RefusesInit (D.told disk.old) (D.told disk.new)
+            (D.faults disk.old) (D.faults disk.new)) }
         ensures untouched { (floor : ℕ) → result ≡ Err (InitError.Stands floor)
-            → NoMore (D.may_leave disk.old) (D.may_leave disk.new) × NoMore (D.may_leave disk.new) (D.may_leave disk.old) }
+            → NoMore (D.may_leave disk.old) (D.may_leave disk.new)
+            × NoMore (D.may_leave disk.new) (D.may_leave disk.old) }
 
         // At any moment slot B is as it was.
-        ensures any_moment { LeavesOnly D.moment D.left_since disk.old disk.new (IsBeside B (D.may_leave disk.old)) }
+        ensures any_moment { LeavesOnly D.moment D.left_since disk.old disk.new
+            (IsBeside B (D.may_leave disk.old)) }
 
         ensures never_falls { D.faults disk.old ≤ D.faults disk.new }
         ensures same { OnOk result (D.faults disk.new ≡ D.faults disk.old) }
@@ -93,9 +102,11 @@ impl Journal {
         ensures told { D.told disk.new ≡ D.told disk.old }
         ensures images { NoMore (D.may_leave disk.old) (D.may_leave disk.new) }
         ensures images_back { NoMore (D.may_leave disk.new) (D.may_leave disk.old) }
-        ensures any_moment { LeavesOnly D.moment D.left_since disk.old disk.new (D.may_leave disk.old) }
+        ensures any_moment { LeavesOnly D.moment D.left_since disk.old disk.new
+            (D.may_leave disk.old) }
 
-        ensures refused { IfErr result (RefusesLoad (D.told disk.old) (D.faults disk.old) (D.faults disk.new)) }
+        ensures refused { IfErr result (RefusesLoad (D.told disk.old) (D.faults disk.old)
+            (D.faults disk.new)) }
         ensures never_falls { D.faults disk.old ≤ D.faults disk.new }
         ensures same { OnOk result (D.faults disk.new ≡ D.faults disk.old) }
     {
@@ -136,23 +147,24 @@ impl Journal {
         requires within { n ≤ LIMIT }
 
         ensures fits { OnOk result (Fits self.new (D.told disk.new)) }
-        ensures floor { OnOk result (journal_floor self.new ≡ n) }
-        ensures set { OnOk result (D.told disk.new ≡ told_with (D.told disk.old) (other_slot (kept_slot self.old)) (slot_bytes n)) }
-        ensures turned { OnOk result (kept_slot self.new ≡ other_slot (kept_slot self.old)) }
-        ensures synced { OnOk result (OneImage (D.told disk.new) (D.may_leave disk.new)) }
+        ensures committed { OnOk result (HasCommitted self.old self.new
+            (D.told disk.old) (D.told disk.new) (D.may_leave disk.new) n) }
         ensures image { OnOk result ((c : Slots) → D.may_leave disk.new c → floor_of c ≡ Some n) }
 
-        // After a fault the journal isn't to be used again; the slot that keeps the floor is as it was.
-        ensures broken { OnErr result (is_broken self.new ≡ true) }
-        ensures err_floor { OnErr result (journal_floor self.new ≡ journal_floor self.old) }
-        ensures err_kept { OnErr result (kept_slot self.new ≡ kept_slot self.old) }
-        ensures slots { OnErr result (MaySet (D.told disk.old) (other_slot (kept_slot self.old)) (slot_bytes n) (D.told disk.new)) }
-        ensures floor_told { OnErr result (IfSome (D.told disk.new) (IsEitherFloor (journal_floor self.old) n)) }
+        // After a fault the journal isn't to be used again; the slot that keeps the floor is as it
+        // was.
+        ensures failed { OnErr result
+            (HasFailed self.old self.new (D.told disk.old) (D.told disk.new) n) }
 
-        // A crash at any moment leaves a floor that isn't below the one before, where a crash before the call did so.
-        ensures kept { IsKept self.old (D.told disk.old) (D.may_leave disk.old) → IsKept self.new (D.told disk.new) (D.may_leave disk.new) }
+        // A crash at any moment leaves a floor that isn't below the one before, where a crash
+        // before the call did so.
+        ensures kept { IsKept self.old (D.told disk.old) (D.may_leave disk.old)
+            → IsKept self.new (D.told disk.new) (D.may_leave disk.new) }
         ensures any_moment { IsKept self.old (D.told disk.old) (D.may_leave disk.old)
-            → LeavesOnly D.moment D.left_since disk.old disk.new (HasFloorAtLeast (journal_floor self.old)) }
+            → LeavesOnly D.moment D.left_since disk.old disk.new
+            (HasFloorAtLeast (journal_floor self.old)) }
+        ensures crash_safe { IsCrashSafe self.old (D.told disk.old) (D.may_leave disk.old)
+            → IsCrashSafe self.new (D.told disk.new) (D.may_leave disk.new) }
 
         ensures cause { HasCause (D.faults disk.old) (D.faults disk.new) result }
     {

@@ -1,4 +1,4 @@
-ghost use Rattle.std.specs.Prelude.{◌≡◌, ◌≤◌, ◌<◌, ◌-◌, ◌++◌, ℕ, map, Some, IfSome, IfNone};
+ghost use Rattle.std.specs.Prelude.{◌≡◌, ◌≤◌, ◌<◌, ◌-◌, ◌^◌, ◌++◌, ℕ, map, Some, IfSome, IfNone};
 ghost use Rattle.sequence_journal.specs.Numbers.{IsLeastWith, full_of};
 ghost use Rattle.sequence_journal.specs.Slots.{slot_bytes, number_held, with_complement};
 
@@ -32,7 +32,8 @@ fn completed(half: [u8; HALF]) -> SlotBytes
     slot
 }
 
-/// The number that a slot holds. There is none where the slot isn't that of a number up to the limit.
+/// The number that a slot holds. There is none where the slot isn't that of a number up to the
+/// limit.
 #[tactic(auto, unfolding(crate::specs::Slots::number_held))]
 pub fn number_in(slot: &SlotBytes) -> Option<u64>
     ensures value { result ≡ number_held slot.now }
@@ -48,16 +49,30 @@ pub fn number_in(slot: &SlotBytes) -> Option<u64>
     }
 }
 
-/// The number that a word on the link stands for: the least above the floor that equals it modulo 65,536.
-/// There is none where that is above the limit.
+/// The number that a word on the link stands for: the least above the floor that equals it modulo
+/// 65,536. There is none where that is above the limit.
 pub fn full_number(floor: u64, word: u16) -> Option<u64>
     requires { floor ≤ LIMIT }
-    ensures value { result ≡ full_of 65536 floor word }
+    ensures value { result ≡ full_of LIMIT 65536 floor word }
     ensures found { IfSome result (λ n. IsLeastWith 65536 floor word n) }
     ensures within { IfSome result (λ n. n ≤ LIMIT) }
     ensures none { IfNone result ((n : ℕ) → IsLeastWith 65536 floor word n → LIMIT < n) }
 {
+    full_with(LIMIT, 65_536, floor, u64::from(word))
+}
+
+// The same of any limit, and of words that are numbers modulo any other.
+fn full_with(limit: u64, words: u64, floor: u64, word: u64) -> Option<u64>
+    requires limit { limit ≤ LIMIT }
+    requires words { words ≤ 2 ^ 32 }
+    requires floor { floor ≤ limit }
+    requires word { word < words }
+    ensures value { result ≡ full_of limit words floor word }
+    ensures found { IfSome result (λ n. IsLeastWith words floor word n) }
+    ensures within { IfSome result (λ n. n ≤ limit) }
+    ensures none { IfNone result ((n : ℕ) → IsLeastWith words floor word n → limit < n) }
+{
     let next = floor + 1;
-    let n = next + (u64::from(word) + 65_536 - next % 65_536) % 65_536;
-    if n <= LIMIT { Some(n) } else { None }
+    let n = next + (word + words - next % words) % words;
+    if n <= limit { Some(n) } else { None }
 }

@@ -20,7 +20,8 @@ pub(crate) fn read_slots<D: SlotDisk>(disk: &mut D) -> Result<(SlotBytes, SlotBy
     Ok((a, b))
 }
 
-/// Writes a slot and then syncs. At any moment, and whether it fails or not, the other slot is as it was.
+/// Writes a slot and then syncs. At any moment, and whether it fails or not, the other slot is as
+/// it was.
 pub(crate) fn write_and_sync<D: SlotDisk>(
     disk: &mut D,
     slot: Slot,
@@ -29,8 +30,10 @@ pub(crate) fn write_and_sync<D: SlotDisk>(
     ensures set { OnOk result (D.told disk.new ≡ told_with (D.told disk.old) slot bytes.now) }
     ensures synced { OnOk result (OneImage (D.told disk.new) (D.may_leave disk.new)) }
     ensures may_set { OnErr result (MaySet (D.told disk.old) slot bytes.now (D.told disk.new)) }
-    ensures beside { (c : Slots) → D.may_leave disk.new c → IsBeside (other_slot slot) (D.may_leave disk.old) c }
-    ensures any_moment { LeavesOnly D.moment D.left_since disk.old disk.new (IsBeside (other_slot slot) (D.may_leave disk.old)) }
+    ensures beside { (c : Slots) → D.may_leave disk.new c
+        → IsBeside (other_slot slot) (D.may_leave disk.old) c }
+    ensures any_moment { LeavesOnly D.moment D.left_since disk.old disk.new
+        (IsBeside (other_slot slot) (D.may_leave disk.old)) }
     ensures cause { HasCause (D.faults disk.old) (D.faults disk.new) result }
 {
     disk.write_slot(slot, bytes)?;

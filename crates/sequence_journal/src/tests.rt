@@ -1,4 +1,4 @@
-use crate::laws::numbers_rise;
+use crate::laws::{numbers_rise, uptime_ends_at_any_moment};
 use crate::{InitError, Journal, LIMIT, LoadError, full_number, number_in, slot_of};
 use std::test::Fail;
 use yasir_io::{MemSlots, Plan, Slot};
@@ -17,7 +17,8 @@ fn a_slot_holds_a_number(rt: HostRuntime) {
         assert_eq!(rt; slot_of(n), slot.to_be_bytes());
         assert_eq!(rt; number_in(&slot.to_be_bytes()), Some(n));
     }
-    // Nothing written, a complement that is wrong in its first or last bit, a number above the limit.
+    // Nothing written, a complement that is wrong in its first or last bit, a number above the
+    // limit.
     let none: [u128; 5] = [
         0,
         0x11111111111111111111111111111111,
@@ -81,6 +82,7 @@ fn the_greater_number_is_the_floor(rt: HostRuntime) -> Result<(), Fail> {
     let refused = Journal::load(&mut disk).err();
     assert_eq!(rt; refused, Some(LoadError::Bad { a: ONES, b: BLANK }));
     numbers_rise();
+    uptime_ends_at_any_moment::<MemSlots>();
     Ok(())
 }
 

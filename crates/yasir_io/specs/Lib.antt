@@ -6,7 +6,6 @@ pub mod MemSink
 pub mod MemSlots
 pub mod MemSlotsLaws
 pub mod MemSource
-pub mod Moments
 pub mod Output
 pub mod Pieces
 pub mod SlotFiles

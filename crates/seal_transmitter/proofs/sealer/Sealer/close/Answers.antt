@@ -26,7 +26,7 @@ returns-in-Ok-clause-step g c = λ setup line between.
     let J : ℕ → Type 0 = λ n. Judges g.R.LineRules g.M.Mac c.args.self.now (journal_floor c.args.journal.now) setup
     (line ++ Silent ∷ []) (sealed_with n) in
     let S : ℕ → Type 0 = λ n. HasTaken g.R.LineRules g.M.Mac c.seal.new.self n setup line Silent c.seal.result in
-    subst S (sym c.in-Ok.ensures.floor)
+    subst S (sym c.in-Ok.ensures.committed.floor)
     (c.seal.ensures.step (journal_floor c.args.journal.now) setup line between
     (subst J number (c.in-None.ensures.judged setup (line ++ Silent ∷ []) between.cuts)))
 

@@ -7,7 +7,8 @@ use Rattle.sequence_journal.proofs.journal.Journal.init.Goals as goal
 pub returns-clause-fits : goal.returns-clause-fits
 returns-clause-fits g c =
     let set = first_floor_is_set _ _ _ c.slot_of.ensures
-    (c.in-Ok-write_and_sync.ensures.set ∙ ap (λ told. told_with told A c.slot_of.result) c.read_slots.ensures.told)
+    (c.in-Ok-write_and_sync.ensures.set
+    ∙ ap (λ told. told_with told A c.slot_of.result) c.read_slots.ensures.told)
     (none_held _ _ _ c.in-Ok.ensures.slots c.in_default-floor_in.ensures) in
     record {
       whole = refl;
@@ -19,5 +20,6 @@ pub returns-clause-image : goal.returns-clause-image
 returns-clause-image g c image may =
     at_some _ _ image (c.in-Ok-write_and_sync.ensures.synced image may)
     (first_floor_is_set _ _ _ c.slot_of.ensures
-    (c.in-Ok-write_and_sync.ensures.set ∙ ap (λ told. told_with told A c.slot_of.result) c.read_slots.ensures.told)
+    (c.in-Ok-write_and_sync.ensures.set
+    ∙ ap (λ told. told_with told A c.slot_of.result) c.read_slots.ensures.told)
     (none_held _ _ _ c.in-Ok.ensures.slots c.in_default-floor_in.ensures)).0

@@ -1,0 +1,78 @@
+-- Uptimes over one disk, one after the other. An uptime goes from the loading of a journal to a
+-- stop or a crash. Each begins on an image that the one before it has left, at its end or at a
+-- moment inside it, with nothing written and not yet synced.
+use Rattle.std.specs.Prelude.{◌≡◌, ℕ, ◌<◌, List, [], ◌∷◌, ◌++◌, Some}
+use Rattle.yasir_io.specs.Disks.{Slots, LeavesOnly}
+use Rattle.yasir_io.specs.declared.disk.SlotDisk.{Ghosts as SlotDisk}
+use Rattle.sequence_journal.specs.Slots.{floor_of}
+use Rattle.sequence_journal.specs.Journal.{HasFloorAtLeast}
+
+-- Each number is greater than the one before it, and the first one than the floor.
+abbrev pub RiseFrom : ℕ → List ℕ → Type 0
+RiseFrom floor [] = Unit {0}
+RiseFrom floor (n ∷ numbers) = (floor < n) × RiseFrom n numbers
+
+-- the last of these numbers, or the floor where there is none
+abbrev pub last_from : ℕ → List ℕ → ℕ
+last_from floor [] = floor
+last_from floor (n ∷ numbers) = last_from n numbers
+
+-- An uptime loads the floor of the slots that it begins on, answers these numbers before it ends,
+-- and leaves an image whose floor isn't below them.
+pub record IsUptime (begins : Slots) (numbers : List ℕ) (image : Slots) : Type 0 where
+  pub floor : ℕ
+  pub loads : floor_of begins ≡ Some floor
+  pub rise : RiseFrom floor numbers
+  pub leaves : HasFloorAtLeast (last_from floor numbers) image
+
+-- the numbers that an uptime has answered, and the image that it left
+pub record Uptime : Type 0 where
+  pub numbers : List ℕ
+  pub image : Slots
+
+abbrev pub AreUptimes : Slots → List Uptime → Type 0
+AreUptimes begins [] = Unit {0}
+AreUptimes begins (uptime ∷ uptimes) =
+    IsUptime begins uptime.numbers uptime.image × AreUptimes uptime.image uptimes
+
+-- the numbers of all uptimes
+abbrev pub all_numbers : List Uptime → List ℕ
+all_numbers [] = []
+all_numbers (uptime ∷ uptimes) = uptime.numbers ++ all_numbers uptimes
+
+-- A commit, or a step of a box: the numbers that it answers, and the disk after it.
+pub record Step (D : Type 0) : Type 0 where
+  pub numbers : List ℕ
+  pub after : D
+
+-- the numbers that these steps answer
+abbrev pub answered : {D : Type 0} → List (Step D) → List ℕ
+answered [] = []
+answered (step ∷ steps) = step.numbers ++ answered steps
+
+-- the disk after these steps
+abbrev pub disk_after : {D : Type 0} → D → List (Step D) → D
+disk_after before [] = before
+disk_after before (step ∷ steps) = disk_after step.after steps
+
+module _ {D : Type 0} (disk : SlotDisk D) where
+  -- A step answers numbers above the floor before it, and a crash at any moment of it leaves an
+  -- image whose floor isn't below that floor.
+  pub record IsStep (floor : ℕ) (before : D) (step : Step D) : Type 0 where
+    pub rise : RiseFrom floor step.numbers
+    pub any_moment : LeavesOnly disk.moment disk.left_since before step.after
+        (HasFloorAtLeast floor)
+
+  -- steps, one after the other
+  abbrev pub AreSteps : ℕ → D → List (Step D) → Type 0
+  AreSteps floor before [] = Unit {0}
+  AreSteps floor before (step ∷ steps) =
+      IsStep floor before step × AreSteps (last_from floor step.numbers) step.after steps
+
+  -- After these steps the uptime ends at a moment inside one step more, its beginning and its end
+  -- counted, before that step answers; a crash at that moment leaves the image.
+  pub record EndsInside (floor : ℕ) (loaded : D) (done : List (Step D)) (image : Slots) :
+      Type 0 where
+    pub last : Step D
+    pub are_steps : AreSteps floor loaded (done ++ last ∷ [])
+    pub left : disk.left_since last.after (disk.moment (disk_after loaded done)) image
