@@ -1,27 +1,25 @@
-ghost use Rattle.std.specs.Prelude.{◌≡◌, ℕ, ◌+◌, ◌≤◌, ◌⊎◌, List, [], ◌∷◌, ◌++◌, length, Option, OnOk, OnErr};
-ghost use Rattle.yasir_io.specs.Causes.{HasCause, Rose};
+ghost use Rattle.std.specs.Prelude.{◌≡◌, ℕ, ◌+◌, ◌≤◌, List, false, [], ◌∷◌, ◌++◌, OnOk, OnErr};
+ghost use Rattle.yasir_io.specs.Causes.{HasCause};
 ghost use Rattle.yasir_io.specs.Output.{Buffered, GotPrefix};
 ghost use Rattle.yasir_io.specs.TextBuffer.{waiting_bytes};
-ghost use Rattle.yasir_ticks.specs.Ticks.{IsTick};
-ghost use Rattle.yasir_ticks.specs.CanonicalText.{canonical_text};
-ghost use Rattle.yasir_ticks.specs.Writer.{HasWritten};
+ghost use Rattle.yasir_ticks.specs.Writer.{has_room_for};
 ghost use Rattle.yasir_ticks.specs.declared.tick.Tick.{Tick};
-ghost use Rattle.hmac_tag.specs.Tag.{direction_number};
+ghost use Rattle.link_format.specs.Setup.{setup_of};
 ghost use Rattle.sequence_journal.specs.declared.journal.Journal.{Journal};
-ghost use Rattle.sequence_journal.specs.Journal.{journal_floor, Fits, IsCrashSafe, HasFloorAtLeast};
-ghost use Rattle.box_replay.specs.Boxes.{Boxed};
-ghost use Rattle.box_replay.specs.BoxLines.{WritesTicks, DrivesBox, StopsBox, SendsBoxed, HasSent, HasSentFronts};
-ghost use Rattle.box_replay.specs.NoteLines.{note_line, line_of_note};
+ghost use Rattle.sequence_journal.specs.Journal.{journal_floor};
+ghost use Rattle.box_replay.specs.Boxes.{Boxed, line_of_note};
+ghost use Rattle.box_replay.specs.Sending.{SinkTexts, sink_texts, waiting, SendsBoxed, HasSent, HasSentFronts, HaveCause, PushesTexts, PushesStep};
+ghost use Rattle.box_replay.specs.BoxLines.{driving, waiting_in, DrivesBox};
 
-use crate::line_box::{LineBox, Note};
-use crate::note_lines::note_line;
+use crate::line_box::LineBox;
 use hmac_tag::Dir;
 use sequence_journal::{Journal, JournalFault};
 use tick_drive::{Consumer, Stop};
 use yasir_io::{Failed, Sink, SlotDisk, TextBuffer};
 use yasir_ticks::{Tick, TickWriter};
 
-/// Drives a box over its journal: writes the other line as canonical tick text, and a line for each note to the log.
+/// Drives a box over its journal: writes the other line as canonical tick text, and a line for each note to the log. Before a
+/// byte of the ticks goes out, all notes so far go to the log.
 #[derive(Drop)]
 pub struct BoxLines<B> {
     line_box: B,
@@ -33,102 +31,118 @@ pub struct BoxLines<B> {
 
 // Adds the line of a note to the log's text. It stands apart from a step, since few steps have a note.
 #[inline(never)]
-fn push_note<L: Sink>(notes: &mut TextBuffer, log: &mut L, note: &Note) -> Result<(), Failed>
-    ensures ok { OnOk result ((start : Option (List ℕ)) (before : List ℕ)
-        → Buffered start (L.held log.old) (waiting_bytes notes.old) before
-        → Buffered start (L.held log.new) (waiting_bytes notes.new) (before ++ note_line note.now)) }
-    ensures err { OnErr result ((start : Option (List ℕ)) (before : List ℕ)
-        → Buffered start (L.held log.old) (waiting_bytes notes.old) before
-        → GotPrefix start (L.held log.new) (before ++ note_line note.now)) }
+fn push_note<B: LineBox, L: Sink>(
+    notes: &mut TextBuffer,
+    log: &mut L,
+    note: &B::Note,
+) -> Result<(), Failed>
+    ensures ok { OnOk result (Buffered (L.held log.old) (L.held log.new)
+        (waiting_bytes notes.new) (waiting_bytes notes.old ++ B.line_of note.now)) }
+    ensures err { OnErr result (GotPrefix (L.held log.old) (L.held log.new)
+        (waiting_bytes notes.old ++ B.line_of note.now)) }
     ensures cause { HasCause (L.faults log.old) (L.faults log.new) result }
 {
-    notes.push(log, note_line(note).as_slice())
+    notes.push(log, B::note_line(note).as_slice())
 }
 
 // Adds the line of a step's note to the log's text, or nothing.
 #[inline]
-fn push_note_of_step<L: Sink>(
+fn push_note_of_step<B: LineBox, L: Sink>(
     notes: &mut TextBuffer,
     log: &mut L,
-    note: Option<Note>,
+    note: Option<B::Note>,
 ) -> Result<(), Failed>
-    ensures ok { OnOk result ((start : Option (List ℕ)) (before : List ℕ)
-        → Buffered start (L.held log.old) (waiting_bytes notes.old) before
-        → Buffered start (L.held log.new) (waiting_bytes notes.new) (before ++ line_of_note note)) }
-    ensures err { OnErr result ((start : Option (List ℕ)) (before : List ℕ)
-        → Buffered start (L.held log.old) (waiting_bytes notes.old) before
-        → GotPrefix start (L.held log.new) (before ++ line_of_note note)) }
+    ensures ok { OnOk result (Buffered (L.held log.old) (L.held log.new)
+        (waiting_bytes notes.new) (waiting_bytes notes.old ++ line_of_note B.line_of note)) }
+    ensures err { OnErr result (GotPrefix (L.held log.old) (L.held log.new)
+        (waiting_bytes notes.old ++ line_of_note B.line_of note)) }
     ensures cause { HasCause (L.faults log.old) (L.faults log.new) result }
 {
     match note {
         None => Ok(()),
-        Some(note) => push_note(notes, log, &note),
+        Some(note) => push_note::<B, L>(notes, log, &note),
     }
 }
 
-// Adds a tick that may complete a line. It stands apart from a step, since few ticks do.
-#[inline(never)]
-fn push_completing<O: Sink>(
-    writer: &mut TickWriter,
+// Adds a line to the ticks' text. Where it has no room there, the notes go to the log, and then the ticks go out.
+fn push_line<O: Sink, L: Sink>(
     ticks: &mut TextBuffer,
+    notes: &mut TextBuffer,
     out: &mut O,
-    tick: Tick,
+    log: &mut L,
+    line: &[u8],
 ) -> Result<(), Failed>
-    ensures ok { OnOk result ((start : Option (List ℕ)) (before : List Tick)
-        → WritesTicks writer.old start (O.held out.old) (waiting_bytes ticks.old) before
-        → WritesTicks writer.new start (O.held out.new) (waiting_bytes ticks.new) (before ++ tick ∷ [])) }
-    ensures err { OnErr result ((start : Option (List ℕ)) (before : List Tick)
-        → WritesTicks writer.old start (O.held out.old) (waiting_bytes ticks.old) before
-        → GotPrefix start (O.held out.new) (canonical_text (before ++ tick ∷ []))) }
-    ensures cause { HasCause (O.faults out.old) (O.faults out.new) result }
+    ensures pushes { PushesTexts (sink_texts (O.held out.old) (L.held log.old)) (sink_texts (O.held out.new) (L.held log.new))
+        (waiting_bytes ticks.new) (waiting_bytes notes.new) (waiting_bytes ticks.old ++ line.now) (waiting_bytes notes.old) result }
+    ensures cause { HaveCause (O.faults out.old) (O.faults out.new) (L.faults log.old) (L.faults log.new) result }
 {
-    let line = writer.push(tick);
-    ticks.push(out, line.as_slice())
-}
-
-// Adds a tick to the text of the other line.
-#[inline]
-fn push_tick<O: Sink>(
-    writer: &mut TickWriter,
-    ticks: &mut TextBuffer,
-    out: &mut O,
-    tick: Tick,
-) -> Result<(), Failed>
-    ensures ok { OnOk result ((start : Option (List ℕ)) (before : List Tick)
-        → WritesTicks writer.old start (O.held out.old) (waiting_bytes ticks.old) before
-        → WritesTicks writer.new start (O.held out.new) (waiting_bytes ticks.new) (before ++ tick ∷ [])) }
-    ensures err { OnErr result ((start : Option (List ℕ)) (before : List Tick)
-        → WritesTicks writer.old start (O.held out.old) (waiting_bytes ticks.old) before
-        → GotPrefix start (O.held out.new) (canonical_text (before ++ tick ∷ []))) }
-    ensures cause { HasCause (O.faults out.old) (O.faults out.new) result }
-{
-    if writer.extend(tick) {
+    if ticks.extend(line) {
         return Ok(());
     }
-    push_completing(writer, ticks, out, tick)
+    notes.drain(log)?;
+    ticks.drain(out)?;
+    ticks.push(out, line)
 }
 
-// The same tick. Its byte is below 256.
-#[inline]
-fn sound(tick: Tick) -> Tick
-    ensures same { result ≡ tick }
-    ensures sound { IsTick result }
+// Adds a tick that completes a line, and the note before it. It stands apart from a step, since few ticks do.
+#[inline(never)]
+fn push_completing<B: LineBox, O: Sink, L: Sink>(
+    writer: &mut TickWriter,
+    ticks: &mut TextBuffer,
+    notes: &mut TextBuffer,
+    out: &mut O,
+    log: &mut L,
+    tick: Tick,
+    note: Option<B::Note>,
+) -> Result<(), Failed>
+    requires { has_room_for writer.old tick ≡ false }
+    ensures pushes { PushesStep (waiting writer.old (waiting_bytes ticks.old) (waiting_bytes notes.old))
+        (waiting writer.new (waiting_bytes ticks.new) (waiting_bytes notes.new))
+        (sink_texts (O.held out.old) (L.held log.old)) (sink_texts (O.held out.new) (L.held log.new))
+        tick (line_of_note B.line_of note) result }
+    ensures cause { HaveCause (O.faults out.old) (O.faults out.new) (L.faults log.old) (L.faults log.new) result }
 {
-    match tick {
-        Tick::Silent => Tick::Silent,
-        Tick::Byte(byte) => Tick::Byte(byte),
+    let line = writer.complete(tick);
+    push_note_of_step::<B, L>(notes, log, note)?;
+    push_line(ticks, notes, out, log, line.as_slice())
+}
+
+// Adds the tick of a step to the text of the other line, and its note to that of the log.
+#[inline]
+fn push_step<B: LineBox, O: Sink, L: Sink>(
+    writer: &mut TickWriter,
+    ticks: &mut TextBuffer,
+    notes: &mut TextBuffer,
+    out: &mut O,
+    log: &mut L,
+    tick: Tick,
+    note: Option<B::Note>,
+) -> Result<(), Failed>
+    ensures pushes { PushesStep (waiting writer.old (waiting_bytes ticks.old) (waiting_bytes notes.old))
+        (waiting writer.new (waiting_bytes ticks.new) (waiting_bytes notes.new))
+        (sink_texts (O.held out.old) (L.held log.old)) (sink_texts (O.held out.new) (L.held log.new))
+        tick (line_of_note B.line_of note) result }
+    ensures cause { HaveCause (O.faults out.old) (O.faults out.new) (L.faults log.old) (L.faults log.new) result }
+{
+    if writer.extend(tick) {
+        return push_note_of_step::<B, L>(notes, log, note);
     }
+    push_completing::<B, O, L>(writer, ticks, notes, out, log, tick, note)
 }
 
 impl<B: LineBox> BoxLines<B> {
+    ghost use Rattle.std.specs.Prelude.{Option};
+    ghost use Rattle.yasir_io.specs.Disks.{Slots};
+    ghost use Rattle.sequence_journal.specs.Journal.{Fits};
+
     /// A box that has taken no tick, over this journal, and no text yet.
     pub fn new(key: &[u8], dir: Dir, journal: Journal) -> BoxLines<B>
         ensures taken { B.taken result.line_box ≡ 0 }
-        ensures stands { B.stands result.line_box result.journal key.now (direction_number dir) (journal_floor journal) [] }
         ensures journal { result.journal ≡ journal }
-        ensures written { HasWritten result.writer [] [] }
-        ensures waits { waiting_bytes result.ticks ≡ [] }
-        ensures note_waits { waiting_bytes result.notes ≡ [] }
+        ensures drives { (texts : SinkTexts) (told : Option Slots) → Fits journal told
+            → DrivesBox B.LineBox result
+            (record { setup = setup_of key.now dir (journal_floor journal); texts = texts })
+            (record { out = texts.out; log = texts.log; slots = told }) [] }
     {
         BoxLines {
             line_box: B::new(key, dir),
@@ -139,16 +153,15 @@ impl<B: LineBox> BoxLines<B> {
         }
     }
 
-    /// Writes the last line of the ticks and all that waits. The notes go first, as in each step.
+    /// Writes the last line of the ticks and all that waits, the notes first.
     pub fn finish<O: Sink, L: Sink>(self, out: &mut O, log: &mut L) -> Result<(), Failed>
-        ensures ok { OnOk result ((box : Boxed) (out_before log_before : Option (List ℕ)) (line : List Tick)
-            → SendsBoxed box self.writer (waiting_bytes self.ticks) (waiting_bytes self.notes) out_before (O.held out.old) log_before (L.held log.old) line
-            → HasSent box out_before (O.held out.new) log_before (L.held log.new) line) }
-        ensures err { OnErr result ((box : Boxed) (out_before log_before : Option (List ℕ)) (line : List Tick)
-            → SendsBoxed box self.writer (waiting_bytes self.ticks) (waiting_bytes self.notes) out_before (O.held out.old) log_before (L.held log.old) line
-            → HasSentFronts box out_before (O.held out.new) log_before (L.held log.new) line) }
-        ensures failed { OnErr result (Rose (O.faults out.old) (O.faults out.new) ⊎ Rose (L.faults log.old) (L.faults log.new)) }
-        ensures same { OnOk result ((O.faults out.new ≡ O.faults out.old) × (L.faults log.new ≡ L.faults log.old)) }
+        ensures ok { OnOk result ((box : Boxed) (before : SinkTexts) (line : List Tick)
+            → SendsBoxed box (waiting_in self) before (sink_texts (O.held out.old) (L.held log.old)) line
+            → HasSent box before (sink_texts (O.held out.new) (L.held log.new)) line) }
+        ensures err { OnErr result ((box : Boxed) (before : SinkTexts) (line : List Tick)
+            → SendsBoxed box (waiting_in self) before (sink_texts (O.held out.old) (L.held log.old)) line
+            → HasSentFronts box before (sink_texts (O.held out.new) (L.held log.new)) line) }
+        ensures cause { HaveCause (O.faults out.old) (O.faults out.new) (L.faults log.old) (L.faults log.new) result }
     {
         let BoxLines {
             writer,
@@ -164,21 +177,8 @@ impl<B: LineBox> BoxLines<B> {
 }
 
 impl<B: LineBox, O: Sink, L: Sink, D: SlotDisk> Consumer<O, L, D> for BoxLines<B> {
-    ghost stands = { λ self start held items. DrivesBox B.stands B.boxed self.line_box self.journal self.writer
-        (waiting_bytes self.ticks) (waiting_bytes self.notes) start held items };
+    ghost meaning = { driving B.LineBox D.SlotDisk };
 
-    ghost stopped = { λ self stop start held items. StopsBox (B.boxed start.key start.direction start.floor) self.journal self.writer
-        (waiting_bytes self.ticks) (waiting_bytes self.notes) stop start held items };
-
-    ghost taken = { λ self. B.taken self.line_box };
-
-    ghost able = { λ self disk. Fits self.journal (D.told disk) };
-
-    ghost kept = { λ self disk. IsCrashSafe self.journal (D.told disk) (D.may_leave disk) };
-
-    ghost safe = { λ self image. HasFloorAtLeast (journal_floor self.journal) image };
-
-    // A note goes before the tick of its step.
     #[inline(always)]
     fn take_tick(
         &mut self,
@@ -191,11 +191,15 @@ impl<B: LineBox, O: Sink, L: Sink, D: SlotDisk> Consumer<O, L, D> for BoxLines<B
             Ok(step) => step,
             Err(JournalFault) => return Err(Stop::JournalFault),
         };
-        let answer = sound(step.tick);
-        if let Err(Failed) = push_note_of_step(&mut self.notes, log, step.note) {
-            return Err(Stop::WriteFault);
-        }
-        match push_tick(&mut self.writer, &mut self.ticks, out, answer) {
+        match push_step::<B, O, L>(
+            &mut self.writer,
+            &mut self.ticks,
+            &mut self.notes,
+            out,
+            log,
+            step.tick,
+            step.note,
+        ) {
             Ok(()) => Ok(()),
             Err(Failed) => Err(Stop::WriteFault),
         }

@@ -2,7 +2,8 @@
 use Rattle.std.proofs.Common.{◌≡◌, ℕ, ◌+◌, ◌≤◌, inl, inr, List, [], ◌∷◌, ◌++◌, length, length-append, Option, Some, None, subst, sym, ap, ◌∙◌, append-nil, arith}
 use Rattle.std.specs.Io.KnownBytes.{prepend_known, IsAtEnd}
 use Rattle.yasir_ticks.specs.Ticks.{Item, ticks_in}
-use Rattle.yasir_ticks.specs.TickText.{IsTickText, line_feed}
+use Rattle.yasir_ticks.specs.TickText.{IsTickText}
+use Rattle.yasir_ticks.specs.Characters.{line_feed}
 use Rattle.yasir_ticks.specs.declared.fault.BadTicks.{BadTicks}
 use Rattle.yasir_ticks.proofs.TextLaws.{ended_items-begin, IsTickText-one}
 use Rattle.tick_drive.specs.Input.{Takes, AreFew, IsRefusedByte, IsRefusedEnd, IsRefused, HasTooManyTicks, HasTooManyBytes, max_bytes}

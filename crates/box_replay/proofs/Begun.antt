@@ -1,0 +1,50 @@
+-- A box at its first tick, and what each tick more changes.
+use Rattle.std.proofs.Common.{◌≡◌, ◌∙◌, ℕ, ◌≤◌, List, [], ◌∷◌, ◌++◌, Option, Some, None, refl, sym, ap, subst, arith}
+use Rattle.std.specs.Prelude.{IsSomeAnd}
+use Rattle.yasir_io.specs.Disks.{Slots}
+use Rattle.yasir_ticks.specs.Ticks.{Item, ticks_in, AreTicks}
+use Rattle.yasir_ticks.specs.Ticks.Item.{tick}
+use Rattle.yasir_ticks.specs.CanonicalText.{canonical_text}
+use Rattle.yasir_ticks.specs.Writer.{HasWritten}
+use Rattle.yasir_ticks.specs.declared.tick.Tick.{Tick}
+use Rattle.yasir_ticks.specs.declared.writer.TickWriter.{TickWriter}
+use Rattle.sequence_journal.specs.Journal.{HasFloorAtLeast}
+use Rattle.sequence_journal.specs.Slots.{floor_of}
+use Rattle.tick_drive.proofs.ItemLaws.{ticks_in-append}
+use Rattle.replay_status.proofs.Printing.{append_known-nil}
+use Rattle.box_replay.specs.Boxes.{Boxed, IsBoxed}
+use Rattle.box_replay.specs.Sending.{SinkTexts, Waiting, waiting, SendsBoxed}
+
+from_less : (m n : ℕ) (floor : Option ℕ) → m ≤ n → IsSomeAnd floor (λ f. n ≤ f) → IsSomeAnd floor (λ f. m ≤ f)
+from_less m n None le has = has
+from_less m n (Some f) le has = omega arith
+
+-- a floor that isn't below a number isn't below a smaller one
+pub floor_from_less : (m n : ℕ) → m ≤ n → (c : Slots) → HasFloorAtLeast n c → HasFloorAtLeast m c
+floor_from_less m n le c has = from_less m n (floor_of c) le has
+
+pub one_more : (items : List Item) (t : Tick) → ticks_in (items ++ tick t ∷ []) ≡ ticks_in items ++ t ∷ []
+one_more items t = ticks_in-append items (tick t ∷ [])
+
+-- nothing is on its way yet
+pub begins : (box : Boxed) (floor : ℕ) (writer : TickWriter) (ticks notes : List ℕ) (texts : SinkTexts) → IsBoxed box floor
+    → HasWritten writer [] [] → ticks ≡ [] → notes ≡ [] → SendsBoxed box (waiting writer ticks notes) texts texts []
+begins box floor writer ticks notes texts laws written no_ticks no_notes =
+    let has : HasWritten writer (box.other_line []) [] = subst (λ line. HasWritten writer line []) (sym laws.no_tick) written in record {
+      text = record {
+        answered = [];
+        written = has;
+        text = record { front = []; got = append_known-nil texts.out; all = sym no_ticks };
+      };
+      note_text = record { front = []; got = append_known-nil texts.log; all = laws.no_note ∙ sym no_notes };
+      notes_first = record {
+        early = [];
+        later = [];
+        is = refl;
+        are = has.are;
+        rest = canonical_text (box.other_line []);
+        text = refl;
+        more = [];
+        notes = sym (ap (λ l. l ++ []) laws.no_note);
+      };
+    }
