@@ -17,7 +17,7 @@ use Rattle.yasir_ticks.specs.declared.tick.Tick.{Tick}
 use Rattle.yasir_ticks.specs.declared.tick.Tick.TheVariants.{Silent, Byte}
 use Rattle.yasir_ticks.proofs.BurstsOfLaws.{bursts_from-are}
 use Rattle.frame_ending.specs.LiveBytes.{before_pause, has_pause, spelled, live_bytes}
-use Rattle.frame_ending.proofs.Pauses.{ended, knit-ends, before_pause-whole}
+use Rattle.frame_ending.proofs.Pauses.{ended, contiguous-ends, before_pause-whole}
 use Rattle.device_model.specs.RtuReads.{has_silence, is_frame_body, is_read, frame_in}
 use Rattle.device_model.specs.RtuReads.{frames_read, rtu_reads}
 use Rattle.device_model.specs.Frames.{FrameRead}
@@ -68,10 +68,10 @@ before-fewer (Silent ∷ Byte c ∷ w) a paused = let rest = before-fewer w a pa
 
 -- ---- a burst
 
-module _ (d : Burst) (knit : IsContiguous 4 d.body) where
+module _ (d : Burst) (contiguous : IsContiguous 4 d.body) where
   paused-fewer : has_pause d.body ≡ true → length (spelled d) < length (bytes_in d.body)
   paused-fewer paused =
-      let last = knit-ends 4 d.body knit in
+      let last = contiguous-ends 4 d.body contiguous in
       let P : List Tick → Type 0 = λ x. has_pause x ≡ true
       → length (bytes_in (before_pause x)) < length (bytes_in x) in
       let fewer : has_pause d.body ≡ true → length (spelled d) < length (bytes_in d.body) =
@@ -80,7 +80,7 @@ module _ (d : Burst) (knit : IsContiguous 4 d.body) where
 
   spelled-all : has_pause d.body ≡ false → spelled d ≡ bytes_in d.body
   spelled-all none =
-      let last = knit-ends 4 d.body knit in
+      let last = contiguous-ends 4 d.body contiguous in
       let P : List Tick → Type 0 = λ x. has_pause x ≡ false
       → bytes_in (before_pause x) ≡ bytes_in x in
       let whole : has_pause d.body ≡ false → spelled d ≡ bytes_in d.body =

@@ -248,8 +248,8 @@ module _ (old new : RtuDevice) (line : List Tick) (heard : RtuStandsFor old line
         subst P (sym last)
         (sym (closing-same d (not (has_extra rtu_rules d) && is_frame (live_bytes rtu_rules d))
         old.bytes.items
-        (forwarded-same d within.knit)
-        (λ framed. kept-of d closing.is ∙ forwarded-whole d within.knit framed)))
+        (forwarded-same d within.contiguous)
+        (λ framed. kept-of d closing.is ∙ forwarded-whole d within.contiguous framed)))
 
     closed-reads : (answer : List FrameRead)
         → answer ≡ closing_frame (line ++ t ∷ []) old.bytes.items

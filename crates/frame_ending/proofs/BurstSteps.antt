@@ -16,7 +16,8 @@ use Rattle.yasir_ticks.proofs.SilenceLaws.{bytes_in-append, bytes_in-silent}
 use Rattle.frame_ending.specs.LiveBytes.{before_pause, has_pause, up_to_byte, within_room, spelled}
 use Rattle.frame_ending.specs.LiveBytes.{live_bytes, live_end, has_extra}
 use Rattle.frame_ending.proofs.LastBurst.{IsWithin}
-use Rattle.frame_ending.proofs.Pauses.{ended, knit-ends, has_pause-append, before_pause-paused}
+use Rattle.frame_ending.proofs.Pauses.{ended, contiguous-ends, has_pause-append}
+use Rattle.frame_ending.proofs.Pauses.{before_pause-paused}
 use Rattle.frame_ending.proofs.Pauses.{before_pause-goes_on, before_pause-whole, has_pause-silent}
 use Rattle.frame_ending.proofs.Pauses.{before_pause-silent_few, before_pause-silent_more}
 use Rattle.frame_ending.proofs.Pauses.{bytes_before-le, up_to_byte-append, up_to_byte-all}
@@ -85,7 +86,7 @@ module _ (m b : ℕ) (d : Burst) (within : IsWithin m d) where
 
   pub longer-has_pause : has_pause longer.body ≡ paused
   longer-has_pause =
-      let last = knit-ends 4 d.body within.knit in
+      let last = contiguous-ends 4 d.body within.contiguous in
       let P : List Tick → Type 0 = λ x. has_pause (x ++ gap_byte gap b)
       ≡ (has_pause x || nat_le 2 gap) in
       subst P (sym last.2)
@@ -94,14 +95,14 @@ module _ (m b : ℕ) (d : Burst) (within : IsWithin m d) where
 
   longer-spelled_paused : paused ≡ true → spelled longer ≡ spelled d
   longer-spelled_paused is =
-      let last = knit-ends 4 d.body within.knit in
+      let last = contiguous-ends 4 d.body within.contiguous in
       let P : List Tick → Type 0 = λ x. (has_pause x || nat_le 2 gap) ≡ true
       → bytes_in (before_pause (x ++ gap_byte gap b)) ≡ bytes_in (before_pause x) in
       subst P (sym last.2) (λ yes. ap bytes_in (spelled-paused last.0 last.1 gap b yes)) is
 
   longer-spelled_open : paused ≡ false → spelled longer ≡ spelled d ++ b ∷ []
   longer-spelled_open is =
-      let last = knit-ends 4 d.body within.knit in
+      let last = contiguous-ends 4 d.body within.contiguous in
       let P : List Tick → Type 0 = λ x. (has_pause x || nat_le 2 gap) ≡ false
       → bytes_in (before_pause (x ++ gap_byte gap b)) ≡ bytes_in (before_pause x) ++ b ∷ [] in
       subst P (sym last.2)
@@ -115,7 +116,7 @@ module _ (m b : ℕ) (d : Burst) (within : IsWithin m d) where
 
   spelled-all : paused ≡ false → spelled d ≡ bytes_in d.body
   spelled-all is =
-      let last = knit-ends 4 d.body within.knit in
+      let last = contiguous-ends 4 d.body within.contiguous in
       let parts = or_parts (has_pause d.body) (nat_le 2 gap) is in
       let P : List Tick → Type 0 = λ x. has_pause x ≡ false
       → bytes_in (before_pause x) ≡ bytes_in x in
@@ -123,7 +124,7 @@ module _ (m b : ℕ) (d : Burst) (within : IsWithin m d) where
 
   pub later : d.start < m
   later =
-      let last = knit-ends 4 d.body within.knit in
+      let last = contiguous-ends 4 d.body within.contiguous in
       let long = ap length last.2 ∙ length-append last.0 (Byte last.1 ∷ []) in
       let end = within.within in
       omega arith

@@ -64,14 +64,14 @@ module _ (line : List Tick) (closed : List Burst) where
   byte-begun b None divided = omega arith
   byte-begun b (Some d) divided = let end = (divided-within d divided).within in omega arith
 
-  pub byte-knit : (b : ℕ) (running : Option Burst) → IsDivided line closed running
+  pub byte-contiguous : (b : ℕ) (running : Option Burst) → IsDivided line closed running
       → IsContiguous 4 (with_byte_at (length line) b running).body
-  byte-knit b None divided = one b
-  byte-knit b (Some d) divided =
+  byte-contiguous b None divided = one b
+  byte-contiguous b (Some d) divided =
       let within = divided-within d divided in
       let near : length line < end_of d + 4 = divided.is_running in
       let few : length line - end_of d < 4 = omega arith in
-      contiguous-more 4 d.body (length line - end_of d) b within.knit few
+      contiguous-more 4 d.body (length line - end_of d) b within.contiguous few
 
   -- its last tick is the byte
   pub byte-last : (b : ℕ) (running : Option Burst) → IsDivided line closed running

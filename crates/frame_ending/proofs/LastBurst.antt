@@ -59,7 +59,7 @@ last_burst-nil = refl
 
 -- A burst begins and ends with a byte, and ends within the line.
 pub record IsWithin (m : ℕ) (d : Burst) : Type 0 where
-  pub knit : IsContiguous 4 d.body
+  pub contiguous : IsContiguous 4 d.body
   pub within : end_of d ≤ m
 
 last_of-within : (n : ℕ) (line : List Tick) (ds : List Burst) (d : Burst) → AreBursts 4 n line ds
@@ -75,7 +75,7 @@ last_of-within n line (e ∷ []) d are last =
     ∙ (ap (λ k. k + length (e.body ++ are.1)) (length-replicate are.0 Silent)
     ∙ ap (λ k. are.0 + k) (length-append e.body are.1))) in
     let P : Burst → Type 0 = λ x. IsWithin (n + length line) x in
-    subst P same (record { knit = are.4; within = omega arith })
+    subst P same (record { contiguous = are.4; within = omega arith })
 last_of-within n line (e ∷ c ∷ ds) d are last =
     let begins : e.start ≡ n + are.0 = are.3 in
     let long : length line ≡ are.0 + (length e.body + length are.1) =
@@ -84,11 +84,11 @@ last_of-within n line (e ∷ c ∷ ds) d are last =
     ∙ ap (λ k. are.0 + k) (length-append e.body are.1))) in
     let rest = last_of-within (end_of e) are.1 (c ∷ ds) d are.6 last in
     let end = rest.within in
-    record { knit = rest.knit; within = omega arith }
+    record { contiguous = rest.contiguous; within = omega arith }
 
 pub last_burst-within : (line : List Tick) (d : Burst) → last_burst line ≡ Some d
     → IsWithin (length line) d
 last_burst-within line d last =
     let within = last_of-within 0 line (bursts line) d (bursts_from-are 4 0 line) last in
     let end = within.within in
-    record { knit = within.knit; within = omega arith }
+    record { contiguous = within.contiguous; within = omega arith }

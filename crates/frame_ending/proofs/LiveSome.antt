@@ -12,10 +12,10 @@ use Rattle.frame_ending.specs.LiveBytes.{before_pause, up_to_byte, within_room, 
 use Rattle.frame_ending.specs.LiveBytes.{live_end}
 use Rattle.frame_ending.proofs.Rooms.{FitFirst, within_room-fit}
 
-knit-begins : (cut : ℕ) (x : List Tick) → IsContiguous cut x
+contiguous-begins : (cut : ℕ) (x : List Tick) → IsContiguous cut x
     → (b : ℕ) × (l : List Tick) × (x ≡ Byte b ∷ l)
-knit-begins cut x (one b) = (b, [], refl)
-knit-begins cut x (more b gap rest few knit) = (b, silent gap ++ rest, refl)
+contiguous-begins cut x (one b) = (b, [], refl)
+contiguous-begins cut x (more b gap rest few contiguous) = (b, silent gap ++ rest, refl)
 
 module _ (rules : Rules) (lawful : IsLawful rules) where
   some-fit : (live x : List ℕ) (b : ℕ) → FitFirst rules live (b ∷ x) → 0 < length live
@@ -44,15 +44,15 @@ module _ (rules : Rules) (lawful : IsLawful rules) where
       omega arith
 
   pub live-some : (d : Burst) → IsContiguous 4 d.body → 0 < length (live_bytes rules d)
-  live-some d knit =
-      let first = knit-begins 4 d.body knit in
+  live-some d contiguous =
+      let first = contiguous-begins 4 d.body contiguous in
       some-live d.body first.0 first.1 first.2
 
   -- so its last live byte doesn't stand before its first byte
   pub live_end-later : (d : Burst) → IsContiguous 4 d.body → d.start < live_end rules d
-  live_end-later d knit =
-      let first = knit-begins 4 d.body knit in
-      let some = live-some d knit in
+  live_end-later d contiguous =
+      let first = contiguous-begins 4 d.body contiguous in
+      let some = live-some d contiguous in
       let k : ℕ = length (live_bytes rules d) in
       let long : length (up_to_byte k d.body) ≡ length (up_to_byte k (Byte first.0 ∷ first.1)) =
       ap (λ y. length (up_to_byte k y)) first.2 in

@@ -13,7 +13,7 @@ use Rattle.line_rules.specs.RulesLaws.{IsLawful}
 use Rattle.frame_ending.specs.LiveBytes.{before_pause, has_pause, up_to_byte, spelled, live_bytes}
 use Rattle.frame_ending.specs.LiveBytes.{live_ticks, live_end, has_extra}
 use Rattle.frame_ending.proofs.LastBurst.{IsWithin}
-use Rattle.frame_ending.proofs.Pauses.{ended, knit-ends, up_to_byte-append, up_to_byte-all}
+use Rattle.frame_ending.proofs.Pauses.{ended, contiguous-ends, up_to_byte-append, up_to_byte-all}
 use Rattle.frame_ending.proofs.Pauses.{up_to_byte-le}
 use Rattle.frame_ending.proofs.Rooms.{within_room-le}
 use Rattle.frame_ending.proofs.LiveSome.{live-some}
@@ -24,8 +24,8 @@ use Rattle.yasir_ticks.proofs.SilenceLaws.{bytes_in-append, get_or-silence}
 -- where all bytes are live, the live ticks are all ticks
 pub live_ticks-all : (rules : Rules) (d : Burst) → IsContiguous 4 d.body
     → length (live_bytes rules d) ≡ length (bytes_in d.body) → live_ticks rules d ≡ d.body
-live_ticks-all rules d knit all =
-    let last = knit-ends 4 d.body knit in
+live_ticks-all rules d contiguous all =
+    let last = contiguous-ends 4 d.body contiguous in
     let P : List Tick → Type 0 = λ x. up_to_byte (length (bytes_in x)) x ≡ x in
     ap (λ k. up_to_byte k d.body) all ∙ subst P (sym last.2) (whole last.0 last.1)
   where
@@ -41,11 +41,11 @@ module _ (rules : Rules) (lawful : IsLawful rules) where
   -- so it is where none is extra
   pub live_ticks-whole : (d : Burst) → IsContiguous 4 d.body → has_extra rules d ≡ false
       → live_ticks rules d ≡ d.body
-  live_ticks-whole d knit none =
+  live_ticks-whole d contiguous none =
       let few = live-le rules lawful d in
       let many : length (bytes_in d.body) ≤ length (live_bytes rules d) =
       ltb-false (length (live_bytes rules d)) (length (bytes_in d.body)) none in
-      live_ticks-all rules d knit (omega arith)
+      live_ticks-all rules d contiguous (omega arith)
 
   -- A burst that goes on at tick m has the live ticks before tick m that it had; silence follows
   -- them.
@@ -63,14 +63,14 @@ module _ (rules : Rules) (lawful : IsLawful rules) where
 
     open_now : paused ≡ false → fills_room rules (live_bytes rules d) ≡ false
         → live_ticks rules d ≡ d.body
-    open_now none room = live_ticks-all rules d within.knit
+    open_now none room = live_ticks-all rules d within.contiguous
         (ap length (live-all m b d within rules lawful none room))
 
     open_then : paused ≡ false → fills_room rules (live_bytes rules d) ≡ false
         → IsContiguous 4 (with_last d m b).body
         → live_ticks rules (with_last d m b) ≡ (with_last d m b).body
-    open_then none room knit =
-        live_ticks-all rules (with_last d m b) knit
+    open_then none room contiguous =
+        live_ticks-all rules (with_last d m b) contiguous
         (ap length (live-more m b d within rules lawful none room
         ∙ (ap (λ h. h ++ b ∷ []) (live-all m b d within rules lawful none room)
         ∙ sym (longer-bytes m b d within))))
@@ -78,14 +78,14 @@ module _ (rules : Rules) (lawful : IsLawful rules) where
     pub live_ticks-before : IsContiguous 4 (with_last d m b).body → (k : ℕ) → d.start + k < m
         → get_or (live_ticks rules (with_last d m b)) k Silent
         ≡ get_or (live_ticks rules d) k Silent
-    live_ticks-before knit k before =
+    live_ticks-before contiguous k before =
         let end = within.within in
         ⊎_elim
         (λ is. ap (λ x. get_or x k Silent) (over is))
         (λ no_more.
         let parts = or_parts paused (fills_room rules (live_bytes rules d)) no_more in
         let few : k < length d.body + (m - end_of d) = omega arith in
-        ap (λ x. get_or x k Silent) (open_then parts.0 parts.1 knit)
+        ap (λ x. get_or x k Silent) (open_then parts.0 parts.1 contiguous)
         ∙ (get_or-silence d.body (m - end_of d) k (Byte b ∷ []) few
         ∙ ap (λ x. get_or x k Silent) (sym (open_now parts.0 parts.1))))
         (cases_Bool (paused || fills_room rules (live_bytes rules d)))
@@ -165,10 +165,10 @@ before_pause-gap (suc (suc gap)) y many = refl
 before_pause-few : (gap : ℕ) (y : List Tick) → IsContiguous 4 y → gap < 2
     → bytes_in (before_pause (silent gap ++ y)) ≡ bytes_in (before_pause y)
 unfolding before_pause
-before_pause-few zero y knit few = refl
+before_pause-few zero y contiguous few = refl
 before_pause-few (suc zero) y (one b) few = refl
-before_pause-few (suc zero) y (more b gap rest near knit) few = refl
-before_pause-few (suc (suc gap)) y knit few = absurd (omega arith)
+before_pause-few (suc zero) y (more b gap rest near contiguous) few = refl
+before_pause-few (suc (suc gap)) y contiguous few = absurd (omega arith)
 
 up_to_byte-silent : (k gap : ℕ) (y : List Tick)
     → up_to_byte (suc k) (silent gap ++ y) ≡ silent gap ++ up_to_byte (suc k) y
@@ -193,8 +193,8 @@ no_pause-fewer : (k b gap : ℕ) (rest : List Tick) → IsContiguous 4 rest → 
     → suc (suc k) ≤ length (bytes_in (before_pause (Byte b ∷ (silent gap ++ rest))))
     → suc k ≤ length (bytes_in (before_pause rest))
 unfolding before_pause
-no_pause-fewer k b gap rest knit few within =
-    let same = ap length (before_pause-few gap rest knit few) in
+no_pause-fewer k b gap rest contiguous few within =
+    let same = ap length (before_pause-few gap rest contiguous few) in
     omega arith
 
 pause-none : (k b gap : ℕ) (rest : List Tick) → 2 ≤ gap
@@ -204,37 +204,37 @@ pause-none k b gap rest many within =
     let same = ap (λ y. length (bytes_in y)) (before_pause-gap gap rest many) in
     omega arith
 
-up_to_byte-knit : (k : ℕ) (x : List Tick) → IsContiguous 4 x
+up_to_byte-contiguous : (k : ℕ) (x : List Tick) → IsContiguous 4 x
     → suc k ≤ length (bytes_in (before_pause x))
     → IsContiguous 2 (up_to_byte (suc k) x)
-up_to_byte-knit zero x (one b) within =
+up_to_byte-contiguous zero x (one b) within =
     let P : List Tick → Type 0 = λ y. IsContiguous 2 y in
     subst P (sym (up_to_byte-first zero b [] ∙ ap (λ y. Byte b ∷ y) (up_to_byte-none []))) (one b)
-up_to_byte-knit (suc k) x (one b) within = absurd (one-byte k b within)
-up_to_byte-knit zero x (more b gap rest near knit) within =
+up_to_byte-contiguous (suc k) x (one b) within = absurd (one-byte k b within)
+up_to_byte-contiguous zero x (more b gap rest near contiguous) within =
     let P : List Tick → Type 0 = λ y. IsContiguous 2 y in
     subst P
     (sym (up_to_byte-first zero b (silent gap ++ rest)
     ∙ ap (λ y. Byte b ∷ y) (up_to_byte-none (silent gap ++ rest))))
     (one b)
-up_to_byte-knit (suc k) x (more b gap rest near knit) within =
+up_to_byte-contiguous (suc k) x (more b gap rest near contiguous) within =
     let P : List Tick → Type 0 = λ y. IsContiguous 2 y in
     subst P
     (sym (up_to_byte-first (suc k) b (silent gap ++ rest)
     ∙ ap (λ y. Byte b ∷ y) (up_to_byte-silent k gap rest)))
     (⊎_elim
     (λ few. more b gap (up_to_byte (suc k) rest) few
-    (up_to_byte-knit k rest knit (no_pause-fewer k b gap rest knit few within)))
+    (up_to_byte-contiguous k rest contiguous (no_pause-fewer k b gap rest contiguous few within)))
     (λ many. absurd (pause-none k b gap rest many within))
     (cases_lt gap 2))
 
 -- so it is with the live ticks
-pub live_ticks-knit : (rules : Rules) → IsLawful rules → (d : Burst) → IsContiguous 4 d.body
+pub live_ticks-contiguous : (rules : Rules) → IsLawful rules → (d : Burst) → IsContiguous 4 d.body
     → IsContiguous 2 (live_ticks rules d)
-live_ticks-knit rules lawful d knit =
-    up_to (length (live_bytes rules d)) (live-some rules lawful d knit)
+live_ticks-contiguous rules lawful d contiguous =
+    up_to (length (live_bytes rules d)) (live-some rules lawful d contiguous)
     (within_room-le rules lawful (spelled d))
   where
     up_to : (k : ℕ) → 0 < k → k ≤ length (spelled d) → IsContiguous 2 (up_to_byte k d.body)
     up_to zero some within = absurd (omega arith)
-    up_to (suc k) some within = up_to_byte-knit k d.body knit within
+    up_to (suc k) some within = up_to_byte-contiguous k d.body contiguous within

@@ -4,7 +4,6 @@ use Rattle.std.proofs.Common.{◌++◌, length, refl, arith, sym, ◌∙◌, ap,
 use Rattle.std.proofs.lemmas.Bool.{le-leb}
 use Rattle.std.proofs.lemmas.List.{append-nil}
 use Rattle.yasir_ticks.specs.Ticks.{bytes_in, silent}
-pub use Rattle.yasir_ticks.proofs.SilenceLaws.{bytes_in-append, bytes_in-silent}
 use Rattle.yasir_ticks.specs.BurstsOf.{IsContiguous, one, more}
 use Rattle.yasir_ticks.specs.declared.tick.Tick.{Tick}
 use Rattle.yasir_ticks.specs.declared.tick.Tick.TheVariants.{Silent, Byte}
@@ -14,12 +13,12 @@ use Rattle.frame_ending.specs.LiveBytes.{before_pause, has_pause, up_to_byte}
 abbrev pub ended : List Tick → ℕ → List Tick
 ended w a = w ++ Byte a ∷ []
 
--- knit ticks end with a byte
-pub knit-ends : (cut : ℕ) (x : List Tick) → IsContiguous cut x
+-- contiguous ticks end with a byte
+pub contiguous-ends : (cut : ℕ) (x : List Tick) → IsContiguous cut x
     → (w : List Tick) × (a : ℕ) × (x ≡ ended w a)
-knit-ends cut x (one b) = ([], b, refl)
-knit-ends cut x (more b gap rest few knit) =
-    let last = knit-ends cut rest knit in (
+contiguous-ends cut x (one b) = ([], b, refl)
+contiguous-ends cut x (more b gap rest few contiguous) =
+    let last = contiguous-ends cut rest contiguous in (
       Byte b ∷ (silent gap ++ last.0),
       last.1,
       ap (λ y. Byte b ∷ y) (ap (λ y. silent gap ++ y) last.2

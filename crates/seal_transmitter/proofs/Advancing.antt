@@ -15,10 +15,14 @@ use Rattle.frame_ending.specs.declared.cut.Cut.{Cut}
 use Rattle.frame_ending.specs.declared.cut.Cut.TheVariants.{Start, Live, Extra, Closed}
 use Rattle.frame_ending.specs.LiveBytes.{live_bytes, live_end, has_extra}
 use Rattle.frame_ending.specs.Cuts.{cut_of, IsPassing}
-use Rattle.frame_ending.specs.SoFar.{last_burst, start_so_far, start_in, live_bytes_so_far, live_bytes_in}
+use Rattle.frame_ending.specs.SoFar.{last_burst, start_so_far, start_in, live_bytes_so_far}
+use Rattle.frame_ending.specs.SoFar.{live_bytes_in}
 use Rattle.frame_ending.proofs.LastBurst.{last_burst-silent, last_burst-within}
-use Rattle.frame_ending.proofs.LiveTicks.{live_ticks-whole}
-use Rattle.frame_ending.proofs.Running.{with_byte_at, IsRunning, divided-running, silent-open, Closes, silent-closes, last-next, byte-starts, start-bytes, start-end, byte-lives, byte-over, passing-open, passing-byte}
+use Rattle.frame_ending.proofs.LiveTicks.{live_end-whole}
+use Rattle.frame_ending.proofs.Running.{with_byte_at, IsRunning, divided-running, silent-open}
+use Rattle.frame_ending.proofs.Running.{Closes, silent-closes, last-next, byte-starts, start-bytes}
+use Rattle.frame_ending.proofs.Running.{start-end, byte-lives, byte-over, passing-open}
+use Rattle.frame_ending.proofs.Running.{passing-byte}
 use Rattle.hmac_tag.specs.declared.tag.Mac.{Ghosts as Mac}
 use Rattle.hmac_tag.specs.Tag.{tag_text}
 use Rattle.link_format.specs.NumberedFrame.{last_number}
@@ -34,18 +38,17 @@ use Rattle.seal_transmitter.specs.Between.{IsJudged, noteless}
 use Rattle.seal_transmitter.specs.declared.note.SealNote.TheVariants.{Sealed, Unsealed}
 use Rattle.seal_transmitter.specs.declared.note.SealStep.{SealStep}
 use Rattle.seal_transmitter.specs.declared.note.UnsealedWhy.{UnsealedWhy}
-use Rattle.seal_transmitter.proofs.Steps.{walked-begun, walked-divided, walks-silent, walks-unsealed, walks-sealed, walks-early, walks-live, walks-extra, seals-late, seals-whole, walked-number}
-
--- where all bytes are live, the last one ends the burst
-whole-end : (rules : Rules) (lawful : IsLawful rules) (d : Burst) → IsContiguous 4 d.body → has_extra rules d ≡ false
-    → live_end rules d ≡ end_of d
-whole-end rules lawful d contiguous none = ap (λ x. d.start + length x) (live_ticks-whole rules lawful d contiguous none)
+use Rattle.seal_transmitter.proofs.Steps.{walked-begun, walked-divided, walks-silent}
+use Rattle.seal_transmitter.proofs.Steps.{walks-unsealed, walks-sealed, walks-early, walks-live}
+use Rattle.seal_transmitter.proofs.Steps.{walks-extra, seals-late, seals-whole, walked-number}
 
 -- The walk over a line goes on by a tick, with this answer.
-pub record WalksOn {R M : Type 0} (proto : LineRules R) (code : Mac M) (word_len : ℕ) (setup : Setup) (last earliest : ℕ)
+pub record WalksOn {R M : Type 0} (proto : LineRules R) (code : Mac M) (word_len : ℕ)
+    (setup : Setup) (last earliest : ℕ)
     (left : List ℕ) (mac : M) (line : List Tick) (t : Tick) (step : SealStep) : Type 0 where
   pub walks : Walks proto code word_len last earliest left mac setup (line ++ t ∷ [])
-  pub answers : AnswersTick (profile_of proto code word_len LIMIT setup) proto.rules setup.floor line t step
+  pub answers : AnswersTick (profile_of proto code word_len LIMIT setup) proto.rules setup.floor
+      line t step
 
 module _ {R M : Type 0} (proto : LineRules R) (code : Mac M) (word_len : ℕ) (setup : Setup) where
   abbrev profile : Profile
@@ -55,7 +58,10 @@ module _ {R M : Type 0} (proto : LineRules R) (code : Mac M) (word_len : ℕ) (s
   rules = proto.rules
 
   tags : HasTags profile
-  tags = record { sized = λ number frame. code.tag_len setup.key (tag_text rules.label setup.direction frame number) }
+  tags = record {
+    sized = λ number frame.
+        code.tag_len setup.key (tag_text rules.label setup.direction frame number);
+  }
 
   pub walks-begun : (mac : M) (none : code.stands mac setup.key [])
       → Walks proto code word_len setup.floor 0 [] mac setup []
@@ -76,22 +82,26 @@ module _ {R M : Type 0} (proto : LineRules R) (code : Mac M) (word_len : ℕ) (s
     m = length line
 
     abbrev On : ℕ → ℕ → List ℕ → M → Tick → SealStep → Type 0
-    On number next to_send new t step = WalksOn proto code word_len setup number next to_send new line t step
+    On number next to_send new t step =
+        WalksOn proto code word_len setup number next to_send new line t step
 
     abbrev WalkedBy : Option Burst → Type 0
     WalkedBy running = HasWalked profile rules setup.floor m (bursts line) state left running
 
     abbrev WalkedThen : Tick → SealState → List ℕ → Option Burst → Type 0
     WalkedThen t next to_send running =
-        HasWalked profile rules setup.floor (length (line ++ t ∷ [])) (bursts (line ++ t ∷ [])) next to_send running
+        HasWalked profile rules setup.floor (length (line ++ t ∷ [])) (bursts (line ++ t ∷ [])) next
+        to_send running
 
     runs : IsRunning line old.running
     runs = divided-running line old.walked.come.settled old.running
-        (walked-divided profile rules proto.lawful tags setup.floor line state left old.running old.walked)
+        (walked-divided profile rules proto.lawful tags setup.floor line state left old.running
+        old.walked)
 
     -- the last number used is that of the last sealed frame
     pub number-is : last ≡ last_number setup.floor (sealed profile rules setup.floor line)
-    number-is = walked-number profile rules proto.lawful tags setup.floor line state left old.running old.walked
+    number-is = walked-number profile rules proto.lawful tags setup.floor line state left
+        old.running old.walked
 
     -- ---- silence
 
@@ -99,10 +109,17 @@ module _ {R M : Type 0} (proto : LineRules R) (code : Mac M) (word_len : ℕ) (s
     pub advance-open : (cut_of rules line Silent ≡ Closed → ⊥)
         → On last earliest (drop 1 left) mac Silent (noteless (first_of left))
     advance-open unclosed =
-        let step = walks-silent profile rules proto.lawful tags setup.floor line state left old.running old.walked
+        let step = walks-silent profile rules proto.lawful tags setup.floor line state left
+        old.running old.walked
         (silent-open rules line old.running runs unclosed) in
         record {
-          walks = record { running = old.running; walked = step.0; text = old.text; codes = old.codes; text_is = old.text_is };
+          walks = record {
+            running = old.running;
+            walked = step.0;
+            text = old.text;
+            codes = old.codes;
+            text_is = old.text_is;
+          };
           answers = step.1;
         }
 
@@ -110,20 +127,27 @@ module _ {R M : Type 0} (proto : LineRules R) (code : Mac M) (word_len : ℕ) (s
     closes : cut_of rules line Silent ≡ Closed → Closes rules line old.running
     closes closed = silent-closes rules line old.running runs closed
 
-    closed-walked : (closed : cut_of rules line Silent ≡ Closed) → WalkedBy (Some (closes closed).burst)
-    closed-walked closed = let P : Option Burst → Type 0 = λ o. WalkedBy o in subst P (closes closed).is old.walked
+    closed-walked : (closed : cut_of rules line Silent ≡ Closed)
+        → WalkedBy (Some (closes closed).burst)
+    closed-walked closed = let P : Option Burst → Type 0 = λ o. WalkedBy o in
+        subst P (closes closed).is old.walked
 
-    closed-last : (closed : cut_of rules line Silent ≡ Closed) → last_burst (line ++ Silent ∷ []) ≡ Some (closes closed).burst
+    closed-last : (closed : cut_of rules line Silent ≡ Closed)
+        → last_burst (line ++ Silent ∷ []) ≡ Some (closes closed).burst
     closed-last closed =
         let P : Option Burst → Type 0 = λ o. IsRunning line o in
         let run : IsRunning line (Some (closes closed).burst) = subst P (closes closed).is runs in
         last_burst-silent line ∙ run.0
 
-    closed-contiguous : (closed : cut_of rules line Silent ≡ Closed) → IsContiguous 4 (closes closed).burst.body
-    closed-contiguous closed = (last_burst-within (line ++ Silent ∷ []) (closes closed).burst (closed-last closed)).knit
+    closed-contiguous : (closed : cut_of rules line Silent ≡ Closed)
+        → IsContiguous 4 (closes closed).burst.body
+    closed-contiguous closed =
+        (last_burst-within (line ++ Silent ∷ []) (closes closed).burst
+        (closed-last closed)).contiguous
 
     closed-judged : (closed : cut_of rules line Silent ≡ Closed) (j : Judgement)
-        → IsJudged profile rules last earliest (line ++ Silent ∷ []) j → judged profile rules state (closes closed).burst ≡ j
+        → IsJudged profile rules last earliest (line ++ Silent ∷ []) j
+        → judged profile rules state (closes closed).burst ≡ j
     closed-judged closed j judge =
         let P : Option Burst → Type 0 = λ o. IfSome o (λ d. judged profile rules state d ≡ j) in
         subst P (closed-last closed) judge
@@ -131,69 +155,114 @@ module _ {R M : Type 0} (proto : LineRules R) (code : Mac M) (word_len : ℕ) (s
     pub advance-unsealed : (why : UnsealedWhy) → cut_of rules line Silent ≡ Closed
         → IsJudged profile rules last earliest (line ++ Silent ∷ []) (unsealed why)
         → On last earliest (drop 1 left) mac Silent
-        (record { tick = first_of left; note = Some (Unsealed (start_so_far (line ++ Silent ∷ [])) why) })
+        (record {
+          tick = first_of left;
+          note = Some (Unsealed (start_so_far (line ++ Silent ∷ [])) why);
+        })
     advance-unsealed why closed judge =
         let d : Burst = (closes closed).burst in
-        let step = walks-unsealed profile rules proto.lawful tags setup.floor line state left d why (closed-walked closed) (closes closed).at
+        let step = walks-unsealed profile rules proto.lawful tags setup.floor line state left d why
+        (closed-walked closed) (closes closed).at
         (closed-judged closed (unsealed why) judge) in
-        let start : d.start ≡ start_so_far (line ++ Silent ∷ []) = sym (ap start_in (closed-last closed)) in
-        let P : ℕ → Type 0 = λ n. AnswersTick profile rules setup.floor line Silent (record { tick = first_of left; note = Some (Unsealed n why) }) in
+        let start : d.start ≡ start_so_far (line ++ Silent ∷ []) =
+        sym (ap start_in (closed-last closed)) in
+        let P : ℕ → Type 0 = λ n. AnswersTick profile rules setup.floor line Silent
+        (record { tick = first_of left; note = Some (Unsealed n why) }) in
         record {
-          walks = record { running = None; walked = step.0; text = old.text; codes = old.codes; text_is = tt };
+          walks = record {
+            running = None;
+            walked = step.0;
+            text = old.text;
+            codes = old.codes;
+            text_is = tt;
+          };
           answers = subst P start step.1;
         }
 
     -- what the text of the running burst is
-    text-of : (d : Burst) → old.running ≡ Some d → earliest ≤ d.start → old.text ≡ rules.label ∷ setup.direction ∷ live_bytes rules d
+    text-of : (d : Burst) → old.running ≡ Some d → earliest ≤ d.start
+        → old.text ≡ rules.label ∷ setup.direction ∷ live_bytes rules d
     text-of d is late =
-        let P : Option Burst → Type 0 = λ o. IfSome o (λ d. earliest ≤ d.start → old.text ≡ rules.label ∷ setup.direction ∷ live_bytes rules d) in
-        let known : earliest ≤ d.start → old.text ≡ rules.label ∷ setup.direction ∷ live_bytes rules d = subst P is old.text_is in
+        let P : Option Burst → Type 0 =
+        λ o. IfSome o (λ d. earliest ≤ d.start
+        → old.text ≡ rules.label ∷ setup.direction ∷ live_bytes rules d) in
+        let known : earliest ≤ d.start → old.text
+        ≡ rules.label ∷ setup.direction ∷ live_bytes rules d = subst P is old.text_is in
         known late
 
     -- the step that seals a burst
     sealing : (number : ℕ) (closed : cut_of rules line Silent ≡ Closed)
         → IsJudged profile rules last earliest (line ++ Silent ∷ []) (sealed_with number)
         → (bytes : List ℕ) → bytes ≡ trailer profile number (live_bytes rules (closes closed).burst)
-        → WalkedThen Silent (record { floor = number; earliest_start = start_after profile rules (closes closed).burst }) (drop 1 bytes) None
+        → WalkedThen Silent (record {
+          floor = number;
+          earliest_start = start_after profile rules (closes closed).burst;
+        }) (drop 1 bytes) None
         × AnswersTick profile rules setup.floor line Silent
-        (record { tick = first_of bytes; note = Some (Sealed number (closes closed).burst.start (length (live_bytes rules (closes closed).burst))) })
+        (record {
+          tick = first_of bytes;
+          note = Some (Sealed number (closes closed).burst.start
+              (length (live_bytes rules (closes closed).burst)));
+        })
         × SealsWith profile rules setup.floor line Silent number
     sealing number closed judge bytes is =
-        walks-sealed profile rules proto.lawful tags setup.floor line state left (closes closed).burst number bytes (closed-walked closed) (closes closed).at
+        walks-sealed profile rules proto.lawful tags setup.floor line state left
+        (closes closed).burst number bytes (closed-walked closed) (closes closed).at
         (closed-judged closed (sealed_with number) judge) is
 
     pub seals-with : (number : ℕ) → cut_of rules line Silent ≡ Closed
         → IsJudged profile rules last earliest (line ++ Silent ∷ []) (sealed_with number)
         → SealsWith profile rules setup.floor line Silent number
     seals-with number closed judge =
-        (sealing number closed judge (trailer profile number (live_bytes rules (closes closed).burst)) refl).2
+        (sealing number closed judge (trailer profile number
+        (live_bytes rules (closes closed).burst)) refl).2
 
-    pub advance-sealed : (number next : ℕ) (bytes : List ℕ) (new : M) → cut_of rules line Silent ≡ Closed
+    pub advance-sealed : (number next : ℕ) (bytes : List ℕ) (new : M)
+        → cut_of rules line Silent ≡ Closed
         → IsJudged profile rules last earliest (line ++ Silent ∷ []) (sealed_with number)
         → next ≡ length line + 1 + (word_len + code.TAG) + 3
         → ((text : List ℕ) → code.stands mac setup.key text
-        → bytes ≡ bytes_high_first word_len number ++ code.tag_of setup.key (text ++ to_be_bytes w64 number))
+        → bytes ≡ bytes_high_first word_len number
+        ++ code.tag_of setup.key (text ++ to_be_bytes w64 number))
         → ((text : List ℕ) → code.stands mac setup.key text → code.stands new setup.key [])
         → On number next (drop 1 bytes) new Silent
-        (record { tick = first_of bytes; note = Some (Sealed number (start_so_far (line ++ Silent ∷ [])) (length (live_bytes_so_far rules (line ++ Silent ∷ [])))) })
+        (record {
+          tick = first_of bytes;
+          note = Some (Sealed number (start_so_far (line ++ Silent ∷ []))
+              (length (live_bytes_so_far rules (line ++ Silent ∷ []))));
+        })
     advance-sealed number next bytes new closed judge next_is tagged begun =
         let d : Burst = (closes closed).burst in
         let is_sealed = closed-judged closed (sealed_with number) judge in
-        let late = seals-late profile rules proto.lawful tags setup.floor line state left d number is_sealed in
-        let whole = seals-whole profile rules proto.lawful tags setup.floor line state left d number is_sealed in
+        let late = seals-late profile rules proto.lawful tags setup.floor line state left d number
+        is_sealed in
+        let whole = seals-whole profile rules proto.lawful tags setup.floor line state left d number
+        is_sealed in
         let text = text-of d (closes closed).is late in
         let is : bytes ≡ trailer profile number (live_bytes rules d) =
         tagged old.text old.codes
-        ∙ ap (λ x. bytes_high_first word_len number ++ code.tag_of setup.key (x ++ to_be_bytes w64 number)) text in
+        ∙ ap (λ x. bytes_high_first word_len number
+        ++ code.tag_of setup.key (x ++ to_be_bytes w64 number)) text in
         let step = sealing number closed judge bytes is in
-        let end : live_end rules d ≡ end_of d = whole-end rules proto.lawful d (closed-contiguous closed) whole in
+        let end : live_end rules d ≡ end_of d =
+        live_end-whole rules proto.lawful d (closed-contiguous closed) whole in
         let at = (closes closed).at in
         let earliest_is : live_end rules d + 3 + (word_len + code.TAG) + 4 ≡ next = omega arith in
-        let P : ℕ → Type 0 = λ f. WalkedThen Silent (record { floor = number; earliest_start = f }) (drop 1 bytes) None in
+        let P : ℕ → Type 0 = λ f. WalkedThen Silent (record { floor = number; earliest_start = f })
+        (drop 1 bytes) None in
         let Q : Option Burst → Type 0 = λ o. AnswersTick profile rules setup.floor line Silent
-        (record { tick = first_of bytes; note = Some (Sealed number (start_in o) (length (live_bytes_in rules o))) }) in
+        (record {
+          tick = first_of bytes;
+          note = Some (Sealed number (start_in o) (length (live_bytes_in rules o)));
+        }) in
         record {
-          walks = record { running = None; walked = subst P earliest_is step.0; text = []; codes = begun old.text old.codes; text_is = tt };
+          walks = record {
+            running = None;
+            walked = subst P earliest_is step.0;
+            text = [];
+            codes = begun old.text old.codes;
+            text_is = tt;
+          };
           answers = subst Q (sym (closed-last closed)) step.1;
         }
 
@@ -210,66 +279,97 @@ module _ {R M : Type 0} (proto : LineRules R) (code : Mac M) (word_len : ℕ) (s
         → On last earliest (drop 1 left) mac (Byte b) (noteless (first_of left))
     advance-early b early =
         let start = next-start b in
-        let step = walks-early profile rules proto.lawful tags setup.floor line state left old.running b old.walked (omega arith) in
+        let step = walks-early profile rules proto.lawful tags setup.floor line state left
+        old.running b old.walked (omega arith) in
         record {
-          walks = record { running = Some (next_burst b); walked = step.0; text = old.text; codes = old.codes; text_is = λ late. absurd (omega arith) };
+          walks = record {
+            running = Some (next_burst b);
+            walked = step.0;
+            text = old.text;
+            codes = old.codes;
+            text_is = λ late. absurd (omega arith);
+          };
           answers = step.1;
         }
 
     -- a live byte of any other burst
-    live-on : (b : ℕ) (new : M) (text : List ℕ) → earliest ≤ start_so_far (line ++ Byte b ∷ []) → live_end rules (next_burst b) ≡ m + 1
-        → code.stands new setup.key text → text ≡ rules.label ∷ setup.direction ∷ live_bytes rules (next_burst b)
+    live-on : (b : ℕ) (new : M) (text : List ℕ) → earliest ≤ start_so_far (line ++ Byte b ∷ [])
+        → live_end rules (next_burst b) ≡ m + 1
+        → code.stands new setup.key text
+        → text ≡ rules.label ∷ setup.direction ∷ live_bytes rules (next_burst b)
         → On last earliest left new (Byte b) (noteless (Byte b))
     live-on b new text late end codes is =
         let start = next-start b in
-        let step = walks-live profile rules proto.lawful tags setup.floor line state left old.running b old.walked (omega arith) end in
+        let step = walks-live profile rules proto.lawful tags setup.floor line state left
+        old.running b old.walked (omega arith) end in
         let P : List ℕ → Type 0 = λ l. WalkedThen (Byte b) state l (Some (next_burst b)) in
         record {
-          walks = record { running = Some (next_burst b); walked = subst P (sym step.0) step.1; text = text; codes = codes; text_is = λ h. is };
+          walks = record {
+            running = Some (next_burst b);
+            walked = subst P (sym step.0) step.1;
+            text = text;
+            codes = codes;
+            text_is = λ h. is;
+          };
           answers = step.2;
         }
 
-    pub advance-begin : (b : ℕ) (new : M) → cut_of rules line (Byte b) ≡ Start b → earliest ≤ start_so_far (line ++ Byte b ∷ [])
+    pub advance-begin : (b : ℕ) (new : M) → cut_of rules line (Byte b) ≡ Start b
+        → earliest ≤ start_so_far (line ++ Byte b ∷ [])
         → code.stands new setup.key (rules.label ∷ setup.direction ∷ b ∷ [])
         → On last earliest left new (Byte b) (noteless (Byte b))
     advance-begin b new starts late codes =
         let none = byte-starts rules proto.lawful line b old.running runs starts in
         let is : next_burst b ≡ alone m b = ap (λ o. with_byte_at m b o) none in
-        let end : live_end rules (next_burst b) ≡ m + 1 = ap (λ d. live_end rules d) is ∙ start-end rules proto.lawful line b in
-        let bytes : live_bytes rules (next_burst b) ≡ b ∷ [] = ap (λ d. live_bytes rules d) is ∙ start-bytes rules proto.lawful line b in
-        live-on b new (rules.label ∷ setup.direction ∷ b ∷ []) late end codes (ap (λ h. rules.label ∷ setup.direction ∷ h) (sym bytes))
+        let end : live_end rules (next_burst b) ≡ m + 1 =
+        ap (λ d. live_end rules d) is ∙ start-end rules proto.lawful line b in
+        let bytes : live_bytes rules (next_burst b) ≡ b ∷ [] =
+        ap (λ d. live_bytes rules d) is ∙ start-bytes rules proto.lawful line b in
+        live-on b new (rules.label ∷ setup.direction ∷ b ∷ []) late end codes
+        (ap (λ h. rules.label ∷ setup.direction ∷ h) (sym bytes))
 
-    pub advance-live : (b : ℕ) (new : M) → cut_of rules line (Byte b) ≡ Live b → earliest ≤ start_so_far (line ++ Byte b ∷ [])
-        → ((text : List ℕ) → code.stands mac setup.key text → code.stands new setup.key (text ++ b ∷ []))
+    pub advance-live : (b : ℕ) (new : M) → cut_of rules line (Byte b) ≡ Live b
+        → earliest ≤ start_so_far (line ++ Byte b ∷ [])
+        → ((text : List ℕ) → code.stands mac setup.key text
+        → code.stands new setup.key (text ++ b ∷ []))
         → On last earliest left new (Byte b) (noteless (Byte b))
     advance-live b new lives late more =
         let on = byte-lives rules proto.lawful line b old.running runs lives in
         let is : next_burst b ≡ with_last on.burst m b = ap (λ o. with_byte_at m b o) on.is in
-        let start : start_so_far (line ++ Byte b ∷ []) ≡ on.burst.start = next-start b ∙ ap (λ (d : Burst). d.start) is in
+        let start : start_so_far (line ++ Byte b ∷ []) ≡ on.burst.start =
+        next-start b ∙ ap (λ (d : Burst). d.start) is in
         let text = text-of on.burst on.is (omega arith) in
-        live-on b new (old.text ++ b ∷ []) late (ap (λ d. live_end rules d) is ∙ on.end) (more old.text old.codes)
-        (ap (λ x. x ++ b ∷ []) text ∙ ap (λ h. rules.label ∷ setup.direction ∷ h) (sym on.bytes ∙ sym (ap (λ d. live_bytes rules d) is)))
+        live-on b new (old.text ++ b ∷ []) late (ap (λ d. live_end rules d) is ∙ on.end)
+        (more old.text old.codes)
+        (ap (λ x. x ++ b ∷ []) text ∙ ap (λ h. rules.label ∷ setup.direction ∷ h)
+        (sym on.bytes ∙ sym (ap (λ d. live_bytes rules d) is)))
 
     -- a byte of it that isn't live
-    pub advance-extra : (b : ℕ) → cut_of rules line (Byte b) ≡ Extra b → earliest ≤ start_so_far (line ++ Byte b ∷ [])
+    pub advance-extra : (b : ℕ) → cut_of rules line (Byte b) ≡ Extra b
+        → earliest ≤ start_so_far (line ++ Byte b ∷ [])
         → On last earliest (drop 1 left) mac (Byte b) (noteless (first_of left))
     advance-extra b extra late =
         let on = byte-over rules proto.lawful line b old.running runs extra in
         let is : next_burst b ≡ with_last on.burst m b = ap (λ o. with_byte_at m b o) on.is in
-        let same : start_so_far (line ++ Byte b ∷ []) ≡ on.burst.start = next-start b ∙ ap (λ (d : Burst). d.start) is in
+        let same : start_so_far (line ++ Byte b ∷ []) ≡ on.burst.start =
+        next-start b ∙ ap (λ (d : Burst). d.start) is in
         let start = next-start b in
         let text = text-of on.burst on.is (omega arith) in
-        let end : live_end rules (next_burst b) ≤ m = let e = ap (λ d. live_end rules d) is in let le = on.end in omega arith in
-        let step = walks-extra profile rules proto.lawful tags setup.floor line state left old.running b old.walked (omega arith) end in
+        let end : live_end rules (next_burst b) ≤ m = let e = ap (λ d. live_end rules d) is in
+        let le = on.end in omega arith in
+        let step = walks-extra profile rules proto.lawful tags setup.floor line state left
+        old.running b old.walked (omega arith) end in
         let P : List ℕ → Type 0 = λ l. WalkedThen (Byte b) state (drop 1 l) (Some (next_burst b)) in
-        let Q : List ℕ → Type 0 = λ l. AnswersTick profile rules setup.floor line (Byte b) (noteless (first_of l)) in
+        let Q : List ℕ → Type 0 = λ l. AnswersTick profile rules setup.floor line (Byte b)
+        (noteless (first_of l)) in
         record {
           walks = record {
             running = Some (next_burst b);
             walked = subst P (sym step.0) step.1;
             text = old.text;
             codes = old.codes;
-            text_is = λ h. text ∙ ap (λ h. rules.label ∷ setup.direction ∷ h) (sym on.bytes ∙ sym (ap (λ d. live_bytes rules d) is));
+            text_is = λ h. text ∙ ap (λ h. rules.label ∷ setup.direction ∷ h)
+                (sym on.bytes ∙ sym (ap (λ d. live_bytes rules d) is));
           };
           answers = subst Q (sym step.0) step.2;
         }
@@ -277,7 +377,8 @@ module _ {R M : Type 0} (proto : LineRules R) (code : Mac M) (word_len : ℕ) (s
     -- any tick that is neither forwarded nor closes a burst
     pub advance-passing : (t : Tick) (cut : Cut) → cut_of rules line t ≡ cut → IsPassing cut
         → On last earliest (drop 1 left) mac t (noteless (first_of left))
-    advance-passing Silent cut is passing = advance-open (λ closed. absurd (passing-open rules line cut passing (sym is ∙ closed)))
+    advance-passing Silent cut is passing =
+        advance-open (λ closed. absurd (passing-open rules line cut passing (sym is ∙ closed)))
     advance-passing (Byte b) cut is passing =
         ⊎_elim
         (λ early. advance-early b early)

@@ -10,7 +10,7 @@ use Rattle.yasir_ticks.specs.declared.tick.Tick.{Tick}
 use Rattle.yasir_ticks.specs.declared.tick.Tick.TheVariants.{Silent, Byte}
 use Rattle.line_rules.specs.Rules.{Rules}
 use Rattle.frame_ending.specs.LiveBytes.{live_bytes, live_ticks, live_end}
-use Rattle.frame_ending.proofs.Pauses.{up_to_byte-le}
+use Rattle.frame_ending.proofs.LiveTicks.{live_end-within}
 use Rattle.burst_walk.specs.Laid.{tick_at}
 use Rattle.burst_walk.specs.Walk.{Noted, walked, emitted, state_after}
 use Rattle.burst_walk.specs.HasCome.{AreNoted}
@@ -18,7 +18,8 @@ use Rattle.burst_walk.proofs.Emissions.{tick_at-none, tick_at-from}
 use Rattle.link_format.specs.NumberedFrame.{last_number}
 use Rattle.link_format.specs.Profile.{Profile, trailer}
 use Rattle.link_format.specs.Trailers.{first_of}
-use Rattle.seal_transmitter.specs.Sealing.{SealState, FullNote, Judgement, judged, state_by, note_by}
+use Rattle.seal_transmitter.specs.Sealing.{SealState, FullNote, Judgement, judged, state_by}
+use Rattle.seal_transmitter.specs.Sealing.{note_by}
 use Rattle.seal_transmitter.specs.Sealing.{emission_by, forwarded, trailing, sealer}
 use Rattle.seal_transmitter.specs.Sealing.Judgement.{sealed_with, unsealed}
 use Rattle.seal_transmitter.specs.Stands.{sent_at}
@@ -58,9 +59,11 @@ overlays-outside : (e : Burst) (i : ℕ) → (i < e.start) ⊎ (end_of e ≤ i) 
 unfolding tick_at
 overlays-outside e i out more = rw (is_outside e.start (end_of e) i out) refl
 
-overlays-byte : (e : Burst) (i x : ℕ) → e.start ≤ i → i < end_of e → get_or e.body (i - e.start) Silent ≡ Byte x → Overlays (e ∷ []) i
+overlays-byte : (e : Burst) (i x : ℕ) → e.start ≤ i → i < end_of e
+    → get_or e.body (i - e.start) Silent ≡ Byte x → Overlays (e ∷ []) i
 unfolding tick_at
-overlays-byte e i x from within is more = rw (is_inside e.start (end_of e) i from within) (rw is refl)
+overlays-byte e i x from within is more =
+    rw (is_inside e.start (end_of e) i from within) (rw is refl)
 
 overlays-one : (e : Burst) (i : ℕ) → IsBright e i → Overlays (e ∷ []) i
 overlays-one e i bright more =
@@ -87,9 +90,11 @@ overlays-append a b i first second more =
 
 pub sent-first : (m : ℕ) (left : List ℕ) → sent_at m left m ≡ first_of left
 sent-first m [] = refl
-sent-first m (b ∷ left) = let none : m - m ≡ 0 = omega arith in ap (λ k. get_or (map (λ x. Byte x) (b ∷ left)) k Silent) none
+sent-first m (b ∷ left) = let none : m - m ≡ 0 = omega arith in
+    ap (λ k. get_or (map (λ x. Byte x) (b ∷ left)) k Silent) none
 
-pub sent-later : (m : ℕ) (left : List ℕ) (i : ℕ) → m + 1 ≤ i → sent_at m left i ≡ sent_at (m + 1) (drop 1 left) i
+pub sent-later : (m : ℕ) (left : List ℕ) (i : ℕ) → m + 1 ≤ i
+    → sent_at m left i ≡ sent_at (m + 1) (drop 1 left) i
 sent-later m [] i later = refl
 sent-later m (b ∷ left) i later =
     let one_less : i - m ≡ suc (i - (m + 1)) = omega arith in
@@ -98,48 +103,53 @@ sent-later m (b ∷ left) i later =
 -- ---- emissions of closed bursts
 
 module _ (profile : Profile) (rules : Rules) where
-  pub live_end-within : (d : Burst) → live_end rules d ≤ end_of d
-  live_end-within d = let few = up_to_byte-le (length (live_bytes rules d)) d.body in omega arith
-
   -- the live bytes alone have ended before
   forwarded-dark : (d : Burst) (i : ℕ) → end_of d ≤ i → end_of (forwarded rules d []) ≤ i
   forwarded-dark d i later =
-      let few = live_end-within d in
+      let few = live_end-within rules d in
       let long = length-append (live_ticks rules d) [] in
       omega arith
 
-  pub forwarded-past : (d : Burst) (i : ℕ) → end_of d ≤ i → tick_at (forwarded rules d [] ∷ []) i ≡ Silent
+  pub forwarded-past : (d : Burst) (i : ℕ) → end_of d ≤ i
+      → tick_at (forwarded rules d [] ∷ []) i ≡ Silent
   forwarded-past d i later =
       let end = forwarded-dark d i later in
       let from : d.start ≤ i = omega arith in
       let past : length (live_ticks rules d ++ []) ≤ i - d.start = omega arith in
-      tick_at-from (forwarded rules d []) i from ∙ get_or_past (live_ticks rules d ++ []) (i - d.start) Silent past
+      tick_at-from (forwarded rules d []) i from
+      ∙ get_or_past (live_ticks rules d ++ []) (i - d.start) Silent past
 
   -- a sealed emission after three silent ticks: its trailer
   pub sealed-from : (d : Burst) (bytes : List ℕ) (i : ℕ) → live_end rules d + 3 ≤ i
-      → get_or (forwarded rules d (trailing bytes)).body (i - d.start) Silent ≡ sent_at (live_end rules d + 3) bytes i
+      → get_or (forwarded rules d (trailing bytes)).body (i - d.start) Silent
+      ≡ sent_at (live_end rules d + 3) bytes i
   sealed-from d bytes i from =
       let n : ℕ = length (live_ticks rules d) in
       let first : n ≤ i - d.start = omega arith in
       let second : 3 ≤ i - d.start - n = omega arith in
       let same : i - d.start - n - 3 ≡ i - (live_end rules d + 3) = omega arith in
       get_or-append_right (live_ticks rules d) (trailing bytes) n (i - d.start) Silent refl first
-      ∙ (get_or-append_right (silent 3) (map (λ b. Byte b) bytes) 3 (i - d.start - n) Silent refl second
+      ∙ (get_or-append_right (silent 3) (map (λ b. Byte b) bytes) 3 (i - d.start - n) Silent refl
+      second
       ∙ ap (λ k. get_or (map (λ b. Byte b) bytes) k Silent) same)
 
-  sealed-bright : (d : Burst) (bytes : List ℕ) (i : ℕ) → live_end rules d + 3 ≤ i → IsBright (forwarded rules d (trailing bytes)) i
+  sealed-bright : (d : Burst) (bytes : List ℕ) (i : ℕ) → live_end rules d + 3 ≤ i
+      → IsBright (forwarded rules d (trailing bytes)) i
   sealed-bright d bytes i from begun within =
-      let long : length (live_ticks rules d ++ (trailing bytes)) ≡ length (live_ticks rules d) + (3 + length bytes) = simp (length-append, length-map) (omega arith) in
+      let long : length (live_ticks rules d ++ (trailing bytes))
+      ≡ length (live_ticks rules d) + (3 + length bytes) =
+      simp (length-append, length-map) (omega arith) in
       let few : i - (live_end rules d + 3) < length bytes = omega arith in (
         get_or bytes (i - (live_end rules d + 3)) 0,
-        sealed-from d bytes i from ∙ get_or-map (λ b. Byte b) bytes (i - (live_end rules d + 3)) 0 Silent few,
+        sealed-from d bytes i from ∙ get_or-map (λ b. Byte b) bytes (i - (live_end rules d + 3)) 0
+            Silent few,
       )
 
   emission-overlays : (d : Burst) (i : ℕ) (j : Judgement) → end_of d + 3 ≤ i
       → Overlays (emission_by profile rules d j) i
   emission-overlays d i (sealed_with n) later =
       let bytes : List ℕ = trailer profile n (live_bytes rules d) in
-      let end = live_end-within d in
+      let end = live_end-within rules d in
       let from : live_end rules d + 3 ≤ i = omega arith in
       overlays-one (forwarded rules d (trailing bytes)) i (sealed-bright d bytes i from)
   emission-overlays d i (unsealed Early) later = overlays-none i
@@ -150,7 +160,8 @@ module _ (profile : Profile) (rules : Rules) where
       let past : end_of d ≤ i = omega arith in
       overlays-outside (forwarded rules d []) i (inr (forwarded-dark d i past))
 
-  pub noted-overlays : (s : SealState) (ds : List Burst) (m i : ℕ) → AreNoted (sealer profile rules) s m ds
+  pub noted-overlays : (s : SealState) (ds : List Burst) (m i : ℕ)
+      → AreNoted (sealer profile rules) s m ds
       → m ≤ i → Overlays (emitted (sealer profile rules) s ds) i
   noted-overlays s [] m i are later = overlays-none i
   noted-overlays s (d ∷ ds) m i are later =
@@ -163,9 +174,11 @@ module _ (profile : Profile) (rules : Rules) where
 
   -- ---- numbers of bursts
 
-  number-more : (s : SealState) (d : Burst) (tick floor : ℕ) (j : Judgement) (more : List (Noted FullNote))
+  number-more : (s : SealState) (d : Burst) (tick floor : ℕ) (j : Judgement)
+      (more : List (Noted FullNote))
       → floor ≡ last_number (state_by profile rules s d j).floor (frames_in more)
-      → floor ≡ last_number s.floor (frames_in (record { tick = tick; note = note_by rules d j } ∷ more))
+      → floor ≡ last_number s.floor (frames_in
+      (record { tick = tick; note = note_by rules d j } ∷ more))
   number-more s d tick floor (sealed_with n) more rest = rest
   number-more s d tick floor (unsealed why) more rest = rest
 

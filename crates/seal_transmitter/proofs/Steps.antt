@@ -1,6 +1,8 @@
 -- One more tick of the device: how far the walk then has come, and what the step answers.
-use Rattle.std.proofs.Common.{◌≡◌, ◌∙◌, ◌==◌, ◌||◌, not, ℕ, zero, suc, ◌+◌, ◌-◌, ◌<◌, ◌≤◌, nat_lt, Bool}
-use Rattle.std.proofs.Common.{true, false, List, [], ◌∷◌, ◌++◌, length, drop, refl, sym, ap, subst, arith}
+use Rattle.std.proofs.Common.{◌≡◌, ◌∙◌, ◌==◌, ◌||◌, not, ℕ, zero, suc, ◌+◌, ◌-◌, ◌<◌, ◌≤◌, nat_lt}
+use Rattle.std.proofs.Common.{Bool}
+use Rattle.std.proofs.Common.{true, false, List, [], ◌∷◌, ◌++◌, length, drop, refl, sym, ap, subst}
+use Rattle.std.proofs.Common.{arith}
 use Rattle.std.proofs.Common.{get_or, ⊎_elim, Option, Some, None, IfSome}
 use Rattle.std.proofs.lemmas.Bool.{cases_lt, lt-ltb, le-ltb}
 use Rattle.std.proofs.lemmas.List.{append-nil, get_or_past}
@@ -14,21 +16,26 @@ use Rattle.line_rules.specs.Rules.{Rules}
 use Rattle.line_rules.specs.RulesLaws.{IsLawful}
 use Rattle.frame_ending.specs.Divided.{IsDivided}
 use Rattle.frame_ending.specs.LiveBytes.{up_to_byte, live_bytes, live_ticks, live_end, has_extra}
-use Rattle.frame_ending.proofs.Dividing.{longer-line, divided-within, byte-ends, byte-begun, byte-knit, byte-last}
-use Rattle.frame_ending.proofs.LiveTicks.{live_ticks-whole}
+use Rattle.frame_ending.proofs.Dividing.{longer-line, divided-within, byte-ends, byte-begun}
+use Rattle.frame_ending.proofs.Dividing.{byte-contiguous, byte-last}
+use Rattle.frame_ending.proofs.LiveTicks.{live_end-within, live_ticks-whole, up_to_byte-full}
 use Rattle.frame_ending.proofs.Running.{with_byte_at}
 use Rattle.burst_walk.specs.Laid.{tick_at}
 use Rattle.burst_walk.specs.Walk.{Walker, Noted, walked, emitted, notes_at}
 use Rattle.burst_walk.specs.HasCome.{HasCome, AreNoted, waiting_part}
 use Rattle.burst_walk.specs.Answers.{told_notes, note_in}
-use Rattle.burst_walk.proofs.Coming.{come-begun, come-waits, come-noted, come-silent, come-joined, come-alone, notes_before-come, notes-step, answers-step, note-now, note-later}
+use Rattle.burst_walk.proofs.Coming.{come-begun, come-waits, come-noted, come-silent, come-joined}
+use Rattle.burst_walk.proofs.Coming.{come-alone, notes_before-come, notes-step, answers-step}
+use Rattle.burst_walk.proofs.Coming.{note-now, note-later}
 use Rattle.burst_walk.proofs.Emissions.{tick_at-none, tick_at-from}
 use Rattle.link_format.specs.NumberedFrame.{last_number}
 use Rattle.link_format.specs.Profile.{Profile, HasTags, trailer, trailer_len}
 use Rattle.link_format.specs.Trailers.{first_of}
 use Rattle.link_format.proofs.Profiles.{length-trailer}
-use Rattle.seal_transmitter.specs.Sealing.{SealState, FullNote, Judgement, judged, state_by, note_by, emission_by}
-use Rattle.seal_transmitter.specs.Sealing.{forwarded, trailing, sealer, sealed_in, at_floor, seal_notes}
+use Rattle.seal_transmitter.specs.Sealing.{SealState, FullNote, Judgement, judged, state_by}
+use Rattle.seal_transmitter.specs.Sealing.{note_by, emission_by}
+use Rattle.seal_transmitter.specs.Sealing.{forwarded, trailing, sealer, sealed_in, at_floor}
+use Rattle.seal_transmitter.specs.Sealing.{seal_notes}
 use Rattle.seal_transmitter.specs.Sealing.{start_after, sealed}
 use Rattle.seal_transmitter.specs.Sealing.Judgement.{sealed_with, unsealed}
 use Rattle.seal_transmitter.specs.Answers.{AnswersTick, SealsWith, brief_note}
@@ -38,10 +45,15 @@ use Rattle.seal_transmitter.specs.declared.note.SealNote.TheVariants.{Sealed, Un
 use Rattle.seal_transmitter.specs.declared.note.SealStep.{SealStep}
 use Rattle.seal_transmitter.specs.declared.note.UnsealedWhy.{UnsealedWhy}
 use Rattle.seal_transmitter.specs.declared.note.UnsealedWhy.TheVariants.{Early, Form, Spent}
-use Rattle.seal_transmitter.proofs.Causality.{judge_by, judged-is, sealed-right, no_extra, sealer-causal, emission-judged, emission-early, shown-from}
-use Rattle.seal_transmitter.proofs.StepLemmas.{or_else, or_else-silent, sent-first, sent-later, noted-overlays, noted-number, sealed-from, live_end-within, forwarded-past}
+use Rattle.seal_transmitter.proofs.Causality.{judge_by, judged-is, sealed-right, no_extra}
+use Rattle.seal_transmitter.proofs.Causality.{sealer-causal, emission-judged, emission-early}
+use Rattle.seal_transmitter.proofs.Causality.{shown-from}
+use Rattle.seal_transmitter.proofs.StepLemmas.{or_else, or_else-silent, sent-first, sent-later}
+use Rattle.seal_transmitter.proofs.StepLemmas.{noted-overlays, noted-number, sealed-from}
+use Rattle.seal_transmitter.proofs.StepLemmas.{forwarded-past}
 
-none_left : (left : List ℕ) (m earliest : ℕ) → (0 < length left → m + length left + 4 ≤ earliest) → earliest ≤ m
+none_left : (left : List ℕ) (m earliest : ℕ) → (0 < length left → m + length left + 4 ≤ earliest)
+    → earliest ≤ m
     → left ≡ []
 none_left [] m earliest in_time late = refl
 none_left (b ∷ left) m earliest in_time late =
@@ -57,21 +69,9 @@ left-in_time (b ∷ left) m earliest in_time some =
     let soon = in_time now in
     omega arith
 
-early-unsealed : (wrong last : Bool) (number n : ℕ) → judge_by true wrong last number ≡ sealed_with n → ⊥
+early-unsealed : (wrong last : Bool) (number n : ℕ)
+    → judge_by true wrong last number ≡ sealed_with n → ⊥
 early-unsealed wrong last number n is = cc
-
--- where the ticks up to a byte are as many as all of them, they are all of them
-up_to_byte-full : (k : ℕ) (x : List Tick) → length (up_to_byte k x) ≡ length x → up_to_byte k x ≡ x
-unfolding up_to_byte
-up_to_byte-full zero [] long = refl
-up_to_byte-full zero (t ∷ x) long = absurd (omega arith)
-up_to_byte-full (suc k) [] long = refl
-up_to_byte-full (suc k) (Silent ∷ x) long =
-    let rest : length (up_to_byte (suc k) x) ≡ length x = omega arith in
-    ap (λ l. Silent ∷ l) (up_to_byte-full (suc k) x rest)
-up_to_byte-full (suc k) (Byte b ∷ x) long =
-    let rest : length (up_to_byte k x) ≡ length x = omega arith in
-    ap (λ l. Byte b ∷ l) (up_to_byte-full k x rest)
 
 module _ (profile : Profile) (rules : Rules) (floor : ℕ) where
   -- a transmitter at rest
@@ -101,14 +101,17 @@ module _ (profile : Profile) (rules : Rules) (floor : ℕ) where
   open-now m None waits = tt
   open-now m (Some d) waits = omega arith
 
-  come-state : (m : ℕ) (ds : List Burst) (s next : SealState) (emissions : List Burst) (running : Option Burst)
+  come-state : (m : ℕ) (ds : List Burst) (s next : SealState) (emissions : List Burst)
+      (running : Option Burst)
       → s ≡ next → HasCome (sealer profile rules) (at_floor floor) m ds s emissions running
       → HasCome (sealer profile rules) (at_floor floor) m ds next emissions running
   come-state m ds s next emissions running same come =
-      let P : SealState → Type 0 = λ x. HasCome (sealer profile rules) (at_floor floor) m ds x emissions running in
+      let P : SealState → Type 0 = λ x.
+      HasCome (sealer profile rules) (at_floor floor) m ds x emissions running in
       subst P same come
 
-module _ (profile : Profile) (rules : Rules) (lawful : IsLawful rules) (tags : HasTags profile) (floor : ℕ)
+module _ (profile : Profile) (rules : Rules) (lawful : IsLawful rules) (tags : HasTags profile)
+    (floor : ℕ)
     (line : List Tick) (s : SealState) (left : List ℕ) where
   abbrev walker : Walker SealState FullNote
   walker = sealer profile rules
@@ -122,7 +125,8 @@ module _ (profile : Profile) (rules : Rules) (lawful : IsLawful rules) (tags : H
   -- the walk after a further tick, with this state, these bytes to send and this running burst
   abbrev WalkedThen : Tick → SealState → List ℕ → Option Burst → Type 0
   WalkedThen t next to_send running =
-      HasWalked profile rules floor (length (line ++ t ∷ [])) (bursts (line ++ t ∷ [])) next to_send running
+      HasWalked profile rules floor (length (line ++ t ∷ [])) (bursts (line ++ t ∷ [])) next to_send
+      running
 
   -- the tick is taken, and the burst that runs is to be judged
   abbrev Taken : (running now : Option Burst) → Walked running → Tick → Type 0
@@ -133,29 +137,36 @@ module _ (profile : Profile) (rules : Rules) (lawful : IsLawful rules) (tags : H
   judgement_now d = judged profile rules s d
 
   -- so the line is divided
-  pub walked-divided : (running : Option Burst) (so_far : Walked running) → IsDivided line so_far.come.settled running
+  pub walked-divided : (running : Option Burst) (so_far : Walked running)
+      → IsDivided line so_far.come.settled running
   walked-divided running so_far = record {
     is = so_far.come.is;
-    are_closed = noted-closed profile rules floor (at_floor floor) m so_far.come.settled so_far.come.are_noted;
+    are_closed = noted-closed profile rules floor (at_floor floor) m so_far.come.settled
+        so_far.come.are_noted;
     is_running = open-now profile rules floor m running so_far.come.waits;
   }
 
   -- ---- taking a tick
 
-  take-silent : (running : Option Burst) (so_far : Walked running) → Taken running running so_far Silent
+  take-silent : (running : Option Burst) (so_far : Walked running)
+      → Taken running running so_far Silent
   take-silent running so_far =
-      come-silent walker (sealer-causal profile rules lawful) (at_floor floor) line s so_far.emissions running so_far.come
+      come-silent walker (sealer-causal profile rules lawful) (at_floor floor) line s
+      so_far.emissions running so_far.come
 
   take-byte : (running : Option Burst) (b : ℕ) (so_far : Walked running)
       → Taken running (Some (with_byte_at m b running)) so_far (Byte b)
   take-byte None b so_far =
       let divided = walked-divided None so_far in
       let P : List Burst → Type 0 = λ ds. AreClosed T3_5_TICKS m ds in
-      let whole : bursts line ≡ so_far.come.settled = so_far.come.is ∙ append-nil so_far.come.settled in
-      come-alone walker (sealer-causal profile rules lawful) (at_floor floor) line s so_far.emissions b so_far.come
+      let whole : bursts line ≡ so_far.come.settled =
+      so_far.come.is ∙ append-nil so_far.come.settled in
+      come-alone walker (sealer-causal profile rules lawful) (at_floor floor) line s
+      so_far.emissions b so_far.come
       (subst P (sym whole) divided.are_closed)
   take-byte (Some d) b so_far =
-      come-joined walker (sealer-causal profile rules lawful) (at_floor floor) line s so_far.emissions b d so_far.come
+      come-joined walker (sealer-causal profile rules lawful) (at_floor floor) line s
+      so_far.emissions b d so_far.come
 
   -- ---- what a taken tick makes of the walk
 
@@ -170,39 +181,49 @@ module _ (profile : Profile) (rules : Rules) (lawful : IsLawful rules) (tags : H
       ∙ ap (λ t. or_else t (tick_at more i)) (so_far.sends i from)))
 
   -- a step that notes nothing
-  walks-on : (running now : Option Burst) (so_far : Walked running) (t : Tick) → Taken running now so_far t
+  walks-on : (running now : Option Burst) (so_far : Walked running) (t : Tick)
+      → Taken running now so_far t
       → IfSome now (λ d. m + 1 ≤ end_of d + 3) → WalkedThen t s (drop 1 left) now
   walks-on running now so_far t taken later =
-      let P : ℕ → Type 0 = λ k. HasWalked profile rules floor k (bursts (line ++ t ∷ [])) s (drop 1 left) now in
+      let P : ℕ → Type 0 = λ k. HasWalked profile rules floor k (bursts (line ++ t ∷ [])) s
+      (drop 1 left) now in
       subst P (sym (longer-line line t))
       (record {
         emissions = so_far.emissions;
-        come = come-waits walker (at_floor floor) m (bursts (line ++ t ∷ [])) s so_far.emissions now taken later;
-        sends = λ i from. let before : m ≤ i = omega arith in so_far.sends i before ∙ sent-later m left i from;
+        come = come-waits walker (at_floor floor) m (bursts (line ++ t ∷ [])) s so_far.emissions now
+            taken later;
+        sends = λ i from. let before : m ≤ i = omega arith in
+            so_far.sends i before ∙ sent-later m left i from;
         in_time = left-in_time left m s.earliest_start so_far.in_time;
       })
 
   -- what a step answers, by the burst that runs
-  answers : (running now : Option Burst) (so_far : Walked running) (t : Tick) (step : SealStep) → Taken running now so_far t
+  answers : (running now : Option Burst) (so_far : Walked running) (t : Tick) (step : SealStep)
+      → Taken running now so_far t
       → or_else (sent_at m left m) (tick_at (emitted walker s (waiting_part now)) m) ≡ step.tick
-      → told_notes brief_note (notes_at m (walked walker s (waiting_part now))) ≡ note_in m step.note
+      → told_notes brief_note (notes_at m (walked walker s (waiting_part now)))
+      ≡ note_in m step.note
       → AnswersTick profile rules floor line t step
   answers running now so_far t step taken tick note =
       let here : m ≤ m = omega arith in
-      answers-step walker (sealer-causal profile rules lawful) (at_floor floor) line s so_far.emissions t now taken
+      answers-step walker (sealer-causal profile rules lawful) (at_floor floor) line s
+      so_far.emissions t now taken
       brief_note step.tick step.note
       (link-more running so_far (emitted walker s (waiting_part now)) m here ∙ tick) note
 
   -- ---- one burst that isn't closed
 
   emission-alone : (d : Burst) (i : ℕ)
-      → tick_at (emitted walker s (d ∷ [])) i ≡ tick_at (emission_by profile rules d (judgement_now d)) i
+      → tick_at (emitted walker s (d ∷ [])) i
+      ≡ tick_at (emission_by profile rules d (judgement_now d)) i
   emission-alone d i =
       ap (λ x. tick_at x i) (append-nil (emission_by profile rules d (judgement_now d)))
 
   -- the emission shows the live bytes up to the third silent tick
-  emission-live : (d : Burst) (i : ℕ) → IsContiguous 4 d.body → s.earliest_start ≤ d.start → d.start ≤ i → i < end_of d + 3
-      → tick_at (emission_by profile rules d (judgement_now d)) i ≡ get_or (live_ticks rules d) (i - d.start) Silent
+  emission-live : (d : Burst) (i : ℕ) → IsContiguous 4 d.body → s.earliest_start ≤ d.start
+      → d.start ≤ i → i < end_of d + 3
+      → tick_at (emission_by profile rules d (judgement_now d)) i
+      ≡ get_or (live_ticks rules d) (i - d.start) Silent
   emission-live d i whole late from before =
       emission-judged profile rules lawful s d i whole (le-ltb d.start s.earliest_start late) before
       ∙ shown-from profile rules lawful d i from
@@ -210,18 +231,21 @@ module _ (profile : Profile) (rules : Rules) (lawful : IsLawful rules) (tags : H
   emission-nothing : (d : Burst) (i : ℕ) → d.start < s.earliest_start
       → tick_at (emission_by profile rules d (judgement_now d)) i ≡ Silent
   emission-nothing d i early =
-      ap (λ x. tick_at x i) (emission-early profile rules lawful s d (lt-ltb d.start s.earliest_start early))
+      ap (λ x. tick_at x i) (emission-early profile rules lawful s d
+      (lt-ltb d.start s.earliest_start early))
       ∙ tick_at-none i
 
   -- behind the live bytes it is dark
-  emission-past : (d : Burst) (i : ℕ) → IsContiguous 4 d.body → d.start ≤ i → live_end rules d ≤ i → i < end_of d + 3
+  emission-past : (d : Burst) (i : ℕ) → IsContiguous 4 d.body → d.start ≤ i → live_end rules d ≤ i
+      → i < end_of d + 3
       → tick_at (emission_by profile rules d (judgement_now d)) i ≡ Silent
   emission-past d i whole from past before =
       ⊎_elim
       (λ early. emission-nothing d i early)
       (λ late.
       let beyond : length (live_ticks rules d) ≤ i - d.start = omega arith in
-      emission-live d i whole late from before ∙ get_or_past (live_ticks rules d) (i - d.start) Silent beyond)
+      emission-live d i whole late from before
+      ∙ get_or_past (live_ticks rules d) (i - d.start) Silent beyond)
       (cases_lt d.start s.earliest_start)
 
   emission-unsealed : (d : Burst) (why : UnsealedWhy) (i : ℕ) → end_of d ≤ i
@@ -234,11 +258,13 @@ module _ (profile : Profile) (rules : Rules) (lawful : IsLawful rules) (tags : H
   only-sent : (dark : List Burst) → tick_at dark m ≡ Silent
       → or_else (sent_at m left m) (tick_at dark m) ≡ first_of left
   only-sent dark is =
-      ap (λ t. or_else (sent_at m left m) t) is ∙ (or_else-silent (sent_at m left m) ∙ sent-first m left)
+      ap (λ t. or_else (sent_at m left m) t) is
+      ∙ (or_else-silent (sent_at m left m) ∙ sent-first m left)
 
   -- ---- a silent tick that closes no burst
 
-  quiet-answers : (running : Option Burst) → Walked running → IfSome running (λ d. m + 1 < end_of d + T3_5_TICKS)
+  quiet-answers : (running : Option Burst) → Walked running
+      → IfSome running (λ d. m + 1 < end_of d + T3_5_TICKS)
       → AnswersTick profile rules floor line Silent (noteless (first_of left))
   quiet-answers None so_far near =
       answers None None so_far Silent (noteless (first_of left)) (take-silent None so_far)
@@ -247,10 +273,11 @@ module _ (profile : Profile) (rules : Rules) (lawful : IsLawful rules) (tags : H
       let within = divided-within line so_far.come.settled d (walked-divided (Some d) so_far) in
       let ends = within.within in
       let close : m + 1 < end_of d + 4 = near in
-      let live = live_end-within profile rules d in
+      let live = live_end-within rules d in
       let later : m + 1 ≤ end_of d + 3 = omega arith in
-      let dark = emission-past d m within.knit (omega arith) (omega arith) (omega arith) in
-      answers (Some d) (Some d) so_far Silent (noteless (first_of left)) (take-silent (Some d) so_far)
+      let dark = emission-past d m within.contiguous (omega arith) (omega arith) (omega arith) in
+      answers (Some d) (Some d) so_far Silent (noteless (first_of left))
+      (take-silent (Some d) so_far)
       (only-sent (emitted walker s (d ∷ [])) (emission-alone d m ∙ dark))
       (ap (λ x. told_notes brief_note x) (note-later walker s m (Some d) later))
 
@@ -259,7 +286,8 @@ module _ (profile : Profile) (rules : Rules) (lawful : IsLawful rules) (tags : H
   open-later None near = tt
   open-later (Some d) near = omega arith
 
-  pub walks-silent : (running : Option Burst) → Walked running → IfSome running (λ d. m + 1 < end_of d + T3_5_TICKS)
+  pub walks-silent : (running : Option Burst) → Walked running
+      → IfSome running (λ d. m + 1 < end_of d + T3_5_TICKS)
       → WalkedThen Silent s (drop 1 left) running
       × AnswersTick profile rules floor line Silent (noteless (first_of left))
   walks-silent running so_far near = (
@@ -271,9 +299,11 @@ module _ (profile : Profile) (rules : Rules) (lawful : IsLawful rules) (tags : H
 
   abbrev SendsThen : Burst → List ℕ → Type 0
   SendsThen d to_send = (i : ℕ) → m ≤ i
-      → or_else (sent_at m left i) (tick_at (emission_by profile rules d (judgement_now d)) i) ≡ sent_at m to_send i
+      → or_else (sent_at m left i) (tick_at (emission_by profile rules d (judgement_now d)) i)
+      ≡ sent_at m to_send i
 
-  closes : (d : Burst) (next : SealState) (to_send : List ℕ) → Walked (Some d) → m + 1 ≡ end_of d + T3_5_TICKS
+  closes : (d : Burst) (next : SealState) (to_send : List ℕ) → Walked (Some d)
+      → m + 1 ≡ end_of d + T3_5_TICKS
       → state_by profile rules s d (judgement_now d) ≡ next → SendsThen d to_send
       → (0 < length to_send → m + length to_send + T3_5_TICKS ≤ next.earliest_start)
       → WalkedThen Silent next (drop 1 to_send) None
@@ -285,16 +315,20 @@ module _ (profile : Profile) (rules : Rules) (lawful : IsLawful rules) (tags : H
       subst P (sym (longer-line line Silent))
       (record {
         emissions = so_far.emissions ++ emission;
-        come = come-state profile rules floor (m + 1) ds (state_by profile rules s d (judgement_now d)) next
+        come = come-state profile rules floor (m + 1) ds
+            (state_by profile rules s d (judgement_now d)) next
             (so_far.emissions ++ emission) None state
-            (come-noted walker (at_floor floor) m ds s so_far.emissions d (take-silent (Some d) so_far) now);
+            (come-noted walker (at_floor floor) m ds s so_far.emissions d
+            (take-silent (Some d) so_far) now);
         sends = λ i from. let before : m ≤ i = omega arith in
-            link-more (Some d) so_far emission i before ∙ (sends i before ∙ sent-later m to_send i from);
+            link-more (Some d) so_far emission i before
+            ∙ (sends i before ∙ sent-later m to_send i from);
         in_time = left-in_time to_send m next.earliest_start in_time;
       })
 
   close-answers : (d : Burst) (step : SealStep) → Walked (Some d) → m + 1 ≡ end_of d + T3_5_TICKS
-      → or_else (sent_at m left m) (tick_at (emission_by profile rules d (judgement_now d)) m) ≡ step.tick
+      → or_else (sent_at m left m) (tick_at (emission_by profile rules d (judgement_now d)) m)
+      ≡ step.tick
       → Some (brief_note (note_by rules d (judgement_now d))) ≡ step.note
       → AnswersTick profile rules floor line Silent step
   close-answers d step so_far closing tick note =
@@ -303,10 +337,12 @@ module _ (profile : Profile) (rules : Rules) (lawful : IsLawful rules) (tags : H
       (ap (λ t. or_else (sent_at m left m) t) (emission-alone d m) ∙ tick)
       (ap (λ x. told_notes brief_note x) (note-now walker s m d now) ∙ ap (λ o. note_in m o) note)
 
-  pub walks-unsealed : (d : Burst) (why : UnsealedWhy) → Walked (Some d) → m + 1 ≡ end_of d + T3_5_TICKS
+  pub walks-unsealed : (d : Burst) (why : UnsealedWhy) → Walked (Some d)
+      → m + 1 ≡ end_of d + T3_5_TICKS
       → judgement_now d ≡ unsealed why
       → WalkedThen Silent s (drop 1 left) None
-      × AnswersTick profile rules floor line Silent (record { tick = first_of left; note = Some (Unsealed d.start why) })
+      × AnswersTick profile rules floor line Silent
+      (record { tick = first_of left; note = Some (Unsealed d.start why) })
   walks-unsealed d why so_far closing is =
       let dark : SendsThen d left = λ i from.
       let past : end_of d ≤ i = omega arith in
@@ -314,40 +350,49 @@ module _ (profile : Profile) (rules : Rules) (lawful : IsLawful rules) (tags : H
       (ap (λ j. tick_at (emission_by profile rules d j) i) is ∙ emission-unsealed d why i past)
       ∙ or_else-silent (sent_at m left i) in
       let here : m ≤ m = omega arith in (
-        closes d s left so_far closing (ap (λ j. state_by profile rules s d j) is) dark so_far.in_time,
-        close-answers d (record { tick = first_of left; note = Some (Unsealed d.start why) }) so_far closing
+        closes d s left so_far closing (ap (λ j. state_by profile rules s d j) is) dark
+            so_far.in_time,
+        close-answers d (record { tick = first_of left; note = Some (Unsealed d.start why) }) so_far
+            closing
             (dark m here ∙ sent-first m left)
             (ap (λ j. Some (brief_note (note_by rules d j))) is),
       )
 
   -- only a burst with no extra byte that starts late enough is sealed
-  pub seals-late : (d : Burst) (number : ℕ) → judgement_now d ≡ sealed_with number → s.earliest_start ≤ d.start
+  pub seals-late : (d : Burst) (number : ℕ) → judgement_now d ≡ sealed_with number
+      → s.earliest_start ≤ d.start
   seals-late d number is =
       let wrong : Bool = has_extra rules d || not (rules.is_frame (live_bytes rules d)) in
       ⊎_elim
       (λ early. absurd (early-unsealed wrong (s.floor == profile.limit) (suc s.floor) number
-      (ap (λ e. judge_by e wrong (s.floor == profile.limit) (suc s.floor)) (sym (lt-ltb d.start s.earliest_start early))
+      (ap (λ e. judge_by e wrong (s.floor == profile.limit) (suc s.floor))
+      (sym (lt-ltb d.start s.earliest_start early))
       ∙ (sym (judged-is profile rules s d) ∙ is))))
       (λ late. late)
       (cases_lt d.start s.earliest_start)
 
-  pub seals-whole : (d : Burst) (number : ℕ) → judgement_now d ≡ sealed_with number → has_extra rules d ≡ false
+  pub seals-whole : (d : Burst) (number : ℕ) → judgement_now d ≡ sealed_with number
+      → has_extra rules d ≡ false
   seals-whole d number is =
       let wrong : Bool = has_extra rules d || not (rules.is_frame (live_bytes rules d)) in
       no_extra (has_extra rules d) (not (rules.is_frame (live_bytes rules d)))
-      (sealed-right (nat_lt d.start s.earliest_start) wrong (s.floor == profile.limit) (suc s.floor) number
+      (sealed-right (nat_lt d.start s.earliest_start) wrong (s.floor == profile.limit) (suc s.floor)
+      number
       (sym (judged-is profile rules s d) ∙ is))
 
   -- then the link is silent up to this step, and the trailer is sent from it on
-  sealed-sends : (d : Burst) (number : ℕ) (bytes : List ℕ) → Walked (Some d) → live_end rules d + 3 ≡ m
-      → judgement_now d ≡ sealed_with number → bytes ≡ trailer profile number (live_bytes rules d) → SendsThen d bytes
+  sealed-sends : (d : Burst) (number : ℕ) (bytes : List ℕ) → Walked (Some d)
+      → live_end rules d + 3 ≡ m
+      → judgement_now d ≡ sealed_with number → bytes ≡ trailer profile number (live_bytes rules d)
+      → SendsThen d bytes
   sealed-sends d number bytes so_far end is trailer_is i from =
       let late = seals-late d number is in
       let none : left ≡ [] = none_left left m s.earliest_start so_far.in_time (omega arith) in
       let begun : d.start ≤ i = omega arith in
       let past : live_end rules d + 3 ≤ i = omega arith in
       let sent : List ℕ = trailer profile number (live_bytes rules d) in
-      ap (λ l. or_else (sent_at m l i) (tick_at (emission_by profile rules d (judgement_now d)) i)) none
+      ap (λ l. or_else (sent_at m l i) (tick_at (emission_by profile rules d (judgement_now d)) i))
+      none
       ∙ (ap (λ j. tick_at (emission_by profile rules d j) i) is
       ∙ (tick_at-from (forwarded rules d (trailing sent)) i begun
       ∙ (sealed-from profile rules d sent i past
@@ -358,7 +403,7 @@ module _ (profile : Profile) (rules : Rules) (lawful : IsLawful rules) (tags : H
   sealed-end d number so_far closing is =
       let within = divided-within line so_far.come.settled d (walked-divided (Some d) so_far) in
       let long : length (live_ticks rules d) ≡ length d.body =
-      ap length (live_ticks-whole rules lawful d within.knit (seals-whole d number is)) in
+      ap length (live_ticks-whole rules lawful d within.contiguous (seals-whole d number is)) in
       omega arith
 
   seals : (d : Burst) (number : ℕ) → Walked (Some d) → m + 1 ≡ end_of d + T3_5_TICKS
@@ -368,28 +413,43 @@ module _ (profile : Profile) (rules : Rules) (lawful : IsLawful rules) (tags : H
       record {
         start = d.start;
         frame = live_bytes rules d;
-        note = notes-step walker (sealer-causal profile rules lawful) (at_floor floor) line s so_far.emissions
+        note = notes-step walker (sealer-causal profile rules lawful) (at_floor floor) line s
+            so_far.emissions
             Silent (Some d) (take-silent (Some d) so_far)
             ∙ ap (λ x. seal_notes profile rules floor line ++ x)
             (note-now walker s m d now
-            ∙ ap (λ j. let n : Noted FullNote = record { tick = m; note = note_by rules d j } in n ∷ []) is);
+            ∙ ap (λ j. let n : Noted FullNote = record { tick = m; note = note_by rules d j } in
+            n ∷ []) is);
       }
 
-  pub walks-sealed : (d : Burst) (number : ℕ) (bytes : List ℕ) → Walked (Some d) → m + 1 ≡ end_of d + T3_5_TICKS
+  pub walks-sealed : (d : Burst) (number : ℕ) (bytes : List ℕ) → Walked (Some d)
+      → m + 1 ≡ end_of d + T3_5_TICKS
       → judgement_now d ≡ sealed_with number → bytes ≡ trailer profile number (live_bytes rules d)
-      → WalkedThen Silent (record { floor = number; earliest_start = start_after profile rules d }) (drop 1 bytes) None
+      → WalkedThen Silent (record { floor = number; earliest_start = start_after profile rules d })
+      (drop 1 bytes) None
       × AnswersTick profile rules floor line Silent
-      (record { tick = first_of bytes; note = Some (Sealed number d.start (length (live_bytes rules d))) })
+      (record {
+        tick = first_of bytes;
+        note =
+            Some (Sealed number d.start (length (live_bytes rules d)));
+      })
       × SealsWith profile rules floor line Silent number
   walks-sealed d number bytes so_far closing is trailer_is =
       let end = sealed-end d number so_far closing is in
       let sends = sealed-sends d number bytes so_far end is trailer_is in
       let size : length bytes ≡ trailer_len profile =
       ap length trailer_is ∙ length-trailer profile tags number (live_bytes rules d) in
-      let next : SealState = record { floor = number; earliest_start = start_after profile rules d } in
+      let next : SealState = record {
+        floor = number;
+        earliest_start = start_after profile rules d;
+      } in
       let here : m ≤ m = omega arith in (
-        closes d next bytes so_far closing (ap (λ j. state_by profile rules s d j) is) sends (λ some. omega arith),
-        close-answers d (record { tick = first_of bytes; note = Some (Sealed number d.start (length (live_bytes rules d))) })
+        closes d next bytes so_far closing (ap (λ j. state_by profile rules s d j) is) sends
+            (λ some. omega arith),
+        close-answers d (record {
+          tick = first_of bytes;
+          note = Some (Sealed number d.start (length (live_bytes rules d)));
+        })
             so_far closing (sends m here ∙ sent-first m bytes)
             (ap (λ j. Some (brief_note (note_by rules d j))) is),
         seals d number so_far closing is,
@@ -408,7 +468,7 @@ module _ (profile : Profile) (rules : Rules) (lawful : IsLawful rules) (tags : H
     ends = byte-ends line closed b running (walked-divided running so_far)
 
     whole : IsContiguous 4 d.body
-    whole = byte-knit line closed b running (walked-divided running so_far)
+    whole = byte-contiguous line closed b running (walked-divided running so_far)
 
     walks-byte : WalkedThen (Byte b) s (drop 1 left) (Some d)
     walks-byte =
@@ -416,7 +476,8 @@ module _ (profile : Profile) (rules : Rules) (lawful : IsLawful rules) (tags : H
         let later : m + 1 ≤ end_of d + 3 = omega arith in
         walks-on running (Some d) so_far (Byte b) (take-byte running b so_far) later
 
-    byte-answers : (t : Tick) → or_else (sent_at m left m) (tick_at (emission_by profile rules d (judgement_now d)) m) ≡ t
+    byte-answers : (t : Tick) → or_else (sent_at m left m)
+        (tick_at (emission_by profile rules d (judgement_now d)) m) ≡ t
         → AnswersTick profile rules floor line (Byte b) (noteless t)
     byte-answers t is =
         let end = ends in
@@ -427,7 +488,8 @@ module _ (profile : Profile) (rules : Rules) (lawful : IsLawful rules) (tags : H
 
     -- a byte of an early burst isn't forwarded
     pub walks-early : d.start < s.earliest_start
-        → WalkedThen (Byte b) s (drop 1 left) (Some d) × AnswersTick profile rules floor line (Byte b) (noteless (first_of left))
+        → WalkedThen (Byte b) s (drop 1 left) (Some d)
+        × AnswersTick profile rules floor line (Byte b) (noteless (first_of left))
     walks-early early = (
       walks-byte,
       byte-answers (first_of left)
@@ -446,33 +508,40 @@ module _ (profile : Profile) (rules : Rules) (lawful : IsLawful rules) (tags : H
         let P : List ℕ → Type 0 = λ l. WalkedThen (Byte b) s (drop 1 l) (Some d) in
         subst P (byte-none_left late) walks-byte
 
-    late-answers : (t : Tick) → s.earliest_start ≤ d.start → tick_at (emission_by profile rules d (judgement_now d)) m ≡ t
+    late-answers : (t : Tick) → s.earliest_start ≤ d.start
+        → tick_at (emission_by profile rules d (judgement_now d)) m ≡ t
         → AnswersTick profile rules floor line (Byte b) (noteless t)
     late-answers t late is =
         byte-answers t
-        (ap (λ l. or_else (sent_at m l m) (tick_at (emission_by profile rules d (judgement_now d)) m)) (byte-none_left late)
+        (ap (λ l. or_else (sent_at m l m)
+        (tick_at (emission_by profile rules d (judgement_now d)) m)) (byte-none_left late)
         ∙ is)
 
     pub walks-live : s.earliest_start ≤ d.start → live_end rules d ≡ m + 1
-        → (left ≡ []) × WalkedThen (Byte b) s [] (Some d) × AnswersTick profile rules floor line (Byte b) (noteless (Byte b))
+        → (left ≡ []) × WalkedThen (Byte b) s [] (Some d)
+        × AnswersTick profile rules floor line (Byte b) (noteless (Byte b))
     walks-live late live =
         let end = ends in
-        let begun : d.start ≤ m = byte-begun line closed b running (walked-divided running so_far) in
+        let begun : d.start ≤ m = byte-begun line closed b running
+        (walked-divided running so_far) in
         let before : m < end_of d + 3 = omega arith in
         let all : length (live_ticks rules d) ≡ length d.body = omega arith in (
           byte-none_left late,
           walks-late late,
           late-answers (Byte b) late
               (emission-live d m whole late begun before
-              ∙ (ap (λ x. get_or x (m - d.start) Silent) (up_to_byte-full (length (live_bytes rules d)) d.body all)
+              ∙ (ap (λ x. get_or x (m - d.start) Silent)
+              (up_to_byte-full (length (live_bytes rules d)) d.body all)
               ∙ byte-last line closed b running (walked-divided running so_far))),
         )
 
     pub walks-extra : s.earliest_start ≤ d.start → live_end rules d ≤ m
-        → (left ≡ []) × WalkedThen (Byte b) s [] (Some d) × AnswersTick profile rules floor line (Byte b) (noteless Silent)
+        → (left ≡ []) × WalkedThen (Byte b) s [] (Some d)
+        × AnswersTick profile rules floor line (Byte b) (noteless Silent)
     walks-extra late extra =
         let end = ends in
-        let begun : d.start ≤ m = byte-begun line closed b running (walked-divided running so_far) in
+        let begun : d.start ≤ m = byte-begun line closed b running
+        (walked-divided running so_far) in
         let before : m < end_of d + 3 = omega arith in (
           byte-none_left late,
           walks-late late,
@@ -482,10 +551,12 @@ module _ (profile : Profile) (rules : Rules) (lawful : IsLawful rules) (tags : H
   -- ---- the last number
 
   -- The floor of the state is the last number used.
-  pub walked-number : (running : Option Burst) → Walked running → s.floor ≡ last_number floor (sealed profile rules floor line)
+  pub walked-number : (running : Option Burst) → Walked running
+      → s.floor ≡ last_number floor (sealed profile rules floor line)
   walked-number running so_far =
       let come = so_far.come in
-      let notes : seal_notes profile rules floor line ≡ walked walker (at_floor floor) come.settled =
+      let notes : seal_notes profile rules floor line
+      ≡ walked walker (at_floor floor) come.settled =
       notes_before-come walker (at_floor floor) m (bursts line) s so_far.emissions running come in
       ap (λ x. x.floor) (sym come.state)
       ∙ (noted-number profile rules (at_floor floor) come.settled
