@@ -4,3 +4,4 @@ pub mod Walks
 pub mod Longer
 pub mod LastNote
 pub mod Coming
+pub mod LaidBursts

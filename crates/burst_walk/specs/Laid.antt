@@ -1,5 +1,5 @@
 -- Emissions on a line: each one is the ticks from its start on, and all else is silent.
-use Rattle.std.specs.Prelude.{ℕ, ◌-◌, ◌&&◌, nat_lt, nat_le, List, [], ◌∷◌, map, slice_index_or, if◌then◌else◌}
+use Rattle.std.specs.Prelude.{ℕ, ◌+◌, ◌-◌, ◌&&◌, nat_lt, nat_le, List, [], ◌∷◌, map, slice_index_or, if◌then◌else◌}
 use Rattle.std.specs.List.{range_with_len}
 use Rattle.yasir_ticks.specs.Bursts.{Burst, end_of}
 use Rattle.yasir_ticks.specs.declared.tick.Tick.{Tick}
@@ -14,3 +14,7 @@ tick_at (d ∷ ds) i =
 -- the first m ticks of that line
 abbrev pub laid : ℕ → List Burst → List Tick
 laid m emissions = map (λ i. tick_at emissions i) (range_with_len 0 m)
+
+-- an emission, n ticks later
+abbrev pub later : ℕ → Burst → Burst
+later n d = record { start = n + d.start; body = d.body }

@@ -1,18 +1,17 @@
 -- What the steps of a transmitter answer, and what they do to its journal.
 use Rattle.std.specs.Prelude.{◌≡◌, ℕ, ◌+◌, List, [], ◌∷◌, ◌++◌, length, Option, Some, None}
-use Rattle.std.specs.Prelude.{Result, IfOk, OnOk, OnErr, IfSome, true}
+use Rattle.std.specs.Prelude.{Result, IfOk, OnOk, OnErr}
 use Rattle.yasir_ticks.specs.declared.tick.Tick.{Tick}
 use Rattle.yasir_io.specs.Causes.{HasCause}
-use Rattle.yasir_io.specs.Disks.{Slots, OneImage, LeavesOnly, other_slot}
+use Rattle.yasir_io.specs.Disks.{LeavesOnly}
 use Rattle.yasir_io.specs.declared.disk.SlotDisk.{Ghosts as SlotDisk}
 use Rattle.line_rules.specs.Rules.{Rules}
 use Rattle.burst_walk.specs.Answers.{AnswersTick as AnswersTickOf}
 use Rattle.link_format.specs.Profile.{Profile}
 use Rattle.sequence_journal.specs.declared.journal.Journal.{Journal}
 use Rattle.sequence_journal.specs.declared.journal.JournalFault.{JournalFault}
-use Rattle.sequence_journal.specs.Slots.{slot_bytes}
-use Rattle.sequence_journal.specs.Journal.{journal_floor, kept_slot, is_broken, told_with, MaySet}
-use Rattle.sequence_journal.specs.Journal.{IsEitherFloor, Fits, IsCrashSafe, HasFloorAtLeast}
+use Rattle.sequence_journal.specs.Commits.{HasCommitted, HasFailed}
+use Rattle.sequence_journal.specs.Journal.{journal_floor, Fits, IsCrashSafe, HasFloorAtLeast}
 use Rattle.seal_transmitter.specs.Sealing.{FullNote, sealer, at_floor, seal_notes}
 use Rattle.seal_transmitter.specs.Sealing.FullNote.{sealed_note, unsealed_note}
 use Rattle.seal_transmitter.specs.declared.note.SealNote.{SealNote}
@@ -38,27 +37,11 @@ pub record SealsWith (profile : Profile) (rules : Rules) (floor : ℕ) (line : L
   pub note : seal_notes profile rules floor (line ++ t ∷ []) ≡ seal_notes profile rules floor line
       ++ record { tick = length line; note = sealed_note number start frame } ∷ []
 
--- A number was committed: it is the journal's floor, in the slots too, and a crash leaves just these slots.
-pub record HasCommitted (old new : Journal) (told_old told_new : Option Slots)
-    (may_leave : Slots → Type 0) (number : ℕ) : Type 0 where
-  pub next : number ≡ journal_floor old + 1
-  pub floor : journal_floor new ≡ number
-  pub set : told_new ≡ told_with told_old (other_slot (kept_slot old)) (slot_bytes number)
-  pub turned : kept_slot new ≡ other_slot (kept_slot old)
-  pub synced : OneImage told_new may_leave
-
--- A commit failed: the journal is broken and keeps its floor, and one slot may have been set to the number.
-pub record HasFailed (old new : Journal) (told_old told_new : Option Slots) (number : ℕ) : Type 0 where
-  pub broken : is_broken new ≡ true
-  pub floor : journal_floor new ≡ journal_floor old
-  pub kept : kept_slot new ≡ kept_slot old
-  pub slots : MaySet told_old (other_slot (kept_slot old)) (slot_bytes number) told_new
-  pub floor_told : IfSome told_new (IsEitherFloor (journal_floor old) number)
-
--- By its note a step has committed the number of a sealed frame, or has left journal and disk as they were.
+-- By its note a step has committed the next number, that of a sealed frame, or has left journal and disk as they were.
 abbrev pub CommitsNoted : {D : Type 0} → SlotDisk D → Journal → Journal → D → D → Option SealNote → Type 0
 CommitsNoted d old new disk_old disk_new (Some (Sealed number start len)) =
-    HasCommitted old new (d.told disk_old) (d.told disk_new) (d.may_leave disk_new) number
+    (number ≡ journal_floor old + 1)
+    × HasCommitted old new (d.told disk_old) (d.told disk_new) (d.may_leave disk_new) number
 CommitsNoted d old new disk_old disk_new (Some (Unsealed start why)) =
     (new ≡ old) × (disk_new ≡ disk_old)
 CommitsNoted d old new disk_old disk_new None = (new ≡ old) × (disk_new ≡ disk_old)

@@ -1,8 +1,10 @@
-use Rattle.std.proofs.Common.{ℕ, ◌≡◌, ◌+◌, [], ◌∷◌, ◌++◌, rules, sym, ap, subst}
+use Rattle.std.proofs.Common.{ℕ, ◌≡◌, ◌+◌, [], ◌∷◌, ◌++◌, rules, sym, ap, subst, Option}
 use Rattle.yasir_ticks.specs.declared.tick.Tick.TheVariants.{Silent}
 use Rattle.link_format.specs.Trailers.{bytes_left}
-use Rattle.sequence_journal.specs.Journal.{journal_floor, HasFloorAtLeast}
-use Rattle.seal_transmitter.specs.Answers.{HasFailed}
+use Rattle.sequence_journal.specs.Commits.{HasFailed}
+use Rattle.sequence_journal.specs.Journal.{journal_floor}
+use Rattle.seal_transmitter.specs.Answers.{CommitsNoted}
+use Rattle.seal_transmitter.specs.declared.note.SealNote.{SealNote}
 use Rattle.seal_transmitter.specs.Sealing.Judgement.{sealed_with}
 use Rattle.seal_transmitter.specs.Between.{Judges}
 use Rattle.seal_transmitter.specs.Stands.{HasTaken}
@@ -32,27 +34,28 @@ returns-in-Ok-clause-step g c = λ setup line between.
 
 pub returns-in_default-clause-journal : goal.returns-in_default-clause-journal
 returns-in_default-clause-journal g c =
-    let F : ℕ → Type 0 = λ n. HasFailed c.args.journal.now c.commit.new.self (g.D.SlotDisk.told c.args.disk.now)
-    (g.D.SlotDisk.told c.commit.new.disk) n in
+    let F : ℕ → Type 0 = λ n. HasFailed c.args.journal.now c.commit.new.self
+    (g.D.SlotDisk.told c.args.disk.now) (g.D.SlotDisk.told c.commit.new.disk) n in
     record {
       commits = tt;
       fits = tt;
-      failed = subst F (ap (λ n. n + 1) c.floor-number.ensures.value)
-          (record {
-            broken = c.in_default.ensures.broken;
-            floor = c.in_default.ensures.err_floor;
-            kept = c.in_default.ensures.err_kept;
-            slots = c.in_default.ensures.slots;
-            floor_told = c.in_default.ensures.floor_told;
-          });
-      crash_safe = λ safe.
-          let any = c.commit.ensures.any_moment safe.kept in
-          record {
-            kept = c.commit.ensures.kept safe.kept;
-            floors = λ slots image. let P : ℕ → Type 0 = λ n. HasFloorAtLeast n slots in
-                subst P (sym c.in_default.ensures.err_floor)
-                (any.each slots (g.met.D.SlotDisk.counts_now c.commit.new.disk (g.D.SlotDisk.moment c.args.disk.now) slots any.later image));
-          };
+      failed = subst F (ap (λ n. n + 1) c.floor-number.ensures.value) c.in_default.ensures.failed;
+      crash_safe = c.commit.ensures.crash_safe;
+      any_moment = λ safe. c.commit.ensures.any_moment safe.kept;
+      cause = search rules;
+    }
+
+pub returns-in-Ok-clause-journal : goal.returns-in-Ok-clause-journal
+returns-in-Ok-clause-journal g c =
+    let P : Option SealNote → Type 0 = λ note. CommitsNoted g.D.SlotDisk c.args.journal.now
+    c.commit.new.self c.args.disk.now c.commit.new.disk note in
+    let noted = c.seal.ensures.note in
+    record {
+      commits = subst P (sym noted.2)
+          (ap (λ n. n + 1) c.floor-number.ensures.value, c.in-Ok.ensures.committed);
+      fits = c.in-Ok.ensures.fits;
+      failed = tt;
+      crash_safe = c.commit.ensures.crash_safe;
       any_moment = λ safe. c.commit.ensures.any_moment safe.kept;
       cause = search rules;
     }
