@@ -108,4 +108,17 @@ mod tests {
         assert_eq!(rt; spoiled_after::<Rtu>(b"\x01\x7E", 0x80), Some(0x81));
         assert_eq!(rt; spoiled_after::<Rtu>(b"", 0xFF), Some(0xFF));
     }
+
+    #[test]
+    fn runs_of_bytes(rt: HostRuntime) {
+        let mut rules = Rtu::fresh();
+        assert_eq!(rt; rules.take_some(b"\x01\x03\x40\x21"), 4);
+        assert!(rt; rules.good());
+        assert_eq!(rt; rules.take_some(&[0x55; 300]), 252);
+        assert_eq!(rt;
+            (rules.len(), rules.full(), rules.good()),
+            (256, true, false)
+        );
+        assert_eq!(rt; rules.take_some(b"\x00"), 0);
+    }
 }
