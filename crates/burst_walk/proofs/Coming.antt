@@ -1,5 +1,7 @@
 -- One more tick of a line: how far a causal walk then has come, and what the step answers.
-use Rattle.std.proofs.Common.{◌≡◌, ◌∙◌, ◌==◌, ◌⊎◌, inl, inr, ℕ, ◌+◌, ◌<◌, ◌≤◌, nat_lt, true, false, List, [], ◌∷◌, ◌++◌, length, refl, sym, ap, subst, arith, ⊎_elim, Option, Some, None, IfSome}
+use Rattle.std.proofs.Common.{◌≡◌, ◌∙◌, ◌==◌, ◌⊎◌, inl, inr, ℕ, ◌+◌, ◌<◌, ◌≤◌, nat_lt, true, false}
+use Rattle.std.proofs.Common.{List, [], ◌∷◌, ◌++◌, length, refl, sym, ap, subst, arith, ⊎_elim}
+use Rattle.std.proofs.Common.{Option, Some, None, IfSome}
 use Rattle.std.proofs.lemmas.Bool.{cases_lt, cond-true, cond-false}
 use Rattle.std.proofs.lemmas.List.{append-nil, map-append}
 use Rattle.std.proofs.lemmas.List.Elements.{filter-append}
@@ -8,15 +10,18 @@ use Rattle.yasir_ticks.specs.BurstsOf.{IsContiguous, one}
 use Rattle.yasir_ticks.specs.declared.TheConstants.{T3_5_TICKS}
 use Rattle.yasir_ticks.specs.declared.tick.Tick.{Tick}
 use Rattle.yasir_ticks.specs.declared.tick.Tick.TheVariants.{Silent, Byte}
-use Rattle.yasir_ticks.proofs.BurstLaws.{alone, extended, extended-closed, extended-joins, bursts_from-byte, bursts_from-silent}
+use Rattle.yasir_ticks.proofs.BurstLaws.{alone, extended, extended-closed, extended-joins}
+use Rattle.yasir_ticks.proofs.BurstLaws.{bursts_from-byte, bursts_from-silent}
 use Rattle.burst_walk.specs.Laid.{tick_at}
-use Rattle.burst_walk.specs.Walk.{Walker, Noted, noted, walked, emitted, state_after, notes_before, notes_at, notes_of, line_of}
+use Rattle.burst_walk.specs.Walk.{Walker, Noted, noted, walked, emitted, state_after, notes_before}
+use Rattle.burst_walk.specs.Walk.{notes_at, notes_of, line_of}
 use Rattle.burst_walk.specs.Causal.{IsCausal, MayGoOn, AddsOneTick, going_on}
 use Rattle.burst_walk.specs.HasCome.{waiting_part, AreNoted, HasCome}
 use Rattle.burst_walk.specs.Answers.{AnswersTick, told_notes, note_in}
 use Rattle.burst_walk.proofs.Spread.{AreSpread, EndBy, bursts-spread, bursts-end}
 use Rattle.burst_walk.proofs.LastNote.{last_contiguous, last_ends}
-use Rattle.burst_walk.proofs.Walks.{walked-append, emitted-append, state_after-append, before-early, before-late, adds_one_tick}
+use Rattle.burst_walk.proofs.Walks.{walked-append, emitted-append, state_after-append, before-early}
+use Rattle.burst_walk.proofs.Walks.{before-late, adds_one_tick}
 
 is_other : (a b : ℕ) → (a ≡ b → ⊥) → (a == b) ≡ false
 is_other a b h = grind arith
@@ -32,7 +37,12 @@ pub record RunsOn (m : ℕ) (ds : List Burst) : Type 0 where
   pub near : m < end_of last + T3_5_TICKS
 
 runs_on-more : (m : ℕ) (d e : Burst) (ds : List Burst) → RunsOn m (e ∷ ds) → RunsOn m (d ∷ e ∷ ds)
-runs_on-more m d e ds on = record { front = d ∷ on.front; last = on.last; is = ap (λ x. d ∷ x) on.is; near = on.near }
+runs_on-more m d e ds on = record {
+  front = d ∷ on.front;
+  last = on.last;
+  is = ap (λ x. d ∷ x) on.is;
+  near = on.near;
+}
 
 closed-or : (m n : ℕ) (ds : List Burst) → AreSpread T3_5_TICKS n ds → EndBy m ds
     → AreClosed T3_5_TICKS m ds ⊎ RunsOn m ds
@@ -54,7 +64,8 @@ closed-or m n (d ∷ e ∷ ds) spread ends =
 -- all bursts of a line are closed, or the last one may go on
 pub closed-or-runs_on : (line : List Tick)
     → AreClosed T3_5_TICKS (length line) (bursts line) ⊎ RunsOn (length line) (bursts line)
-closed-or-runs_on line = closed-or (length line) 0 (bursts line) (bursts-spread line) (bursts-end line)
+closed-or-runs_on line = closed-or (length line) 0 (bursts line) (bursts-spread line)
+    (bursts-end line)
 
 -- the last burst of a line may go on, as long as its end is near
 may-go_on : (line : List Tick) (front : List Burst) (d : Burst) → bursts line ≡ front ++ d ∷ []
@@ -71,14 +82,19 @@ may-go_on line front d is near =
 module _ {S N : Type 0} (w : Walker S N) where
   noted-later : (s : S) (m n : ℕ) (ds : List Burst) → m ≤ n → AreNoted w s m ds → AreNoted w s n ds
   noted-later s m n [] le are = tt
-  noted-later s m n (d ∷ ds) le are = (omega (arith, are.0), noted-later (w.next s d) m n ds le are.1)
+  noted-later s m n (d ∷ ds) le are = (
+    omega (arith, are.0),
+    noted-later (w.next s d) m n ds le are.1,
+  )
 
-  noted-append : (s : S) (m : ℕ) (a : List Burst) (d : Burst) → AreNoted w s m a → w.tick (state_after w s a) d < m
+  noted-append : (s : S) (m : ℕ) (a : List Burst) (d : Burst) → AreNoted w s m a
+      → w.tick (state_after w s a) d < m
       → AreNoted w s m (a ++ d ∷ [])
   noted-append s m [] d are last = (last, tt)
   noted-append s m (e ∷ a) d are last = (are.0, noted-append (w.next s e) m a d are.1 last)
 
-  noted-front : (s : S) (m : ℕ) (a : List Burst) (d : Burst) → AreNoted w s m (a ++ d ∷ []) → AreNoted w s m a
+  noted-front : (s : S) (m : ℕ) (a : List Burst) (d : Burst) → AreNoted w s m (a ++ d ∷ [])
+      → AreNoted w s m a
   noted-front s m [] d are = tt
   noted-front s m (e ∷ a) d are = (are.0, noted-front (w.next s e) m a d are.1)
 
@@ -88,7 +104,8 @@ module _ {S N : Type 0} (w : Walker S N) where
   noted-last s m (e ∷ a) d are = noted-last (w.next s e) m a d are.1
 
   -- the notes of noted bursts come before tick m, and none in its step
-  noted-before : (s : S) (m : ℕ) (ds : List Burst) → AreNoted w s m ds → notes_before m (walked w s ds) ≡ walked w s ds
+  noted-before : (s : S) (m : ℕ) (ds : List Burst) → AreNoted w s m ds
+      → notes_before m (walked w s ds) ≡ walked w s ds
   noted-before s m [] are = refl
   noted-before s m (d ∷ ds) are =
       before-early m (noted w s d) (walked w (w.next s d) ds) are.0
@@ -98,7 +115,8 @@ module _ {S N : Type 0} (w : Walker S N) where
   noted-at s m [] are = refl
   noted-at s m (d ∷ ds) are =
       let early : w.tick s d < m = are.0 in
-      cond-false _ _ _ (is_other (w.tick s d) m (λ same. omega arith)) ∙ noted-at (w.next s d) m ds are.1
+      cond-false _ _ _ (is_other (w.tick s d) m (λ same. omega arith))
+      ∙ noted-at (w.next s d) m ds are.1
 
   -- a burst that waits has its note in the step of tick m, or has none yet
   pub note-now : (s : S) (m : ℕ) (d : Burst) → w.tick s d ≡ m
@@ -107,7 +125,8 @@ module _ {S N : Type 0} (w : Walker S N) where
       cond-true _ _ _ (is_same (w.tick s d) m now)
       ∙ ap (λ k. let n : Noted N = record { tick = k; note = w.note s d } in n ∷ []) now
 
-  pub note-later : (s : S) (m : ℕ) (waiting : Option Burst) → IfSome waiting (λ d. m + 1 ≤ w.tick s d)
+  pub note-later : (s : S) (m : ℕ) (waiting : Option Burst)
+      → IfSome waiting (λ d. m + 1 ≤ w.tick s d)
       → notes_at m (walked w s (waiting_part waiting)) ≡ []
   note-later s m None later = refl
   note-later s m (Some d) later = cond-false _ _ _ (is_other (w.tick s d) m (λ same. omega arith))
@@ -115,9 +134,17 @@ module _ {S N : Type 0} (w : Walker S N) where
   module _ (begun : S) where
     -- nothing has come yet
     pub come-begun : HasCome w begun 0 [] begun [] None
-    come-begun = record { settled = []; is = refl; are_noted = tt; waits = tt; state = refl; emits = refl }
+    come-begun = record {
+      settled = [];
+      is = refl;
+      are_noted = tt;
+      waits = tt;
+      state = refl;
+      emits = refl;
+    }
 
-    come-at : (m : ℕ) (ds es : List Burst) (s : S) (emissions : List Burst) (waiting : Option Burst) → ds ≡ es
+    come-at : (m : ℕ) (ds es : List Burst) (s : S) (emissions : List Burst) (waiting : Option Burst)
+        → ds ≡ es
         → HasCome w begun m ds s emissions waiting → HasCome w begun m es s emissions waiting
     come-at m ds es s emissions waiting same come = record {
       settled = come.settled;
@@ -133,7 +160,8 @@ module _ {S N : Type 0} (w : Walker S N) where
 
       -- it still waits
       pub come-waits : (waiting : Option Burst) → HasCome w begun m ds s emissions waiting
-          → IfSome waiting (λ d. m + 1 ≤ w.tick s d) → HasCome w begun (m + 1) ds s emissions waiting
+          → IfSome waiting (λ d. m + 1 ≤ w.tick s d)
+          → HasCome w begun (m + 1) ds s emissions waiting
       come-waits waiting come later = record {
         settled = come.settled;
         is = come.is;
@@ -153,11 +181,14 @@ module _ {S N : Type 0} (w : Walker S N) where
           record {
             settled = come.settled ++ d ∷ [];
             is = come.is ∙ sym (append-nil (come.settled ++ d ∷ []));
-            are_noted = noted-append begun (m + 1) come.settled d older (subst P (sym come.state) soon);
+            are_noted = noted-append begun (m + 1) come.settled d older
+                (subst P (sym come.state) soon);
             waits = tt;
-            state = state_after-append w begun come.settled (d ∷ []) ∙ ap (λ x. w.next x d) come.state;
+            state = state_after-append w begun come.settled (d ∷ [])
+                ∙ ap (λ x. w.next x d) come.state;
             emits = emitted-append w begun come.settled (d ∷ [])
-                ∙ (ap (λ x. emitted w begun come.settled ++ x) (append-nil (w.emission (state_after w begun come.settled) d))
+                ∙ (ap (λ x. emitted w begun come.settled ++ x)
+                (append-nil (w.emission (state_after w begun come.settled) d))
                 ∙ (ap (λ x. x ++ w.emission (state_after w begun come.settled) d) come.emits
                 ∙ ap (λ x. emissions ++ w.emission x d) come.state));
           }
@@ -170,17 +201,21 @@ module _ {S N : Type 0} (w : Walker S N) where
         emitted-come =
             ap (λ x. emitted w begun x) come.is
             ∙ (emitted-append w begun come.settled (waiting_part waiting)
-            ∙ (ap (λ x. x ++ emitted w (state_after w begun come.settled) (waiting_part waiting)) come.emits
+            ∙ (ap (λ x. x ++ emitted w (state_after w begun come.settled) (waiting_part waiting))
+            come.emits
             ∙ ap (λ x. emissions ++ emitted w x (waiting_part waiting)) come.state))
 
         -- the notes in the step of tick m are those of the burst that waits
-        pub notes_at-come : notes_at m (walked w begun ds) ≡ notes_at m (walked w s (waiting_part waiting))
+        pub notes_at-come : notes_at m (walked w begun ds)
+            ≡ notes_at m (walked w s (waiting_part waiting))
         notes_at-come =
             let after : S = state_after w begun come.settled in
             ap (λ x. notes_at m (walked w begun x)) come.is
             ∙ (ap (λ x. notes_at m x) (walked-append w begun come.settled (waiting_part waiting))
-            ∙ (filter-append (λ n. n.tick == m) (walked w begun come.settled) (walked w after (waiting_part waiting))
-            ∙ (ap (λ l. l ++ notes_at m (walked w after (waiting_part waiting))) (noted-at begun m come.settled come.are_noted)
+            ∙ (filter-append (λ n. n.tick == m) (walked w begun come.settled)
+            (walked w after (waiting_part waiting))
+            ∙ (ap (λ l. l ++ notes_at m (walked w after (waiting_part waiting)))
+            (noted-at begun m come.settled come.are_noted)
             ∙ ap (λ x. notes_at m (walked w x (waiting_part waiting))) come.state)))
 
         -- all notes before tick m are those of the bursts that don't wait
@@ -188,14 +223,19 @@ module _ {S N : Type 0} (w : Walker S N) where
         notes_before-come =
             let after : S = state_after w begun come.settled in
             ap (λ x. notes_before m (walked w begun x)) come.is
-            ∙ (ap (λ x. notes_before m x) (walked-append w begun come.settled (waiting_part waiting))
-            ∙ (filter-append (λ n. nat_lt n.tick m) (walked w begun come.settled) (walked w after (waiting_part waiting))
-            ∙ (ap (λ l. l ++ notes_before m (walked w after (waiting_part waiting))) (noted-before begun m come.settled come.are_noted)
-            ∙ (ap (λ x. walked w begun come.settled ++ notes_before m (walked w x (waiting_part waiting))) come.state
+            ∙ (ap (λ x. notes_before m x)
+            (walked-append w begun come.settled (waiting_part waiting))
+            ∙ (filter-append (λ n. nat_lt n.tick m) (walked w begun come.settled)
+            (walked w after (waiting_part waiting))
+            ∙ (ap (λ l. l ++ notes_before m (walked w after (waiting_part waiting)))
+            (noted-before begun m come.settled come.are_noted)
+            ∙ (ap (λ x. walked w begun come.settled
+            ++ notes_before m (walked w x (waiting_part waiting))) come.state
             ∙ (ap (λ x. walked w begun come.settled ++ x) (none_yet waiting come.waits)
             ∙ append-nil (walked w begun come.settled))))))
           where
-            none_yet : (o : Option Burst) → IfSome o (λ d. m ≤ w.tick s d) → notes_before m (walked w s (waiting_part o)) ≡ []
+            none_yet : (o : Option Burst) → IfSome o (λ d. m ≤ w.tick s d)
+                → notes_before m (walked w s (waiting_part o)) ≡ []
             none_yet None waits = refl
             none_yet (Some d) waits = before-late m (noted w s d) [] waits
 
@@ -204,10 +244,12 @@ module _ {S N : Type 0} (w : Walker S N) (causal : IsCausal w) (begun : S) (line
 
   module _ (s : S) (emissions : List Burst) where
     -- silence changes no burst
-    pub come-silent : (waiting : Option Burst) → HasCome w begun (length line) (bursts line) s emissions waiting
+    pub come-silent : (waiting : Option Burst)
+        → HasCome w begun (length line) (bursts line) s emissions waiting
         → HasCome w begun (length line) (bursts (line ++ Silent ∷ [])) s emissions waiting
     come-silent waiting come =
-        come-at w begun (length line) (bursts line) (bursts (line ++ Silent ∷ [])) s emissions waiting
+        come-at w begun (length line) (bursts line) (bursts (line ++ Silent ∷ [])) s emissions
+        waiting
         (sym (bursts_from-silent T3_5_TICKS 0 line)) come
 
     -- the bursts after a byte
@@ -215,20 +257,25 @@ module _ {S N : Type 0} (w : Walker S N) (causal : IsCausal w) (begun : S) (line
         → bursts (line ++ Byte b ∷ []) ≡ extended T3_5_TICKS (length line) b ds
     bursts-byte b ds is =
         let here : 0 + length line ≡ length line = omega arith in
-        bursts_from-byte T3_5_TICKS 0 (length line) b line here ∙ ap (λ x. extended T3_5_TICKS (length line) b x) is
+        bursts_from-byte T3_5_TICKS 0 (length line) b line here
+        ∙ ap (λ x. extended T3_5_TICKS (length line) b x) is
 
     -- a burst that waits may go on
-    pub waiting-may : (d : Burst) → HasCome w begun (length line) (bursts line) s emissions (Some d) → MayGoOn d (length line)
+    pub waiting-may : (d : Burst) → HasCome w begun (length line) (bursts line) s emissions (Some d)
+        → MayGoOn d (length line)
     waiting-may d come =
         let P : List Burst → Type 0 = λ ds. AreSpread T3_5_TICKS 0 ds in
-        let whole : IsContiguous T3_5_TICKS d.body = last_contiguous 0 come.settled d (subst P come.is (bursts-spread line)) in
+        let whole : IsContiguous T3_5_TICKS d.body =
+        last_contiguous 0 come.settled d (subst P come.is (bursts-spread line)) in
         let soon = causal.in_time s d whole in
         let late : length line ≤ w.tick s d = come.waits in
         may-go_on line come.settled d come.is (omega arith)
 
     -- and does so by a byte
-    pub come-joined : (b : ℕ) (d : Burst) → HasCome w begun (length line) (bursts line) s emissions (Some d)
-        → HasCome w begun (length line) (bursts (line ++ Byte b ∷ [])) s emissions (Some (going_on d (length line) b))
+    pub come-joined : (b : ℕ) (d : Burst)
+        → HasCome w begun (length line) (bursts line) s emissions (Some d)
+        → HasCome w begun (length line) (bursts (line ++ Byte b ∷ [])) s emissions
+        (Some (going_on d (length line) b))
     come-joined b d come =
         let may = waiting-may d come in
         record {
@@ -244,7 +291,8 @@ module _ {S N : Type 0} (w : Walker S N) (causal : IsCausal w) (begun : S) (line
     -- where all bursts are closed, a byte begins one
     pub come-alone : (b : ℕ) → HasCome w begun (length line) (bursts line) s emissions None
         → AreClosed T3_5_TICKS (length line) (bursts line)
-        → HasCome w begun (length line) (bursts (line ++ Byte b ∷ [])) s emissions (Some (alone (length line) b))
+        → HasCome w begun (length line) (bursts (line ++ Byte b ∷ [])) s emissions
+        (Some (alone (length line) b))
     come-alone b come closed =
         let whole : bursts line ≡ come.settled = come.is ∙ append-nil come.settled in
         record {
@@ -268,7 +316,8 @@ module _ {S N : Type 0} (w : Walker S N) (causal : IsCausal w) (begun : S) (line
         let longer : Burst = going_on d m b in
         let after : S = state_after w begun on.front in
         let may = may-go_on line on.front d on.is on.near in
-        let whole : come.settled ≡ on.front ++ d ∷ [] = sym (append-nil come.settled) ∙ (sym come.is ∙ on.is) in
+        let whole : come.settled ≡ on.front ++ d ∷ [] =
+        sym (append-nil come.settled) ∙ (sym come.is ∙ on.is) in
         let P : List Burst → Type 0 = λ ds. AreNoted w begun m ds in
         let are : AreNoted w begun m (on.front ++ d ∷ []) = subst P whole come.are_noted in
         let early : w.tick after d < m = noted-last w begun m on.front d are in
@@ -277,23 +326,28 @@ module _ {S N : Type 0} (w : Walker S N) (causal : IsCausal w) (begun : S) (line
         record {
           settled = on.front ++ longer ∷ [];
           is = bursts-byte b (on.front ++ d ∷ []) on.is
-              ∙ (extended-joins T3_5_TICKS m b on.front d on.near ∙ sym (append-nil (on.front ++ longer ∷ [])));
-          are_noted = noted-append w begun m on.front longer (noted-front w begun m on.front d are) soon;
+              ∙ (extended-joins T3_5_TICKS m b on.front d on.near
+              ∙ sym (append-nil (on.front ++ longer ∷ [])));
+          are_noted = noted-append w begun m on.front longer (noted-front w begun m on.front d are)
+              soon;
           waits = tt;
           state = state_after-append w begun on.front (longer ∷ [])
               ∙ (causal.next_stays after d m b may early
               ∙ (sym (state_after-append w begun on.front (d ∷ []))
               ∙ (ap (λ ds. state_after w begun ds) (sym whole) ∙ come.state)));
           emits = emitted-append w begun on.front (longer ∷ [])
-              ∙ (ap (λ x. emitted w begun on.front ++ (x ++ [])) (causal.emission_settles after d m b may early)
+              ∙ (ap (λ x. emitted w begun on.front ++ (x ++ []))
+              (causal.emission_settles after d m b may early)
               ∙ (sym (emitted-append w begun on.front (d ∷ []))
               ∙ (ap (λ ds. emitted w begun ds) (sym whole) ∙ come.emits)));
         }
 
     -- ---- what a step adds, by the burst that waits after its tick
 
-    module _ (t : Tick) (waiting : Option Burst) (come : HasCome w begun (length line) (bursts (line ++ t ∷ [])) s emissions waiting) where
-      pub notes-step : notes_of w begun (line ++ t ∷ []) ≡ notes_of w begun line ++ notes_at (length line) (walked w s (waiting_part waiting))
+    module _ (t : Tick) (waiting : Option Burst)
+        (come : HasCome w begun (length line) (bursts (line ++ t ∷ [])) s emissions waiting) where
+      pub notes-step : notes_of w begun (line ++ t ∷ [])
+          ≡ notes_of w begun line ++ notes_at (length line) (walked w s (waiting_part waiting))
       notes-step =
           let on : AddsOneTick w begun line t = adds_one_tick w causal begun line t in
           on.notes
@@ -301,7 +355,8 @@ module _ {S N : Type 0} (w : Walker S N) (causal : IsCausal w) (begun : S) (line
           (notes_at-come w begun (length line) (bursts (line ++ t ∷ [])) s emissions waiting come)
 
       pub tick-step : line_of w begun (line ++ t ∷ [])
-          ≡ line_of w begun line ++ tick_at (emissions ++ emitted w s (waiting_part waiting)) (length line) ∷ []
+          ≡ line_of w begun line ++ tick_at (emissions ++ emitted w s (waiting_part waiting))
+          (length line) ∷ []
       tick-step =
           let on : AddsOneTick w begun line t = adds_one_tick w causal begun line t in
           on.ticks
@@ -311,12 +366,14 @@ module _ {S N : Type 0} (w : Walker S N) (causal : IsCausal w) (begun : S) (line
       -- so a step answers
       pub answers-step : {A : Type 0} (note_of : N → A) (answer : Tick) (told : Option A)
           → tick_at (emissions ++ emitted w s (waiting_part waiting)) (length line) ≡ answer
-          → told_notes note_of (notes_at (length line) (walked w s (waiting_part waiting))) ≡ note_in (length line) told
+          → told_notes note_of (notes_at (length line) (walked w s (waiting_part waiting)))
+          ≡ note_in (length line) told
           → AnswersTick w note_of begun line t answer told
       answers-step note_of answer told tick notes = record {
         tick = tick-step ∙ ap (λ x. line_of w begun line ++ x ∷ []) tick;
         note = ap (λ x. told_notes note_of x) notes-step
-            ∙ (map-append (λ n. record { tick = n.tick; note = note_of n.note }) (notes_of w begun line)
+            ∙ (map-append (λ n. record { tick = n.tick; note = note_of n.note })
+            (notes_of w begun line)
             (notes_at (length line) (walked w s (waiting_part waiting)))
             ∙ ap (λ x. told_notes note_of (notes_of w begun line) ++ x) notes);
       }

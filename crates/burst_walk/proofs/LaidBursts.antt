@@ -1,6 +1,9 @@
--- Bursts that are laid on a line are the bursts of that line, and laid later they stand behind silence.
-use Rattle.std.proofs.Common.{◌≡◌, ◌∙◌, ◌&&◌, ◌⊎◌, inl, inr, ℕ, zero, suc, ◌+◌, ◌-◌, ◌<◌, ◌≤◌, nat_lt}
-use Rattle.std.proofs.Common.{nat_le, true, false, List, [], ◌∷◌, ◌++◌, length, map, refl, sym, ap, arith}
+-- Bursts that are laid on a line are the bursts of that line, and laid later they stand behind
+-- silence.
+use Rattle.std.proofs.Common.{◌≡◌, ◌∙◌, ◌&&◌, ◌⊎◌, inl, inr, ℕ, zero, suc, ◌+◌, ◌-◌, ◌<◌, ◌≤◌}
+use Rattle.std.proofs.Common.{nat_lt}
+use Rattle.std.proofs.Common.{nat_le, true, false, List, [], ◌∷◌, ◌++◌, length, map, refl, sym, ap}
+use Rattle.std.proofs.Common.{arith}
 use Rattle.std.proofs.Common.{get_or}
 use Rattle.std.specs.List.{range_with_len}
 use Rattle.std.proofs.lemmas.List.FromFn.{length-map-range_with_len}
@@ -34,16 +37,20 @@ ticks-same f g a zero same = refl
 ticks-same f g a (suc n) same =
     let here : a ≤ a = omega arith in
     rw (same a here)
-    (ap (λ l. g a ∷ l) (ticks-same f g (a + 1) n (λ i from. let h : a ≤ i = omega arith in same i h)))
+    (ap (λ l. g a ∷ l) (ticks-same f g (a + 1) n
+    (λ i from. let h : a ≤ i = omega arith in same i h)))
 
-ticks-silent : (f : ℕ → Tick) (a n : ℕ) → ((i : ℕ) → i < a + n → f i ≡ Silent) → map f (range_with_len a n) ≡ silent n
+ticks-silent : (f : ℕ → Tick) (a n : ℕ) → ((i : ℕ) → i < a + n → f i ≡ Silent)
+    → map f (range_with_len a n) ≡ silent n
 ticks-silent f a zero dark = refl
 ticks-silent f a (suc n) dark =
     let here : a < a + suc n = omega arith in
     rw (dark a here)
-    (ap (λ l. Silent ∷ l) (ticks-silent f (a + 1) n (λ i below. let h : i < a + suc n = omega arith in dark i h)))
+    (ap (λ l. Silent ∷ l) (ticks-silent f (a + 1) n
+    (λ i below. let h : i < a + suc n = omega arith in dark i h)))
 
-ticks-list : (f : ℕ → Tick) (a : ℕ) (x : List Tick) → ((i j : ℕ) → a + j ≡ i → j < length x → f i ≡ get_or x j Silent)
+ticks-list : (f : ℕ → Tick) (a : ℕ) (x : List Tick)
+    → ((i j : ℕ) → a + j ≡ i → j < length x → f i ≡ get_or x j Silent)
     → map f (range_with_len a (length x)) ≡ x
 ticks-list f a [] shows = refl
 ticks-list f a (t ∷ x) shows =
@@ -71,7 +78,8 @@ outside a b i h = grind arith
 inside : (a b i : ℕ) → a ≤ i → i < b → (nat_le a i && nat_lt i b) ≡ true
 inside a b i h k = grind arith
 
-tick_at-outside : (d : Burst) (ds : List Burst) (i : ℕ) → (i < d.start) ⊎ (end_of d ≤ i) → tick_at (d ∷ ds) i ≡ tick_at ds i
+tick_at-outside : (d : Burst) (ds : List Burst) (i : ℕ) → (i < d.start) ⊎ (end_of d ≤ i)
+    → tick_at (d ∷ ds) i ≡ tick_at ds i
 unfolding tick_at
 tick_at-outside d ds i out = rw (outside d.start (end_of d) i out) refl
 
@@ -83,7 +91,8 @@ tick_at-inside d ds i from within = rw (inside d.start (end_of d) i from within)
 module _ (cut : ℕ) where
   spread-earlier : (n k : ℕ) (ds : List Burst) → n ≤ k → AreSpread cut k ds → AreSpread cut n ds
   spread-earlier n k [] le spread = tt
-  spread-earlier n k (d ∷ ds) le spread = let from : k ≤ d.start = spread.0 in (omega arith, spread.1, spread.2)
+  spread-earlier n k (d ∷ ds) le spread = let from : k ≤ d.start = spread.0 in
+      (omega arith, spread.1, spread.2)
 
   spread-starts : (n : ℕ) (ds : List Burst) → AreSpread cut n ds → StartsFrom n ds
   spread-starts n [] spread = tt
@@ -103,7 +112,8 @@ module _ (cut : ℕ) where
   laid-are n k m [] here spread ends =
       let line : List Tick = map (λ i. tick_at [] i) (range_with_len n k) in
       let long : length line ≡ k = length-map-range_with_len (λ i. tick_at [] i) n k in
-      ticks-silent (λ i. tick_at [] i) n k (λ i below. tick_at-none i) ∙ ap (λ j. silent j) (sym long)
+      ticks-silent (λ i. tick_at [] i) n k (λ i below. tick_at-none i)
+      ∙ ap (λ j. silent j) (sym long)
   laid-are n k m (d ∷ ds) here spread ends =
       let f : ℕ → Tick = λ i. tick_at (d ∷ ds) i in
       let g : ℕ → Tick = λ i. tick_at ds i in
@@ -119,7 +129,8 @@ module _ (cut : ℕ) where
       let silence : map f (range_with_len n gap) ≡ silent gap =
       ticks-silent f n gap (λ i below.
       let early : i < d.start = omega arith in
-      tick_at-outside d ds i (inl early) ∙ dark-before (end_of d + cut) i ds spread.2 (omega arith)) in
+      tick_at-outside d ds i (inl early)
+      ∙ dark-before (end_of d + cut) i ds spread.2 (omega arith)) in
       let body : map f (range_with_len d.start (length d.body)) ≡ d.body =
       ticks-list f d.start d.body (λ i j at within.
       let place : i - d.start ≡ j = omega arith in
@@ -137,11 +148,13 @@ module _ (cut : ℕ) where
         sym begins,
         spread.1,
         spread-starts (end_of d + cut) ds spread.2,
-        laid-are (end_of d) more m ds next (spread-earlier (end_of d) (end_of d + cut) ds apart spread.2) ends.1,
+        laid-are (end_of d) more m ds next
+            (spread-earlier (end_of d) (end_of d + cut) ds apart spread.2) ends.1,
       )
 
   -- Bursts that are spread over a line are its bursts.
-  pub bursts-laid : (m : ℕ) (ds : List Burst) → AreSpread cut 0 ds → EndBy m ds → bursts_from cut 0 (laid m ds) ≡ ds
+  pub bursts-laid : (m : ℕ) (ds : List Burst) → AreSpread cut 0 ds → EndBy m ds
+      → bursts_from cut 0 (laid m ds) ≡ ds
   bursts-laid m ds spread ends =
       let here : 0 + m ≡ m = omega arith in
       bursts_from-only cut 0 (laid m ds) ds (laid-are 0 m m ds here spread ends)
@@ -155,10 +168,12 @@ module _ (n : ℕ) where
       let early : i < n + d.start = omega arith in
       tick_at-outside (later n d) (map (later n) ds) i (inl early) ∙ later-dark ds i before
 
-  same_place : (a b i : ℕ) → (nat_le (n + a) (n + i) && nat_lt (n + i) (n + a + b)) ≡ (nat_le a i && nat_lt i (a + b))
+  same_place : (a b i : ℕ) → (nat_le (n + a) (n + i) && nat_lt (n + i) (n + a + b))
+      ≡ (nat_le a i && nat_lt i (a + b))
   same_place a b i = grind arith
 
-  tick_at-later : (ds : List Burst) (i j : ℕ) → n + i ≡ j → tick_at (map (later n) ds) j ≡ tick_at ds i
+  tick_at-later : (ds : List Burst) (i j : ℕ) → n + i ≡ j
+      → tick_at (map (later n) ds) j ≡ tick_at ds i
   unfolding tick_at
   tick_at-later [] i j at = refl
   tick_at-later (d ∷ ds) i j at =
@@ -166,7 +181,8 @@ module _ (n : ℕ) where
       rw (sym at, same_place d.start (length d.body) i, back, tick_at-later ds i (n + i) refl) refl
 
   -- What is laid n ticks later stands behind n silent ticks.
-  pub laid-later : (m : ℕ) (ds : List Burst) → laid (n + m) (map (later n) ds) ≡ silent n ++ laid m ds
+  pub laid-later : (m : ℕ) (ds : List Burst)
+      → laid (n + m) (map (later n) ds) ≡ silent n ++ laid m ds
   laid-later m ds =
       let f : ℕ → Tick = λ i. tick_at (map (later n) ds) i in
       let g : ℕ → Tick = λ i. tick_at ds i in

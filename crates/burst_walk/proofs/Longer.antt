@@ -1,5 +1,6 @@
 -- A causal walk on longer lines: notes and line begin with those of the line.
-use Rattle.std.proofs.Common.{◌≡◌, ◌∙◌, ℕ, List, [], ◌∷◌, ◌++◌, length, sym, ap, subst, append_assoc}
+use Rattle.std.proofs.Common.{◌≡◌, ◌∙◌, ℕ, List, [], ◌∷◌, ◌++◌, length, sym, ap, subst}
+use Rattle.std.proofs.Common.{append_assoc}
 use Rattle.std.proofs.lemmas.List.{append-nil}
 use Rattle.std.proofs.lemmas.List.FromFn.{length-map-range_with_len}
 use Rattle.yasir_ticks.specs.Ticks.{silent}
@@ -8,29 +9,41 @@ use Rattle.yasir_ticks.proofs.BurstLaws.{bursts_from-silent_end}
 use Rattle.yasir_ticks.specs.declared.TheConstants.{T3_5_TICKS}
 use Rattle.yasir_ticks.specs.declared.tick.Tick.{Tick}
 use Rattle.burst_walk.specs.Laid.{tick_at, laid}
-use Rattle.burst_walk.specs.Walk.{Walker, walked, emitted, notes_before, notes_at, notes_of, line_of}
+use Rattle.burst_walk.specs.Walk.{Walker, walked, emitted, notes_before, notes_at, notes_of}
+use Rattle.burst_walk.specs.Walk.{line_of}
 use Rattle.burst_walk.specs.Causal.{IsCausal, AddsOneTick}
 use Rattle.burst_walk.specs.Longer.{Begins, Extends}
 use Rattle.burst_walk.proofs.Walks.{adds_one_tick}
 
-begins-more : {A : Type 0} (a b c : List A) (added : List A) → b ≡ a ++ added → Begins b c → Begins a c
+begins-more : {A : Type 0} (a b c : List A) (added : List A) → b ≡ a ++ added → Begins b c
+    → Begins a c
 begins-more a b c added is begins = record {
   rest = added ++ begins.rest;
   is = begins.is ∙ (ap (λ x. x ++ begins.rest) is ∙ append_assoc a added begins.rest);
 }
 
 -- the line of the link is as long as the device's
-pub length-line_of : {S N : Type 0} (w : Walker S N) (s : S) (line : List Tick) → length (line_of w s line) ≡ length line
-length-line_of w s line = length-map-range_with_len (λ i. tick_at (emitted w s (bursts line)) i) 0 (length line)
+pub length-line_of : {S N : Type 0} (w : Walker S N) (s : S) (line : List Tick)
+    → length (line_of w s line) ≡ length line
+length-line_of w s line = length-map-range_with_len (λ i. tick_at (emitted w s (bursts line)) i) 0
+    (length line)
 
 module _ {S N : Type 0} (w : Walker S N) (causal : IsCausal w) where
   pub extends : (s : S) (line more : List Tick) → Extends w s line more
   extends s line [] =
       let P : List Tick → Type 0 = λ l. Extends w s line l in
       let same : Begins (notes_of w s line) (notes_of w s (line ++ [])) =
-      record { rest = []; is = ap (λ l. notes_of w s l) (append-nil line) ∙ sym (append-nil (notes_of w s line)) } in
+      record {
+        rest = [];
+        is = ap (λ l. notes_of w s l) (append-nil line)
+            ∙ sym (append-nil (notes_of w s line));
+      } in
       let ticks : Begins (line_of w s line) (line_of w s (line ++ [])) =
-      record { rest = []; is = ap (λ l. line_of w s l) (append-nil line) ∙ sym (append-nil (line_of w s line)) } in
+      record {
+        rest = [];
+        is = ap (λ l. line_of w s l) (append-nil line)
+            ∙ sym (append-nil (line_of w s line));
+      } in
       record { notes = same; ticks = ticks }
   extends s line (t ∷ more) =
       let on : AddsOneTick w s line t = adds_one_tick w causal s line t in
@@ -39,17 +52,25 @@ module _ {S N : Type 0} (w : Walker S N) (causal : IsCausal w) where
       let P : List Tick → Type 0 = λ l. Begins (notes_of w s (line ++ t ∷ [])) (notes_of w s l) in
       let Q : List Tick → Type 0 = λ l. Begins (line_of w s (line ++ t ∷ [])) (line_of w s l) in
       record {
-        notes = begins-more (notes_of w s line) (notes_of w s (line ++ t ∷ [])) (notes_of w s (line ++ t ∷ more))
-            (notes_at (length line) (walked w s (bursts (line ++ t ∷ [])))) on.notes (subst P whole rest.notes);
-        ticks = begins-more (line_of w s line) (line_of w s (line ++ t ∷ [])) (line_of w s (line ++ t ∷ more))
-            (tick_at (emitted w s (bursts (line ++ t ∷ []))) (length line) ∷ []) on.ticks (subst Q whole rest.ticks);
+        notes = begins-more (notes_of w s line) (notes_of w s (line ++ t ∷ []))
+            (notes_of w s (line ++ t ∷ more))
+            (notes_at (length line) (walked w s (bursts (line ++ t ∷ [])))) on.notes
+            (subst P whole rest.notes);
+        ticks = begins-more (line_of w s line) (line_of w s (line ++ t ∷ []))
+            (line_of w s (line ++ t ∷ more))
+            (tick_at (emitted w s (bursts (line ++ t ∷ []))) (length line) ∷ []) on.ticks
+            (subst Q whole rest.ticks);
       }
 
 -- ---- silence behind a line: its bursts are the same, and so is all that falls into its own ticks
 
 module _ {S N : Type 0} (w : Walker S N) (s : S) (line : List Tick) (k : ℕ) where
-  pub notes_of-silence : notes_before (length line) (walked w s (bursts (line ++ silent k))) ≡ notes_of w s line
-  notes_of-silence = ap (λ ds. notes_before (length line) (walked w s ds)) (bursts_from-silent_end T3_5_TICKS 0 k line)
+  pub notes_of-silence : notes_before (length line) (walked w s (bursts (line ++ silent k)))
+      ≡ notes_of w s line
+  notes_of-silence = ap (λ ds. notes_before (length line) (walked w s ds))
+      (bursts_from-silent_end T3_5_TICKS 0 k line)
 
-  pub line_of-silence : laid (length line) (emitted w s (bursts (line ++ silent k))) ≡ line_of w s line
-  line_of-silence = ap (λ ds. laid (length line) (emitted w s ds)) (bursts_from-silent_end T3_5_TICKS 0 k line)
+  pub line_of-silence : laid (length line) (emitted w s (bursts (line ++ silent k)))
+      ≡ line_of w s line
+  line_of-silence = ap (λ ds. laid (length line) (emitted w s ds))
+      (bursts_from-silent_end T3_5_TICKS 0 k line)

@@ -1,5 +1,7 @@
--- The bursts of a line: each is contiguous, they stand `cut` silent ticks apart, and they end with the line at the latest.
-use Rattle.std.proofs.Common.{◌≡◌, ◌∙◌, ℕ, ◌+◌, ◌≤◌, List, [], ◌∷◌, ◌++◌, length, ap, arith, length-append}
+-- The bursts of a line: each is contiguous, they stand `cut` silent ticks apart, and they end with
+-- the line at the latest.
+use Rattle.std.proofs.Common.{◌≡◌, ◌∙◌, ℕ, ◌+◌, ◌≤◌, List, [], ◌∷◌, ◌++◌, length, ap, arith}
+use Rattle.std.proofs.Common.{length-append}
 use Rattle.std.proofs.lemmas.List.{length-replicate}
 use Rattle.yasir_ticks.specs.Ticks.{silent}
 use Rattle.yasir_ticks.specs.Bursts.{Burst, bursts, bursts_from, end_of}
@@ -13,7 +15,8 @@ use Rattle.yasir_ticks.proofs.BurstsOfLaws.{bursts_from-are}
 -- These bursts start at tick n or later, `cut` silent ticks apart.
 abbrev pub AreSpread : ℕ → ℕ → List Burst → Type 0
 AreSpread cut n [] = Unit {0}
-AreSpread cut n (d ∷ ds) = (n ≤ d.start) × IsContiguous cut d.body × AreSpread cut (end_of d + cut) ds
+AreSpread cut n (d ∷ ds) = (n ≤ d.start) × IsContiguous cut d.body
+    × AreSpread cut (end_of d + cut) ds
 
 -- each of them ends by tick m
 abbrev pub EndBy : ℕ → List Burst → Type 0

@@ -1,4 +1,5 @@
--- What the steps of a box answer, whose definition is a walk: a tick of the other line, and the note that falls into the step.
+-- What the steps of a box answer, whose definition is a walk: a tick of the other line, and the
+-- note that falls into the step.
 use Rattle.std.specs.Prelude.{◌≡◌, ℕ, List, [], ◌∷◌, ◌++◌, length, map, Option, Some, None}
 use Rattle.yasir_ticks.specs.declared.tick.Tick.{Tick}
 use Rattle.burst_walk.specs.Walk.{Walker, Noted, notes_of, line_of}
@@ -12,8 +13,10 @@ abbrev pub note_in : {A : Type 0} → ℕ → Option A → List (Noted A)
 note_in m None = []
 note_in m (Some note) = record { tick = m; note = note } ∷ []
 
--- After these ticks of a line, and with one tick more, a step answers the tick of the other line and the note that the walk adds.
-pub record AnswersTick {S N A : Type 0} (w : Walker S N) (note_of : N → A) (begun : S) (line : List Tick)
+-- After these ticks of a line, and with one tick more, a step answers the tick of the other line
+-- and the note that the walk adds.
+pub record AnswersTick {S N A : Type 0} (w : Walker S N) (note_of : N → A) (begun : S)
+    (line : List Tick)
     (t answer : Tick) (noted : Option A) : Type 0 where
   pub tick : line_of w begun (line ++ t ∷ []) ≡ line_of w begun line ++ answer ∷ []
   pub note : told_notes note_of (notes_of w begun (line ++ t ∷ []))

@@ -11,16 +11,21 @@ use Rattle.burst_walk.specs.Walk.{Walker, walked, emitted, notes_of, line_of, no
 
 -- a burst that goes on with a byte at tick m
 abbrev pub going_on : Burst → ℕ → ℕ → Burst
-going_on d m b = record { start = d.start; body = d.body ++ (silent (m - end_of d) ++ (Byte b ∷ [])) }
+going_on d m b = record {
+  start = d.start;
+  body = d.body ++ (silent (m - end_of d) ++ (Byte b ∷ []));
+}
 
--- A burst is as bursts are, and tick m comes after its last byte, before the silent ticks that would end it.
+-- A burst is as bursts are, and tick m comes after its last byte, before the silent ticks that
+-- would end it.
 pub record MayGoOn (d : Burst) (m : ℕ) : Type 0 where
   pub contiguous : IsContiguous T3_5_TICKS d.body
   pub after : end_of d ≤ m
   pub near : m < end_of d + T3_5_TICKS
 
--- What a burst gives before tick m doesn't change where the burst goes on at tick m; it gives nothing before its first
--- tick, and its note comes before another burst may start. Once it is noted, state and emission are settled.
+-- What a burst gives before tick m doesn't change where the burst goes on at tick m; it gives
+-- nothing before its first tick, and its note comes before another burst may start. Once it is
+-- noted, state and emission are settled.
 pub record IsCausal {S N : Type 0} (w : Walker S N) : Type 0 where
   pub not_before : (s : S) (d : Burst) → IsContiguous T3_5_TICKS d.body → d.start ≤ w.tick s d
   pub in_time : (s : S) (d : Burst) → IsContiguous T3_5_TICKS d.body
@@ -41,6 +46,9 @@ pub record IsCausal {S N : Type 0} (w : Walker S N) : Type 0 where
       → tick_at (w.emission s (going_on d m b)) i ≡ tick_at (w.emission s d) i
 
 -- One more tick adds the notes that come in its step, and one tick of the other line.
-pub record AddsOneTick {S N : Type 0} (w : Walker S N) (s : S) (line : List Tick) (t : Tick) : Type 0 where
-  pub notes : notes_of w s (line ++ t ∷ []) ≡ notes_of w s line ++ notes_at (length line) (walked w s (bursts (line ++ t ∷ [])))
-  pub ticks : line_of w s (line ++ t ∷ []) ≡ line_of w s line ++ tick_at (emitted w s (bursts (line ++ t ∷ []))) (length line) ∷ []
+pub record AddsOneTick {S N : Type 0} (w : Walker S N) (s : S) (line : List Tick) (t : Tick) :
+    Type 0 where
+  pub notes : notes_of w s (line ++ t ∷ [])
+      ≡ notes_of w s line ++ notes_at (length line) (walked w s (bursts (line ++ t ∷ [])))
+  pub ticks : line_of w s (line ++ t ∷ [])
+      ≡ line_of w s line ++ tick_at (emitted w s (bursts (line ++ t ∷ []))) (length line) ∷ []

@@ -13,8 +13,8 @@ abbrev pub AreNoted : {S N : Type 0} → Walker S N → S → ℕ → List Burst
 AreNoted w s m [] = Unit {0}
 AreNoted w s m (d ∷ ds) = (w.tick s d < m) × AreNoted w (w.next s d) m ds
 
--- Before tick m, a walk that began in a state has come so far over these bursts: all are noted but the one that waits. The noted
--- ones leave this state, and this is what they emit.
+-- Before tick m, a walk that began in a state has come so far over these bursts: all are noted but
+-- the one that waits. The noted ones leave this state, and this is what they emit.
 pub record HasCome {S N : Type 0} (w : Walker S N) (begun : S) (m : ℕ) (ds : List Burst) (s : S)
     (emissions : List Burst) (waiting : Option Burst) : Type 0 where
   pub settled : List Burst

@@ -1,5 +1,6 @@
 -- Emissions on a line: each one is the ticks from its start on, and all else is silent.
-use Rattle.std.specs.Prelude.{ℕ, ◌+◌, ◌-◌, ◌&&◌, nat_lt, nat_le, List, [], ◌∷◌, map, slice_index_or, if◌then◌else◌}
+use Rattle.std.specs.Prelude.{ℕ, ◌+◌, ◌-◌, ◌&&◌, nat_lt, nat_le, List, [], ◌∷◌, map, slice_index_or}
+use Rattle.std.specs.Prelude.{if◌then◌else◌}
 use Rattle.std.specs.List.{range_with_len}
 use Rattle.yasir_ticks.specs.Bursts.{Burst, end_of}
 use Rattle.yasir_ticks.specs.declared.tick.Tick.{Tick}
@@ -9,7 +10,8 @@ use Rattle.yasir_ticks.specs.declared.tick.Tick.TheVariants.{Silent}
 unfoldable pub tick_at : List Burst → ℕ → Tick
 tick_at [] i = Silent
 tick_at (d ∷ ds) i =
-    if nat_le d.start i && nat_lt i (end_of d) then slice_index_or d.body (i - d.start) Silent else tick_at ds i
+    if nat_le d.start i && nat_lt i (end_of d) then slice_index_or d.body (i - d.start) Silent
+    else tick_at ds i
 
 -- the first m ticks of that line
 abbrev pub laid : ℕ → List Burst → List Tick

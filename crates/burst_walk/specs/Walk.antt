@@ -1,4 +1,5 @@
--- A walk over the bursts of a line, in order: a state, and from each burst a note with its tick, and an emission.
+-- A walk over the bursts of a line, in order: a state, and from each burst a note with its tick,
+-- and an emission.
 use Rattle.std.specs.Prelude.{ℕ, ◌==◌, nat_lt, List, [], ◌∷◌, ◌++◌, length}
 use Rattle.std.specs.List.{filter}
 use Rattle.yasir_ticks.specs.Bursts.{Burst, bursts}
@@ -45,8 +46,8 @@ notes_before m notes = filter (λ n. nat_lt n.tick m) notes
 abbrev pub notes_at : {N : Type 0} → ℕ → List (Noted N) → List (Noted N)
 notes_at m notes = filter (λ n. n.tick == m) notes
 
--- The notes of a line, and the ticks of the other line, as far as its own ticks go. All else is still to come: a line that
--- goes on in silence has the same bursts.
+-- The notes of a line, and the ticks of the other line, as far as its own ticks go. All else is
+-- still to come: a line that goes on in silence has the same bursts.
 abbrev pub notes_of : {S N : Type 0} → Walker S N → S → List Tick → List (Noted N)
 notes_of w s line = notes_before (length line) (walked w s (bursts line))
 

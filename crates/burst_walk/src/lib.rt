@@ -1,7 +1,9 @@
-//! The walk over the bursts of a line that transmitter and receiver share: definitions and laws alone, and no code.
+//! The walk over the bursts of a line that transmitter and receiver share: definitions and laws
+//! alone, and no code.
 //!
-//! A box judges each burst of a line in turn. It keeps a state from burst to burst, writes one note of each burst, and
-//! emits at most one burst for it on the other line. `specs/` has such a walk over whole lists of ticks, and what it means
-//! that it needs no tick before its time; `proofs/` has the law that notes and line of a longer list of ticks begin with
-//! those of the list, and what one more tick adds.
+//! A box judges each burst of a line in turn. It keeps a state from burst to burst, writes one note
+//! of each burst, and emits at most one burst for it on the other line. `specs/` has such a walk
+//! over whole lists of ticks, and what it means that it needs no tick before its time; `proofs/`
+//! has the law that notes and line of a longer list of ticks begin with those of the list, and what
+//! one more tick adds.
 #![tactic(auto)]

@@ -1,5 +1,6 @@
 -- Words and lengths of trailers, and the profile y18.
-use Rattle.std.proofs.Common.{◌≡◌, ◌∙◌, ℕ, ◌%◌, zero, suc, List, length, refl, ap, arith, lit≤, length-append}
+use Rattle.std.proofs.Common.{◌≡◌, ◌∙◌, ℕ, ◌%◌, zero, suc, List, length, refl, ap, arith, lit≤}
+use Rattle.std.proofs.Common.{length-append}
 use Rattle.std.specs.Int.{bytes_high_first}
 use Rattle.byteorder.specs.Numbers.{big_from-bytes}
 use Rattle.sha1.specs.Sha1.{sha1}
@@ -19,7 +20,8 @@ pub length-trailer : (profile : Profile) → HasTags profile → (number : ℕ) 
 length-trailer profile tags number frame =
     let word = length-word profile.word_len number in
     let sized = tags.sized number frame in
-    length-append (bytes_high_first profile.word_len number) (profile.tag number frame) ∙ omega arith
+    length-append (bytes_high_first profile.word_len number) (profile.tag number frame)
+    ∙ omega arith
 
 -- the word of a trailer is the number, but for what words don't tell
 pub word_of-trailer : (profile : Profile) (number : ℕ) (frame : List ℕ)

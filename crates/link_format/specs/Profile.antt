@@ -1,6 +1,8 @@
--- A profile: what follows a frame on the link. A pause of three silent ticks, and then the trailer: the word, which is the low
--- bytes of the frame's number, and its tag. This layout is the project's own.
-use Rattle.std.specs.Prelude.{◌≡◌, ℕ, ◌+◌, ◌^◌, ◌≤◌, Bool, true, false, List, ◌++◌, length, replicate}
+-- A profile: what follows a frame on the link. A pause of three silent ticks, and then the trailer:
+-- the word, which is the low bytes of the frame's number, and its tag. This layout is the project's
+-- own.
+use Rattle.std.specs.Prelude.{◌≡◌, ℕ, ◌+◌, ◌^◌, ◌≤◌, Bool, true, false, List, ◌++◌, length}
+use Rattle.std.specs.Prelude.{replicate}
 use Rattle.std.specs.Int.{bytes_high_first}
 use Rattle.byteorder.specs.Endian.{big_number}
 use Rattle.line_rules.specs.declared.line_rules.LineRules.{Ghosts as LineRules}
@@ -17,7 +19,8 @@ pub record Profile : Type 0 where
   -- the greatest number
   pub limit : ℕ
 
--- the profile of a protocol and a code with words of so many bytes and numbers up to a limit, as a box is set up
+-- the profile of a protocol and a code with words of so many bytes and numbers up to a limit, as a
+-- box is set up
 abbrev pub profile_of : {R M : Type 0} → LineRules R → Mac M → ℕ → ℕ → Setup → Profile
 profile_of proto code word_len limit setup = record {
   word_len = word_len;
@@ -57,6 +60,7 @@ pause_len = 3
 abbrev pub trailer_shape : Profile → List Bool
 trailer_shape profile = replicate pause_len false ++ replicate (trailer_len profile) true
 
--- how many ticks the receiver holds a byte back: the whole trailer has then come, and the verdict is known
+-- how many ticks the receiver holds a byte back: the whole trailer has then come, and the verdict
+-- is known
 abbrev pub delay : Profile → ℕ
 delay profile = trailer_len profile + 4

@@ -10,8 +10,8 @@ const ROOM: usize = 20;
 /// How many bytes a number has.
 const NUMBER_LEN: usize = 8;
 
-/// The trailer of the last sealed frame: its word of `B` bytes, high byte first, and its tag. The bytes that were sent stand in
-/// front of those that are left.
+/// The trailer of the last sealed frame: its word of `B` bytes, high byte first, and its tag. The
+/// bytes that were sent stand in front of those that are left.
 #[derive(Drop)]
 pub struct Trailer<const B: usize> {
     bytes: ArrayVec<u8, ROOM>,

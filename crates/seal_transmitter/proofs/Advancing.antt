@@ -1,5 +1,5 @@
 -- One more tick of a transmitter, over the values that it has before and after.
-use Rattle.std.proofs.Common.{◌≡◌, ◌∙◌, ℕ, ◌+◌, ◌<◌, ◌≤◌, false, List, [], ◌∷◌, ◌++◌, length, drop}
+use Rattle.std.proofs.Common.{◌≡◌, ◌∙◌, ℕ, ◌+◌, ◌<◌, ◌≤◌, List, [], ◌∷◌, ◌++◌, length, drop}
 use Rattle.std.proofs.Common.{refl, sym, ap, subst, arith, ⊎_elim, Option, Some, None, IfSome}
 use Rattle.std.proofs.lemmas.Bool.{cases_lt}
 use Rattle.std.specs.Int.{w64, to_be_bytes, bytes_high_first}
@@ -9,11 +9,10 @@ use Rattle.yasir_ticks.specs.declared.tick.Tick.{Tick}
 use Rattle.yasir_ticks.specs.declared.tick.Tick.TheVariants.{Silent, Byte}
 use Rattle.yasir_ticks.proofs.BurstLaws.{alone, with_last}
 use Rattle.line_rules.specs.Rules.{Rules}
-use Rattle.line_rules.specs.RulesLaws.{IsLawful}
 use Rattle.line_rules.specs.declared.line_rules.LineRules.{Ghosts as LineRules}
 use Rattle.frame_ending.specs.declared.cut.Cut.{Cut}
 use Rattle.frame_ending.specs.declared.cut.Cut.TheVariants.{Start, Live, Extra, Closed}
-use Rattle.frame_ending.specs.LiveBytes.{live_bytes, live_end, has_extra}
+use Rattle.frame_ending.specs.LiveBytes.{live_bytes, live_end}
 use Rattle.frame_ending.specs.Cuts.{cut_of, IsPassing}
 use Rattle.frame_ending.specs.SoFar.{last_burst, start_so_far, start_in, live_bytes_so_far}
 use Rattle.frame_ending.specs.SoFar.{live_bytes_in}

@@ -1,5 +1,6 @@
 -- The parts of a step of a transmitter, over the values that they leave.
-use Rattle.std.proofs.Common.{◌≡◌, ℕ, ◌+◌, ◌<◌, ◌≤◌, List, [], ◌∷◌, ◌++◌, length, drop, sym, subst, Some}
+use Rattle.std.proofs.Common.{◌≡◌, ℕ, ◌+◌, ◌<◌, ◌≤◌, List, [], ◌∷◌, ◌++◌, length, drop, sym, subst}
+use Rattle.std.proofs.Common.{Some}
 use Rattle.std.specs.Int.{w64, to_be_bytes, bytes_high_first}
 use Rattle.yasir_ticks.specs.declared.tick.Tick.{Tick}
 use Rattle.yasir_ticks.specs.declared.tick.Tick.TheVariants.{Silent, Byte}
@@ -22,7 +23,9 @@ use Rattle.seal_transmitter.specs.declared.note.SealNote.TheVariants.{Sealed, Un
 use Rattle.seal_transmitter.specs.declared.note.SealStep.{SealStep}
 use Rattle.seal_transmitter.specs.declared.note.UnsealedWhy.{UnsealedWhy}
 use Rattle.seal_transmitter.specs.declared.sealer.Sealer.{Sealer}
-use Rattle.seal_transmitter.proofs.Advancing.{WalksOn, number-is, advance-passing, advance-early, advance-begin, advance-live, advance-unsealed, advance-sealed}
+use Rattle.seal_transmitter.proofs.Advancing.{WalksOn, number-is, advance-passing, advance-early}
+use Rattle.seal_transmitter.proofs.Advancing.{advance-begin, advance-live, advance-unsealed}
+use Rattle.seal_transmitter.proofs.Advancing.{advance-sealed}
 
 -- where the next byte of the trailer was sent, or silence
 pub record HasSent {R M : Type 0} {B : ℕ} (old new : Sealer R M B) (step : SealStep) : Type 0 where
@@ -30,7 +33,8 @@ pub record HasSent {R M : Type 0} {B : ℕ} (old new : Sealer R M B) (step : Sea
   pub left : bytes_left new.trailer ≡ drop 1 (bytes_left old.trailer)
   pub answer : step ≡ noteless (first_of (bytes_left old.trailer))
 
-module _ {R M : Type 0} (proto : LineRules R) (code : Mac M) {B : ℕ} (old : Sealer R M B) (last : ℕ) (setup : Setup)
+module _ {R M : Type 0} (proto : LineRules R) (code : Mac M) {B : ℕ} (old : Sealer R M B) (last : ℕ)
+    (setup : Setup)
     (line : List Tick) where
   abbrev Between : Tick → Cut → Type 0
   Between t cut = IsBetween proto code old last setup line t cut
@@ -39,24 +43,31 @@ module _ {R M : Type 0} (proto : LineRules R) (code : Mac M) {B : ℕ} (old : Se
   Taken new number t step = HasTaken proto code new number setup line t step
 
   abbrev On : ℕ → ℕ → List ℕ → M → Tick → SealStep → Type 0
-  On number earliest left mac t step = WalksOn proto code B setup number earliest left mac line t step
+  On number earliest left mac t step = WalksOn proto code B setup number earliest left mac line t
+      step
 
   -- the walk goes on, and all else has taken the tick
-  taken : (new : Sealer R M B) (number : ℕ) (t : Tick) (step : SealStep) → direction_number new.direction ≡ setup.direction
+  taken : (new : Sealer R M B) (number : ℕ) (t : Tick) (step : SealStep)
+      → direction_number new.direction ≡ setup.direction
       → CutStandsFor proto new.cut (line ++ t ∷ [])
-      → On number new.earliest_start (bytes_left new.trailer) new.mac t step → Taken new number t step
+      → On number new.earliest_start (bytes_left new.trailer) new.mac t step
+      → Taken new number t step
   taken new number t step direction_is cuts on = record {
     stands = record { direction_is = direction_is; cuts = cuts; walks = on.walks };
-    floor = number-is proto code B setup (line ++ t ∷ []) number new.earliest_start (bytes_left new.trailer) new.mac on.walks;
+    floor = number-is proto code B setup (line ++ t ∷ []) number new.earliest_start
+        (bytes_left new.trailer) new.mac on.walks;
     answers = on.answers;
   }
 
-  sent : (new : Sealer R M B) (step : SealStep) (t : Tick) (cut : Cut) → HasSent old new step → Between t cut
-      → On last old.earliest_start (drop 1 (bytes_left old.trailer)) old.mac t (noteless (first_of (bytes_left old.trailer)))
+  sent : (new : Sealer R M B) (step : SealStep) (t : Tick) (cut : Cut) → HasSent old new step
+      → Between t cut
+      → On last old.earliest_start (drop 1 (bytes_left old.trailer)) old.mac t
+      (noteless (first_of (bytes_left old.trailer)))
       → Taken new last t step
   sent new step t cut has between on =
       let P : Sealer R M B → Type 0 = λ v. Taken v last t step in
-      let Q : SealStep → Type 0 = λ s. On last old.earliest_start (drop 1 (bytes_left old.trailer)) old.mac t s in
+      let Q : SealStep → Type 0 = λ s. On last old.earliest_start (drop 1 (bytes_left old.trailer))
+      old.mac t s in
       let L : List ℕ → Type 0 = λ l. On last old.earliest_start l old.mac t step in
       subst P (sym has.rest)
       (taken (record old { trailer = new.trailer }) last t step between.direction_is between.cuts
@@ -66,75 +77,97 @@ module _ {R M : Type 0} (proto : LineRules R) (code : Mac M) {B : ℕ} (old : Se
       → (t : Tick) (cut : Cut) → IsPassing cut → Between t cut → Taken new last t step
   pass-taken new step has t cut passing between =
       sent new step t cut has between
-      (advance-passing proto code B setup line last old.earliest_start (bytes_left old.trailer) old.mac between.walks
+      (advance-passing proto code B setup line last old.earliest_start (bytes_left old.trailer)
+      old.mac between.walks
       t cut between.is_cut passing)
 
-  early-taken : (new : Sealer R M B) (step : SealStep) → HasSent old new step → (t : Tick) (b : ℕ) (cut : Cut) → t ≡ Byte b → Between t cut
+  early-taken : (new : Sealer R M B) (step : SealStep) → HasSent old new step
+      → (t : Tick) (b : ℕ) (cut : Cut) → t ≡ Byte b → Between t cut
       → start_so_far (line ++ t ∷ []) < old.earliest_start → Taken new last t step
   early-taken new step has t b cut is between early =
       let P : Tick → Type 0 = λ u. start_so_far (line ++ u ∷ []) < old.earliest_start
-      → On last old.earliest_start (drop 1 (bytes_left old.trailer)) old.mac u (noteless (first_of (bytes_left old.trailer))) in
+      → On last old.earliest_start (drop 1 (bytes_left old.trailer)) old.mac u
+      (noteless (first_of (bytes_left old.trailer))) in
       sent new step t cut has between
       (subst P (sym is)
-      (λ soon. advance-early proto code B setup line last old.earliest_start (bytes_left old.trailer) old.mac between.walks b soon)
+      (λ soon. advance-early proto code B setup line last old.earliest_start
+      (bytes_left old.trailer) old.mac between.walks b soon)
       early)
 
   -- ---- a byte that starts a burst, and a further live one
 
   pub begin-early : (new : Sealer R M B) (step : SealStep) → HasSent old new step
-      → (t : Tick) (b : ℕ) → Between t (Start b) → start_so_far (line ++ t ∷ []) < old.earliest_start → Taken new last t step
+      → (t : Tick) (b : ℕ) → Between t (Start b)
+      → start_so_far (line ++ t ∷ []) < old.earliest_start → Taken new last t step
   begin-early new step has t b between early =
-      early-taken new step has t b (Start b) (start-tick proto.rules line t b between.is_cut) between early
+      early-taken new step has t b (Start b) (start-tick proto.rules line t b between.is_cut)
+      between early
 
   pub go_on-early : (new : Sealer R M B) (step : SealStep) → HasSent old new step
-      → (t : Tick) (b : ℕ) → Between t (Live b) → start_so_far (line ++ t ∷ []) < old.earliest_start → Taken new last t step
+      → (t : Tick) (b : ℕ) → Between t (Live b) → start_so_far (line ++ t ∷ []) < old.earliest_start
+      → Taken new last t step
   go_on-early new step has t b between early =
-      early-taken new step has t b (Live b) (live-tick proto.rules line t b between.is_cut) between early
+      early-taken new step has t b (Live b) (live-tick proto.rules line t b between.is_cut) between
+      early
 
-  pub begin-late : (mac : M) (t : Tick) (b : ℕ) → Between t (Start b) → old.earliest_start ≤ start_so_far (line ++ t ∷ [])
+  pub begin-late : (mac : M) (t : Tick) (b : ℕ) → Between t (Start b)
+      → old.earliest_start ≤ start_so_far (line ++ t ∷ [])
       → code.stands mac setup.key (proto.rules.label ∷ setup.direction ∷ b ∷ [])
       → Taken (record old { mac = mac }) last t (noteless (Byte b))
   begin-late mac t b between late codes =
-      let P : Tick → Type 0 = λ u. cut_of proto.rules line u ≡ Start b → old.earliest_start ≤ start_so_far (line ++ u ∷ [])
+      let P : Tick → Type 0 = λ u. cut_of proto.rules line u ≡ Start b
+      → old.earliest_start ≤ start_so_far (line ++ u ∷ [])
       → On last old.earliest_start (bytes_left old.trailer) mac u (noteless (Byte b)) in
       taken (record old { mac = mac }) last t (noteless (Byte b)) between.direction_is between.cuts
       (subst P (sym (start-tick proto.rules line t b between.is_cut))
-      (λ starts from. advance-begin proto code B setup line last old.earliest_start (bytes_left old.trailer) old.mac
+      (λ starts from. advance-begin proto code B setup line last old.earliest_start
+      (bytes_left old.trailer) old.mac
       between.walks b mac starts from codes)
       between.is_cut late)
 
-  pub go_on-late : (mac : M) (t : Tick) (b : ℕ) → Between t (Live b) → old.earliest_start ≤ start_so_far (line ++ t ∷ [])
-      → ((text : List ℕ) → code.stands old.mac setup.key text → code.stands mac setup.key (text ++ b ∷ []))
+  pub go_on-late : (mac : M) (t : Tick) (b : ℕ) → Between t (Live b)
+      → old.earliest_start ≤ start_so_far (line ++ t ∷ [])
+      → ((text : List ℕ) → code.stands old.mac setup.key text
+      → code.stands mac setup.key (text ++ b ∷ []))
       → Taken (record old { mac = mac }) last t (noteless (Byte b))
   go_on-late mac t b between late more =
-      let P : Tick → Type 0 = λ u. cut_of proto.rules line u ≡ Live b → old.earliest_start ≤ start_so_far (line ++ u ∷ [])
+      let P : Tick → Type 0 = λ u. cut_of proto.rules line u ≡ Live b
+      → old.earliest_start ≤ start_so_far (line ++ u ∷ [])
       → On last old.earliest_start (bytes_left old.trailer) mac u (noteless (Byte b)) in
       taken (record old { mac = mac }) last t (noteless (Byte b)) between.direction_is between.cuts
       (subst P (sym (live-tick proto.rules line t b between.is_cut))
-      (λ lives from. advance-live proto code B setup line last old.earliest_start (bytes_left old.trailer) old.mac
+      (λ lives from. advance-live proto code B setup line last old.earliest_start
+      (bytes_left old.trailer) old.mac
       between.walks b mac lives from more)
       between.is_cut late)
 
   -- ---- the tick that closes a burst
 
   pub leave-taken : (trailer : Trailer B) (tick : Tick) (start : ℕ) (why : UnsealedWhy)
-      → bytes_left trailer ≡ drop 1 (bytes_left old.trailer) → tick ≡ first_of (bytes_left old.trailer)
+      → bytes_left trailer ≡ drop 1 (bytes_left old.trailer)
+      → tick ≡ first_of (bytes_left old.trailer)
       → Between Silent Closed → start ≡ start_so_far (line ++ Silent ∷ [])
       → Judges proto code old last setup (line ++ Silent ∷ []) (unsealed why)
-      → Taken (record old { trailer = trailer }) last Silent (record { tick = tick; note = Some (Unsealed start why) })
+      → Taken (record old { trailer = trailer }) last Silent
+      (record { tick = tick; note = Some (Unsealed start why) })
   leave-taken trailer tick start why left answer between start_is judge =
       let earliest : ℕ = old.earliest_start in
-      let L : List ℕ → Type 0 = λ l. On last earliest l old.mac Silent (record { tick = tick; note = Some (Unsealed start why) }) in
-      let T : Tick → Type 0 = λ u. On last earliest (drop 1 (bytes_left old.trailer)) old.mac Silent (record { tick = u; note = Some (Unsealed start why) }) in
+      let L : List ℕ → Type 0 = λ l. On last earliest l old.mac Silent
+      (record { tick = tick; note = Some (Unsealed start why) }) in
+      let T : Tick → Type 0 = λ u. On last earliest (drop 1 (bytes_left old.trailer)) old.mac Silent
+      (record { tick = u; note = Some (Unsealed start why) }) in
       let N : ℕ → Type 0 = λ n. On last earliest (drop 1 (bytes_left old.trailer)) old.mac Silent
       (record { tick = first_of (bytes_left old.trailer); note = Some (Unsealed n why) }) in
-      taken (record old { trailer = trailer }) last Silent (record { tick = tick; note = Some (Unsealed start why) })
+      taken (record old { trailer = trailer }) last Silent
+      (record { tick = tick; note = Some (Unsealed start why) })
       between.direction_is between.cuts
       (subst L (sym left) (subst T (sym answer) (subst N (sym start_is)
-      (advance-unsealed proto code B setup line last earliest (bytes_left old.trailer) old.mac between.walks
+      (advance-unsealed proto code B setup line last earliest (bytes_left old.trailer) old.mac
+      between.walks
       why between.is_cut judge))))
 
-  pub seal-taken : (mac : M) (trailer : Trailer B) (tick : Tick) (earliest number start len : ℕ) (bytes : List ℕ)
+  pub seal-taken : (mac : M) (trailer : Trailer B) (tick : Tick) (earliest number start len : ℕ)
+      (bytes : List ℕ)
       → bytes_left trailer ≡ drop 1 bytes → tick ≡ first_of bytes
       → Between Silent Closed → start ≡ start_so_far (line ++ Silent ∷ [])
       → len ≡ length (live_bytes_so_far proto.rules (line ++ Silent ∷ []))
@@ -145,15 +178,21 @@ module _ {R M : Type 0} (proto : LineRules R) (code : Mac M) {B : ℕ} (old : Se
       → ((text : List ℕ) → code.stands old.mac setup.key text → code.stands mac setup.key [])
       → Taken (record old { mac = mac; earliest_start = earliest; trailer = trailer }) number Silent
       (record { tick = tick; note = Some (Sealed number start len) })
-  seal-taken mac trailer tick earliest number start len bytes left answer between start_is len_is judge earliest_is tagged begun =
+  seal-taken mac trailer tick earliest number start len bytes left answer between start_is len_is
+      judge earliest_is tagged begun =
       let line' : List Tick = line ++ Silent ∷ [] in
-      let L : List ℕ → Type 0 = λ l. On number earliest l mac Silent (record { tick = tick; note = Some (Sealed number start len) }) in
-      let T : Tick → Type 0 = λ u. On number earliest (drop 1 bytes) mac Silent (record { tick = u; note = Some (Sealed number start len) }) in
-      let N : ℕ → Type 0 = λ n. On number earliest (drop 1 bytes) mac Silent (record { tick = first_of bytes; note = Some (Sealed number n len) }) in
+      let L : List ℕ → Type 0 = λ l. On number earliest l mac Silent
+      (record { tick = tick; note = Some (Sealed number start len) }) in
+      let T : Tick → Type 0 = λ u. On number earliest (drop 1 bytes) mac Silent
+      (record { tick = u; note = Some (Sealed number start len) }) in
+      let N : ℕ → Type 0 = λ n. On number earliest (drop 1 bytes) mac Silent
+      (record { tick = first_of bytes; note = Some (Sealed number n len) }) in
       let K : ℕ → Type 0 = λ n. On number earliest (drop 1 bytes) mac Silent
       (record { tick = first_of bytes; note = Some (Sealed number (start_so_far line') n) }) in
       taken (record old { mac = mac; earliest_start = earliest; trailer = trailer }) number Silent
-      (record { tick = tick; note = Some (Sealed number start len) }) between.direction_is between.cuts
+      (record { tick = tick; note = Some (Sealed number start len) }) between.direction_is
+      between.cuts
       (subst L (sym left) (subst T (sym answer) (subst N (sym start_is) (subst K (sym len_is)
-      (advance-sealed proto code B setup line last old.earliest_start (bytes_left old.trailer) old.mac between.walks
+      (advance-sealed proto code B setup line last old.earliest_start (bytes_left old.trailer)
+      old.mac between.walks
       number earliest bytes mac between.is_cut judge earliest_is tagged begun)))))

@@ -1,5 +1,5 @@
 -- One more tick of the device: how far the walk then has come, and what the step answers.
-use Rattle.std.proofs.Common.{◌≡◌, ◌∙◌, ◌==◌, ◌||◌, not, ℕ, zero, suc, ◌+◌, ◌-◌, ◌<◌, ◌≤◌, nat_lt}
+use Rattle.std.proofs.Common.{◌≡◌, ◌∙◌, ◌==◌, ◌||◌, not, ℕ, suc, ◌+◌, ◌-◌, ◌<◌, ◌≤◌, nat_lt}
 use Rattle.std.proofs.Common.{Bool}
 use Rattle.std.proofs.Common.{true, false, List, [], ◌∷◌, ◌++◌, length, drop, refl, sym, ap, subst}
 use Rattle.std.proofs.Common.{arith}
@@ -15,7 +15,7 @@ use Rattle.yasir_ticks.specs.declared.tick.Tick.TheVariants.{Silent, Byte}
 use Rattle.line_rules.specs.Rules.{Rules}
 use Rattle.line_rules.specs.RulesLaws.{IsLawful}
 use Rattle.frame_ending.specs.Divided.{IsDivided}
-use Rattle.frame_ending.specs.LiveBytes.{up_to_byte, live_bytes, live_ticks, live_end, has_extra}
+use Rattle.frame_ending.specs.LiveBytes.{live_bytes, live_ticks, live_end, has_extra}
 use Rattle.frame_ending.proofs.Dividing.{longer-line, divided-within, byte-ends, byte-begun}
 use Rattle.frame_ending.proofs.Dividing.{byte-contiguous, byte-last}
 use Rattle.frame_ending.proofs.LiveTicks.{live_end-within, live_ticks-whole, up_to_byte-full}

@@ -1,5 +1,6 @@
 -- A whole step of a transmitter: the value that cuts the line takes the tick, and then all else.
-use Rattle.std.proofs.Common.{◌≡◌, ◌∙◌, ℕ, ◌+◌, List, [], ◌∷◌, ◌++◌, refl, sym, subst, inl, Result, Ok, Err}
+use Rattle.std.proofs.Common.{◌≡◌, ◌∙◌, ℕ, ◌+◌, List, [], ◌∷◌, ◌++◌, refl, sym, subst, inl, Result}
+use Rattle.std.proofs.Common.{Ok, Err}
 use Rattle.std.proofs.Common.{IfOk, OnErr, arith}
 use Rattle.yasir_io.specs.Disks.{Slots}
 use Rattle.yasir_io.specs.declared.disk.SlotDisk.{Ghosts as SlotDisk}
@@ -25,17 +26,21 @@ use Rattle.seal_transmitter.specs.Between.{IsBetween}
 use Rattle.seal_transmitter.specs.declared.note.SealStep.{SealStep}
 use Rattle.seal_transmitter.specs.declared.sealer.Sealer.{Sealer}
 
-module _ {R M : Type 0} (proto : LineRules R) (code : Mac M) {B : ℕ} (old : Sealer R M B) (last : ℕ) (cut : BurstCut R)
+module _ {R M : Type 0} (proto : LineRules R) (code : Mac M) {B : ℕ} (old : Sealer R M B) (last : ℕ)
+    (cut : BurstCut R)
     (t : Tick) (told : Cut)
-    (answers : (line : List Tick) → CutStandsFor proto old.cut line → told ≡ cut_of proto.rules line t)
-    (takes : (line : List Tick) → CutStandsFor proto old.cut line → CutStandsFor proto cut (line ++ t ∷ [])) where
+    (answers : (line : List Tick) → CutStandsFor proto old.cut line
+    → told ≡ cut_of proto.rules line t)
+    (takes : (line : List Tick) → CutStandsFor proto old.cut line
+    → CutStandsFor proto cut (line ++ t ∷ [])) where
   abbrev Before : Setup → List Tick → Type 0
   Before setup line = StandsAt proto code old last setup line
 
   abbrev Between : Cut → Setup → List Tick → Tick → Type 0
   Between what setup line u = IsBetween proto code (record old { cut = cut }) last setup line u what
 
-  between : (what : Cut) → told ≡ what → (setup : Setup) (line : List Tick) → Before setup line → Between what setup line t
+  between : (what : Cut) → told ≡ what → (setup : Setup) (line : List Tick) → Before setup line
+      → Between what setup line t
   between what is setup line stands = record {
     direction_is = stands.direction_is;
     cuts = takes line stands.cuts;
@@ -45,8 +50,10 @@ module _ {R M : Type 0} (proto : LineRules R) (code : Mac M) {B : ℕ} (old : Se
 
   -- what is told of the tick, and then all else has taken it
   pub taken-then : (what : Cut) → told ≡ what → (new : Sealer R M B) (number : ℕ) (step : SealStep)
-      → ((setup : Setup) (line : List Tick) → Between what setup line t → HasTaken proto code new number setup line t step)
-      → (setup : Setup) (line : List Tick) → Before setup line → HasTaken proto code new number setup line t step
+      → ((setup : Setup) (line : List Tick) → Between what setup line t
+      → HasTaken proto code new number setup line t step)
+      → (setup : Setup) (line : List Tick) → Before setup line
+      → HasTaken proto code new number setup line t step
   taken-then what is new number step takes_rest setup line stands =
       takes_rest setup line (between what is setup line stands)
 
@@ -62,7 +69,8 @@ module _ {R M : Type 0} (proto : LineRules R) (code : Mac M) {B : ℕ} (old : Se
         → HasTaken proto code new number setup line t step)
     taken-closed (Ok step) closes = λ setup line stands.
         let at = between Closed is setup line stands in
-        let P : Tick → Type 0 = λ u. Between Closed setup line u → HasTaken proto code new number setup line u step in
+        let P : Tick → Type 0 = λ u. Between Closed setup line u
+        → HasTaken proto code new number setup line u step in
         subst P (sym (closed-tick proto.rules line t at.is_cut)) (closes setup line) at
     taken-closed (Err fault) closes = tt
 
@@ -71,8 +79,10 @@ module _ {R M : Type 0} (proto : LineRules R) (code : Mac M) {B : ℕ} (old : Se
         SealsWith (profile_of proto code B LIMIT setup) proto.rules setup.floor line u (last + 1)
 
     pub seals-closed : (result : Result SealStep JournalFault)
-        → OnErr result ((setup : Setup) (line : List Tick) → Between Closed setup line Silent → SealsThen Silent setup line)
-        → OnErr result ((setup : Setup) (line : List Tick) → Before setup line → SealsThen t setup line)
+        → OnErr result ((setup : Setup) (line : List Tick) → Between Closed setup line Silent
+        → SealsThen Silent setup line)
+        → OnErr result ((setup : Setup) (line : List Tick) → Before setup line
+        → SealsThen t setup line)
     seals-closed (Ok step) seals = tt
     seals-closed (Err fault) seals = λ setup line stands.
         let at = between Closed is setup line stands in

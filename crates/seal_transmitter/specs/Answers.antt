@@ -23,8 +23,8 @@ abbrev pub brief_note : FullNote → SealNote
 brief_note (sealed_note number start frame) = Sealed number start (length frame)
 brief_note (unsealed_note start why) = Unsealed start why
 
--- A step answers, after these ticks of the device and with one tick more, the tick of the link and the note that the
--- definitions add.
+-- A step answers, after these ticks of the device and with one tick more, the tick of the link and
+-- the note that the definitions add.
 abbrev pub AnswersTick : Profile → Rules → ℕ → List Tick → Tick → SealStep → Type 0
 AnswersTick profile rules floor line t step =
     AnswersTickOf (sealer profile rules) brief_note (at_floor floor) line t step.tick step.note
@@ -37,8 +37,10 @@ pub record SealsWith (profile : Profile) (rules : Rules) (floor : ℕ) (line : L
   pub note : seal_notes profile rules floor (line ++ t ∷ []) ≡ seal_notes profile rules floor line
       ++ record { tick = length line; note = sealed_note number start frame } ∷ []
 
--- By its note a step has committed the next number, that of a sealed frame, or has left journal and disk as they were.
-abbrev pub CommitsNoted : {D : Type 0} → SlotDisk D → Journal → Journal → D → D → Option SealNote → Type 0
+-- By its note a step has committed the next number, that of a sealed frame, or has left journal and
+-- disk as they were.
+abbrev pub CommitsNoted : {D : Type 0} → SlotDisk D → Journal → Journal → D → D → Option SealNote
+    → Type 0
 CommitsNoted d old new disk_old disk_new (Some (Sealed number start len)) =
     (number ≡ journal_floor old + 1)
     × HasCommitted old new (d.told disk_old) (d.told disk_new) (d.may_leave disk_new) number
@@ -54,8 +56,8 @@ pub record KeepsJournal {D : Type 0} (d : SlotDisk D) (old new : Journal) (disk_
   -- the one number that a step commits is the next one
   pub failed : OnErr result
       (HasFailed old new (d.told disk_old) (d.told disk_new) (journal_floor old + 1))
-  -- Where a crash before the step left no floor below the journal's, one after it leaves none below what is then the
-  -- journal's, and one at any moment inside it leaves none below what was.
+  -- Where a crash before the step left no floor below the journal's, one after it leaves none below
+  -- what is then the journal's, and one at any moment inside it leaves none below what was.
   pub crash_safe : IsCrashSafe old (d.told disk_old) (d.may_leave disk_old)
       → IsCrashSafe new (d.told disk_new) (d.may_leave disk_new)
   pub any_moment : IsCrashSafe old (d.told disk_old) (d.may_leave disk_old)

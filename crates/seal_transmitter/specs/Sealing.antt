@@ -1,4 +1,5 @@
--- What the transmitter makes of the device's line: its notes, the frames that it seals, and the line of the link.
+-- What the transmitter makes of the device's line: its notes, the frames that it seals, and the
+-- line of the link.
 use Rattle.std.specs.Prelude.{ℕ, suc, ◌+◌, ◌==◌, ◌||◌, not, nat_lt, List, [], ◌∷◌, ◌++◌, map}
 use Rattle.std.specs.Prelude.{Option, Some, None, if◌then◌else◌}
 use Rattle.std.specs.List.{filter_map}
@@ -35,7 +36,8 @@ judged profile rules s d =
     else if s.floor == profile.limit then unsealed Spent
     else sealed_with (suc s.floor)
 
--- After a sealed burst come a pause, its trailer, and the silence that ends a burst, before the next one may be sealed.
+-- After a sealed burst come a pause, its trailer, and the silence that ends a burst, before the
+-- next one may be sealed.
 abbrev pub start_after : Profile → Rules → Burst → ℕ
 start_after profile rules d = live_end rules d + pause_len + trailer_len profile + T3_5_TICKS
 
@@ -61,7 +63,8 @@ forwarded rules d more = record { start = d.start; body = live_ticks rules d ++ 
 abbrev pub trailing : List ℕ → List Tick
 trailing bytes = silent pause_len ++ map (λ b. Byte b) bytes
 
--- An early burst isn't forwarded. Of all others the live bytes are, and a sealed one has its trailer.
+-- An early burst isn't forwarded. Of all others the live bytes are, and a sealed one has its
+-- trailer.
 abbrev pub emission_by : Profile → Rules → Burst → Judgement → List Burst
 emission_by profile rules d (sealed_with number) =
     forwarded rules d (trailing (trailer profile number (live_bytes rules d))) ∷ []
@@ -69,7 +72,8 @@ emission_by profile rules d (unsealed Early) = []
 emission_by profile rules d (unsealed Form) = forwarded rules d [] ∷ []
 emission_by profile rules d (unsealed Spent) = forwarded rules d [] ∷ []
 
--- the transmitter as a walk over bursts: the note of a burst comes in the step of its fourth silent tick, which closes it
+-- the transmitter as a walk over bursts: the note of a burst comes in the step of its fourth silent
+-- tick, which closes it
 abbrev pub sealer : Profile → Rules → Walker SealState FullNote
 sealer profile rules = record {
   next = λ s d. state_by profile rules s d (judged profile rules s d);
@@ -97,4 +101,5 @@ sealed_in (unsealed_note start why) = None
 
 -- the frames that the transmitter has sealed
 abbrev pub sealed : Profile → Rules → ℕ → List Tick → List NumberedFrame
-sealed profile rules floor line = filter_map (λ n. sealed_in n.note) (seal_notes profile rules floor line)
+sealed profile rules floor line = filter_map (λ n. sealed_in n.note)
+    (seal_notes profile rules floor line)

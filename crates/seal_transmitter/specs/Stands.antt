@@ -29,9 +29,10 @@ use Rattle.seal_transmitter.specs.declared.sealer.Sealer.{Sealer}
 abbrev pub sent_at : ℕ → List ℕ → ℕ → Tick
 sent_at m left i = slice_index_or (map (λ b. Byte b) left) (i - m) Silent
 
--- Before tick m the walk over these bursts has come so far. Of what the closed ones emit these bytes are still to come, whose
--- sending ends four ticks before a burst may be sealed again.
-pub record HasWalked (profile : Profile) (rules : Rules) (floor m : ℕ) (ds : List Burst) (s : SealState)
+-- Before tick m the walk over these bursts has come so far. Of what the closed ones emit these
+-- bytes are still to come, whose sending ends four ticks before a burst may be sealed again.
+pub record HasWalked (profile : Profile) (rules : Rules) (floor m : ℕ) (ds : List Burst)
+    (s : SealState)
     (left : List ℕ) (running : Option Burst) : Type 0 where
   pub emissions : List Burst
   pub come : HasCome (sealer profile rules) (at_floor floor) m ds s emissions running
@@ -39,13 +40,15 @@ pub record HasWalked (profile : Profile) (rules : Rules) (floor m : ℕ) (ds : L
   pub in_time : 0 < length left → m + length left + T3_5_TICKS ≤ s.earliest_start
 
 module _ {R M : Type 0} (proto : LineRules R) (code : Mac M) where
-  -- A transmitter with words of so many bytes has come so far over a line: the last number that it used, the first tick at which
-  -- a burst isn't early, the bytes that are still to be sent, and the code of the running burst.
+  -- A transmitter with words of so many bytes has come so far over a line: the last number that it
+  -- used, the first tick at which a burst isn't early, the bytes that are still to be sent, and the
+  -- code of the running burst.
   pub record Walks (word_len last earliest : ℕ) (left : List ℕ) (mac : M) (setup : Setup)
       (line : List Tick) : Type 0 where
     pub running : Option Burst
     pub walked : HasWalked (profile_of proto code word_len LIMIT setup) proto.rules setup.floor
-        (length line) (bursts line) (record { floor = last; earliest_start = earliest }) left running
+        (length line) (bursts line) (record { floor = last; earliest_start = earliest }) left
+        running
     -- the text of the tag so far, where the running burst may be sealed
     pub text : List ℕ
     pub codes : code.stands mac setup.key text
@@ -53,7 +56,8 @@ module _ {R M : Type 0} (proto : LineRules R) (code : Mac M) where
         → text ≡ proto.rules.label ∷ setup.direction ∷ live_bytes proto.rules d)
 
   -- Set up so, the transmitter has taken these ticks, and the last number that it used is this one.
-  pub record StandsAt {B : ℕ} (value : Sealer R M B) (last : ℕ) (setup : Setup) (line : List Tick) : Type 0 where
+  pub record StandsAt {B : ℕ} (value : Sealer R M B) (last : ℕ) (setup : Setup) (line : List Tick) :
+      Type 0 where
     pub direction_is : direction_number value.direction ≡ setup.direction
     pub cuts : CutStandsFor proto value.cut line
     pub walks : Walks B last value.earliest_start (bytes_left value.trailer) value.mac setup line
@@ -62,14 +66,16 @@ module _ {R M : Type 0} (proto : LineRules R) (code : Mac M) where
   abbrev pub StandsFor : {B : ℕ} → Sealer R M B → Journal → Setup → List Tick → Type 0
   StandsFor value journal setup line = StandsAt value (journal_floor journal) setup line
 
-  -- After these ticks the transmitter has taken one more: it then stands for this, the last number used is that of the last sealed
-  -- frame, and it answers as the definitions say.
-  pub record HasTaken {B : ℕ} (value : Sealer R M B) (last : ℕ) (setup : Setup) (line : List Tick) (t : Tick)
+  -- After these ticks the transmitter has taken one more: it then stands for this, the last number
+  -- used is that of the last sealed frame, and it answers as the definitions say.
+  pub record HasTaken {B : ℕ} (value : Sealer R M B) (last : ℕ) (setup : Setup) (line : List Tick)
+      (t : Tick)
       (step : SealStep) : Type 0 where
     pub stands : StandsAt value last setup (line ++ t ∷ [])
     pub floor : last ≡ last_number setup.floor
         (sealed (profile_of proto code B LIMIT setup) proto.rules setup.floor (line ++ t ∷ []))
-    pub answers : AnswersTick (profile_of proto code B LIMIT setup) proto.rules setup.floor line t step
+    pub answers : AnswersTick (profile_of proto code B LIMIT setup) proto.rules setup.floor line t
+        step
 
 -- how many ticks it has taken
 abbrev pub ticks_taken : {R M : Type 0} {B : ℕ} → Sealer R M B → ℕ

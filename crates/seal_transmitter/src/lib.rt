@@ -1,4 +1,5 @@
-//! The transmitter: it forwards the bursts of a device and seals those that are frames, each with a number and a tag.
+//! The transmitter: it forwards the bursts of a device and seals those that are frames, each with a
+//! number and a tag.
 #![tactic(auto)]
 
 mod laws;

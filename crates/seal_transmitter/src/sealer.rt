@@ -7,8 +7,9 @@ use sequence_journal::{Journal, JournalFault, LIMIT};
 use yasir_io::SlotDisk;
 use yasir_ticks::{MAX_TICKS, T3_5_TICKS, Tick};
 
-/// The transmitter, by the rules `R` of a protocol, with words of `B` bytes and tags by `M`. It forwards the live bytes of a
-/// device's bursts, each in its own tick, and sends a trailer after each that is a frame: the low bytes of its number and its tag.
+/// The transmitter, by the rules `R` of a protocol, with words of `B` bytes and tags by `M`. It
+/// forwards the live bytes of a device's bursts, each in its own tick, and sends a trailer after
+/// each that is a frame: the low bytes of its number and its tag.
 ///
 /// It keeps no frame: each live byte goes into the text of the tag as it comes.
 #[derive(Drop)]
@@ -22,7 +23,8 @@ pub struct Sealer<R, M, const B: usize> {
 }
 
 impl<R: LineRules, M: Mac, const B: usize> Sealer<R, M, B> {
-    ghost use Rattle.std.specs.Prelude.{◌≡◌, ℕ, ◌+◌, ◌<◌, ◌≤◌, nat_lt, List, [], ◌∷◌, ◌++◌, drop, Option};
+    ghost use Rattle.std.specs.Prelude.{◌≡◌, ℕ, ◌+◌, ◌<◌, ◌≤◌, nat_lt, List, [], ◌∷◌, ◌++◌, drop};
+    ghost use Rattle.std.specs.Prelude.{Option};
     ghost use Rattle.std.specs.Prelude.{None, OnOk, OnErr, IfOk, IfNone};
     ghost use Rattle.yasir_ticks.specs.declared.tick.Tick.{Tick};
     ghost use Rattle.yasir_ticks.specs.declared.tick.Tick.TheVariants.{Silent};
@@ -59,11 +61,12 @@ impl<R: LineRules, M: Mac, const B: usize> Sealer<R, M, B> {
         }
     }
 
-    /// Takes the next tick of the device, and answers the tick of the link at the same place, with the note that falls into
-    /// this step. The journal is that of the steps before, and the disk is the journal's. Fewer than `MAX_TICKS` ticks were
-    /// taken before.
+    /// Takes the next tick of the device, and answers the tick of the link at the same place, with
+    /// the note that falls into this step. The journal is that of the steps before, and the disk is
+    /// the journal's. Fewer than `MAX_TICKS` ticks were taken before.
     ///
-    /// It fails where the number of a frame isn't committed. The frame isn't sealed then, and no step follows.
+    /// It fails where the number of a frame isn't committed. The frame isn't sealed then, and no
+    /// step follows.
     #[inline(always)]
     pub fn step<D: SlotDisk>(
         &mut self,
@@ -121,7 +124,8 @@ impl<R: LineRules, M: Mac, const B: usize> Sealer<R, M, B> {
     fn pass(&mut self) -> SealStep
         ensures cut { self.new.cut ≡ self.old.cut }
         ensures note { result.note ≡ None }
-        ensures step { (last : ℕ) (setup : Setup) (line : List Tick) (t : Tick) (cut : Cut) → IsPassing cut
+        ensures step { (last : ℕ) (setup : Setup) (line : List Tick) (t : Tick) (cut : Cut)
+            → IsPassing cut
             → IsBetween R.LineRules M.Mac self.old last setup line t cut
             → HasTaken R.LineRules M.Mac self.new last setup line t result }
     {
@@ -170,7 +174,8 @@ impl<R: LineRules, M: Mac, const B: usize> Sealer<R, M, B> {
     // Why the burst that is now closed isn't sealed; none where it is.
     fn unsealed_why(&self, journal: &Journal) -> Option<UnsealedWhy>
         ensures within { IfNone result (journal_floor journal.now < LIMIT) }
-        ensures judged { (setup : Setup) (line : List Tick) → CutStandsFor R.LineRules self.now.cut line
+        ensures judged { (setup : Setup) (line : List Tick)
+            → CutStandsFor R.LineRules self.now.cut line
             → Judges R.LineRules M.Mac self.now (journal_floor journal.now) setup line
             (judgement_of result (journal_floor journal.now + 1)) }
     {
@@ -200,10 +205,13 @@ impl<R: LineRules, M: Mac, const B: usize> Sealer<R, M, B> {
 
         ensures cut { OnOk result (self.new.cut ≡ self.old.cut) }
         ensures step { IfOk result (λ step. (setup : Setup) (line : List Tick)
-            → IsBetween R.LineRules M.Mac self.old (journal_floor journal.old) setup line Silent Closed
-            → HasTaken R.LineRules M.Mac self.new (journal_floor journal.new) setup line Silent step) }
+            → IsBetween R.LineRules M.Mac self.old (journal_floor journal.old) setup line Silent
+            Closed
+            → HasTaken R.LineRules M.Mac self.new (journal_floor journal.new) setup line Silent
+            step) }
         ensures err_seals { OnErr result ((setup : Setup) (line : List Tick)
-            → IsBetween R.LineRules M.Mac self.old (journal_floor journal.old) setup line Silent Closed
+            → IsBetween R.LineRules M.Mac self.old (journal_floor journal.old) setup line Silent
+            Closed
             → SealsWith (profile_of R.LineRules M.Mac B LIMIT setup) R.rules setup.floor line Silent
             (journal_floor journal.old + 1)) }
         ensures journal { KeepsJournal D.SlotDisk journal.old journal.new disk.old disk.new result }
@@ -245,7 +253,8 @@ impl<R: LineRules, M: Mac, const B: usize> Sealer<R, M, B> {
         ensures note { IsSealedNote number result.note }
         ensures step { (last : ℕ) (setup : Setup) (line : List Tick)
             → IsBetween R.LineRules M.Mac self.old last setup line Silent Closed
-            → Judges R.LineRules M.Mac self.old last setup (line ++ Silent ∷ []) (sealed_with number)
+            → Judges R.LineRules M.Mac self.old last setup (line ++ Silent ∷ [])
+            (sealed_with number)
             → HasTaken R.LineRules M.Mac self.new number setup line Silent result }
     {
         self.mac.update(&number.to_be_bytes());

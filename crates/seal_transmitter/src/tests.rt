@@ -49,7 +49,7 @@ fn a_frame_is_sealed_and_another_burst_is_not(rt: HostRuntime) -> Result<(), Fai
 
     // The trailer is the word of number 0x10203, and its tag by openssl:
     //   printf 0100010203000000000000010203 | xxd -r -p
-    //     | openssl dgst -sha1 -mac HMAC -macopt hexkey:000102030405060708090a0b0c0d0e0f | cut -c1-24
+    // | openssl dgst -sha1 -mac HMAC -macopt hexkey:000102030405060708090a0b0c0d0e0f | cut -c1-24
     let link: &[u8] =
         b"\x01\x02\x03\x00...\x02\x03\xbb\x3b\x20\xfe\x5a\x05\xb7\x81\xaa\x48\x00\x13....\x05\x06....";
     assert_eq!(rt; steps.len(), link.len());

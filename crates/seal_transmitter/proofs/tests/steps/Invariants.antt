@@ -4,4 +4,5 @@ use Rattle.seal_transmitter.specs.Stands.{ticks_taken}
 use Rattle.seal_transmitter.proofs.tests.steps.Given as goal
 
 abbrev pub invariant-loop-letter : goal.invariant-loop-letter
-invariant-loop-letter g l = (ticks_taken l.sealer ≡ l.letter-index) × Fits l.journal (g.D.SlotDisk.told l.disk)
+invariant-loop-letter g l = (ticks_taken l.sealer ≡ l.letter-index)
+    × Fits l.journal (g.D.SlotDisk.told l.disk)

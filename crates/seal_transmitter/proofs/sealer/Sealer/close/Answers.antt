@@ -14,8 +14,10 @@ use Rattle.seal_transmitter.proofs.sealer.Sealer.close.Goals as goal
 pub returns-in_default-clause-err_seals : goal.returns-in_default-clause-err_seals
 returns-in_default-clause-err_seals g c = λ setup line between.
     seals-with g.R.LineRules g.M.Mac g.row.B setup line
-    (journal_floor c.args.journal.now) c.args.self.now.earliest_start (bytes_left c.args.self.now.trailer) c.args.self.now.mac between.walks
-    (journal_floor c.args.journal.now + 1) between.is_cut (c.in-None.ensures.judged setup (line ++ Silent ∷ []) between.cuts)
+    (journal_floor c.args.journal.now) c.args.self.now.earliest_start
+    (bytes_left c.args.self.now.trailer) c.args.self.now.mac between.walks
+    (journal_floor c.args.journal.now + 1) between.is_cut
+    (c.in-None.ensures.judged setup (line ++ Silent ∷ []) between.cuts)
 
 pub returns-in-Some-clause-step : goal.returns-in-Some-clause-step
 returns-in-Some-clause-step g c = λ setup line between.
@@ -24,10 +26,13 @@ returns-in-Some-clause-step g c = λ setup line between.
 
 pub returns-in-Ok-clause-step : goal.returns-in-Ok-clause-step
 returns-in-Ok-clause-step g c = λ setup line between.
-    let number : journal_floor c.args.journal.now + 1 ≡ c.floor-number.result + 1 = ap (λ n. n + 1) (sym c.floor-number.ensures.value) in
-    let J : ℕ → Type 0 = λ n. Judges g.R.LineRules g.M.Mac c.args.self.now (journal_floor c.args.journal.now) setup
+    let number : journal_floor c.args.journal.now + 1 ≡ c.floor-number.result + 1 =
+    ap (λ n. n + 1) (sym c.floor-number.ensures.value) in
+    let J : ℕ → Type 0 = λ n. Judges g.R.LineRules g.M.Mac c.args.self.now
+    (journal_floor c.args.journal.now) setup
     (line ++ Silent ∷ []) (sealed_with n) in
-    let S : ℕ → Type 0 = λ n. HasTaken g.R.LineRules g.M.Mac c.seal.new.self n setup line Silent c.seal.result in
+    let S : ℕ → Type 0 = λ n. HasTaken g.R.LineRules g.M.Mac c.seal.new.self n setup line Silent
+    c.seal.result in
     subst S (sym c.in-Ok.ensures.committed.floor)
     (c.seal.ensures.step (journal_floor c.args.journal.now) setup line between
     (subst J number (c.in-None.ensures.judged setup (line ++ Silent ∷ []) between.cuts)))

@@ -7,14 +7,19 @@ use Rattle.seal_transmitter.proofs.sealer.Sealer.go_on.Goals as goal
 pub returns-then-is_early-clause-step : goal.returns-then-is_early-clause-step
 returns-then-is_early-clause-step g c = λ last setup line t between.
     go_on-early g.R.LineRules g.M.Mac c.args.self.now last setup line c.send.new.self c.send.result
-    (record { rest = c.send.ensures.rest; left = c.send.ensures.left; answer = c.send.ensures.answer })
+    (record {
+      rest = c.send.ensures.rest;
+      left = c.send.ensures.left;
+      answer = c.send.ensures.answer;
+    })
     t c.args.byte between
     (ltb-true (start_so_far (line ++ t ∷ [])) c.args.self.now.earliest_start
     (sym (c.is_early.ensures (line ++ t ∷ []) between.cuts) ∙ c.if-is_early.true))
 
 pub returns-clause-step : goal.returns-clause-step
 returns-clause-step g c = λ last setup line t between.
-    go_on-late g.R.LineRules g.M.Mac c.args.self.now last setup line c.update.new.self t c.args.byte between
+    go_on-late g.R.LineRules g.M.Mac c.args.self.now last setup line c.update.new.self t c.args.byte
+    between
     (ltb-false (start_so_far (line ++ t ∷ [])) c.args.self.now.earliest_start
     (sym (c.is_early.ensures (line ++ t ∷ []) between.cuts) ∙ c.if-is_early.false))
     (λ text codes. c.update.ensures setup.key text codes)

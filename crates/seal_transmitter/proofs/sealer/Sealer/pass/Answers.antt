@@ -4,5 +4,9 @@ use Rattle.seal_transmitter.proofs.sealer.Sealer.pass.Goals as goal
 pub returns-clause-step : goal.returns-clause-step
 returns-clause-step g c = λ last setup line t cut passing between.
     pass-taken g.R.LineRules g.M.Mac c.args.self.now last setup line c.send.new.self c.send.result
-    (record { rest = c.send.ensures.rest; left = c.send.ensures.left; answer = c.send.ensures.answer })
+    (record {
+      rest = c.send.ensures.rest;
+      left = c.send.ensures.left;
+      answer = c.send.ensures.answer;
+    })
     t cut passing between
