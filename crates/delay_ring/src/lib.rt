@@ -1,0 +1,8 @@
+//! Ticks that leave a fixed number of ticks late.
+#![tactic(auto)]
+
+mod delay_ring;
+#[cfg(test)]
+mod tests;
+
+pub use delay_ring::{DelayRing, MAX_DELAY};
