@@ -1,5 +1,6 @@
 -- A box at its first tick, and what each tick more changes.
-use Rattle.std.proofs.Common.{◌≡◌, ◌∙◌, ℕ, ◌≤◌, List, [], ◌∷◌, ◌++◌, Option, Some, None, refl, sym, ap, subst, arith}
+use Rattle.std.proofs.Common.{◌≡◌, ◌∙◌, ℕ, ◌≤◌, List, [], ◌∷◌, ◌++◌, Option, Some, None, refl, sym}
+use Rattle.std.proofs.Common.{ap, subst, arith}
 use Rattle.std.specs.Prelude.{IsSomeAnd}
 use Rattle.yasir_io.specs.Disks.{Slots}
 use Rattle.yasir_ticks.specs.Ticks.{Item, ticks_in, AreTicks}
@@ -15,7 +16,8 @@ use Rattle.replay_status.proofs.Printing.{append_known-nil}
 use Rattle.box_replay.specs.Boxes.{Boxed, IsBoxed}
 use Rattle.box_replay.specs.Sending.{SinkTexts, Waiting, waiting, SendsBoxed}
 
-from_less : (m n : ℕ) (floor : Option ℕ) → m ≤ n → IsSomeAnd floor (λ f. n ≤ f) → IsSomeAnd floor (λ f. m ≤ f)
+from_less : (m n : ℕ) (floor : Option ℕ) → m ≤ n → IsSomeAnd floor (λ f. n ≤ f)
+    → IsSomeAnd floor (λ f. m ≤ f)
 from_less m n None le has = has
 from_less m n (Some f) le has = omega arith
 
@@ -23,20 +25,28 @@ from_less m n (Some f) le has = omega arith
 pub floor_from_less : (m n : ℕ) → m ≤ n → (c : Slots) → HasFloorAtLeast n c → HasFloorAtLeast m c
 floor_from_less m n le c has = from_less m n (floor_of c) le has
 
-pub one_more : (items : List Item) (t : Tick) → ticks_in (items ++ tick t ∷ []) ≡ ticks_in items ++ t ∷ []
+pub one_more : (items : List Item) (t : Tick)
+    → ticks_in (items ++ tick t ∷ []) ≡ ticks_in items ++ t ∷ []
 one_more items t = ticks_in-append items (tick t ∷ [])
 
 -- nothing is on its way yet
-pub begins : (box : Boxed) (floor : ℕ) (writer : TickWriter) (ticks notes : List ℕ) (texts : SinkTexts) → IsBoxed box floor
-    → HasWritten writer [] [] → ticks ≡ [] → notes ≡ [] → SendsBoxed box (waiting writer ticks notes) texts texts []
+pub begins : (box : Boxed) (floor : ℕ) (writer : TickWriter) (ticks notes : List ℕ)
+    (texts : SinkTexts) → IsBoxed box floor
+    → HasWritten writer [] [] → ticks ≡ [] → notes ≡ []
+    → SendsBoxed box (waiting writer ticks notes) texts texts []
 begins box floor writer ticks notes texts laws written no_ticks no_notes =
-    let has : HasWritten writer (box.other_line []) [] = subst (λ line. HasWritten writer line []) (sym laws.no_tick) written in record {
+    let has : HasWritten writer (box.other_line []) [] =
+    subst (λ line. HasWritten writer line []) (sym laws.no_tick) written in record {
       text = record {
         answered = [];
         written = has;
         text = record { front = []; got = append_known-nil texts.out; all = sym no_ticks };
       };
-      note_text = record { front = []; got = append_known-nil texts.log; all = laws.no_note ∙ sym no_notes };
+      note_text = record {
+        front = [];
+        got = append_known-nil texts.log;
+        all = laws.no_note ∙ sym no_notes;
+      };
       notes_first = record {
         early = [];
         later = [];

@@ -1,2 +1,5 @@
 pub mod Sending
 pub mod Begun
+pub mod Floors
+pub mod Outcomes
+pub mod Replayable

@@ -14,7 +14,8 @@ use Rattle.tick_drive.specs.Consumers.{Consuming, Outputs}
 use Rattle.tick_drive.specs.declared.consumer.Stop.{Stop}
 use Rattle.tick_drive.specs.declared.consumer.Stop.TheVariants.{WriteFault, JournalFault}
 use Rattle.box_replay.specs.Boxes.{Boxed, FailsBox}
-use Rattle.box_replay.specs.Sending.{SinkTexts, sink_texts, Waiting, waiting, SendsBoxed, HasSentFronts}
+use Rattle.box_replay.specs.Sending.{SinkTexts, sink_texts, Waiting, waiting, SendsBoxed}
+use Rattle.box_replay.specs.Sending.{HasSentFronts}
 use Rattle.box_replay.specs.declared.line_box.LineBox.{Ghosts as LineBox}
 use Rattle.box_replay.specs.declared.box_lines.BoxLines.{BoxLines}
 
@@ -35,22 +36,28 @@ waiting_in lines = waiting lines.writer (waiting_bytes lines.ticks) (waiting_byt
 
 module _ {B N : Type 0} (b : LineBox B N) where
   -- The box and its journal have taken these items' ticks, and what it makes of them is on its way.
-  pub record DrivesBox (lines : BoxLines B) (origin : BoxOrigin) (outputs : Outputs) (items : List Item) : Type 0 where
+  pub record DrivesBox (lines : BoxLines B) (origin : BoxOrigin) (outputs : Outputs)
+      (items : List Item) : Type 0 where
     pub steps : b.stands lines.line_box lines.journal origin.setup (ticks_in items)
-    pub sends : SendsBoxed (b.boxed origin.setup) (waiting_in lines) origin.texts (texts_in outputs) (ticks_in items)
+    pub sends : SendsBoxed (b.boxed origin.setup) (waiting_in lines) origin.texts (texts_in outputs)
+        (ticks_in items)
     pub floor_told : ToldFloor (journal_floor lines.journal) outputs.slots
 
-  -- The step of the last of these items failed at its number; what the box makes of those before it is on its way.
-  pub record StopsAtNumber (lines : BoxLines B) (origin : BoxOrigin) (outputs : Outputs) (items : List Item) : Type 0 where
+  -- The step of the last of these items failed at its number; what the box makes of those before it
+  -- is on its way.
+  pub record StopsAtNumber (lines : BoxLines B) (origin : BoxOrigin) (outputs : Outputs)
+      (items : List Item) : Type 0 where
     pub front : List Item
     pub last : Tick
     pub is : items ≡ front ++ tick last ∷ []
-    pub sends : SendsBoxed (b.boxed origin.setup) (waiting_in lines) origin.texts (texts_in outputs) (ticks_in front)
+    pub sends : SendsBoxed (b.boxed origin.setup) (waiting_in lines) origin.texts (texts_in outputs)
+        (ticks_in front)
     pub fails : FailsBox (b.boxed origin.setup) (ticks_in front) last outputs.slots
     pub floor : journal_floor lines.journal ≡ (b.boxed origin.setup).number (ticks_in front)
 
   -- A write failed after the step of the last of these items had answered.
-  pub record StopsAtWrite (lines : BoxLines B) (origin : BoxOrigin) (outputs : Outputs) (items : List Item) : Type 0 where
+  pub record StopsAtWrite (lines : BoxLines B) (origin : BoxOrigin) (outputs : Outputs)
+      (items : List Item) : Type 0 where
     pub sent : HasSentFronts (b.boxed origin.setup) origin.texts (texts_in outputs) (ticks_in items)
     pub floor : journal_floor lines.journal ≡ (b.boxed origin.setup).number (ticks_in items)
     pub floor_told : ToldFloor (journal_floor lines.journal) outputs.slots

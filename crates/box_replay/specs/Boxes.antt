@@ -1,20 +1,22 @@
 -- A box between two lines: what it makes of a line, and what its steps answer.
-use Rattle.std.specs.Prelude.{◌≡◌, ℕ, ◌<◌, ◌≤◌, List, [], ◌∷◌, ◌++◌, length, Option, Some, None, IfSome}
+use Rattle.std.specs.Prelude.{◌≡◌, ℕ, ◌<◌, ◌≤◌, List, [], ◌∷◌, ◌++◌, length, Option, Some, None}
+use Rattle.std.specs.Prelude.{IfSome}
 use Rattle.yasir_ticks.specs.declared.tick.Tick.{Tick}
 use Rattle.yasir_io.specs.Disks.{Slots}
 use Rattle.sequence_journal.specs.Journal.{IsEitherFloor}
 use Rattle.sequence_journal.specs.Uptimes.{RiseFrom, last_from}
 
--- What a box makes of a line, as it is set up: the other line, the lines of its notes, the last number that it has used,
--- and all that it has used, in order.
+-- What a box makes of a line, as it is set up: the other line, the lines of its notes, the last
+-- number that it has used, and all that it has used, in order.
 pub record Boxed : Type 0 where
   pub other_line : List Tick → List Tick
   pub note_lines : List Tick → List ℕ
   pub number : List Tick → ℕ
   pub numbers : List Tick → List ℕ
 
--- Of nothing it makes nothing; of a line it makes as many ticks, and on a longer line its number doesn't fall. Its numbers
--- rise from the floor, so none is used twice, and the last of them is its number.
+-- Of nothing it makes nothing; of a line it makes as many ticks, and on a longer line its number
+-- doesn't fall. Its numbers rise from the floor, so none is used twice, and the last of them is its
+-- number.
 pub record IsBoxed (box : Boxed) (floor : ℕ) : Type 0 where
   pub no_tick : box.other_line [] ≡ []
   pub no_note : box.note_lines [] ≡ []
@@ -29,12 +31,15 @@ abbrev pub line_of_note : {N : Type 0} → (N → List ℕ) → Option N → Lis
 line_of_note note_line None = []
 line_of_note note_line (Some note) = note_line note
 
--- A step answers, after this line and with one tick more, one tick of the other line and the line of its note, or no line.
-pub record AnswersBox (box : Boxed) (line : List Tick) (t tick : Tick) (note : List ℕ) : Type 0 where
+-- A step answers, after this line and with one tick more, one tick of the other line and the line
+-- of its note, or no line.
+pub record AnswersBox (box : Boxed) (line : List Tick) (t tick : Tick) (note : List ℕ) :
+    Type 0 where
   pub tick_is : box.other_line (line ++ t ∷ []) ≡ box.other_line line ++ tick ∷ []
   pub note_is : box.note_lines (line ++ t ∷ []) ≡ box.note_lines line ++ note
 
--- A step that uses a number failed: the slots have the number before it, or that one, as their floor.
+-- A step that uses a number failed: the slots have the number before it, or that one, as their
+-- floor.
 pub record FailsBox (box : Boxed) (line : List Tick) (t : Tick) (told : Option Slots) : Type 0 where
   pub uses : box.number line < box.number (line ++ t ∷ [])
   pub floor_told : IfSome told (IsEitherFloor (box.number line) (box.number (line ++ t ∷ [])))

@@ -1,3 +1,4 @@
 pub mod Boxes
 pub mod Sending
 pub mod BoxLines
+pub mod ReplaysBox

@@ -1,4 +1,5 @@
--- The texts that a box makes: its other line goes to `out`, and the lines of its notes go to the log.
+-- The texts that a box makes: its other line goes to `out`, and the lines of its notes go to the
+-- log.
 use Rattle.std.specs.Prelude.{◌≡◌, ℕ, ◌≤◌, ◌⊎◌, List, [], ◌∷◌, ◌++◌, Option, Result, OnOk, OnErr}
 use Rattle.std.specs.Io.KnownBytes.{append_known}
 use Rattle.yasir_io.specs.Causes.{Rose}
@@ -18,7 +19,8 @@ pub record SinkTexts : Type 0 where
 abbrev pub sink_texts : Option (List ℕ) → Option (List ℕ) → SinkTexts
 sink_texts out log = record { out = out; log = log }
 
--- what waits for a sink: the ticks of the last line, which isn't filled, and the bytes of the lines and the notes before
+-- what waits for a sink: the ticks of the last line, which isn't filled, and the bytes of the lines
+-- and the notes before
 pub record Waiting : Type 0 where
   pub writer : TickWriter
   pub ticks : List ℕ
@@ -28,13 +30,15 @@ abbrev pub waiting : TickWriter → List ℕ → List ℕ → Waiting
 waiting writer ticks notes = record { writer = writer; ticks = ticks; notes = notes }
 
 -- The text of these ticks is on its way to `out`.
-pub record WritesTicks (waits : Waiting) (before now : Option (List ℕ)) (ticks : List Tick) : Type 0 where
+pub record WritesTicks (waits : Waiting) (before now : Option (List ℕ)) (ticks : List Tick) :
+    Type 0 where
   pub answered : List ℕ
   pub written : HasWritten waits.writer ticks answered
   pub text : Buffered before now waits.ticks answered
 
--- Of the ticks that `out` has got a byte of, each note that falls into their steps stands in the log: after some first ticks
--- of the line, what `out` has got is of their text, and what the log has got begins with all their notes.
+-- Of the ticks that `out` has got a byte of, each note that falls into their steps stands in the
+-- log: after some first ticks of the line, what `out` has got is of their text, and what the log
+-- has got begins with all their notes.
 pub record NotesFirst (box : Boxed) (line : List Tick) (front note_front : List ℕ) : Type 0 where
   pub early : List Tick
   pub later : List Tick
@@ -46,7 +50,8 @@ pub record NotesFirst (box : Boxed) (line : List Tick) (front note_front : List 
   pub notes : note_front ≡ box.note_lines early ++ more
 
 -- What a box makes of a line is on its way to the two sinks, the notes first.
-pub record SendsBoxed (box : Boxed) (waits : Waiting) (before now : SinkTexts) (line : List Tick) : Type 0 where
+pub record SendsBoxed (box : Boxed) (waits : Waiting) (before now : SinkTexts) (line : List Tick) :
+    Type 0 where
   pub text : WritesTicks waits before.out now.out (box.other_line line)
   pub note_text : Buffered before.log now.log waits.notes (box.note_lines line)
   pub notes_first : NotesFirst box line text.text.front note_text.front
@@ -64,17 +69,20 @@ pub record HasSentFronts (box : Boxed) (before now : SinkTexts) (line : List Tic
   pub note_text : GotPrefix before.log now.log (box.note_lines line)
   pub notes_first : NotesFirst box line text.front note_text.front
 
--- A call that writes to both sinks fails only where the count of one rose, and any other answer leaves both as they were.
-pub record HaveCause {T E : Type 0} (out_before out_now log_before log_now : ℕ) (result : Result T E) : Type 0 where
+-- A call that writes to both sinks fails only where the count of one rose, and any other answer
+-- leaves both as they were.
+pub record HaveCause {T E : Type 0} (out_before out_now log_before log_now : ℕ)
+    (result : Result T E) : Type 0 where
   pub out_never_falls : out_before ≤ out_now
   pub log_never_falls : log_before ≤ log_now
   pub failed : OnErr result (Rose out_before out_now ⊎ Rose log_before log_now)
   pub out_same : OnOk result (out_now ≡ out_before)
   pub log_same : OnOk result (log_now ≡ log_before)
 
--- The text of the ticks, and of the notes, is on its way, or a front of it where a write failed. Either nothing has gone out,
--- or all notes went to the log before.
-pub record PushesTexts {T E : Type 0} (before now : SinkTexts) (ticks_wait notes_wait text notes : List ℕ)
+-- The text of the ticks, and of the notes, is on its way, or a front of it where a write failed.
+-- Either nothing has gone out, or all notes went to the log before.
+pub record PushesTexts {T E : Type 0} (before now : SinkTexts)
+    (ticks_wait notes_wait text notes : List ℕ)
     (result : Result T E) : Type 0 where
   pub text_goes : OnOk result (Buffered before.out now.out ticks_wait text)
   pub text_stops : OnErr result (GotPrefix before.out now.out text)
@@ -83,10 +91,13 @@ pub record PushesTexts {T E : Type 0} (before now : SinkTexts) (ticks_wait notes
   pub notes_first : ((now.out ≡ before.out) × OnOk result (ticks_wait ≡ text))
       ⊎ ((now.log ≡ append_known before.log notes) × OnOk result (notes_wait ≡ []))
 
--- A step's tick and its note were added: the line that the tick completes, or nothing, goes to the text of the ticks.
-pub record PushesStep {T E : Type 0} (old new : Waiting) (before now : SinkTexts) (tick : Tick) (note : List ℕ)
+-- A step's tick and its note were added: the line that the tick completes, or nothing, goes to the
+-- text of the ticks.
+pub record PushesStep {T E : Type 0} (old new : Waiting) (before now : SinkTexts) (tick : Tick)
+    (note : List ℕ)
     (result : Result T E) : Type 0 where
   pub line : List ℕ
   pub written : (ticks : List Tick) (answered : List ℕ) → HasWritten old.writer ticks answered
       → HasWritten new.writer (ticks ++ tick ∷ []) (answered ++ line)
-  pub pushes : PushesTexts before now new.ticks new.notes (old.ticks ++ line) (old.notes ++ note) result
+  pub pushes : PushesTexts before now new.ticks new.notes (old.ticks ++ line) (old.notes ++ note)
+      result

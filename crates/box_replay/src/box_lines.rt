@@ -8,7 +8,8 @@ ghost use Rattle.link_format.specs.Setup.{setup_of};
 ghost use Rattle.sequence_journal.specs.declared.journal.Journal.{Journal};
 ghost use Rattle.sequence_journal.specs.Journal.{journal_floor};
 ghost use Rattle.box_replay.specs.Boxes.{Boxed, line_of_note};
-ghost use Rattle.box_replay.specs.Sending.{SinkTexts, sink_texts, waiting, SendsBoxed, HasSent, HasSentFronts, HaveCause, PushesTexts, PushesStep};
+ghost use Rattle.box_replay.specs.Sending.{SinkTexts, sink_texts, waiting, SendsBoxed, HasSent};
+ghost use Rattle.box_replay.specs.Sending.{HasSentFronts, HaveCause, PushesTexts, PushesStep};
 ghost use Rattle.box_replay.specs.BoxLines.{driving, waiting_in, DrivesBox};
 
 use crate::line_box::LineBox;
@@ -18,8 +19,8 @@ use tick_drive::{Consumer, Stop};
 use yasir_io::{Failed, Sink, SlotDisk, TextBuffer};
 use yasir_ticks::{Tick, TickWriter};
 
-/// Drives a box over its journal: writes the other line as canonical tick text, and a line for each note to the log. Before a
-/// byte of the ticks goes out, all notes so far go to the log.
+/// Drives a box over its journal: writes the other line as canonical tick text, and a line for each
+/// note to the log. Before a byte of the ticks goes out, all notes so far go to the log.
 #[derive(Drop)]
 pub struct BoxLines<B> {
     line_box: B,
@@ -29,7 +30,8 @@ pub struct BoxLines<B> {
     notes: TextBuffer,
 }
 
-// Adds the line of a note to the log's text. It stands apart from a step, since few steps have a note.
+// Adds the line of a note to the log's text. It stands apart from a step, since few steps have a
+// note.
 #[inline(never)]
 fn push_note<B: LineBox, L: Sink>(
     notes: &mut TextBuffer,
@@ -64,7 +66,8 @@ fn push_note_of_step<B: LineBox, L: Sink>(
     }
 }
 
-// Adds a line to the ticks' text. Where it has no room there, the notes go to the log, and then the ticks go out.
+// Adds a line to the ticks' text. Where it has no room there, the notes go to the log, and then the
+// ticks go out.
 fn push_line<O: Sink, L: Sink>(
     ticks: &mut TextBuffer,
     notes: &mut TextBuffer,
@@ -72,9 +75,12 @@ fn push_line<O: Sink, L: Sink>(
     log: &mut L,
     line: &[u8],
 ) -> Result<(), Failed>
-    ensures pushes { PushesTexts (sink_texts (O.held out.old) (L.held log.old)) (sink_texts (O.held out.new) (L.held log.new))
-        (waiting_bytes ticks.new) (waiting_bytes notes.new) (waiting_bytes ticks.old ++ line.now) (waiting_bytes notes.old) result }
-    ensures cause { HaveCause (O.faults out.old) (O.faults out.new) (L.faults log.old) (L.faults log.new) result }
+    ensures pushes { PushesTexts (sink_texts (O.held out.old) (L.held log.old))
+        (sink_texts (O.held out.new) (L.held log.new))
+        (waiting_bytes ticks.new) (waiting_bytes notes.new) (waiting_bytes ticks.old ++ line.now)
+        (waiting_bytes notes.old) result }
+    ensures cause { HaveCause (O.faults out.old) (O.faults out.new) (L.faults log.old)
+        (L.faults log.new) result }
 {
     if ticks.extend(line) {
         return Ok(());
@@ -84,7 +90,8 @@ fn push_line<O: Sink, L: Sink>(
     ticks.push(out, line)
 }
 
-// Adds a tick that completes a line, and the note before it. It stands apart from a step, since few ticks do.
+// Adds a tick that completes a line, and the note before it. It stands apart from a step, since few
+// ticks do.
 #[inline(never)]
 fn push_completing<B: LineBox, O: Sink, L: Sink>(
     writer: &mut TickWriter,
@@ -96,11 +103,14 @@ fn push_completing<B: LineBox, O: Sink, L: Sink>(
     note: Option<B::Note>,
 ) -> Result<(), Failed>
     requires { has_room_for writer.old tick ≡ false }
-    ensures pushes { PushesStep (waiting writer.old (waiting_bytes ticks.old) (waiting_bytes notes.old))
+    ensures pushes { PushesStep (waiting writer.old (waiting_bytes ticks.old)
+        (waiting_bytes notes.old))
         (waiting writer.new (waiting_bytes ticks.new) (waiting_bytes notes.new))
-        (sink_texts (O.held out.old) (L.held log.old)) (sink_texts (O.held out.new) (L.held log.new))
+        (sink_texts (O.held out.old) (L.held log.old))
+        (sink_texts (O.held out.new) (L.held log.new))
         tick (line_of_note B.line_of note) result }
-    ensures cause { HaveCause (O.faults out.old) (O.faults out.new) (L.faults log.old) (L.faults log.new) result }
+    ensures cause { HaveCause (O.faults out.old) (O.faults out.new) (L.faults log.old)
+        (L.faults log.new) result }
 {
     let line = writer.complete(tick);
     push_note_of_step::<B, L>(notes, log, note)?;
@@ -118,11 +128,14 @@ fn push_step<B: LineBox, O: Sink, L: Sink>(
     tick: Tick,
     note: Option<B::Note>,
 ) -> Result<(), Failed>
-    ensures pushes { PushesStep (waiting writer.old (waiting_bytes ticks.old) (waiting_bytes notes.old))
+    ensures pushes { PushesStep (waiting writer.old (waiting_bytes ticks.old)
+        (waiting_bytes notes.old))
         (waiting writer.new (waiting_bytes ticks.new) (waiting_bytes notes.new))
-        (sink_texts (O.held out.old) (L.held log.old)) (sink_texts (O.held out.new) (L.held log.new))
+        (sink_texts (O.held out.old) (L.held log.old))
+        (sink_texts (O.held out.new) (L.held log.new))
         tick (line_of_note B.line_of note) result }
-    ensures cause { HaveCause (O.faults out.old) (O.faults out.new) (L.faults log.old) (L.faults log.new) result }
+    ensures cause { HaveCause (O.faults out.old) (O.faults out.new) (L.faults log.old)
+        (L.faults log.new) result }
 {
     if writer.extend(tick) {
         return push_note_of_step::<B, L>(notes, log, note);
@@ -156,12 +169,15 @@ impl<B: LineBox> BoxLines<B> {
     /// Writes the last line of the ticks and all that waits, the notes first.
     pub fn finish<O: Sink, L: Sink>(self, out: &mut O, log: &mut L) -> Result<(), Failed>
         ensures ok { OnOk result ((box : Boxed) (before : SinkTexts) (line : List Tick)
-            → SendsBoxed box (waiting_in self) before (sink_texts (O.held out.old) (L.held log.old)) line
+            → SendsBoxed box (waiting_in self) before (sink_texts (O.held out.old) (L.held log.old))
+            line
             → HasSent box before (sink_texts (O.held out.new) (L.held log.new)) line) }
         ensures err { OnErr result ((box : Boxed) (before : SinkTexts) (line : List Tick)
-            → SendsBoxed box (waiting_in self) before (sink_texts (O.held out.old) (L.held log.old)) line
+            → SendsBoxed box (waiting_in self) before (sink_texts (O.held out.old) (L.held log.old))
+            line
             → HasSentFronts box before (sink_texts (O.held out.new) (L.held log.new)) line) }
-        ensures cause { HaveCause (O.faults out.old) (O.faults out.new) (L.faults log.old) (L.faults log.new) result }
+        ensures cause { HaveCause (O.faults out.old) (O.faults out.new) (L.faults log.old)
+            (L.faults log.new) result }
     {
         let BoxLines {
             writer,

@@ -1,7 +1,10 @@
-//! A box between two lines over a recorded line: the text of the other line, and a line of text for each of its notes.
+//! A box between two lines over a recorded line: the text of the other line, and a line of text for
+//! each of its notes.
 #![tactic(auto)]
 
 mod box_lines;
+mod command;
 mod line_box;
 
+pub use command::replay_box;
 pub use line_box::{BoxStep, LineBox, NoteLine};

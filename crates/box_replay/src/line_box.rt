@@ -16,16 +16,17 @@ use yasir_ticks::{MAX_TICKS, Tick};
 /// The line of a note, LF included.
 pub type NoteLine = ArrayVec<u8, 80>;
 
-/// What a box answers to a tick: the tick of the other line, and the note that falls into the step. The note's line is written
-/// where it is needed, since few steps have one.
+/// What a box answers to a tick: the tick of the other line, and the note that falls into the step.
+/// The note's line is written where it is needed, since few steps have one.
 #[derive(Clone, Copy)]
 pub struct BoxStep<N> {
     pub tick: Tick,
     pub note: Option<N>,
 }
 
-/// A box between two lines, set up with a key and a direction: it takes one line tick by tick and answers the other one. The
-/// numbers that it uses come from a journal, which is that of the steps before.
+/// A box between two lines, set up with a key and a direction: it takes one line tick by tick and
+/// answers the other one. The numbers that it uses come from a journal, which is that of the steps
+/// before.
 pub trait LineBox: Drop {
     /// What it notes in a step.
     type Note: Copy;
@@ -50,7 +51,8 @@ pub trait LineBox: Drop {
     /// A box that has taken no tick.
     fn new(key: &[u8], dir: Dir) -> Self
         ensures taken { taken result ≡ 0 }
-        ensures stands { (journal : Journal) → stands result journal (setup_of key.now dir (journal_floor journal)) [] };
+        ensures stands { (journal : Journal)
+            → stands result journal (setup_of key.now dir (journal_floor journal)) [] };
 
     /// The line of a note.
     fn note_line(note: &Self::Note) -> NoteLine
@@ -67,17 +69,21 @@ pub trait LineBox: Drop {
         requires fits { Fits journal.old (D.told disk.old) }
         ensures taken { OnOk result (taken self.new ≡ taken self.old + 1) }
         ensures stands { OnOk result ((setup : Setup) (line : List Tick)
-            → stands self.old journal.old setup line → stands self.new journal.new setup (line ++ t ∷ [])) }
-        ensures answer { IfOk result (λ step. (setup : Setup) (line : List Tick) → stands self.old journal.old setup line
+            → stands self.old journal.old setup line
+            → stands self.new journal.new setup (line ++ t ∷ [])) }
+        ensures answer { IfOk result (λ step. (setup : Setup) (line : List Tick)
+            → stands self.old journal.old setup line
             → AnswersBox (boxed setup) line t step.tick (line_of_note line_of step.note)) }
         ensures fits { OnOk result (Fits journal.new (D.told disk.new)) }
-        ensures err { OnErr result ((setup : Setup) (line : List Tick) → stands self.old journal.old setup line
+        ensures err { OnErr result ((setup : Setup) (line : List Tick)
+            → stands self.old journal.old setup line
             → FailsBox (boxed setup) line t (D.told disk.new)) }
         ensures err_floor { OnErr result (journal_floor journal.new ≡ journal_floor journal.old) }
         ensures rises { journal_floor journal.old ≤ journal_floor journal.new }
         ensures crash_safe { IsCrashSafe journal.old (D.told disk.old) (D.may_leave disk.old)
             → IsCrashSafe journal.new (D.told disk.new) (D.may_leave disk.new) }
         ensures any_moment { IsCrashSafe journal.old (D.told disk.old) (D.may_leave disk.old)
-            → LeavesOnly D.moment D.left_since disk.old disk.new (HasFloorAtLeast (journal_floor journal.old)) }
+            → LeavesOnly D.moment D.left_since disk.old disk.new
+            (HasFloorAtLeast (journal_floor journal.old)) }
         ensures cause { HasCause (D.faults disk.old) (D.faults disk.new) result };
 }

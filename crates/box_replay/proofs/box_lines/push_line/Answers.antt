@@ -10,11 +10,16 @@ use Rattle.box_replay.proofs.box_lines.push_line.Goals as goal
 pub returns-in_err-drain-2-clause-pushes : goal.returns-in_err-drain-2-clause-pushes
 returns-in_err-drain-2-clause-pushes g c =
     let result = c.from_residual-in_err-drain-2.result in
-    let noted = c.in_ok-drain.ensures.ok _ _ (nothing_gone (g.L.Sink.held c.args.log.now) (waiting_bytes c.args.notes.now)) in record {
+    let noted = c.in_ok-drain.ensures.ok
+    _ _ (nothing_gone (g.L.Sink.held c.args.log.now) (waiting_bytes c.args.notes.now)) in
+    record {
       text_goes = search rules;
-      text_stops = always_on_err result (part_before _ _ (waiting_bytes c.args.ticks.now) c.args.line.now
+      text_stops = always_on_err result
+          (part_before _ _ (waiting_bytes c.args.ticks.now) c.args.line.now
           (rw (← c.extend.ensures.left c.if-extend.false)
-          (c.in_err-drain-2.ensures.err _ _ (nothing_gone (g.O.Sink.held c.args.out.now) (waiting_bytes c.extend.new.self)))));
+          (c.in_err-drain-2.ensures.err
+          _ _ (nothing_gone (g.O.Sink.held c.args.out.now)
+          (waiting_bytes c.extend.new.self)))));
       notes_go = search rules;
       notes_stop = always_on_err result (front_of_buffered _ _ _ _ noted);
       notes_first = inr (printed _ _ _ noted, search rules);
@@ -22,14 +27,20 @@ returns-in_err-drain-2-clause-pushes g c =
 
 pub returns-clause-pushes : goal.returns-clause-pushes
 returns-clause-pushes g c =
-    let noted = c.in_ok-drain.ensures.ok _ _ (nothing_gone (g.L.Sink.held c.args.log.now) (waiting_bytes c.args.notes.now)) in
-    let drained : Buffered (g.O.Sink.held c.args.out.now) (g.O.Sink.held c.drain-2.new.sink) (waiting_bytes c.drain-2.new.self)
-      (waiting_bytes c.extend.new.self) = rw c.in_ok-drain-2.ensures.empty
-    (c.in_ok-drain-2.ensures.ok _ _ (nothing_gone (g.O.Sink.held c.args.out.now) (waiting_bytes c.extend.new.self))) in
+    let noted = c.in_ok-drain.ensures.ok
+    _ _ (nothing_gone (g.L.Sink.held c.args.log.now) (waiting_bytes c.args.notes.now)) in
+    let drained : Buffered (g.O.Sink.held c.args.out.now) (g.O.Sink.held c.drain-2.new.sink)
+    (waiting_bytes c.drain-2.new.self)
+    (waiting_bytes c.extend.new.self) = rw c.in_ok-drain-2.ensures.empty
+    (c.in_ok-drain-2.ensures.ok _ _ (nothing_gone (g.O.Sink.held c.args.out.now)
+    (waiting_bytes c.extend.new.self))) in
     rw (← c.extend.ensures.left c.if-extend.false) (record {
       text_goes = on_ok_weaker c.push.result (λ goes. goes _ _ drained) c.push.ensures.ok;
       text_stops = on_err_weaker c.push.result (λ stops. stops _ _ drained) c.push.ensures.err;
       notes_go = always_on_ok c.push.result (rw c.in_ok-drain.ensures.empty noted);
       notes_stop = always_on_err c.push.result (front_of_buffered _ _ _ _ noted);
-      notes_first = inr (printed _ _ _ noted, always_on_ok c.push.result c.in_ok-drain.ensures.empty);
+      notes_first = inr (
+        printed _ _ _ noted,
+        always_on_ok c.push.result c.in_ok-drain.ensures.empty,
+      );
     })

@@ -8,5 +8,6 @@ returns-then-extend-clause-pushes g c = record {
   line = [];
   written = λ ticks answered has. subst (HasWritten c.extend.new.self _) (sym (append-nil answered))
       (c.extend.ensures.taken c.if-extend.true ticks answered has);
-  pushes = only_note c.push_note_of_step.result _ _ _ _ _ _ c.push_note_of_step.ensures.ok c.push_note_of_step.ensures.err;
+  pushes = only_note c.push_note_of_step.result _ _ _ _ _ _ c.push_note_of_step.ensures.ok
+      c.push_note_of_step.ensures.err;
 }

@@ -1,0 +1,386 @@
+-- From how the run over the input of a box ended to what the status says of it.
+use Rattle.std.proofs.Common.{◌≡◌, ◌∙◌, ℕ, ◌+◌, ◌≤◌, ◌⊎◌, inl, inr, true, false, List, [], ◌∷◌}
+use Rattle.std.proofs.Common.{◌++◌, length, length-append, map, take, drop, Option, Some, None}
+use Rattle.std.proofs.Common.{refl, sym, ap, subst, append_assoc, append-nil, arith}
+use Rattle.std.specs.Prelude.{IfSome}
+use Rattle.std.proofs.Math.Seq.{take-append_seam, take-append-add, take-length}
+use Rattle.std.proofs.lemmas.List.{take-append-drop, take-append-le}
+use Rattle.std.specs.Io.KnownBytes.{append_known}
+use Rattle.yasir_io.specs.Output.{GotPrefix}
+use Rattle.yasir_io.specs.Disks.{Slots}
+use Rattle.yasir_io.specs.declared.source.Source.{Ghosts as Source}
+use Rattle.yasir_io.specs.declared.sink.Sink.{Ghosts as Sink}
+use Rattle.yasir_io.specs.declared.disk.SlotDisk.{Ghosts as SlotDisk}
+use Rattle.yasir_ticks.specs.Ticks.{Item, ticks_in, AreTicks}
+use Rattle.yasir_ticks.specs.Ticks.Item.{tick}
+use Rattle.yasir_ticks.specs.TickText.{IsTickText, ended_items}
+use Rattle.yasir_ticks.specs.CanonicalText.{canonical_text}
+use Rattle.yasir_ticks.specs.declared.tick.Tick.{Tick}
+use Rattle.yasir_ticks.proofs.CanonicalLaws.{canonical_text-stands}
+use Rattle.yasir_ticks.proofs.TextLaws.{ended_items-begin}
+use Rattle.hmac_tag.specs.declared.dir.Dir.{Dir}
+use Rattle.link_format.specs.Setup.{Setup, setup_of}
+use Rattle.sequence_journal.specs.Journal.{journal_floor, HasFloorAtLeast, IsEitherFloor}
+use Rattle.tick_drive.specs.Consumers.{Outputs, state_of, is_write_fault}
+use Rattle.tick_drive.specs.Input.{Takes}
+use Rattle.tick_drive.specs.Drive.{Drives, answer_of}
+use Rattle.tick_drive.specs.declared.consumer.Stop.TheVariants as stops
+use Rattle.tick_drive.specs.declared.end.End.{End}
+use Rattle.tick_drive.specs.declared.end.End.TheVariants.{Whole, Refused, TooLong, ReadFault}
+use Rattle.tick_drive.specs.declared.end.End.TheVariants.{Stopped}
+use Rattle.tick_drive.proofs.ItemLaws.{ticks_in-append}
+use Rattle.replay_status.specs.Endings.{status_of}
+use Rattle.replay_status.specs.declared.status.Status.{Status}
+use Rattle.replay_status.specs.declared.status.Status.TheVariants.{Done, WriteFault}
+use Rattle.box_replay.specs.Boxes.{Boxed, IsBoxed, FailsBox}
+use Rattle.box_replay.specs.Sending.{SinkTexts, SendsBoxed, HasSent, HasSentFronts}
+use Rattle.box_replay.specs.BoxLines.{BoxOrigin, ToldFloor, waiting_in, DrivesBox, StopsAtNumber}
+use Rattle.box_replay.specs.BoxLines.{StopsAtWrite, driving}
+use Rattle.box_replay.specs.ReplaysBox.{Around, KeepsFloor, LeavesUptime, boxed_with, texts_of}
+use Rattle.box_replay.specs.ReplaysBox.{EndsBox, FailsAtNumber, WritesFronts, RunsBox}
+use Rattle.box_replay.specs.declared.line_box.LineBox.{Ghosts as LineBox}
+use Rattle.box_replay.specs.declared.box_lines.BoxLines.{BoxLines}
+use Rattle.box_replay.proofs.Begun.{floor_from_less}
+use Rattle.box_replay.proofs.Sending.{notes_all}
+
+-- ---- whole lines
+
+ticks_in-ticks : (ticks : List Tick) → ticks_in (map tick ticks) ≡ ticks
+ticks_in-ticks [] = refl
+ticks_in-ticks (t ∷ ticks) = ap (λ l. t ∷ l) (ticks_in-ticks ticks)
+
+-- the whole lines of a front of a canonical text stand for a front of its ticks
+whole_lines-begin : (ticks : List Tick) (front rest : List ℕ) → AreTicks ticks
+    → canonical_text ticks ≡ front ++ rest
+    → (more : List Tick) × (ticks ≡ ticks_in (ended_items front) ++ more)
+whole_lines-begin ticks front rest are is =
+    let right = subst (λ text. IsTickText 0 text (map tick ticks)) is
+    (canonical_text-stands ticks are) in
+    let begins = ended_items-begin 0 front rest (map tick ticks) right in (
+      ticks_in begins.0,
+      sym (ticks_in-ticks ticks) ∙ ap ticks_in begins.1
+          ∙ ticks_in-append (ended_items front) begins.0,
+    )
+
+-- the last number of a front of a line isn't above that of the line
+number-take : (box : Boxed) (floor : ℕ) (line : List Tick) (p : ℕ) → IsBoxed box floor
+    → box.number (take p line) ≤ box.number line
+number-take box floor line p laws =
+    subst (λ l. box.number (take p line) ≤ box.number l) (take-append-drop p line)
+    (laws.rises (take p line) (drop p line))
+
+-- A box makes as many ticks as it takes, so no number within the whole lines is above the last one
+-- of the ticks taken.
+number_of_lines : (box : Boxed) (floor : ℕ) (all : List Tick) (k : ℕ) (before now : SinkTexts)
+    → IsBoxed box floor
+    → (sent : HasSentFronts box before now (take k all))
+    → box.number (take (length (ticks_in (ended_items sent.text.front))) all)
+    ≤ box.number (take k all)
+number_of_lines box floor all k before now laws sent =
+    let p : ℕ = length (ticks_in (ended_items sent.text.front)) in
+    let begins = whole_lines-begin (box.other_line (take k all)) sent.text.front sent.text.rest
+    sent.are sent.text.all in
+    let sum = ap length begins.1 ∙ length-append (ticks_in (ended_items sent.text.front))
+    begins.0 in
+    let same = laws.long (take k all) in
+    let within : p ≤ length (take k all) = omega (arith, sum, same) in
+    subst (λ l. box.number l ≤ box.number (take k all)) (front_of_front all k p within)
+    (number-take box floor (take k all) p laws)
+  where
+    front_of_front : (all : List Tick) (k p : ℕ) → p ≤ length (take k all)
+        → take p (take k all) ≡ take p all
+    front_of_front all k p within =
+        sym (ap (take p) (sym (take-append-drop k all))
+        ∙ take-append-le p (take k all) (drop k all) within)
+
+-- ---- one line that was sent
+
+-- a floor is one of two
+either_of : (n m : ℕ) (told : Option Slots) → ToldFloor n told → IfSome told (IsEitherFloor n m)
+either_of n m None floor = tt
+either_of n m (Some slots) floor = inl floor
+
+-- what was sent whole was sent in part
+fronts_of_all : (box : Boxed) (before now : SinkTexts) (line : List Tick)
+    → HasSent box before now line
+    → HasSentFronts box before now line
+fronts_of_all box before now line sent = record {
+  are = sent.are;
+  text = record {
+    front = canonical_text (box.other_line line);
+    rest = [];
+    got = sent.text;
+    all = sym (append-nil _);
+  };
+  note_text = record {
+    front = box.note_lines line;
+    rest = [];
+    got = sent.note_text;
+    all = sym (append-nil _);
+  };
+  notes_first = notes_all box line (canonical_text (box.other_line line)) [] sent.are
+      (sym (append-nil _));
+}
+
+-- the ticks of the first of some items, and then the others
+ticks_in-cut : (items : List Item) (n : ℕ)
+    → ticks_in items ≡ ticks_in (take n items) ++ ticks_in (drop n items)
+ticks_in-cut items n = ap ticks_in (sym (take-append-drop n items))
+    ∙ ticks_in-append (take n items) (drop n items)
+
+-- A box of this setup was driven from `old` to `new`, and then what waited was written, or not.
+module _ {B N S O L D : Type 0} (b : LineBox B N) (s : Source S) (o : Sink O) (l : Sink L)
+    (d : SlotDisk D)
+    (key : List ℕ) (dir : Dir) (floor rest : ℕ) (before mid : Around S O L D) (loaded : D)
+    (old new : BoxLines B)
+    (laws : IsBoxed (b.boxed (setup_of key dir floor)) floor)
+    (begun : (texts : SinkTexts) → DrivesBox b old
+    (record { setup = setup_of key dir floor; texts = texts })
+    (record { out = texts.out; log = texts.log; slots = d.told loaded }) [])
+    (floor_before : ToldFloor floor (d.told before.disk))
+    (images : KeepsFloor d (journal_floor new.journal) before.disk mid.disk) where
+  abbrev box : Boxed
+  box = b.boxed (setup_of key dir floor)
+
+  abbrev boxes : ℕ → Boxed
+  boxes = boxed_with b.boxed key dir
+
+  abbrev origin : BoxOrigin
+  origin = record { setup = setup_of key dir floor; texts = texts_of o l before }
+
+  abbrev outputs : Outputs
+  outputs = record { out = o.held mid.out; log = l.held mid.log; slots = d.told mid.disk }
+
+  keeps : (n : ℕ) → journal_floor new.journal ≡ n → KeepsFloor d n before.disk mid.disk
+  keeps n is = subst (λ m. KeepsFloor d m before.disk mid.disk) is images
+
+  -- each image makes an uptime: the box's numbers rise from the floor that the slots had, and the
+  -- last isn't above the image's
+  uptime_to : (line : List Tick) → journal_floor new.journal ≡ box.number line
+      → LeavesUptime d (box.numbers line) before.disk mid.disk
+  uptime_to line is one starts told image left = record {
+    floor = floor;
+    loads = subst (ToldFloor floor) told floor_before;
+    rise = laws.rising line;
+    leaves = subst (λ n. HasFloorAtLeast n image) (sym (laws.last_is line))
+        (keeps _ is one image left);
+  }
+
+  module _ (after : Around S O L D) (input : after.input ≡ mid.input)
+      (disk : after.disk ≡ mid.disk) where
+    abbrev Sends : Type 0
+    Sends = (line : List Tick) → SendsBoxed box (waiting_in new) (texts_of o l before)
+        (texts_of o l mid) line
+        → HasSent box (texts_of o l before) (texts_of o l after) line
+
+    abbrev SendsPart : Type 0
+    SendsPart = (line : List Tick) → SendsBoxed box (waiting_in new) (texts_of o l before)
+        (texts_of o l mid) line
+        → HasSentFronts box (texts_of o l before) (texts_of o l after) line
+
+    takes_after : (items : List Item) (end : End)
+        → Takes 0 rest (s.left before.input) (s.left mid.input) items end
+        → Takes 0 rest (s.left before.input) (s.left after.input) items end
+    takes_after items end = subst (λ i. Takes 0 rest (s.left before.input) (s.left i) items end)
+        (sym input)
+
+    told_after : (P : Option Slots → Type 0) → P (d.told mid.disk) → P (d.told after.disk)
+    told_after P = subst (λ t. P (d.told t)) (sym disk)
+
+    ends_box : (end : End) (items : List Item)
+        → Takes 0 rest (s.left before.input) (s.left mid.input) items end
+        → DrivesBox b new origin outputs items → Sends → EndsBox s o l d boxes rest before after end
+    ends_box end items takes at finish =
+        let is = b.floor_is new.line_box new.journal origin.setup (ticks_in items) at.steps in
+        record {
+          floor = floor;
+          items = items;
+          floor_before = floor_before;
+          takes = takes_after items end takes;
+          replays = record {
+            sent = finish (ticks_in items) at.sends;
+            images = subst (KeepsFloor d _ before.disk) (sym disk) (keeps _ is);
+            uptime = subst (LeavesUptime d _ before.disk) (sym disk)
+                (uptime_to (ticks_in items) is);
+          };
+          floor_told = told_after (ToldFloor _)
+              (subst (λ n. ToldFloor n (d.told mid.disk)) is at.floor_told);
+        }
+
+    fails_at_number : (items : List Item) (n : ℕ)
+        → Takes 0 rest (s.left before.input) (s.left mid.input) items (Stopped stops.JournalFault)
+        → StopsAtNumber b new origin outputs (take n items) → Sends
+        → FailsAtNumber s o l d boxes rest before after
+    fails_at_number items n takes at finish = record {
+      floor = floor;
+      items = items;
+      line = ticks_in at.front;
+      last = at.last;
+      more = ticks_in (drop n items);
+      floor_before = floor_before;
+      takes = takes_after items (Stopped stops.JournalFault) takes;
+      all = ticks_in-cut items n ∙ ap (λ l. l ++ ticks_in (drop n items))
+          (ap ticks_in at.is ∙ ticks_in-append at.front (tick at.last ∷ []));
+      replays = record {
+        sent = finish (ticks_in at.front) at.sends;
+        images = subst (KeepsFloor d _ before.disk) (sym disk) (keeps _ at.floor);
+        uptime = subst (LeavesUptime d _ before.disk) (sym disk)
+            (uptime_to (ticks_in at.front) at.floor);
+      };
+      fails = told_after (FailsBox box (ticks_in at.front) at.last) at.fails;
+    }
+
+    -- fronts of what the box makes of the first of the ticks
+    writes_fronts : (end : End) (items : List Item) (line more : List Tick)
+        → Takes 0 rest (s.left before.input) (s.left mid.input) items end
+        → ticks_in items ≡ line ++ more
+        → HasSentFronts box (texts_of o l before) (texts_of o l after) line
+        → journal_floor new.journal ≡ box.number line
+        → IfSome (d.told mid.disk) (IsEitherFloor (box.number line)
+        (box.number (take (length line + 1) (ticks_in items))))
+        → WritesFronts s o l d boxes rest before after
+    writes_fronts end items line more takes all sent is told =
+        let taken : List Tick = ticks_in items in
+        let front : line ≡ take (length line) taken =
+        sym (ap (take (length line)) all ∙ take-append_seam line more) in
+        let fronts : HasSentFronts box (texts_of o l before) (texts_of o l after)
+        (take (length line) taken) =
+        subst (HasSentFronts box (texts_of o l before) (texts_of o l after)) front sent in
+        let at : journal_floor new.journal ≡ box.number (take (length line) taken) =
+        is ∙ ap box.number front in
+        let less = number_of_lines box floor taken (length line) (texts_of o l before)
+        (texts_of o l after) laws fronts in record {
+          floor = floor;
+          items = items;
+          end = end;
+          ticks = length line;
+          floor_before = floor_before;
+          takes = takes_after items end takes;
+          sent = fronts;
+          images = subst (KeepsFloor d _ before.disk) (sym disk) (keeps _ at);
+          uptime = subst (LeavesUptime d _ before.disk) (sym disk)
+              (uptime_to (take (length line) taken) at);
+          lines = subst (KeepsFloor d _ before.disk) (sym disk)
+              (λ one c left. floor_from_less _ _ less c (keeps _ at one c left));
+          floor_told = told_after (λ t. IfSome t
+              (IsEitherFloor (box.number (take (length line) taken))
+              (box.number (take (length line + 1) taken))))
+              (subst (λ l. IfSome (d.told mid.disk)
+              (IsEitherFloor (box.number l) (box.number (take (length line + 1) taken)))) front
+              told);
+        }
+
+    -- the ticks were taken, and then a write failed
+    fronts_of_taken : (end : End) (items : List Item)
+        → Takes 0 rest (s.left before.input) (s.left mid.input) items end
+        → DrivesBox b new origin outputs items → SendsPart
+        → WritesFronts s o l d boxes rest before after
+    fronts_of_taken end items takes at finish =
+        let is = b.floor_is new.line_box new.journal origin.setup (ticks_in items) at.steps in
+        writes_fronts end items (ticks_in items) [] takes (sym (append-nil (ticks_in items)))
+        (finish (ticks_in items) at.sends) is
+        (either_of _ _ (d.told mid.disk)
+        (subst (λ n. ToldFloor n (d.told mid.disk)) is at.floor_told))
+
+    fronts_of_failed : (items : List Item) (n : ℕ)
+        → Takes 0 rest (s.left before.input) (s.left mid.input) items (Stopped stops.JournalFault)
+        → StopsAtNumber b new origin outputs (take n items) → SendsPart
+        → WritesFronts s o l d boxes rest before after
+    fronts_of_failed items n takes at finish =
+        let line : List Tick = ticks_in at.front in
+        let more : List Tick = ticks_in (drop n items) in
+        let all : ticks_in items ≡ line ++ (at.last ∷ more) = ticks_in-cut items n
+        ∙ ap (λ l. l ++ more) (ap ticks_in at.is ∙ ticks_in-append at.front (tick at.last ∷ []))
+        ∙ append_assoc line (at.last ∷ []) more in
+        let next : take (length line + 1) (ticks_in items) ≡ line ++ at.last ∷ [] =
+        ap (take (length line + 1)) all ∙ take-append-add line (at.last ∷ more) 1 in
+        writes_fronts (Stopped stops.JournalFault) items line (at.last ∷ more) takes all
+        (finish line at.sends) at.floor
+        (subst (λ l. IfSome (d.told mid.disk) (IsEitherFloor (box.number line) (box.number l)))
+        (sym next) at.fails.floor_told)
+
+    fronts_of_stopped : (items : List Item) (n : ℕ)
+        → Takes 0 rest (s.left before.input) (s.left mid.input) items (Stopped stops.WriteFault)
+        → StopsAtWrite b new origin outputs (take n items)
+        → texts_of o l after ≡ texts_of o l mid → WritesFronts s o l d boxes rest before after
+    fronts_of_stopped items n takes at still =
+        writes_fronts (Stopped stops.WriteFault) items (ticks_in (take n items))
+        (ticks_in (drop n items)) takes (ticks_in-cut items n)
+        (subst (λ texts. HasSentFronts box (texts_of o l before) texts (ticks_in (take n items)))
+        (sym still) at.sent) at.floor
+        (either_of _ _ (d.told mid.disk)
+        (subst (λ n. ToldFloor n (d.told mid.disk)) at.floor at.floor_told))
+
+    abbrev HasDriven : End → Type 0
+    HasDriven end = Drives (driving b d) o l d 0 rest (s.left before.input) (s.left mid.input)
+        (state_of old before.out before.log loaded) (state_of new mid.out mid.log mid.disk) end
+
+    -- a write failed in a step
+    pub write_stops : (end : End) → is_write_fault (answer_of end) ≡ true → HasDriven end
+        → texts_of o l after ≡ texts_of o l mid → WritesFronts s o l d boxes rest before after
+    write_stops Whole write driven still = cc
+    write_stops (Refused bad) write driven still = cc
+    write_stops (TooLong what count) write driven still = cc
+    write_stops ReadFault write driven still = cc
+    write_stops (Stopped stops.JournalFault) write driven still = cc
+    write_stops (Stopped stops.WriteFault) write driven still =
+        let stop = driven.gives.stopped in
+        fronts_of_stopped driven.items (stop.place + 1) driven.takes
+        (stop.at origin [] (begun origin.texts)) still
+
+    -- what waited was written in part
+    pub finish_fails : (end : End) → is_write_fault (answer_of end) ≡ false → HasDriven end
+        → SendsPart
+        → WritesFronts s o l d boxes rest before after
+    finish_fails Whole other driven finish =
+        fronts_of_taken Whole driven.items driven.takes
+        (driven.gives.moved origin [] (begun origin.texts)) finish
+    finish_fails (Refused bad) other driven finish =
+        fronts_of_taken (Refused bad) driven.items driven.takes
+        (driven.gives.moved origin [] (begun origin.texts)) finish
+    finish_fails (TooLong what count) other driven finish =
+        fronts_of_taken (TooLong what count) driven.items driven.takes
+        (driven.gives.moved origin [] (begun origin.texts)) finish
+    finish_fails ReadFault other driven finish =
+        fronts_of_taken ReadFault driven.items driven.takes
+        (driven.gives.moved origin [] (begun origin.texts)) finish
+    finish_fails (Stopped stops.JournalFault) other driven finish =
+        let stop = driven.gives.stopped in
+        fronts_of_failed driven.items (stop.place + 1) driven.takes
+        (stop.at origin [] (begun origin.texts)) finish
+    finish_fails (Stopped stops.WriteFault) other driven finish = cc
+
+    -- it was written, and the input was no whole one
+    pub refusal_runs : (end : End) → is_write_fault (answer_of end) ≡ false → (end ≡ Whole → ⊥)
+        → HasDriven end → Sends
+        → RunsBox s o l d boxes rest before after (status_of end)
+    refusal_runs Whole other partial driven finish = absurd (partial refl)
+    refusal_runs (Refused bad) other partial driven finish =
+        ends_box (Refused bad) driven.items driven.takes
+        (driven.gives.moved origin [] (begun origin.texts)) finish
+    refusal_runs (TooLong what count) other partial driven finish =
+        ends_box (TooLong what count) driven.items driven.takes
+        (driven.gives.moved origin [] (begun origin.texts)) finish
+    refusal_runs ReadFault other partial driven finish =
+        ends_box ReadFault driven.items driven.takes
+        (driven.gives.moved origin [] (begun origin.texts)) finish
+    refusal_runs (Stopped stops.JournalFault) other partial driven finish =
+        let stop = driven.gives.stopped in
+        inl (fails_at_number driven.items (stop.place + 1) driven.takes
+        (stop.at origin [] (begun origin.texts)) finish)
+    refusal_runs (Stopped stops.WriteFault) other partial driven finish = cc
+
+    -- it was written, and the sinks flushed or not
+    pub whole_runs : (status : Status) → (status ≡ Done) ⊎ (status ≡ WriteFault) → HasDriven Whole
+        → Sends
+        → RunsBox s o l d boxes rest before after status
+    whole_runs status (inl done) driven finish =
+        subst (RunsBox s o l d boxes rest before after) (sym done)
+        (ends_box Whole driven.items driven.takes
+        (driven.gives.moved origin [] (begun origin.texts)) finish)
+    whole_runs status (inr fault) driven finish =
+        subst (RunsBox s o l d boxes rest before after) (sym fault)
+        (fronts_of_taken Whole driven.items driven.takes
+        (driven.gives.moved origin [] (begun origin.texts))
+        (λ line sends. fronts_of_all box (texts_of o l before) (texts_of o l after) line
+        (finish line sends)))
