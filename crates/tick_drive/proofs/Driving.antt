@@ -1,4 +1,4 @@
--- How the run over an input goes on by a byte and by a line, and how it ends.
+-- How a drive over an input goes on by a byte and by a line, and how it ends.
 use Rattle.std.proofs.Common.{◌≡◌, ◌≢◌, ℕ, ◌+◌, ◌≤◌, ◌<◌, inl, inr, List, [], ◌∷◌, ◌++◌, length}
 use Rattle.std.proofs.Common.{Option, Ok, Err, Bool, true, false, subst, sym, ap, refl, ◌∙◌, arith}
 use Rattle.std.proofs.Common.{append-nil, length-append}

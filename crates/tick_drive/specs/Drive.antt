@@ -1,4 +1,4 @@
--- How the run over an input ends, and what the consumer has then taken.
+-- How a drive over an input ends, and what the consumer has then taken.
 use Rattle.std.specs.Prelude.{◌≡◌, ℕ, ◌+◌, ◌<◌, ◌≤◌, List, length, Option, Result, Ok, Err}
 use Rattle.yasir_io.specs.declared.sink.Sink.{Ghosts as Sink}
 use Rattle.yasir_io.specs.declared.disk.SlotDisk.{Ghosts as SlotDisk}
@@ -23,7 +23,7 @@ pub record IsFresh {C D : Type 0} (meaning : Consuming C D) (consumer : C) (disk
 module _ {C O L D : Type 0} (meaning : Consuming C D) (o : Sink O) (l : Sink L)
     (d : SlotDisk D) where
   -- What was taken of an input that had `before` left and now has `now` was given to a consumer,
-  -- and the run over it ended so.
+  -- and the drive over it ended so.
   pub record Drives (marks rest : ℕ) (before now : Option (List ℕ)) (old new : State C O L D)
       (end : End) : Type 0 where
     pub items : List Item

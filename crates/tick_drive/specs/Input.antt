@@ -1,6 +1,6 @@
--- What a run takes of its input.
--- It meets the input's bytes in order, and ends at the first of these: a byte past the limit, a
--- byte that no right text begins with, the end of a line whose ticks with all before are too many,
+-- What is taken of an input that is driven into a consumer.
+-- The input's bytes are met in order, up to the first of these: a byte past the limit, a byte that
+-- no right text begins with, the end of a line whose ticks with all before are too many,
 -- the end of a line at one of whose ticks the consumer stops, a failed read, the input's end.
 -- Behind the input's end, and nowhere else, silence may follow.
 use Rattle.std.specs.Prelude.{◌≡◌, ◌≢◌, ℕ, ◌+◌, ◌<◌, ◌≤◌, ◌⊎◌, List, [], ◌∷◌, ◌++◌, length, Option}
@@ -138,7 +138,7 @@ pub record StopsInLine (marks : ℕ) (before : Option (List ℕ)) (items : List 
   pub few : AreFew items
   pub are : items ≡ ended_items text ++ line
 
--- These items were taken of an input, and of so many silent ticks behind it, as the run over it
+-- These items were taken of an input, and of so many silent ticks behind it, as the drive over it
 -- ended so. A consumer that stopped did so at one of them: in the last of the lines that were met,
 -- all whole, or behind an input that was met to its end.
 abbrev pub Takes : ℕ → ℕ → Option (List ℕ) → Option (List ℕ) → List Item → End → Type 0

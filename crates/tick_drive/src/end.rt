@@ -8,7 +8,7 @@ pub enum TooMuch {
     Bytes,
 }
 
-/// How the run over an input ended.
+/// How an input was driven into a consumer to its end, or why not.
 #[derive(Clone, Copy, Debug, PartialEq, Eq)]
 pub enum End {
     /// The whole input was read, is right, and all its ticks were taken.

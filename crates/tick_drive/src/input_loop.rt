@@ -1,6 +1,6 @@
 ghost use Rattle.std.specs.Prelude.{◌≡◌, ℕ, ◌≤◌, length, IfOk};
 ghost use Rattle.yasir_ticks.specs.Ticks.{items_of_run, ticks_in};
-ghost use Rattle.tick_drive.specs.Input.{IsReadCause, is_read_fault};
+ghost use Rattle.tick_drive.specs.Input.{IsReadCause, is_read_fault, max_ticks};
 ghost use Rattle.tick_drive.specs.Consumers.{state_of};
 ghost use Rattle.tick_drive.specs.Drive.{Drives, IsFresh, HandAnswer};
 
@@ -34,7 +34,7 @@ fn hand_over<O: Sink, L: Sink, D: SlotDisk, C: Consumer<O, L, D>>(
     log: &mut L,
     disk: &mut D,
 ) -> Result<u32, End>
-    requires within { ticks ≤ 16777216 }
+    requires within { ticks ≤ max_ticks }
     requires taken { C.meaning.taken consumer.old ≡ ticks }
     requires able { C.meaning.able consumer.old disk.old }
     ensures handed { HandAnswer C.meaning O.Sink L.Sink D.SlotDisk

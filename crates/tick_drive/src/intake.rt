@@ -69,7 +69,7 @@ impl Intake {
         if self.bytes == MAX_INPUT_BYTES {
             return Err(End::TooLong {
                 what: TooMuch::Bytes,
-                count: 268_435_457,
+                count: u64::from(MAX_INPUT_BYTES) + 1,
             });
         }
         let kept = self.pieces.kept();
