@@ -1,5 +1,5 @@
--- Runs of ticks in which a device reads no frame, and the tick after them.
-use Rattle.std.proofs.Common.{◌≡◌, ℕ, ◌+◌, List, ◌++◌, length}
+-- Runs of ticks in which a device reads no frame.
+use Rattle.std.proofs.Common.{◌≡◌, ℕ, ◌+◌, ◌<◌, List, [], ◌++◌, length}
 use Rattle.yasir_ticks.specs.declared.tick.Tick.{Tick}
 use Rattle.device_model.specs.Frames.{FrameRead}
 
@@ -11,3 +11,14 @@ module _ {D : Type 0} (stands : D → List Tick → Type 0) (reads : List Tick �
     pub hears : (line : List Tick) → stands before line → stands after (line ++ ticks)
     pub answers : (line : List Tick) → stands before line
         → reads (line ++ ticks) ≡ reads line ++ frames
+
+  -- no frame is read in the first n of these ticks, for each n below m
+  abbrev pub IsUnread : D → (ℕ → List Tick) → ℕ → Type 0
+  IsUnread before ticks m =
+      (n : ℕ) → n < m → (line : List Tick) → stands before line
+      → reads (line ++ ticks n) ≡ reads line
+
+  -- A device has taken the first m ticks, and has read no frame in them.
+  pub record IsQuiet (before after : D) (ticks : ℕ → List Tick) (m : ℕ) : Type 0 where
+    pub so_far : Takes before after (ticks m) []
+    pub unread : IsUnread before ticks m

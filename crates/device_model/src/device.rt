@@ -21,8 +21,7 @@ pub struct Heard {
 /// A device that listens to a line and reads frames of it.
 pub trait Device {
     ghost use Rattle.std.specs.Prelude.{◌≡◌, ℕ, ◌+◌, ◌<◌, ◌≤◌, List, [], ◌∷◌, ◌++◌, length, map};
-    ghost use Rattle.std.specs.Prelude.{take};
-    ghost use Rattle.std.specs.Prelude.{None};
+    ghost use Rattle.std.specs.Prelude.{take, None};
     ghost use Rattle.yasir_ticks.specs.Ticks.{silent};
     ghost use Rattle.yasir_ticks.specs.declared.tick.Tick.{Tick};
     ghost use Rattle.yasir_ticks.specs.declared.tick.Tick.TheVariants.{Byte};
@@ -65,6 +64,8 @@ pub trait Device {
         ensures answer { (line : List Tick) → stands self.old line
             → reads (line ++ map Byte (take result.taken bytes.now))
             ≡ reads line ++ frames_of result.frame }
+        ensures before { (n : ℕ) → n < result.taken → (line : List Tick) → stands self.old line
+            → reads (line ++ map Byte (take n bytes.now)) ≡ reads line }
     {
         for (at, byte) in bytes.iter().enumerate() {
             if let Some(frame) = self.step(Tick::Byte(*byte)) {
@@ -90,6 +91,8 @@ pub trait Device {
             → stands self.new (line ++ silent result.taken) }
         ensures answer { (line : List Tick) → stands self.old line
             → reads (line ++ silent result.taken) ≡ reads line ++ frames_of result.frame }
+        ensures before { (n : ℕ) → n < result.taken → (line : List Tick) → stands self.old line
+            → reads (line ++ silent n) ≡ reads line }
     {
         for at in 0..ticks {
             if let Some(frame) = self.step(Tick::Silent) {
