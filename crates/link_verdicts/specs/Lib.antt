@@ -1,0 +1,4 @@
+pub mod Shapes
+pub mod Verdicts
+pub mod Emissions
+pub mod Checking

@@ -1,0 +1,11 @@
+//! What a receiver makes of a link: the definitions of its verdicts, notes and ticks, and the laws
+//! on them that boxes and laws above share.
+//!
+//! A receiver judges each burst of the link in turn, as a transmitter judges those of the device's
+//! line: it is a second value of the walk over bursts. `specs/` has the definitions over whole
+//! lists of ticks; `proofs/` has worked lines, and that a verdict needs no tick before its time.
+#![tactic(auto)]
+
+mod note;
+
+pub use note::{CheckNote, DroppedWhy, RefusedWhy};
