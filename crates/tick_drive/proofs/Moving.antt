@@ -1,7 +1,7 @@
 -- What calls do to a consumer, one after the other.
-use Rattle.std.proofs.Common.{◌≡◌, ◌≤◌, ◌<◌, ℕ, ◌+◌, inl, inr, List, [], ◌++◌, length}
-use Rattle.std.proofs.Common.{length-append, take, append-nil, Result, Ok, Err, Bool, true, false}
-use Rattle.std.proofs.Common.{OnOk, IfErr, subst, sym, ap, refl, append_assoc, arith, ◌∙◌}
+use Rattle.std.proofs.Common.{◌≡◌, ℕ, ◌+◌, inl, inr, List, [], ◌++◌, length}
+use Rattle.std.proofs.Common.{length-append, take, append-nil, Result, Ok, Err, Bool, false}
+use Rattle.std.proofs.Common.{subst, sym, ap, refl, append_assoc, arith, ◌∙◌}
 use Rattle.std.proofs.Math.Seq.{take-append-add}
 use Rattle.std.proofs.lemmas.List.{take-append-le}
 use Rattle.yasir_io.specs.Disks.{Slots, LeavesOnly}
@@ -9,8 +9,7 @@ use Rattle.yasir_io.specs.declared.sink.Sink.{Ghosts as Sink}
 use Rattle.yasir_io.specs.declared.disk.SlotDisk.{Ghosts as SlotDisk}
 use Rattle.yasir_ticks.specs.Ticks.{Item}
 use Rattle.tick_drive.specs.Consumers.{Consuming, State, outputs_of, Moves, Stops, KeepsImages}
-use Rattle.tick_drive.specs.Consumers.{Gives, IsDiskCause, IsSinkCause, is_write_fault}
-use Rattle.tick_drive.specs.Consumers.{is_journal_fault}
+use Rattle.tick_drive.specs.Consumers.{Gives, IsDiskCause, IsSinkCause}
 use Rattle.tick_drive.specs.declared.consumer.Stop.{Stop}
 
 module _ {D : Type 0} (moment : D → ℕ) (left_since : D → ℕ → Slots → Type 0) where

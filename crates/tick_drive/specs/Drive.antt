@@ -3,7 +3,7 @@ use Rattle.std.specs.Prelude.{◌≡◌, ℕ, ◌+◌, ◌<◌, ◌≤◌, List,
 use Rattle.yasir_io.specs.declared.sink.Sink.{Ghosts as Sink}
 use Rattle.yasir_io.specs.declared.disk.SlotDisk.{Ghosts as SlotDisk}
 use Rattle.yasir_ticks.specs.Ticks.{Item, ticks_in}
-use Rattle.tick_drive.specs.Input.{Takes, AreFew, max_ticks}
+use Rattle.tick_drive.specs.Input.{Takes, max_ticks}
 use Rattle.tick_drive.specs.Consumers.{Consuming, State, Gives}
 use Rattle.tick_drive.specs.declared.consumer.Stop.{Stop}
 use Rattle.tick_drive.specs.declared.end.End.{End}

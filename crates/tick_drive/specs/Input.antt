@@ -3,7 +3,7 @@
 -- no right text begins with, the end of a line whose ticks with all before are too many,
 -- the end of a line at one of whose ticks the consumer stops, a failed read, the input's end.
 -- Behind the input's end, and nowhere else, silence may follow.
-use Rattle.std.specs.Prelude.{◌≡◌, ◌≢◌, ℕ, ◌+◌, ◌<◌, ◌≤◌, ◌⊎◌, List, [], ◌∷◌, ◌++◌, length, Option}
+use Rattle.std.specs.Prelude.{◌≡◌, ◌≢◌, ℕ, ◌<◌, ◌≤◌, ◌⊎◌, List, [], ◌∷◌, ◌++◌, length, Option}
 use Rattle.std.specs.Prelude.{Result, Ok, Err, Bool, true, false}
 use Rattle.yasir_io.specs.Causes.{Rose}
 use Rattle.std.specs.Io.KnownBytes.{prepend_known, IsAtEnd}

@@ -1,7 +1,7 @@
 -- The bytes of an input on their way to the reader.
 use Rattle.std.specs.Prelude.{◌≡◌, ◌≢◌, ℕ, ◌≤◌, List, [], ◌∷◌, ◌++◌, length, Option, Some, None}
 use Rattle.std.specs.Prelude.{Result, Ok, Err, false}
-use Rattle.std.specs.Io.KnownBytes.{prepend_known, IsAtEnd}
+use Rattle.std.specs.Io.KnownBytes.{prepend_known}
 use Rattle.yasir_io.specs.Pieces.{to_come, has_ended}
 use Rattle.yasir_ticks.specs.Ticks.{Item, items_of_run}
 use Rattle.yasir_ticks.specs.Reader.{StandsFor}
@@ -13,9 +13,8 @@ use Rattle.yasir_ticks.specs.declared.run.Run.TheVariants.{Nothing}
 use Rattle.tick_drive.specs.Input.{ComesFirst, IsMetUpTo, IsMetWhole, IsRefusedByte, max_bytes}
 use Rattle.tick_drive.specs.declared.intake.Intake.{Intake}
 use Rattle.tick_drive.specs.declared.end.End.{End}
-use Rattle.tick_drive.specs.declared.end.End.TheVariants.{Whole, Refused, TooLong, ReadFault}
-use Rattle.tick_drive.specs.declared.end.End.TheVariants.{Stopped}
-use Rattle.tick_drive.specs.declared.end.TooMuch.TheVariants.{Ticks, Bytes}
+use Rattle.tick_drive.specs.declared.end.End.TheVariants.{Refused, TooLong, ReadFault}
+use Rattle.tick_drive.specs.declared.end.TooMuch.TheVariants.{Bytes}
 
 -- The reader has been fed this text.
 abbrev pub HasFed : Intake → ℕ → List ℕ → Type 0

@@ -1,6 +1,4 @@
 use Rattle.std.proofs.Common.{◌∙◌, refl}
-use Rattle.yasir_ticks.specs.TickText.{ended_items}
-use Rattle.yasir_ticks.specs.Ticks.{items_of_run}
 use Rattle.tick_drive.proofs.Moving.{gives_none}
 use Rattle.tick_drive.proofs.Driving.{progress_start, progress_quiet, progress_line, step_ends}
 use Rattle.tick_drive.proofs.Driving.{finish_ends, line_ends, last_ends, last_line_ends, read_same}
