@@ -1,0 +1,48 @@
+-- What leaves for a burst, byte by byte.
+use Rattle.std.specs.Prelude.{◌≡◌, ℕ, ◌<◌, ◌==◌, ◌&&◌, not, Bool, List, [], ◌∷◌, ◌++◌, Option}
+use Rattle.std.specs.Prelude.{Some, None, if◌then◌else◌}
+use Rattle.line_rules.specs.Rules.{Rules, left_of, spoil_of}
+use Rattle.line_rules.specs.declared.line_rules.LineRules.{Ghosts as LineRules}
+use Rattle.spoiler.specs.declared.outlet.Outlet.{Outlet}
+
+-- how many bytes of a fill are still to leave
+abbrev pub owed_by : {R : Type 0} → Outlet R → ℕ
+owed_by value = value.owed
+
+-- whether the last byte of the burst is still to leave
+abbrev pub is_open : {R : Type 0} → Outlet R → Bool
+is_open value = value.open
+
+-- whether there is room for a further byte
+abbrev pub has_room : {R : Type 0} → LineRules R → Outlet R → Bool
+has_room proto value = not (proto.is_full value.rules)
+
+-- These bytes of the burst, and of its fill, have come to leave. Where a fill is owed, it has as
+-- many bytes as the frame lacks.
+pub record StandsFor {R : Type 0} (proto : LineRules R) (value : Outlet R) (x : List ℕ) : Type 0
+  where
+    pub bytes : proto.stands value.rules x
+    pub owes : 0 < value.owed → value.owed ≡ left_of proto.rules x
+
+-- What leaves for a byte that comes after these: spoiled where it is the last one of a frame that
+-- isn't passed and lacks no byte.
+abbrev pub emitted : Rules → List ℕ → ℕ → Bool → Bool → ℕ
+emitted rules x b last passed =
+    if last && (not passed && left_of rules (x ++ b ∷ []) == 0) then spoil_of rules x b else b
+
+-- how long a fill is owed behind it
+abbrev pub owed_after : Rules → List ℕ → ℕ → Bool → Bool → ℕ
+owed_after rules x b last passed =
+    if last && not passed then left_of rules (x ++ b ∷ []) else 0
+
+-- the next byte of a fill that has so many bytes left, after these: 00, and the last one spoiled
+abbrev pub filled : Rules → List ℕ → ℕ → Option ℕ
+filled rules x owed =
+    if owed == 0 then None
+    else if owed == 1 then Some (spoil_of rules x 0)
+    else Some 0
+
+-- what comes to leave with the next byte of a fill
+abbrev pub filled_bytes : Option ℕ → List ℕ
+filled_bytes None = []
+filled_bytes (Some b) = 0 ∷ []
