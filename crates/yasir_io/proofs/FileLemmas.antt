@@ -1,7 +1,7 @@
 -- Lemmas on bytes that are read into a buffer, part by part.
-use Rattle.std.proofs.Common.{◌≡◌, ℕ, ◌+◌, ◌-◌, ◌<◌, ◌≤◌, List, [], ◌++◌, Option, Result, Ok, Err}
+use Rattle.std.proofs.Common.{◌≡◌, ℕ, ◌+◌, ◌-◌, ◌<◌, ◌≤◌, List, ◌++◌, Option, Result, Ok, Err}
 use Rattle.std.proofs.Common.{IfOk, length, take, drop, replicate, slice_range, OnOk, OnErr, sym}
-use Rattle.std.proofs.Common.{ap, ◌∙◌, subst, arith, le_refl, drop_at, length-take-le, append-nil}
+use Rattle.std.proofs.Common.{ap, ◌∙◌, subst, arith, le_refl, drop_at, length-take-le}
 use Rattle.std.proofs.lemmas.List.{drop-replicate}
 use Rattle.std.proofs.lemmas.Slice.{take-put_mid_below}
 use Rattle.std.proofs.KnownBytes.{Consumes-trans}

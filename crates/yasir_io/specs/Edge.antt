@@ -5,7 +5,7 @@ use Rattle.yasir_io.specs.declared.edge.StdinSource.{StdinSource}
 use Rattle.yasir_io.specs.declared.edge.WriterSink.{WriterSink}
 use Rattle.yasir_io.specs.declared.files.FileSource.{FileSource}
 use Rattle.yasir_io.specs.declared.files.FileSlots.{FileSlots}
-use Rattle.std.specs.Prelude.{Option, Bool}
+use Rattle.std.specs.Prelude.{Option}
 use Rattle.std.specs.declared.fs.OpenOptions.{OpenOptions}
 
 -- what is read

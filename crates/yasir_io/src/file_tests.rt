@@ -2,7 +2,7 @@
 //! sync.
 ghost use Rattle.std.specs.Io.{ReadsAtMost, WritesAtMost};
 
-use crate::{Failed, FileSlots, FileSource, Pieces, Slot, SlotDisk, Source};
+use crate::{Failed, FileSlots, FileSource, Slot, SlotDisk, Source};
 use std::alloc::Allocator;
 use std::cell::Cell;
 use std::fs::{Metadata, OpenFile, OpenOptions};
@@ -314,13 +314,12 @@ fn a_file_gives_each_byte_once(rt: HostRuntime) -> Result<(), Fail> {
         let file = file_of(40, piece, fail);
         let folder = Folder(&file);
         let mut source = FileSource::new(&folder, name(&rt)?);
-        let mut pieces = Pieces::new();
         let mut out = Vec::new(rt.alloc());
+        let mut part = [0u8; 11];
         let mut failures = 0u32;
-        for _ in 0..50 {
-            match pieces.next(&mut source) {
-                Ok(Some(byte)) => out.push(byte)?,
-                Ok(None) => {}
+        for _ in 0..20 {
+            match source.read(&mut part) {
+                Ok(n) => out.extend_from_slice(part.get(..n).unwrap_or(&[]))?,
                 Err(Failed) => failures = failures.saturating_add(1),
             }
         }
