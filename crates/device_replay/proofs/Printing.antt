@@ -43,7 +43,8 @@ module _ {V : Type 0} (device : Device V) (old new : V) (t : Tick) (more : List 
   prints_nothing none = record {
     hears = hears_then;
     lines = subst (Buffered began.out outputs.out (waiting_bytes lines))
-        (sym (lines_then ∙ ap (λ l. frame_lines (device.reads (ticks_in items)) ++ frame_lines l) none
+        (sym (lines_then ∙ ap (λ l. frame_lines (device.reads (ticks_in items)) ++ frame_lines l)
+        none
         ∙ append-nil _)) before.lines;
     quiet = before.quiet;
   }
@@ -64,7 +65,8 @@ module _ {V : Type 0} (device : Device V) (old new : V) (t : Tick) (more : List 
         → PrintsReads device (printer_of new left) began after (items ++ tick t ∷ [])
     prints_line left after push log = record {
       hears = hears_then;
-      lines = subst (Buffered began.out after.out (waiting_bytes left)) line_then (push _ before.lines);
+      lines = subst (Buffered began.out after.out (waiting_bytes left)) line_then
+          (push _ before.lines);
       quiet = log ∙ before.quiet;
     }
 

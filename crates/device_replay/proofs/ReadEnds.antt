@@ -1,5 +1,6 @@
 -- How the run of `read` ends: from the end of its input to its status.
-use Rattle.std.proofs.Common.{◌≡◌, ℕ, ◌⊎◌, inl, inr, false, List, [], length, Option, subst, sym, ap, refl, ◌∙◌}
+use Rattle.std.proofs.Common.{◌≡◌, ℕ, ◌⊎◌, inl, inr, false, List, [], length, Option, subst, sym}
+use Rattle.std.proofs.Common.{ap, refl, ◌∙◌}
 use Rattle.std.proofs.Math.Seq.{take-length}
 use Rattle.yasir_io.specs.Output.{Buffered, GotPrefix}
 use Rattle.yasir_io.specs.TextBuffer.{waiting_bytes}
@@ -13,7 +14,8 @@ use Rattle.tick_drive.specs.Consumers.{State, IsSinkCause, is_write_fault}
 use Rattle.tick_drive.specs.Drive.{Drives, answer_of}
 use Rattle.tick_drive.specs.declared.consumer.Stop.{Stop}
 use Rattle.tick_drive.specs.declared.end.End.{End}
-use Rattle.tick_drive.specs.declared.end.End.TheVariants.{Whole, Refused, TooLong, ReadFault, Stopped}
+use Rattle.tick_drive.specs.declared.end.End.TheVariants.{Whole, Refused, TooLong, ReadFault}
+use Rattle.tick_drive.specs.declared.end.End.TheVariants.{Stopped}
 use Rattle.device_replay.specs.Lines.{frame_lines}
 use Rattle.device_replay.specs.FrameLines.{Began, PrintsReads, printing}
 use Rattle.device_replay.specs.PrintsFrames.{DrivesFrames, PrintsFrames, LinesAtEnd, read_rest}
@@ -68,7 +70,8 @@ module _ {V O L D : Type 0} (device : Device V) (o : Sink O) (l : Sink L) (d : S
       let at = driven.gives.moved _ [] start in
       (record { items = driven.items; takes = driven.takes; lines = at.lines }, at.quiet)
 
-module _ (reads : List Tick → List FrameRead) (before now out_before out_now out_last : Option (List ℕ))
+module _ (reads : List Tick → List FrameRead)
+    (before now out_before out_now out_last : Option (List ℕ))
     (waits : List ℕ) where
   -- the lines of an end that is no stop are on their way
   waiting : (end : End) → ((stop : Stop) → end ≡ Stopped stop → ⊥) → (items : List Item)
@@ -83,7 +86,8 @@ module _ (reads : List Tick → List FrameRead) (before now out_before out_now o
   -- the lines that waited failed
   pub drain_fails : (end : End) → ((stop : Stop) → end ≡ Stopped stop → ⊥)
       → DrivesFrames reads before now out_before out_now waits end
-      → ((text : List ℕ) → Buffered out_before out_now waits text → GotPrefix out_before out_last text)
+      → ((text : List ℕ) → Buffered out_before out_now waits text
+      → GotPrefix out_before out_last text)
       → PrintsFrames reads before now out_before out_last WriteFault
   drain_fails end other driven drain = record {
     items = driven.items;
@@ -97,7 +101,8 @@ module _ (reads : List Tick → List FrameRead) (before now out_before out_now o
   -- all lines were written, and the input was no whole one
   pub refusal_prints : (end : End) → ((stop : Stop) → end ≡ Stopped stop → ⊥) → (end ≡ Whole → ⊥)
       → DrivesFrames reads before now out_before out_now waits end
-      → ((text : List ℕ) → Buffered out_before out_now waits text → Buffered out_before out_last [] text)
+      → ((text : List ℕ) → Buffered out_before out_now waits text
+      → Buffered out_before out_last [] text)
       → PrintsFrames reads before now out_before out_last (status_of end)
   refusal_prints Whole other partial driven drain = absurd (partial refl)
   refusal_prints (Stopped stop) other partial driven drain = absurd (other stop refl)
@@ -120,7 +125,8 @@ module _ (reads : List Tick → List FrameRead) (before now out_before out_now o
   -- all lines of a whole input were written, and the sinks flushed or not
   pub whole_prints : (status : Status) → (status ≡ Done) ⊎ (status ≡ WriteFault)
       → DrivesFrames reads before now out_before out_now waits Whole
-      → ((text : List ℕ) → Buffered out_before out_now waits text → Buffered out_before out_last [] text)
+      → ((text : List ℕ) → Buffered out_before out_now waits text
+      → Buffered out_before out_last [] text)
       → PrintsFrames reads before now out_before out_last status
   whole_prints status (inl done) driven drain =
       subst (PrintsFrames reads before now out_before out_last) (sym done) (record {
@@ -135,7 +141,8 @@ module _ (reads : List Tick → List FrameRead) (before now out_before out_now o
         end = Whole;
         count = length driven.items;
         takes = driven.takes;
-        printed = subst (λ items. GotPrefix out_before out_last (frame_lines (reads (ticks_in items))))
+        printed = subst (λ items. GotPrefix out_before out_last
+            (frame_lines (reads (ticks_in items))))
             (sym (take-length driven.items))
             (record { front = whole.front; rest = []; got = whole.got; all = whole.all });
       })
@@ -145,8 +152,13 @@ pub no_write_failed : (out_before out_now log_before log_now : ℕ) (end : End)
     → ((stop : Stop) → end ≡ Stopped stop → ⊥)
     → IsSinkCause out_before out_now log_before log_now (is_write_fault (answer_of end))
     → (is_write_fault (answer_of end) ≡ false) × (out_now ≡ out_before) × (log_now ≡ log_before)
-no_write_failed out_before out_now log_before log_now Whole other h = (refl, h.out_same refl, h.log_same refl)
-no_write_failed out_before out_now log_before log_now (Refused bad) other h = (refl, h.out_same refl, h.log_same refl)
-no_write_failed out_before out_now log_before log_now (TooLong what count) other h = (refl, h.out_same refl, h.log_same refl)
-no_write_failed out_before out_now log_before log_now ReadFault other h = (refl, h.out_same refl, h.log_same refl)
-no_write_failed out_before out_now log_before log_now (Stopped stop) other h = absurd (other stop refl)
+no_write_failed out_before out_now log_before log_now Whole other h =
+    (refl, h.out_same refl, h.log_same refl)
+no_write_failed out_before out_now log_before log_now (Refused bad) other h =
+    (refl, h.out_same refl, h.log_same refl)
+no_write_failed out_before out_now log_before log_now (TooLong what count) other h =
+    (refl, h.out_same refl, h.log_same refl)
+no_write_failed out_before out_now log_before log_now ReadFault other h =
+    (refl, h.out_same refl, h.log_same refl)
+no_write_failed out_before out_now log_before log_now (Stopped stop) other h =
+    absurd (other stop refl)

@@ -5,7 +5,10 @@ use Rattle.device_model.specs.Frames.{FrameRead}
 use Rattle.replay_status.specs.Causes.{InputCause, SinkCause, NoneRose}
 use Rattle.replay_status.specs.Readable.{IsReadable}
 use Rattle.replay_status.specs.declared.status.Status.{Status}
-use Rattle.replay_status.specs.declared.status.Status.TheVariants.{Done, Usage, BadTicks, ReadFault, WriteFault, JournalFault, TooLong, HasJournal, BadKey, BadJournal}
+use Rattle.replay_status.specs.declared.status.Status.TheVariants.{Done, Usage, BadTicks, ReadFault}
+use Rattle.replay_status.specs.declared.status.Status.TheVariants.{WriteFault, JournalFault}
+use Rattle.replay_status.specs.declared.status.Status.TheVariants.{TooLong, HasJournal, BadKey}
+use Rattle.replay_status.specs.declared.status.Status.TheVariants.{BadJournal}
 use Rattle.replay_status.proofs.Readable.{not_refused, not_too_long}
 use Rattle.device_replay.specs.PrintsFrames.{PrintsFrames, read_rest}
 
@@ -16,7 +19,8 @@ module _ (reads : List Tick → List FrameRead) (before now out_before out_now :
   pub readable_done : (status : Status) → PrintsFrames reads before now out_before out_now status
       → InputCause in0 in1 status → SinkCause out0 out1 log0 log1 status → status ≡ Done
   readable_done Done h input sinks = refl
-  readable_done (BadTicks bad) h input sinks = absurd (not_refused read_rest before now h.items readable bad h.takes)
+  readable_done (BadTicks bad) h input sinks =
+      absurd (not_refused read_rest before now h.items readable bad h.takes)
   readable_done (TooLong what count) h input sinks =
       absurd (not_too_long read_rest before now h.items readable what count h.takes)
   readable_done ReadFault h input sinks = absurd (calm.input input.0)

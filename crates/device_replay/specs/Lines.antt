@@ -6,7 +6,8 @@ use Rattle.device_model.specs.Frames.{FrameRead}
 
 -- a frame that a device reads, with the tick of its first byte
 abbrev pub frame_line : FrameRead → List ℕ
-frame_line read = codes "read at " ++ decimal read.start ++ codes " " ++ encode_lower read.frame ++ codes "\n"
+frame_line read = codes "read at " ++ decimal read.start ++ codes " " ++ encode_lower read.frame
+    ++ codes "\n"
 
 abbrev pub frame_lines : List FrameRead → List ℕ
 frame_lines reads = flat_map frame_line reads

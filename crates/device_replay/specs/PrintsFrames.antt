@@ -13,20 +13,23 @@ use Rattle.tick_drive.specs.declared.end.End.TheVariants as ends
 use Rattle.tick_drive.specs.declared.consumer.Stop.TheVariants as stops
 use Rattle.device_replay.specs.Lines.{frame_lines}
 use Rattle.replay_status.specs.declared.status.Status.{Status}
-use Rattle.replay_status.specs.declared.status.Status.TheVariants.{Done, BadTicks, ReadFault, WriteFault, TooLong}
+use Rattle.replay_status.specs.declared.status.Status.TheVariants.{Done, BadTicks, ReadFault}
+use Rattle.replay_status.specs.declared.status.Status.TheVariants.{WriteFault, TooLong}
 
 -- How many silent ticks stand behind a whole input, so that its last burst ends.
 abbrev pub read_rest : ℕ
 read_rest = 4
 
-module _ (reads : List Tick → List FrameRead) (in_before in_now out_before out_now : Option (List ℕ)) where
+module _ (reads : List Tick → List FrameRead)
+    (in_before in_now out_before out_now : Option (List ℕ)) where
   -- `out` has got the lines of what the device reads of all ticks that were taken.
   pub record PrintsAll (end : End) : Type 0 where
     pub items : List Item
     pub takes : Takes 0 read_rest in_before in_now items end
     pub printed : out_now ≡ append_known out_before (frame_lines (reads (ticks_in items)))
 
-  -- A write failed: `out` has got a front of the lines of what the device reads of so many of the items that were taken.
+  -- A write failed: `out` has got a front of the lines of what the device reads of so many of the
+  -- items that were taken.
   pub record PrintsFront : Type 0 where
     pub items : List Item
     pub end : End
@@ -47,12 +50,14 @@ module _ (reads : List Tick → List FrameRead) (in_before in_now out_before out
   pub record StopsAtLine (items : List Item) (stop : Stop) : Type 0 where
     pub why : stop ≡ stops.WriteFault
     pub place : ℕ
-    pub lines : GotPrefix out_before out_now (frame_lines (reads (ticks_in (take (place + 1) items))))
+    pub lines : GotPrefix out_before out_now
+        (frame_lines (reads (ticks_in (take (place + 1) items))))
 
   -- the lines of these items as the run over the input ended, while some of them still wait
   abbrev pub LinesAtEnd : List ℕ → List Item → End → Type 0
   LinesAtEnd waits items (Stopped stop) = StopsAtLine items stop
-  LinesAtEnd waits items end = Buffered out_before out_now waits (frame_lines (reads (ticks_in items)))
+  LinesAtEnd waits items end = Buffered out_before out_now waits
+      (frame_lines (reads (ticks_in items)))
 
   -- As the run over the input ended.
   pub record DrivesFrames (waits : List ℕ) (end : End) : Type 0 where

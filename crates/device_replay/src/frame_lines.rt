@@ -1,4 +1,5 @@
-ghost use Rattle.std.specs.Prelude.{◌≡◌, ℕ, ◌+◌, ◌≤◌, List, [], ◌∷◌, ◌++◌, length, Option, OnOk, OnErr};
+ghost use Rattle.std.specs.Prelude.{◌≡◌, ℕ, ◌+◌, ◌≤◌, List, [], ◌∷◌, ◌++◌, length, Option, OnOk};
+ghost use Rattle.std.specs.Prelude.{OnErr};
 ghost use Rattle.yasir_io.specs.Causes.{HasCause};
 ghost use Rattle.yasir_io.specs.Output.{Buffered, GotPrefix};
 ghost use Rattle.yasir_io.specs.TextBuffer.{waiting_bytes};
@@ -33,9 +34,11 @@ impl<V: Device + Drop> FrameLines<V> {
     /// Writes the lines that wait.
     pub fn drain<O: Sink>(&mut self, out: &mut O) -> Result<(), Failed>
         ensures ok { OnOk result ((start : Option (List ℕ)) (text : List ℕ)
-            → Buffered start (O.held out.old) (waiting_bytes self.old.lines) text → Buffered start (O.held out.new) [] text) }
+            → Buffered start (O.held out.old) (waiting_bytes self.old.lines) text
+            → Buffered start (O.held out.new) [] text) }
         ensures err { OnErr result ((start : Option (List ℕ)) (text : List ℕ)
-            → Buffered start (O.held out.old) (waiting_bytes self.old.lines) text → GotPrefix start (O.held out.new) text) }
+            → Buffered start (O.held out.old) (waiting_bytes self.old.lines) text
+            → GotPrefix start (O.held out.new) text) }
         ensures cause { HasCause (O.faults out.old) (O.faults out.new) result }
     {
         self.lines.drain(out)

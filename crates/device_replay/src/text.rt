@@ -7,7 +7,8 @@ use replay_status::{Line, push_decimal, push_hex};
 
 /// `read at S HEX`: a frame, and the tick of its first byte.
 pub fn frame_line(frame: &FrameAt) -> Line
-    ensures { result.items ≡ frame_line (record { start = frame.now.start; frame = frame.now.bytes.items }) }
+    ensures { result.items ≡ frame_line
+        (record { start = frame.now.start; frame = frame.now.bytes.items }) }
 {
     let mut line = Line::new();
     line.try_extend_from_slice(b"read at ").unwrap();

@@ -1,5 +1,7 @@
--- Key text: the hex digits of a key of 16 to 64 bytes, and an ending. The profile fixes the sizes and the endings.
-use Rattle.std.specs.Prelude.{◌≡◌, ℕ, ◌<◌, ◌≤◌, ◌⊎◌, List, [], ◌++◌, length, take, Option, Result, Ok, Err, codes}
+-- Key text: the hex digits of a key of 16 to 64 bytes, and an ending. The profile fixes the sizes
+-- and the endings.
+use Rattle.std.specs.Prelude.{◌≡◌, ℕ, ◌<◌, ◌≤◌, ◌⊎◌, List, [], ◌++◌, length, take, Option, Result}
+use Rattle.std.specs.Prelude.{Ok, Err, codes}
 use Rattle.std.specs.Io.KnownBytes.{prepend_known, IsAtEnd}
 use Rattle.hex.specs.Hex.{decode_of, IsBytes}
 use Rattle.yasir_io.specs.Causes.{Rose}
@@ -44,7 +46,8 @@ pub record IsNoKey (text : List ℕ) (place : ℕ) : Type 0 where
   pub none : ¬ ((key : List ℕ) × IsKeyText text key)
   pub longest : IsKeyPlace text place
 
--- The text is what was taken of a source: all that stood there, or 131 bytes, which is more than any key text has.
+-- The text is what was taken of a source: all that stood there, or 131 bytes, which is more than
+-- any key text has.
 pub record IsKeyMet (before now : Option (List ℕ)) (text : List ℕ) : Type 0 where
   pub met : before ≡ prepend_known text now
   pub few : length text ≤ 131

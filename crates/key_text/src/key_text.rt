@@ -1,9 +1,11 @@
-ghost use Rattle.std.specs.Prelude.{◌≡◌, ◌⊎◌, ℕ, ◌%◌, ◌≤◌, List, length, take, slice_index, true, false, Ok, OnErr, IfOk, IfErr};
+ghost use Rattle.std.specs.Prelude.{◌≡◌, ◌⊎◌, ℕ, ◌%◌, ◌≤◌, List, length, take, slice_index, true};
+ghost use Rattle.std.specs.Prelude.{false, Ok, OnErr, IfOk, IfErr};
 ghost use Rattle.std.specs.List.{AllPass};
 ghost use Rattle.hex.specs.Hex.{decode_of, is_hex_digit};
 ghost use Rattle.yasir_io.specs.Causes.{HasCause};
 ghost use Rattle.key_text.specs.declared.key_text.KeyError.TheVariants.{Fault, Bad};
-ghost use Rattle.key_text.specs.KeyText.{IsKeyMet, IsCutShort, IsKeyText, IsNoKey, IsKeyEnding, IsLongestFront, BeginsEnding, KeyCause};
+ghost use Rattle.key_text.specs.KeyText.{IsKeyMet, IsCutShort, IsKeyText, IsNoKey, IsKeyEnding};
+ghost use Rattle.key_text.specs.KeyText.{IsLongestFront, BeginsEnding, KeyCause};
 
 use arrayvec::ArrayVec;
 use yasir_io::{Failed, Source};
@@ -16,7 +18,8 @@ pub type Key = ArrayVec<u8, 64>;
 pub enum KeyError {
     /// A read failed.
     Fault,
-    /// The text is no key text; `place` is the length of its longest prefix that begins some key text.
+    /// The text is no key text; `place` is the length of its longest prefix that begins some key
+    /// text.
     Bad { place: u32 },
 }
 
@@ -43,7 +46,8 @@ fn text_of(bytes: &[u8]) -> KeyText
 
 // The text of a source: its bytes to the end, or 131. No byte behind these is taken.
 fn read_text<K: Source>(source: &mut K) -> Result<KeyText, Failed>
-    ensures met { IfOk result (λ text. IsKeyMet (K.left source.old) (K.left source.new) text.items) }
+    ensures met { IfOk result (λ text. IsKeyMet (K.left source.old) (K.left source.new)
+        text.items) }
     ensures cut { OnErr result (IsCutShort (K.left source.old) (K.left source.new)) }
     ensures cause { HasCause (K.faults source.old) (K.faults source.new) result }
 {
@@ -64,7 +68,8 @@ fn digit_count(text: &[u8]) -> usize
     ensures within { result ≤ length text.now }
     ensures few { result ≤ 128 }
     ensures digits { AllPass is_hex_digit (take result text.now) }
-    ensures stops { (result ≡ length text.now) ⊎ ((result ≡ 128) ⊎ (is_hex_digit (slice_index text.now result) ≡ false)) }
+    ensures stops { (result ≡ length text.now)
+        ⊎ ((result ≡ 128) ⊎ (is_hex_digit (slice_index text.now result) ≡ false)) }
 {
     let most = text.len().min(MAX_DIGITS);
     for place in 0..most {
@@ -139,8 +144,9 @@ fn key_of(text: &[u8]) -> Result<Key, u32>
     Ok(decode(digits))
 }
 
-/// Reads the key text of a source: its bytes to the end, or 131, and no byte behind these. A key text is 32 to 128
-/// hex digits of either case, an even count, and then nothing, LF, or CR LF, as the profile has it.
+/// Reads the key text of a source: its bytes to the end, or 131, and no byte behind these. A key
+/// text is 32 to 128 hex digits of either case, an even count, and then nothing, LF, or CR LF, as
+/// the profile has it.
 pub fn read_key<K: Source>(source: &mut K) -> Result<Key, KeyError>
     ensures key { IfOk result (λ key. (text : List ℕ)
         × IsKeyMet (K.left source.old) (K.left source.new) text × IsKeyText text key.items) }

@@ -4,7 +4,8 @@ use std::process::Abort;
 use std::test::Fail;
 use yasir_io::{MemSource, Plan};
 
-/// Sixteen digits and the eight bytes that they spell; the digits of each text here are these over and over.
+/// Sixteen digits and the eight bytes that they spell; the digits of each text here are these over
+/// and over.
 const DIGITS: &[u8; 16] = b"0123456789aBcDEf";
 
 const BYTES: [u8; 8] = [0x01, 0x23, 0x45, 0x67, 0x89, 0xab, 0xcd, 0xef];

@@ -5,7 +5,8 @@ use Rattle.tick_drive.specs.Consumers.{is_write_fault}
 use Rattle.tick_drive.specs.Drive.{answer_of}
 use Rattle.tick_drive.specs.declared.consumer.Stop.TheVariants as stops
 use Rattle.tick_drive.specs.declared.end.End.{End}
-use Rattle.tick_drive.specs.declared.end.End.TheVariants.{Whole, Refused, TooLong, ReadFault, Stopped}
+use Rattle.tick_drive.specs.declared.end.End.TheVariants.{Whole, Refused, TooLong, ReadFault}
+use Rattle.tick_drive.specs.declared.end.End.TheVariants.{Stopped}
 use Rattle.replay_status.specs.Endings.{status_of}
 use Rattle.replay_status.specs.Causes.{InputCause, SinkCause}
 use Rattle.replay_status.specs.declared.status.Status.{Status}
@@ -20,9 +21,11 @@ input_cause before now ReadFault h = (h.failed refl, h.never_falls)
 input_cause before now (Stopped stops.WriteFault) h = h.never_falls
 input_cause before now (Stopped stops.JournalFault) h = h.same refl
 
-pub input_cause_of_whole : (before now : ℕ) (status : Status) → (status ≡ Done) ⊎ (status ≡ WriteFault) → now ≡ before
+pub input_cause_of_whole : (before now : ℕ) (status : Status)
+    → (status ≡ Done) ⊎ (status ≡ WriteFault) → now ≡ before
     → InputCause before now status
-input_cause_of_whole before now status (inl done) same = subst (InputCause before now) (sym done) same
+input_cause_of_whole before now status (inl done) same =
+    subst (InputCause before now) (sym done) same
 input_cause_of_whole before now status (inr fault) same =
     subst (InputCause before now) (sym fault) (omega (arith, same))
 
@@ -31,20 +34,27 @@ pub sink_cause_of_end : (out_before out_now log_before log_now : ℕ) (end : End
     → is_write_fault (answer_of end) ≡ false
     → (end ≡ Whole → ⊥) → out_now ≡ out_before → log_now ≡ log_before
     → SinkCause out_before out_now log_before log_now (status_of end)
-sink_cause_of_end out_before out_now log_before log_now Whole other partial out log = absurd (partial refl)
-sink_cause_of_end out_before out_now log_before log_now (Refused bad) other partial out log = (out, omega (arith, log))
+sink_cause_of_end out_before out_now log_before log_now Whole other partial out log =
+    absurd (partial refl)
+sink_cause_of_end out_before out_now log_before log_now (Refused bad) other partial out log =
+    (out, omega (arith, log))
 sink_cause_of_end out_before out_now log_before log_now (TooLong what count) other partial out log =
     (out, omega (arith, log))
-sink_cause_of_end out_before out_now log_before log_now ReadFault other partial out log = (out, omega (arith, log))
-sink_cause_of_end out_before out_now log_before log_now (Stopped stops.JournalFault) other partial out log =
+sink_cause_of_end out_before out_now log_before log_now ReadFault other partial out log =
     (out, omega (arith, log))
-sink_cause_of_end out_before out_now log_before log_now (Stopped stops.WriteFault) other partial out log = cc
+sink_cause_of_end out_before out_now log_before log_now (Stopped stops.JournalFault) other partial
+    out log =
+    (out, omega (arith, log))
+sink_cause_of_end out_before out_now log_before log_now (Stopped stops.WriteFault) other partial out
+    log = cc
 
 -- the sinks' counts had not changed before the flushes
-pub sink_cause_of_whole : (out0 out1 out2 log0 log1 log2 : ℕ) → (out1 ≡ out0) → (log1 ≡ log0) → (status : Status)
+pub sink_cause_of_whole : (out0 out1 out2 log0 log1 log2 : ℕ) → (out1 ≡ out0) → (log1 ≡ log0)
+    → (status : Status)
     → SinkCause out1 out2 log1 log2 status → SinkCause out0 out2 log0 log2 status
 sink_cause_of_whole out0 out1 out2 log0 log1 log2 out log status h =
-    subst (λ n. SinkCause n out2 log0 log2 status) out (subst (λ n. SinkCause out1 out2 n log2 status) log h)
+    subst (λ n. SinkCause n out2 log0 log2 status) out
+    (subst (λ n. SinkCause out1 out2 n log2 status) log h)
 
 -- no end has the status of a journal that isn't loaded
 pub no_bad_journal : (end : End) (a b : List ℕ) → status_of end ≡ BadJournal a b → ⊥

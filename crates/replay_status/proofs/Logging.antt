@@ -16,8 +16,10 @@ line-from before now a b c line le got = elim got [
   | inr part ↦ inr (part.0, rose-from a b c le part.1)
 ]
 
--- The log's count of faults may have risen before, in a write that failed alone, behind which no fault line comes.
-pub logs-from : (out0 out1 before mid after : ℕ) (held_before held_now : Option (List ℕ)) (status : Status)
+-- The log's count of faults may have risen before, in a write that failed alone, behind which no
+-- fault line comes.
+pub logs-from : (out0 out1 before mid after : ℕ) (held_before held_now : Option (List ℕ))
+    (status : Status)
     → SinkCause out0 out1 before mid status → LogsFault held_before held_now mid after status
     → LogsFault held_before held_now before after status
 logs-from out0 out1 before mid after held_before held_now Done sinks logs = logs
@@ -28,10 +30,12 @@ logs-from out0 out1 before mid after held_before held_now status sinks logs =
 -- the sinks' causes with a fault line that was written, or failed
 pub sinks_after : (out_before out_now log_before log_mid log_now : ℕ) (status : Status)
     → SinkCause out_before out_now log_before log_mid status → log_mid ≤ log_now
-    → (fault_line status ≡ [] → log_now ≡ log_mid) → SinkCause out_before out_now log_before log_now status
+    → (fault_line status ≡ [] → log_now ≡ log_mid)
+    → SinkCause out_before out_now log_before log_now status
 sinks_after out_before out_now log_before log_mid log_now Done h rises same = (h.0, same refl ∙ h.1)
 sinks_after out_before out_now log_before log_mid log_now WriteFault h rises same = elim h [
   | inl out ↦ inl out
   | inr log ↦ inr (subst (Rose log_before) (sym (same refl)) log)
 ]
-sinks_after out_before out_now log_before log_mid log_now status h rises same = (h.0, omega (arith, h.1, rises))
+sinks_after out_before out_now log_before log_mid log_now status h rises same =
+    (h.0, omega (arith, h.1, rises))

@@ -4,7 +4,9 @@ use Rattle.tick_drive.specs.declared.end.End.{End}
 use Rattle.tick_drive.specs.declared.end.End.TheVariants.{Whole, Refused, Stopped}
 use Rattle.tick_drive.specs.declared.end.End.TheVariants as ends
 use Rattle.replay_status.specs.declared.status.Status.{Status}
-use Rattle.replay_status.specs.declared.status.Status.TheVariants.{Done, BadTicks, ReadFault, WriteFault, JournalFault, TooLong}
+use Rattle.replay_status.specs.declared.status.Status.TheVariants.{Done, BadTicks, ReadFault}
+use Rattle.replay_status.specs.declared.status.Status.TheVariants.{WriteFault, JournalFault}
+use Rattle.replay_status.specs.declared.status.Status.TheVariants.{TooLong}
 
 abbrev pub status_of : End → Status
 status_of Whole = Done

@@ -8,4 +8,10 @@ pub record Outside (K S O L D : Type 0) : Type 0 where
   pub disk : D
 
 abbrev pub outside : {K S O L D : Type 0} → K → S → O → L → D → Outside K S O L D
-outside key input out log disk = record { key = key; input = input; out = out; log = log; disk = disk }
+outside key input out log disk = record {
+  key = key;
+  input = input;
+  out = out;
+  log = log;
+  disk = disk;
+}

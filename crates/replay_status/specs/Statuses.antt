@@ -2,11 +2,15 @@
 use Rattle.std.specs.Prelude.{ℕ, List, [], ◌++◌, codes, decimal}
 use Rattle.hex.specs.Hex.{encode_lower}
 use Rattle.yasir_ticks.specs.declared.fault.TickFault.{TickFault}
-use Rattle.yasir_ticks.specs.declared.fault.TickFault.TheVariants.{Char, Odd, Long, Count, Empty, Mark}
+use Rattle.yasir_ticks.specs.declared.fault.TickFault.TheVariants.{Char, Odd, Long, Count, Empty}
+use Rattle.yasir_ticks.specs.declared.fault.TickFault.TheVariants.{Mark}
 use Rattle.tick_drive.specs.declared.end.TooMuch.{TooMuch}
 use Rattle.tick_drive.specs.declared.end.TooMuch.TheVariants.{Ticks, Bytes}
 use Rattle.replay_status.specs.declared.status.Status.{Status}
-use Rattle.replay_status.specs.declared.status.Status.TheVariants.{Done, Usage, BadTicks, ReadFault, WriteFault, JournalFault, TooLong, HasJournal, BadKey, BadJournal}
+use Rattle.replay_status.specs.declared.status.Status.TheVariants.{Done, Usage, BadTicks, ReadFault}
+use Rattle.replay_status.specs.declared.status.Status.TheVariants.{WriteFault, JournalFault}
+use Rattle.replay_status.specs.declared.status.Status.TheVariants.{TooLong, HasJournal, BadKey}
+use Rattle.replay_status.specs.declared.status.Status.TheVariants.{BadJournal}
 
 abbrev pub code_of : Status → ℕ
 code_of Done = 0
@@ -36,11 +40,14 @@ unit_word Bytes = codes " bytes"
 abbrev pub fault_line : Status → List ℕ
 fault_line Done = []
 fault_line Usage = codes "fault: usage\n"
-fault_line (BadTicks bad) = codes "fault: line " ++ decimal bad.line ++ codes " " ++ fault_word bad.why ++ codes "\n"
+fault_line (BadTicks bad) = codes "fault: line " ++ decimal bad.line ++ codes " "
+    ++ fault_word bad.why ++ codes "\n"
 fault_line ReadFault = codes "fault: read\n"
 fault_line WriteFault = []
-fault_line (TooLong what count) = codes "fault: too long " ++ decimal count ++ unit_word what ++ codes "\n"
+fault_line (TooLong what count) = codes "fault: too long " ++ decimal count ++ unit_word what
+    ++ codes "\n"
 fault_line JournalFault = codes "fault: journal\n"
 fault_line (HasJournal floor) = codes "fault: journal stands at " ++ decimal floor ++ codes "\n"
 fault_line (BadKey place) = codes "fault: key at " ++ decimal place ++ codes "\n"
-fault_line (BadJournal a b) = codes "fault: bad journal " ++ encode_lower a ++ codes " " ++ encode_lower b ++ codes "\n"
+fault_line (BadJournal a b) = codes "fault: bad journal " ++ encode_lower a ++ codes " "
+    ++ encode_lower b ++ codes "\n"

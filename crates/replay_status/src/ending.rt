@@ -11,7 +11,8 @@ pub fn flush_both<O: Sink, L: Sink>(out: &mut O, log: &mut L) -> Status
     ensures status { (result ≡ Status.Done) ⊎ (result ≡ Status.WriteFault) }
     ensures out { O.held out.new ≡ O.held out.old }
     ensures log { L.held log.new ≡ L.held log.old }
-    ensures sinks { SinkCause (O.faults out.old) (O.faults out.new) (L.faults log.old) (L.faults log.new) result }
+    ensures sinks { SinkCause (O.faults out.old) (O.faults out.new) (L.faults log.old)
+        (L.faults log.new) result }
 {
     if let Err(Failed) = out.flush() {
         return Status::WriteFault;

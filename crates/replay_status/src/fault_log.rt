@@ -117,7 +117,8 @@ fn fault_line(status: &Status) -> Line
 
 /// Writes the fault line of a status to the log. A failure of this write changes nothing.
 pub fn write_fault<L: Sink>(log: &mut L, status: &Status)
-    ensures logs { LogsFault (L.held log.old) (L.held log.new) (L.faults log.old) (L.faults log.new) status.now }
+    ensures logs { LogsFault (L.held log.old) (L.held log.new) (L.faults log.old) (L.faults log.new)
+        status.now }
     ensures never_falls { L.faults log.old ≤ L.faults log.new }
     ensures same { fault_line status.now ≡ [] → log.new ≡ log.old }
 {

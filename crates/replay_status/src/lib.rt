@@ -1,4 +1,5 @@
-//! How a run of the program ends: its status, the exit status and the fault line of each, and the text that all commands print.
+//! How a run of the program ends: its status, the exit status and the fault line of each, and the
+//! text that all commands print.
 #![tactic(auto)]
 
 mod ending;

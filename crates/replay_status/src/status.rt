@@ -19,11 +19,13 @@ pub enum Status {
     WriteFault,
     /// The journal's disk failed.
     JournalFault,
-    /// The input has more ticks or bytes than are taken; `count` is the first sum that was too much.
+    /// The input has more ticks or bytes than are taken; `count` is the first sum that was too
+    /// much.
     TooLong { what: TooMuch, count: u64 },
     /// A journal stands already, at this floor.
     HasJournal { floor: u64 },
-    /// The key's text is no key; `place` is the length of its longest prefix that begins some key text.
+    /// The key's text is no key; `place` is the length of its longest prefix that begins some key
+    /// text.
     BadKey { place: u32 },
     /// The disk holds no journal; these are its slots as they were read.
     BadJournal { a: SlotBytes, b: SlotBytes },

@@ -3,7 +3,8 @@ ghost use Rattle.hex.specs.Hex.{encode_lower};
 
 use arrayvec::ArrayVec;
 
-/// One printed line: the longest has 8 bytes, a number of 20 digits, a blank, 292 bytes in hex and an LF.
+/// One printed line: the longest has 8 bytes, a number of 20 digits, a blank, 292 bytes in hex and
+/// an LF.
 pub type Line = ArrayVec<u8, 640>;
 
 /// Appends the decimal digits of a number.

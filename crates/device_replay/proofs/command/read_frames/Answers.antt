@@ -1,12 +1,16 @@
 use Rattle.std.proofs.Common.{refl, ◌∙◌, inl}
-use Rattle.device_replay.proofs.ReadEnds.{drain_fails, refusal_prints, whole_prints, no_write_failed}
-use Rattle.replay_status.proofs.EndCauses.{input_cause, input_cause_of_whole, sink_cause_of_end, sink_cause_of_whole}
+use Rattle.device_replay.proofs.ReadEnds.{drain_fails, refusal_prints, whole_prints}
+use Rattle.device_replay.proofs.ReadEnds.{no_write_failed}
+use Rattle.replay_status.proofs.EndCauses.{input_cause, input_cause_of_whole, sink_cause_of_end}
+use Rattle.replay_status.proofs.EndCauses.{sink_cause_of_whole}
 use Rattle.device_replay.proofs.command.read_frames.Goals as goal
 
 pub returns-in-Err : goal.returns-in-Err
 returns-in-Err g c =
-    let before = no_write_failed _ _ _ _ c.drive_frames-end.result c.in_default.not-Stopped c.drive_frames-end.ensures.sinks in record {
-      frames = drain_fails g.V.Device.reads _ _ _ _ _ _ c.drive_frames-end.result c.in_default.not-Stopped c.drive_frames-end.ensures.driven
+    let before = no_write_failed _ _ _ _ c.drive_frames-end.result c.in_default.not-Stopped
+    c.drive_frames-end.ensures.sinks in record {
+      frames = drain_fails g.V.Device.reads _ _ _ _ _ _ c.drive_frames-end.result
+          c.in_default.not-Stopped c.drive_frames-end.ensures.driven
           (λ text lines. c.in-Err.ensures.err _ text lines);
       log = c.drive_frames-end.ensures.log;
       input = c.drive_frames-end.ensures.read.never_falls;
@@ -16,22 +20,30 @@ returns-in-Err g c =
 pub returns-in-Whole : goal.returns-in-Whole
 returns-in-Whole g c =
     let driven = rw c.in-Whole.is at c.drive_frames-end.ensures.driven in
-    let before = no_write_failed _ _ _ _ c.drive_frames-end.result c.in_default.not-Stopped c.drive_frames-end.ensures.sinks in record {
-      frames = rw c.flush_both.ensures.out (whole_prints g.V.Device.reads _ _ _ _ _ _ c.flush_both.result c.flush_both.ensures.status driven
+    let before = no_write_failed _ _ _ _ c.drive_frames-end.result c.in_default.not-Stopped
+    c.drive_frames-end.ensures.sinks in record {
+      frames = rw c.flush_both.ensures.out
+          (whole_prints g.V.Device.reads _ _ _ _ _ _ c.flush_both.result c.flush_both.ensures.status
+          driven
           (λ text lines. c.in-Ok.ensures.ok _ text lines));
       log = c.flush_both.ensures.log ∙ c.drive_frames-end.ensures.log;
       input = input_cause_of_whole _ _ c.flush_both.result c.flush_both.ensures.status
           (c.drive_frames-end.ensures.read.same (rw c.in-Whole.is refl));
-      sinks = sink_cause_of_whole _ _ _ _ _ _ (c.in-Ok.ensures.cause.same ∙ before.1) before.2 c.flush_both.result c.flush_both.ensures.sinks;
+      sinks = sink_cause_of_whole _ _ _ _ _ _ (c.in-Ok.ensures.cause.same ∙ before.1) before.2
+          c.flush_both.result c.flush_both.ensures.sinks;
     }
 
 pub returns : goal.returns
 returns g c =
-    let before = no_write_failed _ _ _ _ c.drive_frames-end.result c.in_default.not-Stopped c.drive_frames-end.ensures.sinks in record {
-      frames = rw c.status_of.ensures (refusal_prints g.V.Device.reads _ _ _ _ _ _ c.drive_frames-end.result c.in_default.not-Stopped c.in_default-end.not-Whole
+    let before = no_write_failed _ _ _ _ c.drive_frames-end.result c.in_default.not-Stopped
+    c.drive_frames-end.ensures.sinks in record {
+      frames = rw c.status_of.ensures (refusal_prints g.V.Device.reads
+          _ _ _ _ _ _ c.drive_frames-end.result c.in_default.not-Stopped c.in_default-end.not-Whole
           c.drive_frames-end.ensures.driven (λ text lines. c.in-Ok.ensures.ok _ text lines));
       log = c.drive_frames-end.ensures.log;
-      input = rw c.status_of.ensures (input_cause _ _ c.drive_frames-end.result c.drive_frames-end.ensures.read);
-      sinks = rw c.status_of.ensures (sink_cause_of_end _ _ _ _ c.drive_frames-end.result before.0 c.in_default-end.not-Whole
+      input = rw c.status_of.ensures (input_cause _ _ c.drive_frames-end.result
+          c.drive_frames-end.ensures.read);
+      sinks = rw c.status_of.ensures (sink_cause_of_end _ _ _ _ c.drive_frames-end.result before.0
+          c.in_default-end.not-Whole
           (c.in-Ok.ensures.cause.same ∙ before.1) before.2);
     }

@@ -2,13 +2,17 @@ use Rattle.std.proofs.Common.{◌∙◌, ap, arith, sym, subst}
 use Rattle.hex.specs.Hex.{decode_of}
 use Rattle.key_text.specs.KeyText.{IsKeyEnding, BeginsEnding, IsLongestFront}
 use Rattle.key_text.proofs.KeyLemmas.{IsKeySize, refused_digits, refused_ending, key_taken}
-use Rattle.key_text.proofs.key_text.key_of.Goals.{Joined-then-count-lt-MIN_DIGITS, then-count-lt-MIN_DIGITS-via-then-count-lt-MIN_DIGITS, then-count-lt-MIN_DIGITS-via-else-count-lt-MIN_DIGITS+then-count-eq1}
+use Rattle.key_text.proofs.key_text.key_of.Goals.{Joined-then-count-lt-MIN_DIGITS}
+use Rattle.key_text.proofs.key_text.key_of.Goals.{then-count-lt-MIN_DIGITS-via-then-count-lt-MIN_DIGITS}
+use Rattle.key_text.proofs.key_text.key_of.Goals.{then-count-lt-MIN_DIGITS-via-else-count-lt-MIN_DIGITS+then-count-eq1}
 use Rattle.key_text.proofs.key_text.key_of.Goals as goal
 
 no_size : (c : Joined-then-count-lt-MIN_DIGITS) → IsKeySize c.digit_count-count.result → ⊥
 no_size c size = elim c.then-count-lt-MIN_DIGITS.branch [
-  | then-count-lt-MIN_DIGITS-via-then-count-lt-MIN_DIGITS w ↦ omega (arith, size.0, w.if-count-lt-MIN_DIGITS.true)
-  | then-count-lt-MIN_DIGITS-via-else-count-lt-MIN_DIGITS+then-count-eq1 w ↦ omega (arith, size.1, w.if-count-eq1.true)
+  | then-count-lt-MIN_DIGITS-via-then-count-lt-MIN_DIGITS w
+      ↦ omega (arith, size.0, w.if-count-lt-MIN_DIGITS.true)
+  | then-count-lt-MIN_DIGITS-via-else-count-lt-MIN_DIGITS+then-count-eq1 w
+      ↦ omega (arith, size.1, w.if-count-eq1.true)
 ]
 
 pub returns-then-count-lt-MIN_DIGITS-clause-bad : goal.returns-then-count-lt-MIN_DIGITS-clause-bad
@@ -21,7 +25,8 @@ returns-then-not-is_ending-clause-bad c =
     let count = c.digit_count-count.ensures in
     let size : IsKeySize c.digit_count-count.result = (omega arith, omega arith) in
     refused_ending _ _ count.within count.few count.digits count.stops c.begun_ending.result size
-    (λ ends. c.is_ending.ensures.no c.if-not-is_ending.true (subst IsKeyEnding (sym c.split_at.ensures.back) ends))
+    (λ ends. c.is_ending.ensures.no c.if-not-is_ending.true
+    (subst IsKeyEnding (sym c.split_at.ensures.back) ends))
     (subst (λ rest. IsLongestFront BeginsEnding rest c.begun_ending.result) c.split_at.ensures.back
     c.begun_ending.ensures)
 

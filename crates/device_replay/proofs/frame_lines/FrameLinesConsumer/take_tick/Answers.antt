@@ -5,7 +5,8 @@ use Rattle.device_replay.proofs.frame_lines.FrameLinesConsumer.take_tick.Goals a
 
 pub returns-in-None : goal.returns-in-None
 returns-in-None g c = record {
-  moved = λ began items before. prints_nothing g.V.Device _ _ _ _ c.in-None.ensures.stands c.in-None.ensures.answer
+  moved = λ began items before. prints_nothing g.V.Device _ _ _ _ c.in-None.ensures.stands
+      c.in-None.ensures.answer
       began _ _ items before refl;
   stopped = tt;
   counted = c.in-None.ensures.taken;
@@ -21,9 +22,11 @@ returns-in-None g c = record {
 
 pub returns-in-Ok : goal.returns-in-Ok
 returns-in-Ok g c = record {
-  moved = λ began items before. prints_line g.V.Device _ _ _ _ c.in-Some.ensures.stands c.in-Some.ensures.answer
+  moved = λ began items before. prints_line g.V.Device _ _ _ _ c.in-Some.ensures.stands
+      c.in-Some.ensures.answer
       began _ _ items before _ refl _ _
-      (λ text waits. rw (← c.frame_line.ensures, ← c.as_slice.ensures.value) (c.in-Ok.ensures.ok began.out text waits)) refl;
+      (λ text waits. rw (← c.frame_line.ensures, ← c.as_slice.ensures.value)
+      (c.in-Ok.ensures.ok began.out text waits)) refl;
   stopped = tt;
   counted = c.in-Some.ensures.taken;
   is_able = tt;
@@ -42,9 +45,11 @@ returns-in-Err g c = record {
   stopped = record {
     place = 0;
     within = search rules;
-    at = λ began items before. stops_at_line g.V.Device _ _ _ _ c.in-Some.ensures.stands c.in-Some.ensures.answer
+    at = λ began items before. stops_at_line g.V.Device _ _ _ _ c.in-Some.ensures.stands
+        c.in-Some.ensures.answer
         began _ _ items before _ refl _
-        (λ text waits. rw (← c.frame_line.ensures, ← c.as_slice.ensures.value) (c.in-Err.ensures.err began.out text waits)) refl;
+        (λ text waits. rw (← c.frame_line.ensures, ← c.as_slice.ensures.value)
+        (c.in-Err.ensures.err began.out text waits)) refl;
   };
   counted = tt;
   is_able = tt;
