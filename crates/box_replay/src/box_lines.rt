@@ -150,6 +150,7 @@ impl<B: LineBox> BoxLines<B> {
 
     /// A box that has taken no tick, over this journal, and no text yet.
     pub fn new(key: &[u8], dir: Dir, journal: Journal) -> BoxLines<B>
+        requires { B.widths_fit }
         ensures taken { B.taken result.line_box ≡ 0 }
         ensures journal { result.journal ≡ journal }
         ensures drives { (texts : SinkTexts) (told : Option Slots) → Fits journal told

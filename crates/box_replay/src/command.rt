@@ -36,6 +36,7 @@ pub fn replay_keyed<B: LineBox, S: Source, O: Sink, L: Sink, D: SlotDisk>(
     log: &mut L,
     disk: &mut D,
 ) -> Status
+    requires { B.widths_fit }
     ensures runs { RunsBox S.Source O.Sink L.Sink D.SlotDisk (boxed_with B.boxed key.now dir) rest
         (around input.old out.old log.old disk.old) (around input.new out.new log.new disk.new)
         result }
@@ -77,6 +78,7 @@ pub fn replay_box<B: LineBox, K: Source, S: Source, O: Sink, L: Sink, D: SlotDis
     log: &mut L,
     disk: &mut D,
 ) -> Status
+    requires { B.widths_fit }
     ensures replays { ReplaysBox K.Source S.Source O.Sink L.Sink D.SlotDisk B.boxed dir rest
         (outside key.old input.old out.old log.old disk.old)
         (outside key.new input.new out.new log.new disk.new) result }

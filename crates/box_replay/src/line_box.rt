@@ -43,6 +43,9 @@ pub trait LineBox: Drop {
     /// The line of a note.
     ghost line_of: { Self.Note → List ℕ };
 
+    /// What must hold of the widths that it is made with.
+    ghost widths_fit: { Type 0 };
+
     ghost is_boxed: { (setup : Setup) → IsBoxed (boxed setup) setup.floor };
 
     ghost floor_is: { (value : Self) (journal : Journal) (setup : Setup) (line : List Tick)
@@ -50,6 +53,7 @@ pub trait LineBox: Drop {
 
     /// A box that has taken no tick.
     fn new(key: &[u8], dir: Dir) -> Self
+        requires { widths_fit }
         ensures taken { taken result ≡ 0 }
         ensures stands { (journal : Journal)
             → stands result journal (setup_of key.now dir (journal_floor journal)) [] };

@@ -1,14 +1,2 @@
-pub mod NextTicks
-pub mod Sending
-pub mod Printing
-pub mod ReadEnds
-pub mod Readable
-pub mod BoxDriving
-pub mod BoxOutcomes
-pub mod KeyLemmas
-pub mod Sealings
-pub mod Logging
-pub mod Commands
+pub mod Asking
 pub mod Outcomes
-pub mod Replayable
-pub mod WholeLines

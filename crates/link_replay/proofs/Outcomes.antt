@@ -1,25 +1,26 @@
 -- Right words, right input and no fault outside give `Done`, whatever the command is.
-use Rattle.std.proofs.Common.{◌≡◌, ◌∙◌, ℕ, ◌≤◌, List, [], Option, Some, None, IfSome, inl, inr, refl, sym, ap, subst}
+use Rattle.std.proofs.Common.{◌≡◌, ◌∙◌, ℕ, ◌≤◌, List, [], Option, Some, None, IfSome, inl, inr, refl, sym, ap, subst, arith}
 use Rattle.yasir_io.specs.declared.source.Source.{Ghosts as Source}
 use Rattle.yasir_io.specs.declared.sink.Sink.{Ghosts as Sink}
 use Rattle.yasir_io.specs.declared.disk.SlotDisk.{Ghosts as SlotDisk}
+use Rattle.yasir_io.specs.Causes.{Rose}
 use Rattle.yasir_io.specs.Disks.{Slots}
-use Rattle.hmac_tag.specs.Tag.{direction_number}
 use Rattle.sequence_journal.specs.Slots.{floor_of}
-use Rattle.link_replay.specs.Outside.{Outside}
-use Rattle.link_replay.specs.Causes.{SinkCause, DiskCause, NoneRose}
-use Rattle.link_replay.specs.Statuses.{fault_line}
+use Rattle.replay_status.specs.Outside.{Outside}
+use Rattle.replay_status.specs.Causes.{SinkCause, DiskCause, NoneRose}
+use Rattle.replay_status.specs.Statuses.{fault_line}
 use Rattle.link_replay.specs.Commands.{Does, MayDo, IsCalm, HasOwnCauses, HasCauses}
 use Rattle.link_replay.specs.InitCommand.{MakesJournal, IsBlank}
 use Rattle.link_replay.specs.ReadCommand.{device_reads}
 use Rattle.link_replay.specs.VectorsCommand.{PrintsTables}
 use Rattle.link_replay.specs.SealCommand.{seal_boxed, seal_rest}
-use Rattle.link_replay.specs.declared.status.Status.{Status}
-use Rattle.link_replay.specs.declared.status.Status.TheVariants.{Done, Usage, BadTicks, ReadFault, WriteFault, JournalFault, TooLong, HasJournal, BadKey, BadJournal}
+use Rattle.replay_status.specs.declared.status.Status.{Status}
+use Rattle.replay_status.specs.declared.status.Status.TheVariants.{Done, WriteFault, JournalFault, HasJournal}
 use Rattle.link_replay.specs.declared.words.Command.{Command}
 use Rattle.link_replay.specs.declared.words.Command.TheVariants.{Init, Read, Vectors, Seal}
-use Rattle.link_replay.proofs.Readable.{readable_done, sinks_after}
-use Rattle.link_replay.proofs.Replayable.{replayable_done}
+use Rattle.replay_status.proofs.Logging.{sinks_after}
+use Rattle.device_replay.proofs.Readable.{readable_done}
+use Rattle.box_replay.proofs.Replayable.{replayable_done}
 
 module _ (key0 key1 in0 in1 out0 out1 log0 log1 disk0 disk1 : ℕ)
     (calm : NoneRose key0 key1 in0 in1 out0 out1 log0 log1 disk0 disk1) where
@@ -44,6 +45,9 @@ module _ (key0 key1 in0 in1 out0 out1 log0 log1 disk0 disk1 : ℕ)
       elim sinks [ inl out ↦ absurd (calm.out out) | inr log ↦ absurd (calm.log log) ]
   tables_done out_before out_now status h sinks = absurd h
 
+rose-then : (a b c : ℕ) → Rose a b → b ≤ c → Rose a c
+rose-then a b c rose le = omega (arith, rose, le)
+
 module _ {K S O L D : Type 0} (k : Source K) (s : Source S) (o : Sink O) (l : Sink L)
     (d : SlotDisk D) where
   own-after : (asked : Option Command) (before after : Outside K S O L D) (noted : L) (status : Status)
@@ -67,18 +71,29 @@ module _ {K S O L D : Type 0} (k : Source K) (s : Source S) (o : Sink O) (l : Si
     own = own-after asked before after noted status h.own;
   }
 
-  pub asked_done : (asked : Option Command) (before after : Outside K S O L D) (noted : L)
-      (status : Status) → MayDo k s o l d asked before → IsCalm k s o l d before after
-      → Does k s o l d asked before (record after { log = noted }) status
-      → HasCauses k s o l d asked before after status → status ≡ Done
-  asked_done None before after noted status may calm does causes = absurd may
-  asked_done (Some Init) before after noted status may calm does causes =
+  -- no count had risen before the fault line
+  pub calm_before : (before after : Outside K S O L D) (noted : L) → l.faults noted ≤ l.faults after.log
+      → IsCalm k s o l d before after → IsCalm k s o l d before (record after { log = noted })
+  calm_before before after noted rises calm = record {
+    key = calm.key;
+    input = calm.input;
+    out = calm.out;
+    log = λ rose. calm.log (rose-then (l.faults before.log) (l.faults noted) (l.faults after.log) rose rises);
+    disk = calm.disk;
+  }
+
+  pub asked_done : (asked : Option Command) (before after : Outside K S O L D) (status : Status)
+      → MayDo k s o l d asked before → IsCalm k s o l d before after
+      → Does k s o l d asked before after status → HasCauses k s o l d asked before after status
+      → status ≡ Done
+  asked_done None before after status may calm does causes = absurd may
+  asked_done (Some Init) before after status may calm does causes =
       journal_done _ _ _ _ _ _ _ _ _ _ calm _ _ _ _ status may does.journal causes.sinks causes.own.1
-  asked_done (Some (Read proto)) before after noted status may calm does causes =
-      readable_done (device_reads proto) _ _ _ _ _ _ _ _ _ _ _ _ _ _ status may calm
+  asked_done (Some (Read proto)) before after status may calm does causes =
+      readable_done (device_reads proto) _ _ _ _ _ _ _ _ _ _ _ _ _ _ may calm status
       does.frames causes.own.0 causes.sinks
-  asked_done (Some Vectors) before after noted status may calm does causes =
+  asked_done (Some Vectors) before after status may calm does causes =
       tables_done _ _ _ _ _ _ _ _ _ _ calm _ _ status does.tables causes.sinks
-  asked_done (Some (Seal proto dir)) before after noted status may calm does causes =
-      replayable_done (seal_boxed proto) (direction_number dir) seal_rest _ _ _ _ _ _ _ _ _ _ _ _ _
-      _ _ _ _ may calm status does.replays causes.reads causes.own causes.sinks
+  asked_done (Some (Seal proto dir)) before after status may calm does causes =
+      replayable_done k s o l d (seal_boxed proto) dir seal_rest before after may calm status
+      does causes.reads causes.own causes.sinks

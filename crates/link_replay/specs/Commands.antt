@@ -1,22 +1,21 @@
 -- What the program does for each thing that its words may ask for.
-use Rattle.std.specs.Prelude.{◌≡◌, ℕ, Option, Some, None, IsSomeAnd}
+use Rattle.std.specs.Prelude.{◌≡◌, Option, Some, None}
 use Rattle.yasir_io.specs.declared.source.Source.{Ghosts as Source}
 use Rattle.yasir_io.specs.declared.sink.Sink.{Ghosts as Sink}
 use Rattle.yasir_io.specs.declared.disk.SlotDisk.{Ghosts as SlotDisk}
 use Rattle.yasir_io.specs.declared.disk.Slot.TheVariants.{B}
-use Rattle.yasir_io.specs.Disks.{OneImage, LeavesOnly}
-use Rattle.sequence_journal.specs.Slots.{floor_of}
-use Rattle.sequence_journal.specs.Journal.{IsBeside, HasFloorAtLeast}
-use Rattle.link_replay.specs.Outside.{Outside}
-use Rattle.link_replay.specs.Causes.{InputCause, ReadsCause, SinkCause, DiskCause, LogsFault, NoneRose}
+use Rattle.yasir_io.specs.Disks.{LeavesOnly}
+use Rattle.sequence_journal.specs.Journal.{IsBeside}
+use Rattle.replay_status.specs.Outside.{Outside}
+use Rattle.replay_status.specs.Causes.{InputCause, ReadsCause, SinkCause, DiskCause, LogsFault, NoneRose}
 use Rattle.link_replay.specs.InitCommand.{Inits, IsBlank}
-use Rattle.link_replay.specs.ReadCommand.{IsReadable}
-use Rattle.link_replay.specs.Reading.{Reads}
+use Rattle.replay_status.specs.Readable.{IsReadable}
+use Rattle.link_replay.specs.ReadCommand.{Reads}
 use Rattle.link_replay.specs.VectorsCommand.{Tabulates}
-use Rattle.link_replay.specs.BoxCommand.{BoxDiskCause, IsReplayable}
+use Rattle.box_replay.specs.ReplaysBox.{BoxDiskCause, IsReplayable, KeepsFloorThroughout}
 use Rattle.link_replay.specs.SealCommand.{Seals}
-use Rattle.link_replay.specs.declared.status.Status.{Status}
-use Rattle.link_replay.specs.declared.status.Status.TheVariants.{Usage}
+use Rattle.replay_status.specs.declared.status.Status.{Status}
+use Rattle.replay_status.specs.declared.status.Status.TheVariants.{Usage}
 use Rattle.link_replay.specs.declared.words.Command.{Command}
 use Rattle.link_replay.specs.declared.words.Command.TheVariants.{Init, Read, Vectors, Seal}
 
@@ -24,9 +23,7 @@ use Rattle.link_replay.specs.declared.words.Command.TheVariants.{Init, Read, Vec
 abbrev pub KeepsDisk : {D : Type 0} → SlotDisk D → Option Command → D → D → Type 0
 KeepsDisk d (Some Init) old new =
     LeavesOnly d.moment d.left_since old new (IsBeside B (d.may_leave old))
-KeepsDisk d (Some (Seal proto dir)) old new = OneImage (d.told old) (d.may_leave old)
-    → (floor : ℕ) → IsSomeAnd (d.told old) (λ slots. floor_of slots ≡ Some floor)
-    → LeavesOnly d.moment d.left_since old new (HasFloorAtLeast floor)
+KeepsDisk d (Some (Seal proto dir)) old new = KeepsFloorThroughout d old new
 KeepsDisk d asked old new = new ≡ old
 
 module _ {K S O L D : Type 0} (k : Source K) (s : Source S) (o : Sink O) (l : Sink L)

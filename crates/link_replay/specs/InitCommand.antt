@@ -6,9 +6,9 @@ use Rattle.yasir_io.specs.declared.disk.Slot.TheVariants.{A}
 use Rattle.yasir_io.specs.Disks.{Slots, NoMore, OneImage}
 use Rattle.sequence_journal.specs.Slots.{slot_bytes, floor_of}
 use Rattle.sequence_journal.specs.Journal.{told_with, MaySet}
-use Rattle.link_replay.specs.Outside.{Outside}
-use Rattle.link_replay.specs.declared.status.Status.{Status}
-use Rattle.link_replay.specs.declared.status.Status.TheVariants.{Done, WriteFault, JournalFault, HasJournal}
+use Rattle.replay_status.specs.Outside.{Outside}
+use Rattle.replay_status.specs.declared.status.Status.{Status}
+use Rattle.replay_status.specs.declared.status.Status.TheVariants.{Done, WriteFault, JournalFault, HasJournal}
 
 -- Neither slot held a number; slot A holds number 0, slot B is as it was, and a crash leaves just this.
 pub record IsNewJournal (old new : Option Slots) (may_leave : Slots → Type 0) : Type 0 where

@@ -6,9 +6,9 @@ use Rattle.yasir_io.specs.Output.{GotPrefix}
 use Rattle.vectors.specs.Cases.{answer}
 use Rattle.vectors.specs.Tables.{crc_cases, hmac_cases, frames_cases}
 use Rattle.vectors.specs.declared.table.Miss.{Miss}
-use Rattle.link_replay.specs.Outside.{Outside}
-use Rattle.link_replay.specs.declared.status.Status.{Status}
-use Rattle.link_replay.specs.declared.status.Status.TheVariants.{Done, WriteFault}
+use Rattle.replay_status.specs.Outside.{Outside}
+use Rattle.replay_status.specs.declared.status.Status.{Status}
+use Rattle.replay_status.specs.declared.status.Status.TheVariants.{Done, WriteFault}
 
 -- `NAME N ok`, or `NAME miss ROW` with the first row that isn't right
 abbrev pub table_line : List ℕ → ℕ → Result (Unit {0}) Miss → List ℕ

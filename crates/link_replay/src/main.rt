@@ -1,35 +1,14 @@
 //! `link_replay`: replays a recorded serial line.
 #![tactic(auto)]
 
-mod box_command;
-mod box_lines;
-mod ending;
-mod fault_log;
-mod frame_lines;
-mod init_command;
-#[cfg(test)]
-mod key_tests;
-mod key_text;
-mod line_box;
-mod lines;
-mod note_lines;
+mod commands;
 mod program;
-mod read_command;
-mod read_line;
-mod seal_box;
-mod seal_command;
-#[cfg(test)]
-mod seal_tests;
-mod status;
 #[cfg(test)]
 mod tests;
-mod vectors_command;
 mod words;
 
 pub use hmac_tag::Dir;
-pub use key_text::{Key, KeyError, read_key};
 pub use program::run;
-pub use status::Status;
 use std::alloc::{AllocError, Global};
 use std::env::Args;
 use std::process::ExitCode;

@@ -1,16 +1,16 @@
 ghost use Rattle.std.specs.Prelude.{◌≡◌, ◌↔◌, Option, Some, None, map};
 ghost use Rattle.std.specs.String.{string_bytes};
-ghost use Rattle.link_replay.specs.Outside.{outside};
+ghost use Rattle.replay_status.specs.Outside.{outside};
 ghost use Rattle.link_replay.specs.declared.words.Command.{Command};
 ghost use Rattle.link_replay.specs.Words.{Asks};
 ghost use Rattle.link_replay.specs.Commands.{Does, Runs, KeepsDisk, MayDo, IsCalm, HasCauses};
 
-use crate::fault_log::write_fault;
-use crate::init_command::make_journal;
-use crate::read_line::read_line;
-use crate::seal_command::seal;
-use crate::vectors_command::print_tables;
-use crate::{Command, Status, read_words};
+use crate::commands::init::make_journal;
+use crate::commands::read::read_line;
+use crate::commands::seal::seal;
+use crate::commands::vectors::print_tables;
+use crate::{Command, read_words};
+use replay_status::{Status, write_fault};
 use std::alloc::Global;
 use yasir_io::{Sink, SlotDisk, Source};
 

@@ -1,19 +1,19 @@
 use Rattle.std.proofs.Common.{subst, sym}
 use Rattle.std.specs.Prelude.{map}
 use Rattle.std.specs.String.{string_bytes}
-use Rattle.link_replay.specs.Outside.{outside}
+use Rattle.replay_status.specs.Outside.{outside}
 use Rattle.link_replay.specs.Words.{Asks}
 use Rattle.link_replay.specs.Commands.{Runs, KeepsDisk, HasCauses, MayDo}
-use Rattle.link_replay.proofs.Commands.{asks-one}
-use Rattle.link_replay.proofs.Logging.{logs-from}
-use Rattle.link_replay.proofs.Outcomes.{causes_after, asked_done}
+use Rattle.link_replay.proofs.Asking.{asks-one}
+use Rattle.replay_status.proofs.Logging.{logs-from}
+use Rattle.link_replay.proofs.Outcomes.{calm_before, causes_after, asked_done}
 use Rattle.link_replay.proofs.program.run.Goals as goal
 
 pub returns-clause-usage : goal.returns-clause-usage
 returns-clause-usage g c = (
-    λ is. subst (Asks (map string_bytes c.args.words.now)) (c.answer-status.ensures.usage.0 is) c.asked_by-asked.ensures,
-    λ none. c.answer-status.ensures.usage.1 (asks-one _ _ _ c.asked_by-asked.ensures none),
-  )
+  λ is. subst (Asks (map string_bytes c.args.words.now)) (c.answer-status.ensures.usage.0 is) c.asked_by-asked.ensures,
+  λ none. c.answer-status.ensures.usage.1 (asks-one _ _ _ c.asked_by-asked.ensures none),
+)
 
 pub returns-clause-runs : goal.returns-clause-runs
 returns-clause-runs g c = λ asked asks.
@@ -45,7 +45,7 @@ returns-clause-done g c = λ asked asks may calm.
     let before = outside c.args.key.now c.args.input.now c.args.out.now c.args.log.now c.args.disk.now in
     let after = outside c.answer-status.new.key c.answer-status.new.input c.answer-status.new.out c.write_fault.new.log c.answer-status.new.disk in
     let right = subst (λ a. MayDo g.K.Source g.S.Source g.O.Sink g.L.Sink g.D.SlotDisk a before) (sym same) may in
-    asked_done g.K.Source g.S.Source g.O.Sink g.L.Sink g.D.SlotDisk c.asked_by-asked.result before after c.answer-status.new.log c.answer-status.result
-    right calm c.answer-status.ensures.does
-    (causes_after g.K.Source g.S.Source g.O.Sink g.L.Sink g.D.SlotDisk c.asked_by-asked.result before after c.answer-status.new.log c.answer-status.result
-    c.answer-status.ensures.causes c.write_fault.ensures.never_falls c.write_fault.ensures.same)
+    let mid = outside c.answer-status.new.key c.answer-status.new.input c.answer-status.new.out c.answer-status.new.log c.answer-status.new.disk in
+    asked_done g.K.Source g.S.Source g.O.Sink g.L.Sink g.D.SlotDisk c.asked_by-asked.result before mid c.answer-status.result right
+    (calm_before g.K.Source g.S.Source g.O.Sink g.L.Sink g.D.SlotDisk before after c.answer-status.new.log c.write_fault.ensures.never_falls calm)
+    c.answer-status.ensures.does c.answer-status.ensures.causes

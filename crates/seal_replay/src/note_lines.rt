@@ -1,13 +1,9 @@
 ghost use Rattle.std.specs.Prelude.{◌≡◌, ◌≤◌, ◌++◌, length, codes, decimal};
-ghost use Rattle.link_replay.specs.NoteLines.{unsealed_word, seal_line, note_line};
+ghost use Rattle.seal_replay.specs.NoteLines.{unsealed_word, seal_line};
 
-use crate::line_box::Note;
-use crate::lines::push_decimal;
-use arrayvec::ArrayVec;
+use box_replay::NoteLine;
+use replay_status::push_decimal;
 use seal_transmitter::{SealNote, UnsealedWhy};
-
-/// The line of a note, LF included. The longest has 7 bytes, three numbers of up to 20 digits, 9 bytes between them and an LF.
-pub type NoteLine = ArrayVec<u8, 80>;
 
 fn unsealed_word(why: UnsealedWhy) -> &'static [u8]
     ensures word { result.now ≡ unsealed_word why }
@@ -46,20 +42,13 @@ fn unsealed_line(start: u64, why: UnsealedWhy) -> NoteLine
     line
 }
 
-fn seal_line(note: SealNote) -> NoteLine
+/// The line of a note of the transmitter, LF included. The longest has 7 bytes, three numbers of up to 20 digits, 9 bytes between
+/// them and an LF.
+pub fn note_line(note: SealNote) -> NoteLine
     ensures { result.items ≡ seal_line note }
 {
     match note {
         SealNote::Sealed { number, start, len } => sealed_line(number, start, len),
         SealNote::Unsealed { start, why } => unsealed_line(start, why),
-    }
-}
-
-/// The line of a note.
-pub fn note_line(note: &Note) -> NoteLine
-    ensures { result.items ≡ note_line note.now }
-{
-    match note {
-        Note::Seal(note) => seal_line(*note),
     }
 }

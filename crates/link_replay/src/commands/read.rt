@@ -1,10 +1,12 @@
 ghost use Rattle.std.specs.Prelude.{◌≡◌};
-ghost use Rattle.link_replay.specs.ReadCommand.{PrintsFrames, device_reads};
-ghost use Rattle.link_replay.specs.Causes.{InputCause, SinkCause};
+ghost use Rattle.device_replay.specs.PrintsFrames.{PrintsFrames};
+ghost use Rattle.link_replay.specs.ReadCommand.{device_reads};
+ghost use Rattle.replay_status.specs.Causes.{InputCause, SinkCause};
 
-use crate::read_command::read_frames;
-use crate::{Proto, Status};
+use crate::Proto;
 use device_model::RtuDevice;
+use device_replay::read_frames;
+use replay_status::Status;
 use yasir_io::{Sink, Source};
 
 /// Prints the frames that the device of a protocol reads from a recorded line.

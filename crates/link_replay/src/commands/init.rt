@@ -3,10 +3,9 @@ ghost use Rattle.yasir_io.specs.declared.disk.Slot.TheVariants.{B};
 ghost use Rattle.yasir_io.specs.Disks.{LeavesOnly};
 ghost use Rattle.sequence_journal.specs.Journal.{IsBeside};
 ghost use Rattle.link_replay.specs.InitCommand.{MakesJournal};
-ghost use Rattle.link_replay.specs.Causes.{SinkCause, DiskCause};
+ghost use Rattle.replay_status.specs.Causes.{SinkCause, DiskCause};
 
-use crate::Status;
-use crate::ending::flush_both;
+use replay_status::{Status, flush_both};
 use sequence_journal::{InitError, Journal};
 use yasir_io::{Sink, SlotDisk};
 

@@ -1,10 +1,8 @@
 ghost use Rattle.std.specs.Prelude.{◌≡◌, ◌+◌, ◌≤◌, ◌++◌, length, codes};
 ghost use Rattle.link_replay.specs.VectorsCommand.{table_line, table_lines, PrintsTables};
-ghost use Rattle.link_replay.specs.Causes.{SinkCause};
+ghost use Rattle.replay_status.specs.Causes.{SinkCause};
 
-use crate::Status;
-use crate::ending::flush_both;
-use crate::lines::{Line, push_decimal};
+use replay_status::{Line, Status, flush_both, push_decimal};
 use vectors::{Miss, crc_table, frames_table, hmac_table};
 use yasir_io::{Failed, Sink, write_all};
 

@@ -1,0 +1,6 @@
+//! What each command does.
+
+pub mod init;
+pub mod read;
+pub mod seal;
+pub mod vectors;

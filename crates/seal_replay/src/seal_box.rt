@@ -1,0 +1,62 @@
+ghost use Rattle.std.specs.Prelude.{◌≡◌, ℕ, ◌+◌, ◌≤◌, [], ◌++◌, List};
+ghost use Rattle.link_format.specs.Profile.{IsWordLen};
+ghost use Rattle.seal_transmitter.specs.Stands.{StandsFor, ticks_taken};
+ghost use Rattle.seal_replay.specs.NoteLines.{seal_line};
+ghost use Rattle.seal_replay.specs.SealBoxed.{sealing_by};
+ghost use Rattle.seal_replay.specs.SealBoxedLaws.{seals-boxed, seals-floor};
+
+use crate::note_lines::note_line;
+use box_replay::{BoxStep, LineBox, NoteLine};
+use hmac_tag::{Dir, Mac};
+use line_rules::LineRules;
+use seal_transmitter::{SealNote, SealStep, Sealer};
+use sequence_journal::{Journal, JournalFault};
+use yasir_io::SlotDisk;
+use yasir_ticks::Tick;
+
+/// The transmitter as a box, with words of `B` bytes.
+#[derive(Drop)]
+pub struct SealBox<R, M, const B: usize> {
+    sealer: Sealer<R, M, B>,
+}
+
+impl<R: LineRules, M: Mac, const B: usize> LineBox for SealBox<R, M, B> {
+    type Note = SealNote;
+
+    ghost stands = { λ value. StandsFor R.LineRules M.Mac value.sealer };
+
+    ghost taken = { λ value. ticks_taken value.sealer };
+
+    ghost boxed = { sealing_by R.LineRules M.Mac B };
+
+    ghost line_of = { seal_line };
+
+    ghost widths_fit = { IsWordLen B };
+
+    ghost is_boxed = { seals-boxed R.LineRules M.Mac B };
+
+    ghost floor_is = { λ value. seals-floor R.LineRules M.Mac value.sealer };
+
+    fn new(key: &[u8], dir: Dir) -> Self {
+        SealBox {
+            sealer: Sealer::new(key, dir),
+        }
+    }
+
+    fn note_line(note: &SealNote) -> NoteLine {
+        note_line(*note)
+    }
+
+    #[inline(always)]
+    fn step<D: SlotDisk>(
+        &mut self,
+        t: Tick,
+        journal: &mut Journal,
+        disk: &mut D,
+    ) -> Result<BoxStep<SealNote>, JournalFault> {
+        match self.sealer.step(t, journal, disk) {
+            Ok(SealStep { tick, note }) => Ok(BoxStep { tick, note }),
+            Err(JournalFault) => Err(JournalFault),
+        }
+    }
+}
