@@ -6,7 +6,7 @@ use crate::slots::{floor_in, read_slots, write_and_sync};
 use thiserror::Error;
 use yasir_io::{Slot, SlotBytes, SlotDisk};
 
-/// A commit failed: the disk's count of faults rose. The journal is broken, and a later run loads
+/// A commit failed: the disk's count of faults rose. The journal is broken: the next uptime loads
 /// it anew.
 #[derive(Clone, Copy, Debug, PartialEq, Eq, Error)]
 #[error("the journal's disk failed in a commit")]
@@ -151,8 +151,7 @@ impl Journal {
             (D.told disk.old) (D.told disk.new) (D.may_leave disk.new) n) }
         ensures image { OnOk result ((c : Slots) → D.may_leave disk.new c → floor_of c ≡ Some n) }
 
-        // After a fault the journal isn't to be used again; the slot that keeps the floor is as it
-        // was.
+        // After a fault the journal isn't to be used again.
         ensures failed { OnErr result
             (HasFailed self.old self.new (D.told disk.old) (D.told disk.new) n) }
 

@@ -1,6 +1,6 @@
 -- Lemmas on bytes that are read into a buffer, part by part.
 use Rattle.std.proofs.Common.{◌≡◌, ℕ, ◌+◌, ◌-◌, ◌<◌, ◌≤◌, List, ◌++◌, Option, Result, Ok, Err}
-use Rattle.std.proofs.Common.{IfOk, length, take, drop, replicate, slice_range, OnOk, OnErr, sym}
+use Rattle.std.proofs.Common.{IfOk, length, take, drop, replicate, slice_range, OnOk, sym}
 use Rattle.std.proofs.Common.{ap, ◌∙◌, subst, arith, le_refl, drop_at, length-take-le}
 use Rattle.std.proofs.lemmas.List.{drop-replicate}
 use Rattle.std.proofs.lemmas.Slice.{take-put_mid_below}
@@ -46,11 +46,7 @@ read_more start before after len n buf part within fits first more =
     subst (Consumes _ _) (ap (λ l. take len buf ++ l) (sym there) ∙ joined)
     (Consumes-trans start before after (take len buf) (take n part) first more)
 
--- the same on an error
-pub always_err : {T E P : Type 0} (r : Result T E) → P → OnErr r P
-always_err (Ok x) p = tt
-always_err (Err e) p = p
-
+-- a fact that holds anyway
 pub always_on_ok : {T E P : Type 0} (r : Result T E) → P → OnOk r P
 always_on_ok (Ok x) p = p
 always_on_ok (Err e) p = tt

@@ -1,11 +1,10 @@
 -- What the readers, writers and files at the edge of the program are, and how often they have
 -- failed.
-use Rattle.std.specs.Prelude.{ℕ}
+use Rattle.std.specs.Prelude.{ℕ, Option}
 use Rattle.yasir_io.specs.declared.edge.StdinSource.{StdinSource}
 use Rattle.yasir_io.specs.declared.edge.WriterSink.{WriterSink}
 use Rattle.yasir_io.specs.declared.files.FileSource.{FileSource}
 use Rattle.yasir_io.specs.declared.files.FileSlots.{FileSlots}
-use Rattle.std.specs.Prelude.{Option}
 use Rattle.std.specs.declared.fs.OpenOptions.{OpenOptions}
 
 -- what is read

@@ -1,5 +1,6 @@
 use Rattle.std.proofs.Common.{refl}
-use Rattle.yasir_io.proofs.FileLemmas.{always_ok, always_on_ok, always_err, nothing_elapses}
+use Rattle.yasir_io.proofs.FileLemmas.{always_ok, always_on_ok, nothing_elapses}
+use Rattle.yasir_io.proofs.OutputLemmas.{always_on_err}
 use Rattle.yasir_io.proofs.files.FileSlotsSlotDisk.TheImpl.Goals as goal
 
 pub read_slot-tells : goal.read_slot-tells
@@ -15,7 +16,7 @@ read_slot-tells g c = record {
 pub write_slot-tells : goal.write_slot-tells
 write_slot-tells g c = record {
   written = always_on_ok c.result refl;
-  unwritten = always_err c.result refl;
+  unwritten = always_on_err c.result refl;
   images = λ image none. absurd none;
   images_back = λ image none. absurd none;
   time = nothing_elapses;
@@ -28,7 +29,7 @@ sync-tells g c = record {
   as_read = always_on_ok c.result (λ image none. absurd none);
   told = refl;
   images = λ image none. none;
-  images_back = always_err c.result (λ image none. none);
+  images_back = always_on_err c.result (λ image none. none);
   time = nothing_elapses;
   cause = c.ensures.cause;
 }

@@ -1,5 +1,6 @@
 use Rattle.std.proofs.Common.{refl}
-use Rattle.yasir_io.proofs.FileLemmas.{always_ok, always_err}
+use Rattle.yasir_io.proofs.FileLemmas.{always_ok}
+use Rattle.yasir_io.proofs.OutputLemmas.{always_on_err}
 use Rattle.yasir_io.proofs.files.FileSourceSource.TheImpl.Goals as goal
 
 pub read-tells : goal.read-tells
@@ -7,6 +8,6 @@ read-tells g c = record {
   within = c.ensures.within;
   bytes = always_ok _ c.result (λ n. refl);
   end = always_ok _ c.result (λ n none room. tt);
-  err = always_err c.result refl;
+  err = always_on_err c.result refl;
   cause = c.ensures.cause;
 }
