@@ -22,7 +22,7 @@ xored_more pad old i now within done =
     let here : get_or now i 0 ≡ get_or old i 0 =
     simp add-zero at
     (sym (get_or-drop i now 0 0) ∙ ap (λ (l : List ℕ). get_or l 0 0) done.rest
-        ∙ get_or-drop i old 0 0) in
+    ∙ get_or-drop i old 0 0) in
     record {
       len = length-set now i (bit_xor (get_or now i 0) pad) ∙ done.len;
       front =

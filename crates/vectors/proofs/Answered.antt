@@ -28,13 +28,13 @@ answers_on : (case : Case) (rest : List Case) → AnswersOn rest → (b : Bool) 
 unfolding AnswersOn
 answers_on case rest later true is before n at right =
     let one_more : n + 1 ≡ length (before ++ case ∷ []) =
-        ap (λ (k : ℕ). k + 1) at ∙ sym (length_push before case) in
+    ap (λ (k : ℕ). k + 1) at ∙ sym (length_push before case) in
     let all_right : All IsRight (before ++ case ∷ []) =
     All-append IsRight before (case ∷ []) right
-        (All-cons IsRight case [] ((is_right-Decides case).0 is) (All-nil IsRight)) in
+    (All-cons IsRight case [] ((is_right-Decides case).0 is) (All-nil IsRight)) in
     let P : List Case → Type 0 = λ cases. IsAnswer cases (answer_from (n + 1) rest) in
     rw is (subst P (append_assoc before (case ∷ []) rest)
-        (later (before ++ case ∷ []) (n + 1) one_more all_right))
+    (later (before ++ case ∷ []) (n + 1) one_more all_right))
 answers_on case rest later false isnt before n at right =
     rw isnt (record {
       before = before;
@@ -56,7 +56,7 @@ IsAnswer-answer : (cases : List Case) → IsAnswer cases (answer cases)
 unfolding answer AnswersOn
 IsAnswer-answer cases =
     rw (position_from-zero (λ case. not (is_right case)) cases)
-        (AnswersOn-all cases [] 0 refl (All-nil IsRight))
+    (AnswersOn-all cases [] 0 refl (All-nil IsRight))
 
 pub is_answer : (cases : List Case) (result : Result (Unit {0}) Miss) → result ≡ answer cases
     → IsAnswer cases result

@@ -13,9 +13,16 @@ crc_rows = (refl, refl)
 
 pub hmac_rows : (length hmac_cases ≡ 5) × (answer hmac_cases ≡ Ok tt)
 unfolding answer hmac_cases
-hmac_rows =
-    (refl, rw (hmac_of_hi_there, hmac_of_jefe, hmac_of_fifty_bytes, tag_of_test_with_truncation,
-        hmac_under_a_long_key))
+hmac_rows = (
+  refl,
+  rw (
+    hmac_of_hi_there,
+    hmac_of_jefe,
+    hmac_of_fifty_bytes,
+    tag_of_test_with_truncation,
+    hmac_under_a_long_key,
+  ),
+)
 
 pub frames_rows : (length frames_cases ≡ 5) × (answer frames_cases ≡ Ok tt)
 unfolding bit_step bit_steps byte_step crc is_frame has_right_ending answer frames_cases

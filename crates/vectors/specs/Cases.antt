@@ -14,8 +14,12 @@ use Rattle.vectors.specs.declared.table.Miss.{Miss}
 -- the case of this kind with this key, text and wanted bytes
 abbrev pub case_of : CaseKind → List ℕ → List ℕ → List ℕ → Case
 case_of kind key text want =
-    record { kind = kind; key = record { items = key }; text = record { items = text };
-        want = record { items = want } }
+    record {
+      kind = kind;
+      key = record { items = key };
+      text = record { items = text };
+      want = record { items = want };
+    }
 
 -- what the definitions give: a CRC high byte first, a code, a code cut to 12 bytes, and 1 or 0 for
 -- a frame or none

@@ -7,5 +7,5 @@ pub returns-clause-answer : goal.returns-clause-answer
 unfolding hmac_cases
 returns-clause-answer c =
     let same : c.new.result ∷ c.new-2.result ∷ c.new-3.result ∷ c.new-4.result ∷ c.new-5.result ∷ []
-        ≡ hmac_cases = cc in
+    ≡ hmac_cases = cc in
     c.answered.ensures.answer ∙ ap answer same
