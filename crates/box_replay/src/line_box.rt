@@ -1,11 +1,15 @@
-ghost use Rattle.std.specs.Prelude.{◌≡◌, ℕ, ◌+◌, ◌<◌, ◌≤◌, List, [], ◌∷◌, ◌++◌, OnOk, OnErr, IfOk};
+ghost use Rattle.std.specs.Prelude.{◌≡◌, ℕ, ◌+◌, ◌<◌, ◌≤◌, List, [], ◌∷◌, ◌++◌};
+ghost use Rattle.std.specs.Prelude.{length, map, take, OnOk, OnErr, IfOk};
 ghost use Rattle.yasir_io.specs.Causes.{HasCause};
 ghost use Rattle.yasir_io.specs.Disks.{Slots, LeavesOnly};
+ghost use Rattle.yasir_ticks.specs.Ticks.{silent};
 ghost use Rattle.yasir_ticks.specs.declared.tick.Tick.{Tick};
+ghost use Rattle.yasir_ticks.specs.declared.tick.Tick.TheVariants.{Byte};
 ghost use Rattle.link_format.specs.Setup.{Setup, setup_of};
 ghost use Rattle.sequence_journal.specs.declared.journal.Journal.{Journal};
 ghost use Rattle.sequence_journal.specs.Journal.{journal_floor, Fits, IsCrashSafe, HasFloorAtLeast};
-ghost use Rattle.box_replay.specs.Boxes.{Boxed, IsBoxed, AnswersBox, FailsBox, line_of_note};
+ghost use Rattle.box_replay.specs.Boxes.{line_of_note};
+ghost use Rattle.box_replay.specs.Boxes.{Boxed, IsBoxed, AnswersBox, FailsBox, Forwards};
 
 use arrayvec::ArrayVec;
 use hmac_tag::Dir;
@@ -90,4 +94,34 @@ pub trait LineBox: Drop {
             → LeavesOnly D.moment D.left_since disk.old disk.new
             (HasFloorAtLeast (journal_floor journal.old)) }
         ensures cause { HasCause (D.faults disk.old) (D.faults disk.new) result };
+
+    /// Takes the first of these bytes, one a tick, as far as the box answers each with itself, without
+    /// a note and without a number, and answers how many. With 0 the caller goes on by `step`.
+    fn forward_bytes(&mut self, _bytes: &[u8]) -> usize
+        requires { taken self.old + length _bytes.now ≤ MAX_TICKS }
+        ensures within { result ≤ length _bytes.now }
+        ensures taken { taken self.new ≡ taken self.old + result }
+        ensures stands { (journal : Journal) (setup : Setup) (line : List Tick)
+            → stands self.old journal setup line
+            → stands self.new journal setup (line ++ map Byte (take result _bytes.now)) }
+        ensures forwards { (journal : Journal) (setup : Setup) (line : List Tick)
+            → stands self.old journal setup line
+            → Forwards (boxed setup) line (map Byte (take result _bytes.now)) }
+    {
+        0
+    }
+
+    /// The same of so many silent ticks.
+    fn forward_silence(&mut self, _ticks: u32) -> u32
+        requires { taken self.old + _ticks ≤ MAX_TICKS }
+        ensures within { result ≤ _ticks }
+        ensures taken { taken self.new ≡ taken self.old + result }
+        ensures stands { (journal : Journal) (setup : Setup) (line : List Tick)
+            → stands self.old journal setup line
+            → stands self.new journal setup (line ++ silent result) }
+        ensures forwards { (journal : Journal) (setup : Setup) (line : List Tick)
+            → stands self.old journal setup line → Forwards (boxed setup) line (silent result) }
+    {
+        0
+    }
 }
