@@ -1,6 +1,7 @@
 -- Uptimes over one disk, one after the other. An uptime goes from the loading of a journal to a
--- stop or a crash. Each begins on an image that the one before it has left, at its end or at a
--- moment inside it, with nothing written and not yet synced.
+-- stop or a crash, which may come at any moment inside it, and leaves an image. The next one begins
+-- on that image: that it finds the slots as they read, with nothing written and not yet synced, is
+-- a premise where a call is shown to be an uptime.
 use Rattle.std.specs.Prelude.{◌≡◌, ℕ, ◌<◌, List, [], ◌∷◌, ◌++◌, Some}
 use Rattle.yasir_io.specs.Disks.{Slots, LeavesOnly}
 use Rattle.yasir_io.specs.declared.disk.SlotDisk.{Ghosts as SlotDisk}

@@ -11,7 +11,8 @@ pub struct TextBuffer {
 }
 
 impl TextBuffer {
-    ghost use Rattle.std.specs.Prelude.{◌≡◌, ℕ, ◌+◌, ◌≤◌, List, [], ◌++◌, length, true, false, Option, OnOk, OnErr};
+    ghost use Rattle.std.specs.Prelude.{◌≡◌, ℕ, ◌+◌, ◌≤◌, List, [], ◌++◌, length, true, false};
+    ghost use Rattle.std.specs.Prelude.{Option, OnOk, OnErr};
     ghost use Rattle.yasir_io.specs.Causes.{HasCause};
     ghost use Rattle.yasir_io.specs.Output.{Buffered, GotPrefix};
     ghost use Rattle.yasir_io.specs.TextBuffer.{waiting_bytes};
@@ -27,8 +28,8 @@ impl TextBuffer {
         }
     }
 
-    /// Adds a piece where the room left takes it, and answers whether it did; where it did not, nothing
-    /// changes. No sink is called.
+    /// Adds a piece where the room left takes it, and answers whether it did; where it did not,
+    /// nothing changes. No sink is called.
     #[inline]
     pub fn extend(&mut self, piece: &[u8]) -> bool
         ensures added { result ≡ true
