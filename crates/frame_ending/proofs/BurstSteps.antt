@@ -31,7 +31,7 @@ gap_byte gap b = silent gap ++ Byte b ∷ []
 
 -- ---- the bytes before a pause
 
-spelled-paused : (w : List Tick) (a gap b : ℕ) → (has_pause (ended w a) || nat_le 2 gap) ≡ true
+pub spelled-paused : (w : List Tick) (a gap b : ℕ) → (has_pause (ended w a) || nat_le 2 gap) ≡ true
     → before_pause (ended w a ++ gap_byte gap b) ≡ before_pause (ended w a)
 spelled-paused w a gap b paused =
     ⊎_elim
@@ -44,7 +44,7 @@ spelled-paused w a gap b paused =
     (or_cases (has_pause (ended w a)) (nat_le 2 gap) paused))
     (cases_Bool (has_pause (ended w a)))
 
-spelled-open : (w : List Tick) (a gap b : ℕ) → (has_pause (ended w a) || nat_le 2 gap) ≡ false
+pub spelled-open : (w : List Tick) (a gap b : ℕ) → (has_pause (ended w a) || nat_le 2 gap) ≡ false
     → before_pause (ended w a ++ gap_byte gap b) ≡ ended w a ++ gap_byte gap b
 spelled-open w a gap b none =
     let parts = or_parts (has_pause (ended w a)) (nat_le 2 gap) none in

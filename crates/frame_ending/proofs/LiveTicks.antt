@@ -53,23 +53,23 @@ module _ (rules : Rules) (lawful : IsLawful rules) where
     abbrev paused : Bool
     paused = has_pause d.body || nat_le 2 (m - end_of d)
 
-    over : (paused || fills_room rules (live_bytes rules d)) ≡ true
+    pub live_ticks-over : (paused || fills_room rules (live_bytes rules d)) ≡ true
         → live_ticks rules (with_last d m b) ≡ live_ticks rules d
-    over is =
+    live_ticks-over is =
         ap (λ h. up_to_byte (length h) (with_last d m b).body)
         (live-over m b d within rules lawful is)
         ∙ up_to_byte-append (length (live_bytes rules d)) d.body
         (silent (m - end_of d) ++ Byte b ∷ []) (live-le rules lawful d)
 
-    open_now : paused ≡ false → fills_room rules (live_bytes rules d) ≡ false
+    pub live_ticks-open : paused ≡ false → fills_room rules (live_bytes rules d) ≡ false
         → live_ticks rules d ≡ d.body
-    open_now none room = live_ticks-all rules d within.contiguous
+    live_ticks-open none room = live_ticks-all rules d within.contiguous
         (ap length (live-all m b d within rules lawful none room))
 
-    open_then : paused ≡ false → fills_room rules (live_bytes rules d) ≡ false
+    pub live_ticks-more : paused ≡ false → fills_room rules (live_bytes rules d) ≡ false
         → IsContiguous 4 (with_last d m b).body
         → live_ticks rules (with_last d m b) ≡ (with_last d m b).body
-    open_then none room contiguous =
+    live_ticks-more none room contiguous =
         live_ticks-all rules (with_last d m b) contiguous
         (ap length (live-more m b d within rules lawful none room
         ∙ (ap (λ h. h ++ b ∷ []) (live-all m b d within rules lawful none room)
@@ -81,13 +81,13 @@ module _ (rules : Rules) (lawful : IsLawful rules) where
     live_ticks-before contiguous k before =
         let end = within.within in
         ⊎_elim
-        (λ is. ap (λ x. get_or x k Silent) (over is))
+        (λ is. ap (λ x. get_or x k Silent) (live_ticks-over is))
         (λ no_more.
         let parts = or_parts paused (fills_room rules (live_bytes rules d)) no_more in
         let few : k < length d.body + (m - end_of d) = omega arith in
-        ap (λ x. get_or x k Silent) (open_then parts.0 parts.1 contiguous)
+        ap (λ x. get_or x k Silent) (live_ticks-more parts.0 parts.1 contiguous)
         ∙ (get_or-silence d.body (m - end_of d) k (Byte b ∷ []) few
-        ∙ ap (λ x. get_or x k Silent) (sym (open_now parts.0 parts.1))))
+        ∙ ap (λ x. get_or x k Silent) (sym (live_ticks-open parts.0 parts.1))))
         (cases_Bool (paused || fills_room rules (live_bytes rules d)))
 
 -- ---- where the live ticks end
@@ -120,7 +120,7 @@ up_to_byte-full (suc k) (Byte b ∷ x) long =
 
 -- ---- what the live ticks are
 
-bytes_up_to : (k : ℕ) (x : List Tick) → bytes_in (up_to_byte k x) ≡ take k (bytes_in x)
+pub bytes_up_to : (k : ℕ) (x : List Tick) → bytes_in (up_to_byte k x) ≡ take k (bytes_in x)
 unfolding up_to_byte
 bytes_up_to zero x = refl
 bytes_up_to (suc k) [] = refl

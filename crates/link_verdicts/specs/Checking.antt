@@ -25,8 +25,8 @@ use Rattle.link_verdicts.specs.declared.note.CheckNote.TheVariants.{Passed, Refu
 -- the tick in which its header isn't good: that of the last byte of a bad one, or that of the
 -- second silent tick in a row after one that is too short
 abbrev pub head_tick : Rules → Burst → Head → ℕ
-head_tick rules d Bad = d.start + length (up_to_byte rules.header_len d.body) - 1
-head_tick rules d Short = d.start + length (before_pause d.body) + T1_5_TICKS - 1
+head_tick rules d Bad = d.start + (length (up_to_byte rules.header_len d.body) - 1)
+head_tick rules d Short = d.start + length (before_pause d.body) + (T1_5_TICKS - 1)
 head_tick rules d Good = d.start
 
 -- the first tick after its live bytes that a pause and a trailer don't have so, and where there is
