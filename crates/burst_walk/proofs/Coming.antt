@@ -19,7 +19,7 @@ use Rattle.burst_walk.specs.Causal.{IsCausal, MayGoOn, AddsOneTick, going_on}
 use Rattle.burst_walk.specs.HasCome.{waiting_part, AreNoted, HasCome}
 use Rattle.burst_walk.specs.Answers.{AnswersTick, told_notes, note_in}
 use Rattle.burst_walk.proofs.Spread.{AreSpread, EndBy, bursts-spread, bursts-end}
-use Rattle.burst_walk.proofs.LastNote.{last_contiguous, last_ends}
+use Rattle.burst_walk.proofs.Spread.{last_contiguous, last_ends}
 use Rattle.burst_walk.proofs.Walks.{walked-append, emitted-append, state_after-append, before-early}
 use Rattle.burst_walk.proofs.Walks.{before-late, adds_one_tick}
 

@@ -2,6 +2,5 @@ pub mod Spread
 pub mod Emissions
 pub mod Walks
 pub mod Longer
-pub mod LastNote
 pub mod Coming
 pub mod LaidBursts

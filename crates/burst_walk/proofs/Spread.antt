@@ -56,3 +56,14 @@ pub bursts-end : (line : List Tick) → EndBy (length line) (bursts line)
 bursts-end line =
     let here : 0 + length line ≡ length line = omega arith in
     bursts_from-end T3_5_TICKS 0 (length line) line here
+
+-- ---- the last of them
+
+pub last_contiguous : (n : ℕ) (front : List Burst) (d : Burst)
+    → AreSpread T3_5_TICKS n (front ++ d ∷ []) → IsContiguous T3_5_TICKS d.body
+last_contiguous n [] d spread = spread.1
+last_contiguous n (e ∷ front) d spread = last_contiguous (end_of e + T3_5_TICKS) front d spread.2
+
+pub last_ends : (m : ℕ) (front : List Burst) (d : Burst) → EndBy m (front ++ d ∷ []) → end_of d ≤ m
+last_ends m [] d ends = ends.0
+last_ends m (e ∷ front) d ends = last_ends m front d ends.1

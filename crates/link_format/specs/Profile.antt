@@ -60,7 +60,7 @@ pause_len = 3
 abbrev pub trailer_shape : Profile → List Bool
 trailer_shape profile = replicate pause_len false ++ replicate (trailer_len profile) true
 
--- how many ticks the receiver holds a byte back: the whole trailer has then come, and the verdict
--- is known
+-- how many ticks the receiver holds a byte back: the pause and the whole trailer have then come,
+-- and the verdict is known
 abbrev pub delay : Profile → ℕ
-delay profile = trailer_len profile + 4
+delay profile = pause_len + trailer_len profile + 1

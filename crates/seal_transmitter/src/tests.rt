@@ -38,10 +38,11 @@ fn steps<R: LineRules, M: Mac, D: SlotDisk, const B: usize>(
     Ok(steps)
 }
 
+const KEY: u128 = 0x000102030405060708090a0b0c0d0e0f;
+
 #[test]
 fn a_frame_is_sealed_and_another_burst_is_not(rt: HostRuntime) -> Result<(), Fail> {
-    let key: [u8; 16] = 0x000102030405060708090a0b0c0d0e0f_u128.to_be_bytes();
-    let mut sealer: Sealer<FourBytes, HmacSha1, 2> = Sealer::new(&key, Dir::Ab);
+    let mut sealer: Sealer<FourBytes, HmacSha1, 2> = Sealer::new(&KEY.to_be_bytes(), Dir::Ab);
     let mut disk = SteadySlots::new(slot_of(0x10202), [0; 16]);
     let mut journal = Journal::load(&mut disk)?;
     let line: &[u8] = b"\x01\x02\x03\x00.....................\x05\x06....";
@@ -49,7 +50,8 @@ fn a_frame_is_sealed_and_another_burst_is_not(rt: HostRuntime) -> Result<(), Fai
 
     // The trailer is the word of number 0x10203, and its tag by openssl:
     //   printf 0100010203000000000000010203 | xxd -r -p
-    // | openssl dgst -sha1 -mac HMAC -macopt hexkey:000102030405060708090a0b0c0d0e0f | cut -c1-24
+    //     | openssl dgst -sha1 -mac HMAC -macopt hexkey:000102030405060708090a0b0c0d0e0f
+    //     | cut -c1-24
     let link: &[u8] =
         b"\x01\x02\x03\x00...\x02\x03\xbb\x3b\x20\xfe\x5a\x05\xb7\x81\xaa\x48\x00\x13....\x05\x06....";
     assert_eq!(rt; steps.len(), link.len());
@@ -74,6 +76,24 @@ fn a_frame_is_sealed_and_another_burst_is_not(rt: HostRuntime) -> Result<(), Fai
     }
     assert_eq!(rt; journal.floor(), 0x10203);
     assert_eq!(rt; sealer.live_bytes().len(), 2);
+    Ok(())
+}
+
+#[test]
+fn a_word_may_have_four_bytes(rt: HostRuntime) -> Result<(), Fail> {
+    let mut sealer: Sealer<FourBytes, HmacSha1, 4> = Sealer::new(&KEY.to_be_bytes(), Dir::Ab);
+    let mut disk = SteadySlots::new(slot_of(0x10202), [0; 16]);
+    let mut journal = Journal::load(&mut disk)?;
+    let line: &[u8] = b"\x01\x02\x03\x00......................\x05\x06\x07\x00....";
+    let steps = steps(rt.alloc(), &mut sealer, &mut journal, &mut disk, line)?;
+
+    // The tag is the same, and the burst behind it starts a tick too early.
+    let link: &[u8] =
+        b"\x01\x02\x03\x00...\x00\x01\x02\x03\xbb\x3b\x20\xfe\x5a\x05\xb7\x81\xaa\x48\x00\x13...........";
+    assert_eq!(rt; steps.len(), link.len());
+    for (step, letter) in steps.iter().zip(link) {
+        assert_eq!(rt; step.tick, tick_of(*letter));
+    }
     Ok(())
 }
 
