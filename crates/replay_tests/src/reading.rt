@@ -1,0 +1,305 @@
+use crate::outside::{BYTE_BY_BYTE, Failing, STEADY, plan};
+use device_model::RtuDevice;
+use device_replay::read_frames;
+use replay_status::{Status, write_fault};
+use std::alloc::Global;
+use std::process::Abort;
+use std::test::Fail;
+use tick_drive::TooMuch;
+use yasir_io::{MemSink, MemSource, Sink};
+use yasir_ticks::{BadTicks, TickFault};
+
+/// A request and silence behind it, and the line that is printed of it.
+const REQUEST: &[u8] = b"+01030000000ac5cd\n-4\n";
+
+const REQUEST_LINE: &[u8] = b"read at 0 01030000000ac5cd\n";
+
+/// How a reading ended, and what its sinks hold.
+#[derive(Drop)]
+struct Ran {
+    status: Status,
+    out: MemSink,
+    log: MemSink,
+}
+
+// What a device reads of this text, with the fault line behind it.
+fn read(rt: &impl Abort, alloc: Global, text: &[u8], outside: &Failing) -> Result<Ran, Fail> {
+    let piece = outside.piece;
+    assert!(rt; piece >= 1 && piece <= 512);
+    let mut input = MemSource::new(text, piece, plan(outside.input));
+    let mut out = MemSink::with_room(alloc, 20000, piece, plan(outside.out))?;
+    let mut log = MemSink::with_room(alloc, 100, piece, plan(outside.log))?;
+    let status = read_frames::<RtuDevice, MemSource, MemSink, MemSink>(
+        &mut input, &mut out, &mut log,
+    );
+    write_fault(&mut log, &status);
+    Ok(Ran { status, out, log })
+}
+
+/// A text, what fails as it is read, and what comes of it.
+#[derive(Clone, Copy, Drop)]
+struct Row {
+    text: &'static [u8],
+    outside: Failing,
+    status: Status,
+    code: u8,
+    out: &'static [u8],
+    log: &'static [u8],
+}
+
+fn check(rt: &impl Abort, alloc: Global, row: &Row, outside: &Failing) -> Result<(), Fail> {
+    let ran = read(rt, alloc, row.text, outside)?;
+    assert_eq!(rt; ran.status, row.status);
+    assert_eq!(rt; ran.status.code(), row.code);
+    assert_eq!(rt; ran.out.held(), row.out);
+    assert_eq!(rt; ran.log.held(), row.log);
+    Ok(())
+}
+
+const fn whole(text: &'static [u8], out: &'static [u8]) -> Row {
+    Row {
+        text,
+        outside: STEADY,
+        status: Status::Done,
+        code: 0,
+        out,
+        log: b"",
+    }
+}
+
+#[test]
+fn prints_the_frames_of_a_right_text(rt: HostRuntime) -> Result<(), Fail> {
+    let rows = [
+        whole(b"", b""),
+        whole(
+            b"+01030000000ac5cd\n-4\n+01030000000ac5cc\n-4\n+0103\n-1\n+4021\n",
+            b"read at 0 01030000000ac5cd\nread at 24 01034021\n",
+        ),
+        whole(b"+01030000000ac5cd", REQUEST_LINE),
+        whole(b"+01030000000ac5cd\r\n-4\r\n", REQUEST_LINE),
+        whole(b"+01030000000AC5CD\n", REQUEST_LINE),
+        whole(
+            b"# a request\n+01030000000ac5cd\n# its silence\n-4\n",
+            REQUEST_LINE,
+        ),
+        whole(b"\n\r\n+0103\n\n+0000000ac5cd\n", REQUEST_LINE),
+        whole(
+            b"-1000000\n+01030000000ac5cd\n",
+            b"read at 1000000 01030000000ac5cd\n",
+        ),
+    ];
+    for row in rows {
+        check(&rt, rt.alloc(), &row, &STEADY)?;
+        check(&rt, rt.alloc(), &row, &BYTE_BY_BYTE)?;
+    }
+    Ok(())
+}
+
+const fn refused(
+    text: &'static [u8],
+    line: u32,
+    why: TickFault,
+    log: &'static [u8],
+    out: &'static [u8],
+) -> Row {
+    Row {
+        text,
+        outside: STEADY,
+        status: Status::BadTicks(BadTicks { line, why }),
+        code: 4,
+        out,
+        log,
+    }
+}
+
+#[test]
+fn refuses_what_is_no_tick_text(rt: HostRuntime) -> Result<(), Fail> {
+    let rows = [
+        refused(b"-0", 1, TickFault::Count, b"fault: line 1 count\n", b""),
+        refused(b"-07", 1, TickFault::Count, b"fault: line 1 count\n", b""),
+        refused(
+            b"-1000001",
+            1,
+            TickFault::Count,
+            b"fault: line 1 count\n",
+            b"",
+        ),
+        refused(b"+1", 1, TickFault::Odd, b"fault: line 1 odd\n", b""),
+        refused(b"+", 1, TickFault::Empty, b"fault: line 1 empty\n", b""),
+        refused(b"+0g", 1, TickFault::Char, b"fault: line 1 char\n", b""),
+        refused(b"x", 1, TickFault::Char, b"fault: line 1 char\n", b""),
+        refused(b"%", 1, TickFault::Char, b"fault: line 1 char\n", b""),
+        refused(
+            b"+000000000000000000000000000000000000000000000000000000000000000000",
+            1,
+            TickFault::Long,
+            b"fault: line 1 long\n",
+            b"",
+        ),
+        refused(
+            b"+01030000000ac5cd\n-4\nx",
+            3,
+            TickFault::Char,
+            b"fault: line 3 char\n",
+            REQUEST_LINE,
+        ),
+    ];
+    for row in rows {
+        check(&rt, rt.alloc(), &row, &STEADY)?;
+        check(&rt, rt.alloc(), &row, &BYTE_BY_BYTE)?;
+    }
+    Ok(())
+}
+
+// Sixteen lines of a million silent ticks between two pieces of text.
+fn with_millions(alloc: Global, before: &[u8], behind: &[u8]) -> Result<Vec<u8>, Fail> {
+    let mut text = before.to_vec(alloc)?;
+    for _ in 0..16 {
+        text.extend_from_slice(b"-1000000\n")?;
+    }
+    text.extend_from_slice(behind)?;
+    Ok(text)
+}
+
+#[test]
+fn takes_as_many_ticks_as_the_limit(rt: HostRuntime) -> Result<(), Fail> {
+    let request: &[u8] = b"+01030000000ac5cd\n";
+    // what stands before and behind the silence, the sum that is too much, fault line, lines printed
+    let rows: [(&[u8], &[u8], u64, &[u8], &[u8]); 2] = [
+        (
+            b"",
+            b"-1000000\n",
+            17000000,
+            b"fault: too long 17000000 ticks\n",
+            b"",
+        ),
+        (
+            request,
+            b"-777209\n",
+            16777217,
+            b"fault: too long 16777217 ticks\n",
+            REQUEST_LINE,
+        ),
+    ];
+    for (before, behind, count, fault, lines) in rows {
+        let text = with_millions(rt.alloc(), before, behind)?;
+        let ran = read(&rt, rt.alloc(), text.as_slice(), &STEADY)?;
+        let what = TooMuch::Ticks;
+        assert_eq!(rt; ran.status, Status::TooLong { what, count });
+        assert_eq!(rt; ran.status.code(), 10);
+        assert_eq!(rt; ran.out.held(), lines);
+        assert_eq!(rt; ran.log.held(), fault);
+    }
+    let text = with_millions(rt.alloc(), request, b"-777208\n")?;
+    let ran = read(&rt, rt.alloc(), text.as_slice(), &STEADY)?;
+    assert_eq!(rt; ran.status, Status::Done);
+    assert_eq!(rt; ran.out.held(), REQUEST_LINE);
+    assert_eq!(rt; ran.log.held(), b"".as_slice());
+    Ok(())
+}
+
+const fn failing(
+    piece: u16,
+    input: &'static [u32],
+    out: &'static [u32],
+    log: &'static [u32],
+) -> Failing {
+    Failing {
+        piece,
+        input,
+        out,
+        log,
+        ..STEADY
+    }
+}
+
+const fn read_fault(outside: Failing, out: &'static [u8]) -> Row {
+    Row {
+        text: REQUEST,
+        outside,
+        status: Status::ReadFault,
+        code: 5,
+        out,
+        log: b"fault: read\n",
+    }
+}
+
+const fn write_fault_of(text: &'static [u8], outside: Failing, out: &'static [u8]) -> Row {
+    Row {
+        text,
+        outside,
+        status: Status::WriteFault,
+        code: 6,
+        out,
+        log: b"",
+    }
+}
+
+#[test]
+fn answers_what_failed_outside(rt: HostRuntime) -> Result<(), Fail> {
+    let rows = [
+        // The first read gives the whole text, the next one fails.
+        read_fault(failing(512, &[2], &[], &[]), REQUEST_LINE),
+        read_fault(failing(512, &[1], &[], &[]), b""),
+        // The first read gives the line of the request alone, without the silence behind it.
+        read_fault(failing(18, &[2], &[], &[]), b""),
+        // The first call on an empty output is its flush.
+        write_fault_of(b"", failing(512, &[], &[1], &[]), b""),
+        write_fault_of(REQUEST, failing(512, &[], &[1], &[]), b""),
+        // A write in the middle of the line, and the flush behind it.
+        write_fault_of(REQUEST, failing(10, &[], &[2], &[]), b"read at 0 "),
+        write_fault_of(REQUEST, failing(512, &[], &[2], &[]), REQUEST_LINE),
+        // The flush of the log.
+        write_fault_of(REQUEST, failing(512, &[], &[], &[1]), REQUEST_LINE),
+        // A read fails, and then the write of the lines so far.
+        write_fault_of(REQUEST, failing(512, &[2], &[1], &[]), b""),
+        // The fault line fails, which changes no answer.
+        Row {
+            outside: failing(512, &[], &[], &[1]),
+            ..refused(b"-0", 1, TickFault::Count, b"", b"")
+        },
+    ];
+    for row in rows {
+        check(&rt, rt.alloc(), &row, &row.outside)?;
+    }
+    Ok(())
+}
+
+#[test]
+fn writes_a_front_of_a_long_answer(rt: HostRuntime) -> Result<(), Fail> {
+    // Four hundred requests, twelve ticks apart.
+    let mut text = Vec::new(rt.alloc());
+    let mut lines = Vec::new(rt.alloc());
+    for place in 0..400u32 {
+        text.extend_from_slice(REQUEST)?;
+        let start = place * 12;
+        let line = format!(in rt.alloc(); "read at {start} 01030000000ac5cd\n")?;
+        lines.extend_from_slice(line.as_bytes())?;
+    }
+    let ran = read(&rt, rt.alloc(), text.as_slice(), &STEADY)?;
+    assert_eq!(rt; ran.status, Status::Done);
+    assert_eq!(rt; ran.out.held(), lines.as_slice());
+    for fail in [&[1], &[9], &[20]] {
+        let ran = read(
+            &rt,
+            rt.alloc(),
+            text.as_slice(),
+            &failing(512, &[], fail, &[]),
+        )?;
+        assert_eq!(rt; ran.status, Status::WriteFault);
+        assert!(rt; lines.starts_with(ran.out.held()));
+        assert!(rt; ran.out.held().len() < lines.len());
+        assert_eq!(rt; ran.log.held(), b"".as_slice());
+    }
+    Ok(())
+}
+
+#[test]
+fn flushes_for_an_answer_alone(rt: HostRuntime) -> Result<(), Fail> {
+    // No call is made on the output, so the next one is its first, which fails.
+    let mut ran = read(&rt, rt.alloc(), b"x", &failing(512, &[], &[1], &[]))?;
+    assert_eq!(rt; ran.log.held(), b"fault: line 1 char\n".as_slice());
+    assert!(rt; ran.out.flush().is_err());
+    assert!(rt; ran.out.flush().is_ok());
+    Ok(())
+}

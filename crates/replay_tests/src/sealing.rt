@@ -1,0 +1,412 @@
+use crate::outside::{Failing, STEADY, plan};
+use box_replay::replay_box;
+use hmac_tag::{Dir, HmacSha1};
+use replay_status::{Status, write_fault};
+use rtu_frame::Rtu;
+use seal_replay::SealBox;
+use sequence_journal::Journal;
+use std::alloc::Global;
+use std::process::Abort;
+use std::test::Fail;
+use yasir_io::{MemSink, MemSlots, MemSource, Slot, SteadySlots};
+use yasir_ticks::{BadTicks, TickFault};
+
+/// The transmitter of a line of Modbus RTU, with words of two bytes.
+type RtuSealBox = SealBox<Rtu, HmacSha1, 2>;
+
+/// The silent ticks behind a whole input, as the program has them.
+const REST: u32 = 24;
+
+const KEY: &[u8] = b"000102030405060708090a0b0c0d0e0f";
+
+/// Slots that hold these numbers.
+const AT_0: u128 = 0x0000000000000000_ffffffffffffffff;
+
+const AT_1: u128 = 0x0000000000000001_fffffffffffffffe;
+
+const AT_2: u128 = 0x0000000000000002_fffffffffffffffd;
+
+const AT_5: u128 = 0x0000000000000005_fffffffffffffffa;
+
+const AT_6: u128 = 0x0000000000000006_fffffffffffffff9;
+
+const AT_LIMIT: u128 = 0x0000ffffffffffff_ffff000000000000;
+
+const NOTHING: u128 = 0;
+
+const NO_NUMBER: u128 = 0x11111111111111111111111111111111;
+
+const FRESH: (u128, u128) = (AT_0, NOTHING);
+
+/// How a run ended, what its sinks hold, and its disk.
+#[derive(Drop)]
+struct Ran {
+    status: Status,
+    out: MemSink,
+    log: MemSink,
+    disk: MemSlots,
+}
+
+// The line of this text, sealed with this key, with the fault line behind its notes.
+fn seal(
+    alloc: Global,
+    dir: Dir,
+    key: &[u8],
+    slots: (u128, u128),
+    text: &[u8],
+    failing: &Failing,
+) -> Result<Ran, Fail> {
+    let (a, b) = slots;
+    let mut key = MemSource::new(key, 512, plan(failing.key));
+    let mut input = MemSource::new(text, 512, plan(failing.input));
+    let mut out = MemSink::with_room(alloc, 2000, 512, plan(failing.out))?;
+    let mut log = MemSink::with_room(alloc, 200, 512, plan(failing.log))?;
+    let mut disk = MemSlots::with_room(
+        alloc,
+        a.to_be_bytes(),
+        b.to_be_bytes(),
+        16,
+        plan(failing.disk),
+    )?;
+    let status = replay_box::<RtuSealBox, MemSource, MemSource, MemSink, MemSink, MemSlots>(
+        dir, REST, &mut key, &mut input, &mut out, &mut log, &mut disk,
+    );
+    write_fault(&mut log, &status);
+    Ok(Ran {
+        status,
+        out,
+        log,
+        disk,
+    })
+}
+
+fn slots_of(disk: &MemSlots) -> (u128, u128) {
+    (
+        u128::from_be_bytes(disk.slot(Slot::A)),
+        u128::from_be_bytes(disk.slot(Slot::B)),
+    )
+}
+
+/// A recorded line, what fails as it is sealed, and what comes of it.
+#[derive(Clone, Copy, Drop)]
+struct Row {
+    dir: Dir,
+    key: &'static [u8],
+    slots: (u128, u128),
+    text: &'static [u8],
+    failing: Failing,
+    status: Status,
+    code: u8,
+    out: &'static [u8],
+    log: &'static [u8],
+    slots_now: (u128, u128),
+}
+
+fn check(rt: &impl Abort, alloc: Global, row: &Row) -> Result<(), Fail> {
+    let ran = seal(alloc, row.dir, row.key, row.slots, row.text, &row.failing)?;
+    assert_eq!(rt; ran.status, row.status);
+    assert_eq!(rt; ran.status.code(), row.code);
+    assert_eq!(rt; ran.out.held(), row.out);
+    assert_eq!(rt; ran.log.held(), row.log);
+    assert_eq!(rt; slots_of(&ran.disk), row.slots_now);
+    Ok(())
+}
+
+const SEALED_WHOLE: &[u8] = b"+01030000000ac5cd\n-3\n+0001014c5b8d33c6d29a347013b0\n-47\n";
+
+/// A request, the silence behind it, and what they are sealed to in direction `ab` with number 1.
+const WHOLE: Row = Row {
+    dir: Dir::Ab,
+    key: KEY,
+    slots: FRESH,
+    text: b"+01030000000ac5cd\n-40\n",
+    failing: STEADY,
+    status: Status::Done,
+    code: 0,
+    out: SEALED_WHOLE,
+    log: b"sealed 1 at 0 len 8\n",
+    slots_now: (AT_0, AT_1),
+};
+
+// Each tag is HMAC-SHA-1 by openssl, under the key 00 01 .. 0f, of the protocol's byte 01, the direction's byte (00 for ab,
+// 01 for ba), the frame and the number as eight bytes, cut to 24 digits. For number 1 of 01030000000ac5cd:
+//   printf 010001030000000ac5cd0000000000000001 | xxd -r -p
+//     | openssl dgst -sha1 -mac HMAC -macopt hexkey:000102030405060708090a0b0c0d0e0f | cut -c1-24
+const SEALED: [Row; 10] = [
+    WHOLE,
+    Row {
+        dir: Dir::Ba,
+        out: b"+01030000000ac5cd\n-3\n+0001150da56830aa1fa9417becc1\n-47\n",
+        ..WHOLE
+    },
+    // The second frame starts one tick too soon.
+    Row {
+        text: b"+01030000000ac5cd\n-20\n+010300000001840a\n",
+        out: b"+01030000000ac5cd\n-3\n+0001014c5b8d33c6d29a347013b0\n-35\n",
+        log: b"sealed 1 at 0 len 8\nunsealed at 28 early\n",
+        ..WHOLE
+    },
+    Row {
+        text: b"+01030000000ac5cd\n-21\n+010300000001840a\n",
+        out: b"+01030000000ac5cd\n-3\n+0001014c5b8d33c6d29a347013b0\n-4\n+010300000001840a\n-3\n+0002ee5b1d1d6fc159af2411aeb5\n-7\n",
+        log: b"sealed 1 at 0 len 8\nsealed 2 at 29 len 8\n",
+        slots_now: (AT_2, AT_1),
+        ..WHOLE
+    },
+    // Single silent ticks inside a frame.
+    Row {
+        text: b"+01\n-1\n+03\n-1\n+00\n-1\n+00\n-1\n+00\n-1\n+0a\n-1\n+c5\n-1\n+cd\n",
+        out: b"+01\n-1\n+03\n-1\n+00\n-1\n+00\n-1\n+00\n-1\n+0a\n-1\n+c5\n-1\n+cd\n-3\n+0001014c5b8d33c6d29a347013b0\n-7\n",
+        ..WHOLE
+    },
+    // A pause of two ticks inside a frame: what comes behind it isn't live.
+    Row {
+        text: b"+010300\n-2\n+00000ac5cd\n",
+        out: b"+010300\n-31\n",
+        log: b"unsealed at 0 form\n",
+        slots_now: FRESH,
+        ..WHOLE
+    },
+    // A byte behind a frame, before four silent ticks have closed it.
+    Row {
+        text: b"+01030000000ac5cd\n-3\n+00\n",
+        out: b"+01030000000ac5cd\n-28\n",
+        log: b"unsealed at 0 form\n",
+        slots_now: FRESH,
+        ..WHOLE
+    },
+    // The greatest number is used.
+    Row {
+        slots: (AT_LIMIT, NOTHING),
+        out: b"+01030000000ac5cd\n-64\n",
+        log: b"unsealed at 0 spent\n",
+        slots_now: (AT_LIMIT, NOTHING),
+        ..WHOLE
+    },
+    // A slot that holds no number isn't the floor's.
+    Row {
+        slots: (AT_5, NO_NUMBER),
+        out: b"+01030000000ac5cd\n-3\n+0006bffa8bcd3f6ad232de11820a\n-47\n",
+        log: b"sealed 6 at 0 len 8\n",
+        slots_now: (AT_5, AT_6),
+        ..WHOLE
+    },
+    Row {
+        text: b"",
+        out: b"-24\n",
+        log: b"",
+        slots_now: FRESH,
+        ..WHOLE
+    },
+];
+
+#[test]
+fn seals_the_frames_of_a_line(rt: HostRuntime) -> Result<(), Fail> {
+    for row in SEALED {
+        check(&rt, rt.alloc(), &row)?;
+    }
+    Ok(())
+}
+
+#[test]
+fn seals_the_longest_frame(rt: HostRuntime) -> Result<(), Fail> {
+    // 254 bytes 00 and their CRC
+    let mut text = Vec::new(rt.alloc());
+    for _ in 0..7 {
+        text.extend_from_slice(
+            b"+0000000000000000000000000000000000000000000000000000000000000000\n",
+        )?;
+    }
+    text.extend_from_slice(b"+000000000000000000000000000000000000000000000000000000000000554e\n")?;
+    let mut out = text.clone()?;
+    out.extend_from_slice(b"-3\n+000101c84727bb115a36d1402d21\n-7\n")?;
+    let ran = seal(rt.alloc(), Dir::Ab, KEY, FRESH, text.as_slice(), &STEADY)?;
+    assert_eq!(rt; ran.status, Status::Done);
+    assert_eq!(rt; ran.out.held(), out.as_slice());
+    assert_eq!(rt; ran.log.held(), b"sealed 1 at 0 len 256\n".as_slice());
+    Ok(())
+}
+
+// The floor that a later run loads from these slots.
+fn floor_of(slots: (u128, u128)) -> Option<u64> {
+    let (a, b) = slots;
+    let mut disk = SteadySlots::new(a.to_be_bytes(), b.to_be_bytes());
+    match Journal::load(&mut disk) {
+        Ok(journal) => Some(journal.floor()),
+        Err(_) => None,
+    }
+}
+
+const THREE_FRAMES: &[u8] = b"+01030000000ac5cd\n-21\n+010300000001840a\n-21\n+1103006b00037687\n";
+
+const THREE_NOTES: [&[u8]; 4] = [
+    b"",
+    b"sealed 1 at 0 len 8\n",
+    b"sealed 1 at 0 len 8\nsealed 2 at 29 len 8\n",
+    b"sealed 1 at 0 len 8\nsealed 2 at 29 len 8\nsealed 3 at 58 len 8\n",
+];
+
+/// What is answered of three frames up to the closing tick of the first, the second and the third, and up to the end.
+const ONE_CLOSED: &[u8] = b"+01030000000ac5cd\n-3\n";
+
+const TWO_CLOSED: &[u8] =
+    b"+01030000000ac5cd\n-3\n+0001014c5b8d33c6d29a347013b0\n-4\n+010300000001840a\n-3\n";
+
+const THREE_CLOSED: &[u8] =
+    b"+01030000000ac5cd\n-3\n+0001014c5b8d33c6d29a347013b0\n-4\n+010300000001840a\n-3\n+0002ee5b1d1d6fc159af2411aeb5\n-4\n+1103006b00037687\n-3\n";
+
+const THREE_SEALED: &[u8] =
+    b"+01030000000ac5cd\n-3\n+0001014c5b8d33c6d29a347013b0\n-4\n+010300000001840a\n-3\n+0002ee5b1d1d6fc159af2411aeb5\n-4\n+1103006b00037687\n-3\n+00037f89dbbfa5b4b19474035c96\n-7\n";
+
+/// The call of the disk that fails, what is answered, which of the notes are written, and the floor that a later run loads.
+const DISK_FAULTS: [(&[u32], &[u8], usize, u64); 9] = [
+    (&[1], b"", 0, 0),
+    (&[2], b"", 0, 0),
+    (&[3], ONE_CLOSED, 0, 0),
+    (&[4], ONE_CLOSED, 0, 1),
+    (&[5], TWO_CLOSED, 1, 1),
+    (&[6], TWO_CLOSED, 1, 2),
+    (&[7], THREE_CLOSED, 2, 2),
+    (&[8], THREE_CLOSED, 2, 3),
+    (&[9], THREE_SEALED, 3, 3),
+];
+
+#[test]
+fn a_failed_call_of_the_disk_loses_no_number(rt: HostRuntime) -> Result<(), Fail> {
+    for (disk, out, notes, floor) in DISK_FAULTS {
+        let failing = Failing { disk, ..STEADY };
+        let ran = seal(rt.alloc(), Dir::Ab, KEY, FRESH, THREE_FRAMES, &failing)?;
+        let mut log = THREE_NOTES[notes].to_vec(rt.alloc())?;
+        if notes < 3 {
+            assert_eq!(rt; ran.status, Status::JournalFault);
+            assert_eq!(rt; ran.status.code(), 7);
+            log.extend_from_slice(b"fault: journal\n")?;
+        } else {
+            assert_eq!(rt; ran.status, Status::Done);
+        }
+        assert_eq!(rt; ran.out.held(), out);
+        assert_eq!(rt; ran.log.held(), log.as_slice());
+        let (a, b) = slots_of(&ran.disk);
+        assert_eq!(rt; floor_of((a, b)), Some(floor));
+        // Where a sync failed, the slot that was written may be torn.
+        match disk {
+            [4] => assert_eq!(rt; floor_of((a, NO_NUMBER)), Some(0)),
+            [6] => assert_eq!(rt; floor_of((NO_NUMBER, b)), Some(1)),
+            _ => {}
+        }
+    }
+    Ok(())
+}
+
+/// Nothing is written but the fault line.
+const REFUSED: Row = Row {
+    status: Status::ReadFault,
+    code: 5,
+    out: b"",
+    log: b"fault: read\n",
+    slots_now: FRESH,
+    ..WHOLE
+};
+
+/// The request is sealed, without the silence of a whole input, and then something fails.
+const CUT_SHORT: Row = Row {
+    status: Status::ReadFault,
+    code: 5,
+    out: b"+01030000000ac5cd\n-3\n+0001014c5b8d33c6d29a347013b0\n-23\n",
+    log: b"sealed 1 at 0 len 8\nfault: read\n",
+    ..WHOLE
+};
+
+const WRITE_FAULT: Row = Row {
+    status: Status::WriteFault,
+    code: 6,
+    out: b"",
+    log: b"sealed 1 at 0 len 8\n",
+    ..WHOLE
+};
+
+const NOT_DONE: [Row; 9] = [
+    Row {
+        failing: Failing {
+            key: &[1],
+            ..STEADY
+        },
+        ..REFUSED
+    },
+    Row {
+        key: b"000102030405060708090a0b0c0d0e",
+        status: Status::BadKey { place: 30 },
+        code: 3,
+        log: b"fault: key at 30\n",
+        ..REFUSED
+    },
+    Row {
+        key: b"000102030405060708090a0b0c0d0e0f ",
+        status: Status::BadKey { place: 32 },
+        code: 3,
+        log: b"fault: key at 32\n",
+        ..REFUSED
+    },
+    Row {
+        slots: (NO_NUMBER, NO_NUMBER),
+        status: Status::BadJournal {
+            a: [0x11; 16],
+            b: [0x11; 16],
+        },
+        code: 8,
+        log: b"fault: bad journal 11111111111111111111111111111111 11111111111111111111111111111111\n",
+        slots_now: (NO_NUMBER, NO_NUMBER),
+        ..REFUSED
+    },
+    Row {
+        text: b"+01030000000ac5cd\n-40\nx",
+        status: Status::BadTicks(BadTicks {
+            line: 3,
+            why: TickFault::Char,
+        }),
+        code: 4,
+        log: b"sealed 1 at 0 len 8\nfault: line 3 char\n",
+        ..CUT_SHORT
+    },
+    // The first read gives the whole text, the next one fails.
+    Row {
+        failing: Failing {
+            input: &[2],
+            ..STEADY
+        },
+        ..CUT_SHORT
+    },
+    // The notes are written before the ticks.
+    Row {
+        failing: Failing {
+            log: &[1],
+            ..STEADY
+        },
+        log: b"",
+        ..WRITE_FAULT
+    },
+    Row {
+        failing: Failing {
+            out: &[1],
+            ..STEADY
+        },
+        ..WRITE_FAULT
+    },
+    // The flush.
+    Row {
+        failing: Failing {
+            out: &[2],
+            ..STEADY
+        },
+        out: SEALED_WHOLE,
+        ..WRITE_FAULT
+    },
+];
+
+#[test]
+fn answers_why_a_line_is_not_sealed_whole(rt: HostRuntime) -> Result<(), Fail> {
+    for row in NOT_DONE {
+        check(&rt, rt.alloc(), &row)?;
+    }
+    Ok(())
+}
