@@ -1,5 +1,5 @@
 -- The receiver needs no tick of the link before its time.
-use Rattle.std.proofs.Common.{◌≡◌, ◌∙◌, ℕ, zero, suc, ◌+◌, ◌-◌, ◌*◌, ◌<◌, ◌≤◌, true, List, [], ◌∷◌}
+use Rattle.std.proofs.Common.{◌≡◌, ◌∙◌, ℕ, zero, suc, ◌+◌, ◌-◌, ◌<◌, ◌≤◌, true, List, [], ◌∷◌}
 use Rattle.std.proofs.Common.{◌++◌, length, length-append, take, replicate, get_or, refl, sym, ap}
 use Rattle.std.proofs.Common.{subst, arith, ⊎_elim}
 use Rattle.std.proofs.lemmas.Bool.{cases_Bool, cases_lt}
@@ -26,6 +26,7 @@ use Rattle.link_verdicts.specs.Verdicts.{CheckState, Verdict, checked}
 use Rattle.link_verdicts.specs.Verdicts.Verdict.{passed_with, refused, dropped}
 use Rattle.link_verdicts.specs.Emissions.{spoiled, owed, filled_ticks, delayed, emission_by}
 use Rattle.link_verdicts.specs.Checking.{trailer_tick, state_by, note_by, checker}
+use Rattle.link_verdicts.specs.Timely.{IsTimely}
 use Rattle.link_verdicts.specs.Checking.FullNote.{passed_note}
 use Rattle.link_verdicts.proofs.HeadTicks.{before_pause-le, short-pause}
 use Rattle.link_verdicts.proofs.Judging.{IsJudged, judged-verdict, checked-good, tick-busy}
@@ -125,10 +126,6 @@ module _ (profile : Profile) (rules : Rules) where
     same-emission (dropped why) bytes ticks = refl
 
 -- ---- the walk
-
--- A header is whole before its burst must leave.
-pub record IsTimely (profile : Profile) (rules : Rules) : Type 0 where
-  pub in_time : 2 * rules.header_len ≤ delay profile + 2
 
 module _ (profile : Profile) (rules : Rules) (lawful : IsLawful rules) (headed : IsHeaded rules)
     (timely : IsTimely profile rules) where

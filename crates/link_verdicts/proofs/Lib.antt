@@ -5,3 +5,6 @@ pub mod Judging
 pub mod HeadTicks
 pub mod Settling
 pub mod Causality
+pub mod Spoiled
+pub mod Apart
+pub mod Passing

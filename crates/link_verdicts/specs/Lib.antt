@@ -2,3 +2,4 @@ pub mod Shapes
 pub mod Verdicts
 pub mod Emissions
 pub mod Checking
+pub mod Timely
