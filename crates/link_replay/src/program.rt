@@ -8,7 +8,7 @@ ghost use Rattle.link_replay.specs.Commands.{Does, Runs, KeepsDisk, MayDo, IsCal
 use crate::commands::init::make_journal;
 use crate::commands::read::read_line;
 use crate::commands::seal::seal;
-use crate::commands::vectors::print_tables;
+use crate::commands::tables::print_tables;
 use crate::{Command, read_words};
 use replay_status::{Status, write_fault};
 use std::alloc::Global;

@@ -3,4 +3,4 @@
 pub mod init;
 pub mod read;
 pub mod seal;
-pub mod vectors;
+pub mod tables;
