@@ -1,0 +1,5 @@
+pub mod Shaped
+pub mod Passing
+pub mod Apart
+pub mod Settled
+pub mod Readings

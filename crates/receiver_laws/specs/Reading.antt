@@ -1,0 +1,37 @@
+-- What a device behind the receiver reads.
+use Rattle.std.specs.Prelude.{◌≡◌, ℕ, ◌+◌, ◌≤◌, List, ◌++◌, length, map}
+use Rattle.yasir_ticks.specs.Ticks.{silent}
+use Rattle.yasir_ticks.specs.Bursts.{bursts_from}
+use Rattle.yasir_ticks.specs.declared.tick.Tick.{Tick}
+use Rattle.line_rules.specs.Rules.{Rules}
+use Rattle.rtu_frame.specs.Rules.{rtu_rules}
+use Rattle.device_model.specs.Frames.{FrameRead}
+use Rattle.device_model.specs.RtuReads.{frames_read}
+use Rattle.burst_walk.specs.Longer.{Begins}
+use Rattle.link_format.specs.Profile.{Profile, delay}
+use Rattle.link_format.specs.NumberedFrame.{NumberedFrame}
+use Rattle.link_verdicts.specs.Checking.{passed, received_line}
+
+-- What a device reads of a line, for which `cut` silent ticks end a burst, and `pause` silent ticks
+-- together make that it is no frame. The RTU device has 4 and 2.
+abbrev pub reads_with : ℕ → ℕ → List Tick → List FrameRead
+reads_with cut pause line = frames_read cut pause (length line) (bursts_from cut 0 line)
+
+-- a passed frame as the device reads it, the receiver's delay later
+abbrev pub delivered : Profile → NumberedFrame → FrameRead
+delivered profile f = record { start = delay profile + f.start; frame = f.frame }
+
+-- the frames that pass of this link, as the device reads them
+abbrev pub delivered_of : Profile → Rules → ℕ → List Tick → List FrameRead
+delivered_of profile rules floor link = map (delivered profile) (passed profile rules floor link)
+
+-- At this moment, whatever stands on the link, the device has read frames that have passed, in
+-- their order and without a gap, and nothing else. Once silence follows for as long as the delay
+-- and the end of a burst take, it has read all of them.
+pub record ReadsWhatPassed (cut pause : ℕ) (profile : Profile) (floor : ℕ) (link : List Tick) :
+    Type 0 where
+  pub prefix : Begins (reads_with cut pause (received_line profile rtu_rules floor link))
+      (delivered_of profile rtu_rules floor link)
+  pub all : (rest : ℕ) → delay profile + cut ≤ rest
+      → reads_with cut pause (received_line profile rtu_rules floor (link ++ silent rest))
+      ≡ delivered_of profile rtu_rules floor (link ++ silent rest)

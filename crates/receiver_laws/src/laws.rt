@@ -1,0 +1,18 @@
+ghost use Rattle.std.specs.Prelude.{◌≤◌, ℕ, List};
+ghost use Rattle.yasir_ticks.specs.declared.TheConstants.{T3_5_TICKS, T1_5_TICKS};
+ghost use Rattle.yasir_ticks.specs.declared.tick.Tick.{Tick};
+ghost use Rattle.link_format.specs.Profile.{Profile, delay};
+ghost use Rattle.receiver_laws.specs.Reading.{ReadsWhatPassed};
+
+/// A law of the receiver's definitions, for each profile, floor and link: a Modbus RTU device that
+/// stands on the receiver's line reads only frames that have passed, at every moment, and all of
+/// them once silence follows. So does each device that ends a burst by more silent ticks, up to the
+/// receiver's delay, or by fewer, down to two, and to which two or more silent ticks together make
+/// a burst no frame.
+pub fn device_reads_what_passed()
+    ensures rtu { (profile : Profile) (floor : ℕ) (link : List Tick)
+        → ReadsWhatPassed T3_5_TICKS T1_5_TICKS profile floor link }
+    ensures others { (cut pause : ℕ) (profile : Profile) (floor : ℕ) (link : List Tick)
+        → 2 ≤ cut → cut ≤ delay profile → 2 ≤ pause
+        → ReadsWhatPassed cut pause profile floor link }
+{}
