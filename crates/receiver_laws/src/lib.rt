@@ -1,8 +1,8 @@
 //! Laws of the receiver's definitions, for each link, whatever stands on it: what a device behind
 //! the receiver reads of its line.
 //!
-//! Each law is the contract of a function that does nothing. `specs/` has the statements, over whole
-//! lines, and `proofs/` has how they follow from the walk over the bursts of the link.
+//! Each law is the contract of a function that does nothing. `specs/` has the statements, over
+//! whole lines, and `proofs/` has how they follow from the walk over the bursts of the link.
 #![tactic(auto)]
 
 mod laws;
