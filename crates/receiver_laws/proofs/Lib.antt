@@ -1,5 +1,4 @@
-pub mod Shaped
-pub mod Passing
-pub mod Apart
+pub mod Calm
 pub mod Settled
 pub mod Readings
+pub mod Longer

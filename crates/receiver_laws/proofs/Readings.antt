@@ -34,10 +34,11 @@ use Rattle.link_verdicts.specs.Emissions.{spoiled, filled_ticks, delayed, emissi
 use Rattle.link_verdicts.specs.Checking.{FullNote, note_tick, state_by, note_by, checker, at_floor}
 use Rattle.link_verdicts.specs.Checking.{passed_in, received_line}
 use Rattle.receiver_laws.specs.Reading.{reads_with, delivered, delivered_of, ReadsWhatPassed}
-use Rattle.receiver_laws.proofs.Shaped.{contiguous-calm, spoiled-no_frame}
-use Rattle.receiver_laws.proofs.Passing.{passes}
-use Rattle.receiver_laws.proofs.Apart.{AreSpread-from, filled-contiguous, spoiled-filled}
-use Rattle.receiver_laws.proofs.Apart.{emissions-spread}
+use Rattle.receiver_laws.proofs.Calm.{contiguous-calm}
+use Rattle.link_verdicts.proofs.Spoiled.{spoiled-contiguous, spoiled-no_frame}
+use Rattle.link_verdicts.proofs.Spoiled.{filled-contiguous}
+use Rattle.link_verdicts.proofs.Passing.{passed-passing}
+use Rattle.link_verdicts.proofs.Apart.{emissions-spread}
 use Rattle.receiver_laws.proofs.Settled.{reads-laid}
 
 -- ---- what is read of one emission
@@ -121,7 +122,7 @@ module _ (profile : Profile) where
         → checked profile rtu_rules s d ≡ passed_with n
         → is_frame_body pause (whole d).body ≡ true
     whole-frame s d n contiguous is =
-        let framed = (passes profile rtu_rules s d n is).framed in
+        let framed = (passed-passing profile rtu_rules s d n is).framed in
         let calm = contiguous-calm pause (live_ticks rtu_rules d) long
         (live_ticks-contiguous rtu_rules rtu_lawful d contiguous) in
         ap (λ v. not v && is_frame (bytes_in (live_ticks rtu_rules d))) calm
@@ -131,10 +132,11 @@ module _ (profile : Profile) where
     wrong-frame d contiguous =
         let x = spoiled rtu_rules [] (filled_ticks rtu_rules d) in
         let calm = contiguous-calm pause x long
-        (spoiled-filled profile rtu_rules rtu_lawful d contiguous) in
+        (spoiled-contiguous rtu_rules 2 [] (filled_ticks rtu_rules d)
+        (filled-contiguous rtu_rules rtu_lawful d contiguous)) in
         ap (λ v. not v && is_frame (bytes_in x)) calm
-        ∙ spoiled-no_frame rtu_rules rtu_spoiling 2 [] (filled_ticks rtu_rules d)
-        (filled-contiguous profile rtu_rules rtu_lawful d contiguous)
+        ∙ spoiled-no_frame rtu_rules 2 [] (filled_ticks rtu_rules d) rtu_spoiling
+        (filled-contiguous rtu_rules rtu_lawful d contiguous)
 
     frame-is : (d : Burst) (n : ℕ)
         → frame_in (whole d)
@@ -187,14 +189,14 @@ module _ (profile : Profile) where
       }
 
       step-begins : (v : Verdict) → checked profile rtu_rules s d ≡ v
-          → AreSpread cut (delay profile + (state_by profile rtu_rules s d v).earliest_start) more
+          → AreSpread cut ((state_by profile rtu_rules s d v).earliest_start + delay profile) more
           → Begins (frames_read cut pause m more) (told (notes_before m notes))
           → Begins (read_now v) (told_now v)
       step-begins (passed_with n) is spread begins =
           ⊎_elim
           (λ before.
           let none = read-open cut pause m (whole d)
-          (delay profile + (live_end rtu_rules d + delay profile)) more spread before
+          (live_end rtu_rules d + delay profile + delay profile) more spread before
           (omega arith) in
           record {
             rest = told_now (passed_with n);
@@ -237,8 +239,8 @@ module _ (profile : Profile) where
         step-begins m s d spread.1 (emitted (checker profile rtu_rules) (next s d) ds)
         (walked (checker profile rtu_rules) (next s d) ds)
         (checked profile rtu_rules s d) refl
-        (emissions-spread profile rtu_rules rtu_lawful cut wide near (next s d) (end_of d + 4) ds
-        spread.2)
+        (emissions-spread profile rtu_rules rtu_lawful cut wide near (next s d) (end_of d + 4)
+        ((next s d).earliest_start + delay profile) ds spread.2 (omega arith))
         (walk-begins m (next s d) (end_of d + 4) ds spread.2)
 
     walk-all : (m k : ℕ) → k + delay profile + cut ≤ m → (s : CheckState) (n : ℕ) (ds : List Burst)
@@ -263,10 +265,8 @@ module _ (profile : Profile) where
       link-read link =
           reads-laid cut pause (length link)
           (emitted (checker profile rtu_rules) (at_floor floor) (bursts link))
-          (AreSpread-from cut 0 (delay profile + 0)
-          (emitted (checker profile rtu_rules) (at_floor floor) (bursts link)) (omega arith)
-          (emissions-spread profile rtu_rules rtu_lawful cut wide near (at_floor floor) 0
-          (bursts link) (bursts-spread link)))
+          (emissions-spread profile rtu_rules rtu_lawful cut wide near (at_floor floor) 0 0
+          (bursts link) (bursts-spread link) (omega arith))
 
       reads-begin : (link : List Tick)
           → Begins (reads_with cut pause (received_line profile rtu_rules floor link))

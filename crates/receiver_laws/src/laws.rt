@@ -1,8 +1,13 @@
-ghost use Rattle.std.specs.Prelude.{◌≤◌, ℕ, List};
+ghost use Rattle.std.specs.Prelude.{◌≤◌, ◌++◌, ℕ, List};
 ghost use Rattle.yasir_ticks.specs.declared.TheConstants.{T3_5_TICKS, T1_5_TICKS};
 ghost use Rattle.yasir_ticks.specs.declared.tick.Tick.{Tick};
+ghost use Rattle.burst_walk.specs.Longer.{Begins, Extends};
 ghost use Rattle.link_format.specs.Profile.{Profile, delay};
+ghost use Rattle.link_verdicts.specs.Checking.{checker, at_floor, passed};
+ghost use Rattle.link_verdicts.specs.Timely.{IsTimely};
 ghost use Rattle.receiver_laws.specs.Reading.{ReadsWhatPassed};
+
+use line_rules::LineRules;
 
 /// A law of the receiver's definitions, for each profile, floor and link: a Modbus RTU device that
 /// stands on the receiver's line reads only frames that have passed, at every moment, and all of
@@ -15,4 +20,16 @@ pub fn device_reads_what_passed()
     ensures others { (cut pause : ℕ) (profile : Profile) (floor : ℕ) (link : List Tick)
         → 2 ≤ cut → cut ≤ delay profile → 2 ≤ pause
         → ReadsWhatPassed cut pause profile floor link }
+{}
+
+/// A law of the receiver's definitions, for the rules of each protocol, each profile whose delay is
+/// long enough for the header, and each floor: notes, line and passed frames of a longer link begin
+/// with those of the link.
+pub fn longer_links<R: LineRules>()
+    ensures extends { (profile : Profile) → IsTimely profile R.rules
+        → (floor : ℕ) (link more : List Tick)
+        → Extends (checker profile R.rules) (at_floor floor) link more }
+    ensures kept { (profile : Profile) → IsTimely profile R.rules
+        → (floor : ℕ) (link more : List Tick)
+        → Begins (passed profile R.rules floor link) (passed profile R.rules floor (link ++ more)) }
 {}

@@ -1,5 +1,5 @@
 //! Laws of the receiver's definitions, for each link, whatever stands on it: what a device behind
-//! the receiver reads of its line.
+//! the receiver reads of its line, and how notes, frames and line go on as the link does.
 //!
 //! Each law is the contract of a function that does nothing. `specs/` has the statements, over
 //! whole lines, and `proofs/` has how they follow from the walk over the bursts of the link.
@@ -7,4 +7,4 @@
 
 mod laws;
 
-pub use laws::device_reads_what_passed;
+pub use laws::{device_reads_what_passed, longer_links};
