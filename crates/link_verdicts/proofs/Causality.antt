@@ -33,7 +33,7 @@ use Rattle.link_verdicts.proofs.Judging.{IsJudged, judged-verdict, checked-good,
 use Rattle.link_verdicts.proofs.Judging.{tick-short, tick-bad, tick-good}
 use Rattle.link_verdicts.proofs.Settling.{IsSettled, trailer_tick-soon, good-waits, long-bytes}
 use Rattle.link_verdicts.proofs.Settling.{long-header}
-use Rattle.link_verdicts.proofs.Settling.{settled, late-start, late-header, waits-on}
+use Rattle.link_verdicts.proofs.Settling.{settled, waits-late, waits-header, waits-on}
 
 -- ---- spoiled ticks
 
@@ -196,7 +196,7 @@ module _ (profile : Profile) (rules : Rules) (lawful : IsLawful rules) (headed :
     module _ (late : m ≤ (checker profile rules).tick s d)
         (begun : delay profile + d.start < m) where
       late-free : s.earliest_start ≤ d.start
-      late-free = late-start profile rules lawful headed d m b may s late
+      late-free = waits-late profile rules s d m (omega arith) may.after late
 
       -- its header is whole, and good, once a byte may have left
       late-whole : rules.header_len ≤ length (live_bytes rules d)
@@ -211,7 +211,7 @@ module _ (profile : Profile) (rules : Rules) (lawful : IsLawful rules) (headed :
           (cases_lt (length (live_bytes rules d)) rules.header_len)
 
       late-good : rules.is_good_header (take rules.header_len (live_bytes rules d)) ≡ true
-      late-good = late-header profile rules lawful headed d m b may s late late-whole
+      late-good = waits-header profile rules s d m (omega arith) may.after late late-whole
 
       late-tick : m ≤ trailer_tick profile rules d
       late-tick = let tick = tick-good profile rules s d late-free late-whole late-good in

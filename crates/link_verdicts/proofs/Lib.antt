@@ -8,3 +8,4 @@ pub mod Causality
 pub mod Spoiled
 pub mod Apart
 pub mod Passing
+pub mod Places

@@ -43,6 +43,33 @@ pub record IsSettled (profile : Profile) (rules : Rules) (s : CheckState) (d e :
   pub bytes : IsJudged (checked profile rules s d) → live_bytes rules e ≡ live_bytes rules d
   pub ticks : IsJudged (checked profile rules s d) → live_ticks rules e ≡ live_ticks rules d
 
+-- ---- a burst that isn't noted before tick m
+
+module _ (profile : Profile) (rules : Rules) (s : CheckState) (d : Burst) (m : ℕ)
+    (begun : d.start < m) (within : end_of d ≤ m)
+    (waits : m ≤ (checker profile rules).tick s d) where
+  -- its start isn't too early,
+  pub waits-late : s.earliest_start ≤ d.start
+  waits-late =
+      ⊎_elim
+      (λ busy. let tick = tick-busy profile rules s d busy in absurd (omega arith))
+      (λ free. free)
+      (cases_lt d.start s.earliest_start)
+
+  -- and its header isn't bad
+  pub waits-header : rules.header_len ≤ length (live_bytes rules d)
+      → rules.is_good_header (take rules.header_len (live_bytes rules d)) ≡ true
+  waits-header long =
+      ⊎_elim
+      (λ good. good)
+      (λ bad.
+      let tick = tick-bad profile rules s d waits-late long bad in
+      let few = up_to_byte-le rules.header_len d.body in
+      absurd (omega arith))
+      (cases_Bool (rules.is_good_header (take rules.header_len (live_bytes rules d))))
+
+-- ---- where its trailer ends
+
 -- the ticks after the live ones are all others of the burst
 pub after-long : (rules : Rules) (d : Burst)
     → length (live_ticks rules d) + length (after_live rules d) ≡ length d.body
@@ -58,6 +85,8 @@ trailer_tick-soon profile rules d =
     let long = after-long rules d in
     let few = kept-within pause_len (trailer_len profile) (after_live rules d) in
     omega arith
+
+-- ---- a burst that goes on
 
 module _ (profile : Profile) (rules : Rules) (lawful : IsLawful rules) (headed : IsHeaded rules)
     (d : Burst) (m b : ℕ) (may : MayGoOn d m) where
@@ -117,7 +146,7 @@ module _ (profile : Profile) (rules : Rules) (lawful : IsLawful rules) (headed :
       let P : List Tick → Type 0 = λ x. has_pause x ≡ false → before_pause x ≡ x in
       subst P (sym last.2) (before_pause-whole last.0 last.1) none
 
-  open-longer : is_over ≡ false → before_pause longer.body ≡ longer.body
+  pub open-longer : is_over ≡ false → before_pause longer.body ≡ longer.body
   open-longer open' =
       let parts = or_parts (has_pause d.body || nat_le 2 gap)
       (fills_room rules (live_bytes rules d))
@@ -141,7 +170,7 @@ module _ (profile : Profile) (rules : Rules) (lawful : IsLawful rules) (headed :
 
   -- ---- where none is
 
-  over-after : is_over ≡ true
+  pub over-after : is_over ≡ true
       → after_live rules longer ≡ after_live rules d ++ (silent gap ++ Byte b ∷ [])
   over-after over =
       let n : ℕ = length (live_ticks rules d) in
@@ -150,7 +179,7 @@ module _ (profile : Profile) (rules : Rules) (lawful : IsLawful rules) (headed :
       ∙ drop-append-le n d.body (silent gap ++ Byte b ∷ [])
       (up_to_byte-le (length (live_bytes rules d)) d.body)
 
-  over-kept : is_over ≡ true → trailer_tick profile rules d < m
+  pub over-kept : is_over ≡ true → trailer_tick profile rules d < m
       → kept_after profile rules longer ≡ kept_after profile rules d
   over-kept over early =
       let x : List Tick = after_live rules d in
@@ -359,29 +388,14 @@ module _ (profile : Profile) (rules : Rules) (lawful : IsLawful rules) (headed :
 
     -- ---- a burst that isn't noted before tick m
 
-    -- its start isn't too early, and its header isn't bad
-    pub late-start : m ≤ (checker profile rules).tick s d → s.earliest_start ≤ d.start
-    late-start late =
-        let after = later m b d within in
-        ⊎_elim
-        (λ busy. let tick = tick-busy profile rules s d busy in absurd (omega arith))
-        (λ free. free)
-        (cases_lt d.start s.earliest_start)
+    late-start : m ≤ (checker profile rules).tick s d → s.earliest_start ≤ d.start
+    late-start late = waits-late profile rules s d m (later m b d within) may.after late
 
-    pub late-header : m ≤ (checker profile rules).tick s d
+    late-header : m ≤ (checker profile rules).tick s d
         → rules.header_len ≤ length (live_bytes rules d)
         → rules.is_good_header (take rules.header_len (live_bytes rules d)) ≡ true
-    late-header late long =
-        let free = late-start late in
-        let begun = later m b d within in
-        let after = may.after in
-        ⊎_elim
-        (λ good. good)
-        (λ bad.
-        let tick = tick-bad profile rules s d free long bad in
-        let few = up_to_byte-le rules.header_len d.body in
-        absurd (omega arith))
-        (cases_Bool (rules.is_good_header (take rules.header_len (live_bytes rules d))))
+    late-header late long = waits-header profile rules s d m (later m b d within) may.after late
+        long
 
     -- A header that is too short isn't at its end yet, or is and stays so.
     waits-open : s.earliest_start ≤ d.start → length (live_bytes rules d) < rules.header_len
