@@ -9,7 +9,7 @@ use Rattle.link_format.specs.Profile.{Profile}
 use Rattle.link_verdicts.specs.Timely.{IsTimely}
 use Rattle.link_verdicts.specs.Checking.{passed_in, at_floor, check_notes, passed}
 use Rattle.link_verdicts.proofs.Causality.{checker-extends}
-use Rattle.receiver_laws.proofs.Readings.{frames_in}
+use Rattle.receiver_laws.proofs.Notes.{frames_in}
 
 pub passed-extends : (profile : Profile) (rules : Rules) → IsLawful rules → IsHeaded rules
     → IsTimely profile rules

@@ -1,9 +1,6 @@
 -- A device behind the receiver reads only what passed.
 use Rattle.std.proofs.Common.{◌≡◌, ◌∙◌, ℕ, ◌+◌, ◌<◌, ◌≤◌, true, false, not, ◌&&◌, cond, List}
 use Rattle.std.proofs.Common.{[], ◌∷◌, ◌++◌, length, map, refl, sym, ap, subst, arith, ⊎_elim}
-use Rattle.std.proofs.Common.{None}
-use Rattle.std.specs.List.{filter_map}
-use Rattle.std.specs.List.{cons_option}
 use Rattle.std.proofs.Common.{length-append}
 use Rattle.std.proofs.lemmas.Bool.{cases_lt}
 use Rattle.std.proofs.lemmas.List.{length-replicate}
@@ -23,22 +20,22 @@ use Rattle.device_model.proofs.ReadLaws.{frames_read-append, frames_read-open, f
 use Rattle.burst_walk.specs.Walk.{Noted, walked, emitted, notes_before}
 use Rattle.burst_walk.specs.Longer.{Begins}
 use Rattle.burst_walk.proofs.Spread.{AreSpread, EndBy, bursts-spread, bursts-end}
-use Rattle.burst_walk.proofs.Walks.{before-early, before-late}
+use Rattle.burst_walk.proofs.Walks.{before-early}
 use Rattle.link_format.specs.Profile.{Profile, delay}
-use Rattle.link_format.specs.NumberedFrame.{NumberedFrame}
 use Rattle.link_verdicts.specs.declared.note.RefusedWhy.{RefusedWhy}
 use Rattle.link_verdicts.specs.declared.note.DroppedWhy.{DroppedWhy}
 use Rattle.link_verdicts.specs.Verdicts.{CheckState, Verdict, checked}
 use Rattle.link_verdicts.specs.Verdicts.Verdict.{passed_with, refused, dropped}
 use Rattle.link_verdicts.specs.Emissions.{spoiled, filled_ticks, delayed, emission_by}
 use Rattle.link_verdicts.specs.Checking.{FullNote, note_tick, state_by, note_by, checker, at_floor}
-use Rattle.link_verdicts.specs.Checking.{passed_in, received_line}
+use Rattle.link_verdicts.specs.Checking.{received_line}
 use Rattle.receiver_laws.specs.Reading.{reads_with, delivered, delivered_of, ReadsWhatPassed}
 use Rattle.receiver_laws.proofs.Calm.{contiguous-calm}
 use Rattle.link_verdicts.proofs.Spoiled.{spoiled-contiguous, spoiled-no_frame}
 use Rattle.link_verdicts.proofs.Spoiled.{filled-contiguous}
 use Rattle.link_verdicts.proofs.Passing.{passed-passing}
 use Rattle.link_verdicts.proofs.Apart.{emissions-spread}
+use Rattle.receiver_laws.proofs.Notes.{frames_in, unnoted}
 use Rattle.receiver_laws.proofs.Settled.{reads-laid}
 
 -- ---- what is read of one emission
@@ -86,22 +83,7 @@ module _ (cut pause m : ℕ) where
       ∙ (ap (λ x. x ++ frames_read cut pause m ds) (frames_read-open cut pause m d before)
       ∙ read-late n ds spread late)
 
--- ---- what is noted
-
--- the frames that have passed among these notes
-abbrev pub frames_in : List (Noted FullNote) → List NumberedFrame
-frames_in notes = filter_map (λ n. passed_in n.note) notes
-
--- a note of a burst that doesn't pass
-pub unnoted : (m : ℕ) (n : Noted FullNote) (notes : List (Noted FullNote))
-    → passed_in n.note ≡ None
-    → frames_in (notes_before m (n ∷ notes)) ≡ frames_in (notes_before m notes)
-unnoted m n notes none =
-    ⊎_elim
-    (λ early. ap frames_in (before-early m n notes early)
-    ∙ ap (λ o. cons_option o (frames_in (notes_before m notes))) none)
-    (λ late. ap frames_in (before-late m n notes late))
-    (cases_lt n.tick m)
+-- ---- burst by burst
 
 module _ (profile : Profile) where
   abbrev told : List (Noted FullNote) → List FrameRead

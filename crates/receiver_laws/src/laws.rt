@@ -6,6 +6,7 @@ ghost use Rattle.link_format.specs.Profile.{Profile, delay};
 ghost use Rattle.link_verdicts.specs.Checking.{checker, at_floor, passed};
 ghost use Rattle.link_verdicts.specs.Timely.{IsTimely};
 ghost use Rattle.receiver_laws.specs.Reading.{ReadsWhatPassed};
+ghost use Rattle.receiver_laws.specs.Standing.{HavePassed};
 
 use line_rules::LineRules;
 
@@ -32,4 +33,13 @@ pub fn longer_links<R: LineRules>()
     ensures kept { (profile : Profile) → IsTimely profile R.rules
         → (floor : ℕ) (link more : List Tick)
         → Begins (passed profile R.rules floor link) (passed profile R.rules floor (link ++ more)) }
+{}
+
+/// A law of the receiver's definitions, for the rules of each protocol and each profile, floor and
+/// link: the numbers of the passed frames rise from the floor and are within the limit, so that
+/// none passes twice; and each is a frame whose packet, with this number's word and tag, stands on
+/// the link.
+pub fn passed_frames_stand_on_the_link<R: LineRules>()
+    ensures { (profile : Profile) (floor : ℕ) (link : List Tick)
+        → HavePassed profile R.rules floor link (passed profile R.rules floor link) }
 {}

@@ -1,0 +1,23 @@
+-- The passed frames among the notes of a walk, burst by burst.
+use Rattle.std.proofs.Common.{◌≡◌, ◌∙◌, ℕ, List, ◌∷◌, ap, ⊎_elim, None}
+use Rattle.std.specs.List.{cons_option, filter_map}
+use Rattle.std.proofs.lemmas.Bool.{cases_lt}
+use Rattle.burst_walk.specs.Walk.{Noted, notes_before}
+use Rattle.burst_walk.proofs.Walks.{before-early, before-late}
+use Rattle.link_format.specs.NumberedFrame.{NumberedFrame}
+use Rattle.link_verdicts.specs.Checking.{FullNote, passed_in}
+
+-- the frames that have passed among these notes
+abbrev pub frames_in : List (Noted FullNote) → List NumberedFrame
+frames_in notes = filter_map (λ n. passed_in n.note) notes
+
+-- a note of a burst that doesn't pass
+pub unnoted : (m : ℕ) (n : Noted FullNote) (notes : List (Noted FullNote))
+    → passed_in n.note ≡ None
+    → frames_in (notes_before m (n ∷ notes)) ≡ frames_in (notes_before m notes)
+unnoted m n notes none =
+    ⊎_elim
+    (λ early. ap frames_in (before-early m n notes early)
+    ∙ ap (λ o. cons_option o (frames_in (notes_before m notes))) none)
+    (λ late. ap frames_in (before-late m n notes late))
+    (cases_lt n.tick m)

@@ -1,0 +1,131 @@
+-- The passed frames of a link: their numbers rise, and each stood on the link.
+use Rattle.std.proofs.Common.{◌≡◌, ℕ, ◌<◌, ◌≤◌, true, List, [], ◌∷◌, length, refl, sym}
+use Rattle.std.proofs.Common.{subst, arith, ⊎_elim}
+use Rattle.std.specs.List.{All}
+use Rattle.std.proofs.lemmas.Bool.{cases_lt}
+use Rattle.std.proofs.lemmas.List.Elements.{All-nil, All-cons}
+use Rattle.yasir_ticks.specs.Bursts.{Burst, bursts}
+use Rattle.yasir_ticks.specs.declared.tick.Tick.{Tick}
+use Rattle.yasir_ticks.proofs.BurstsOfLaws.{bursts_from-are}
+use Rattle.line_rules.specs.Rules.{Rules}
+use Rattle.line_rules.specs.RulesLaws.{IsLawful}
+use Rattle.frame_ending.specs.LiveBytes.{live_bytes}
+use Rattle.sequence_journal.specs.Uptimes.{RiseFrom}
+use Rattle.burst_walk.specs.Walk.{Noted, walked, notes_before}
+use Rattle.burst_walk.proofs.Walks.{before-early, before-late}
+use Rattle.link_format.specs.Profile.{Profile}
+use Rattle.link_format.specs.NumberedFrame.{NumberedFrame, numbers_of}
+use Rattle.link_verdicts.specs.Verdicts.{CheckState, Verdict, trailer_of, checked}
+use Rattle.link_verdicts.specs.Verdicts.Verdict.{passed_with, refused, dropped}
+use Rattle.link_verdicts.specs.Checking.{FullNote, note_tick, state_by, note_by, checker, at_floor}
+use Rattle.link_verdicts.specs.Checking.{passed}
+use Rattle.link_verdicts.proofs.Passing.{passed-passing, number-within}
+use Rattle.receiver_laws.specs.Standing.{StandsOn, HavePassed}
+use Rattle.receiver_laws.proofs.Notes.{frames_in, unnoted}
+use Rattle.receiver_laws.proofs.Standing.{AreOn, bursts-on, stands-on}
+
+pub rise-lower : (low high : ℕ) (numbers : List ℕ) → low ≤ high → RiseFrom high numbers
+    → RiseFrom low numbers
+rise-lower low high [] le rise = tt
+rise-lower low high (n ∷ numbers) le rise =
+    let above : high < n = rise.0 in
+    (omega arith, rise.1)
+
+module _ (profile : Profile) (rules : Rules) where
+  abbrev frame_of : Burst → ℕ → NumberedFrame
+  frame_of d n = record { number = n; start = d.start; frame = live_bytes rules d }
+
+  abbrev note_of : Burst → Verdict → Noted FullNote
+  note_of d v = record { tick = note_tick profile rules d v; note = note_by rules d v }
+
+  abbrev next : CheckState → Burst → CheckState
+  next s d = state_by profile rules s d (checked profile rules s d)
+
+  above-floor : (s : CheckState) (d : Burst) (n : ℕ) → checked profile rules s d ≡ passed_with n
+      → (s.floor < n) × (n ≤ profile.limit)
+  above-floor s d n is =
+      let number = number-within profile s.floor (trailer_of profile rules d) n
+      (passed-passing profile rules s d n is).numbered in
+      (number.1, number.2)
+
+  -- ---- numbers
+
+  rise-step : (m : ℕ) (s : CheckState) (d : Burst) (notes : List (Noted FullNote)) (v : Verdict)
+      → checked profile rules s d ≡ v
+      → RiseFrom (state_by profile rules s d v).floor
+      (numbers_of (frames_in (notes_before m notes)))
+      → RiseFrom s.floor (numbers_of (frames_in (notes_before m (note_of d v ∷ notes))))
+  rise-step m s d notes (passed_with n) is rise =
+      let P : List (Noted FullNote) → Type 0 = λ l. RiseFrom s.floor (numbers_of (frames_in l)) in
+      let above : s.floor < n = (above-floor s d n is).0 in
+      ⊎_elim
+      (λ early. subst P (sym (before-early m (note_of d (passed_with n)) notes early))
+      (above, rise))
+      (λ late. subst P (sym (before-late m (note_of d (passed_with n)) notes late))
+      (rise-lower s.floor n (numbers_of (frames_in (notes_before m notes))) (omega arith) rise))
+      (cases_lt (note_tick profile rules d (passed_with n)) m)
+  rise-step m s d notes (refused why) is rise =
+      let P : List NumberedFrame → Type 0 = λ l. RiseFrom s.floor (numbers_of l) in
+      subst P (sym (unnoted m (note_of d (refused why)) notes refl)) rise
+  rise-step m s d notes (dropped why) is rise =
+      let P : List NumberedFrame → Type 0 = λ l. RiseFrom s.floor (numbers_of l) in
+      subst P (sym (unnoted m (note_of d (dropped why)) notes refl)) rise
+
+  rise-walk : (m : ℕ) (s : CheckState) (ds : List Burst)
+      → RiseFrom s.floor
+      (numbers_of (frames_in (notes_before m (walked (checker profile rules) s ds))))
+  rise-walk m s [] = tt
+  rise-walk m s (d ∷ ds) =
+      rise-step m s d (walked (checker profile rules) (next s d) ds) (checked profile rules s d)
+      refl (rise-walk m (next s d) ds)
+
+  -- ---- what holds of each burst that passes holds of each frame
+
+  module _ (P : NumberedFrame → Type 0) (m : ℕ) where
+    each-step : (s : CheckState) (d : Burst) (notes : List (Noted FullNote)) (v : Verdict)
+        → ((n : ℕ) → v ≡ passed_with n → P (frame_of d n))
+        → All P (frames_in (notes_before m notes))
+        → All P (frames_in (notes_before m (note_of d v ∷ notes)))
+    each-step s d notes (passed_with n) each rest =
+        let Q : List (Noted FullNote) → Type 0 = λ l. All P (frames_in l) in
+        ⊎_elim
+        (λ early. subst Q (sym (before-early m (note_of d (passed_with n)) notes early))
+        (All-cons P (frame_of d n) (frames_in (notes_before m notes)) (each n refl) rest))
+        (λ late. subst Q (sym (before-late m (note_of d (passed_with n)) notes late)) rest)
+        (cases_lt (note_tick profile rules d (passed_with n)) m)
+    each-step s d notes (refused why) each rest =
+        let Q : List NumberedFrame → Type 0 = λ l. All P l in
+        subst Q (sym (unnoted m (note_of d (refused why)) notes refl)) rest
+    each-step s d notes (dropped why) each rest =
+        let Q : List NumberedFrame → Type 0 = λ l. All P l in
+        subst Q (sym (unnoted m (note_of d (dropped why)) notes refl)) rest
+
+    each-walk : (link : List Tick)
+        → ((s : CheckState) (d : Burst) (ds : List Burst) (n : ℕ) → AreOn link (d ∷ ds)
+        → checked profile rules s d ≡ passed_with n → P (frame_of d n))
+        → (s : CheckState) (ds : List Burst) → AreOn link ds
+        → All P (frames_in (notes_before m (walked (checker profile rules) s ds)))
+    each-walk link each s [] on = All-nil P
+    each-walk link each s (d ∷ ds) on =
+        each-step s d (walked (checker profile rules) (next s d) ds) (checked profile rules s d)
+        (λ n is. each s d ds n on is)
+        (each-walk link each (next s d) ds on.5)
+
+  pub have_passed : IsLawful rules → (floor : ℕ) (link : List Tick)
+      → HavePassed profile rules floor link (passed profile rules floor link)
+  have_passed lawful floor link =
+      let on : AreOn link (bursts link) =
+      bursts-on link (bursts link) [] link 0 refl refl (bursts_from-are 4 0 link) in
+      let m : ℕ = length link in
+      record {
+        rise = rise-walk m (at_floor floor) (bursts link);
+        within = each-walk (λ (f : NumberedFrame). f.number ≤ profile.limit) m link
+            (λ s d ds n here is. (above-floor s d n is).1) (at_floor floor) (bursts link) on;
+        framed = each-walk (λ (f : NumberedFrame). rules.is_frame f.frame ≡ true) m link
+            (λ s d ds n here is. (passed-passing profile rules s d n is).framed)
+            (at_floor floor) (bursts link) on;
+        stand = λ ticks some. each-walk (StandsOn profile link) m link
+            (λ s d ds n here is. stands-on profile some rules lawful link ticks s d ds n
+            (passed-passing profile rules s d n is) here)
+            (at_floor floor) (bursts link) on;
+      }
