@@ -9,3 +9,4 @@ pub mod Spoiled
 pub mod Apart
 pub mod Passing
 pub mod Places
+pub mod Packets

@@ -3,3 +3,4 @@ pub mod Verdicts
 pub mod Emissions
 pub mod Checking
 pub mod Timely
+pub mod Packet
