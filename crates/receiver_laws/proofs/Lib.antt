@@ -5,4 +5,5 @@ pub mod Readings
 pub mod Words
 pub mod Standing
 pub mod Rising
+pub mod Packets
 pub mod Longer

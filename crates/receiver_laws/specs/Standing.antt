@@ -1,14 +1,20 @@
 -- What stood on the link of a frame that passes.
 use Rattle.std.specs.Prelude.{◌≡◌, ℕ, ◌≤◌, true, List, ◌++◌, length, map, All}
 use Rattle.yasir_ticks.specs.Ticks.{silent, bytes_in, AreTicks}
+use Rattle.yasir_ticks.specs.Bursts.{Burst}
 use Rattle.yasir_ticks.specs.BurstsOf.{IsContiguous}
 use Rattle.yasir_ticks.specs.declared.TheConstants.{T1_5_TICKS}
 use Rattle.yasir_ticks.specs.declared.tick.Tick.{Tick}
 use Rattle.yasir_ticks.specs.declared.tick.Tick.TheVariants.{Byte}
 use Rattle.line_rules.specs.Rules.{Rules}
+use Rattle.frame_ending.specs.LiveBytes.{live_bytes}
 use Rattle.sequence_journal.specs.Uptimes.{RiseFrom}
 use Rattle.link_format.specs.Profile.{Profile, pause_len, trailer}
 use Rattle.link_format.specs.NumberedFrame.{NumberedFrame, numbers_of}
+
+-- the live bytes of a burst, with a number
+abbrev pub numbered : Rules → Burst → ℕ → NumberedFrame
+numbered rules d number = record { number = number; start = d.start; frame = live_bytes rules d }
 
 -- A packet stands on the link: from its start on the ticks of the frame, no two silent ones
 -- together, then a pause, and then the word of the number and the tag of number and frame.

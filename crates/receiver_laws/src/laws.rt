@@ -1,12 +1,17 @@
-ghost use Rattle.std.specs.Prelude.{◌≤◌, ◌++◌, ℕ, List};
+ghost use Rattle.std.specs.Prelude.{◌≡◌, ◌≤◌, ◌∷◌, ◌++◌, ℕ, List, Contains};
 ghost use Rattle.yasir_ticks.specs.declared.TheConstants.{T3_5_TICKS, T1_5_TICKS};
 ghost use Rattle.yasir_ticks.specs.declared.tick.Tick.{Tick};
+ghost use Rattle.yasir_ticks.specs.Bursts.{Burst, bursts};
+ghost use Rattle.burst_walk.specs.Walk.{state_after};
 ghost use Rattle.burst_walk.specs.Longer.{Begins, Extends};
-ghost use Rattle.link_format.specs.Profile.{Profile, delay};
+ghost use Rattle.link_format.specs.Profile.{Profile, HasTags, delay};
 ghost use Rattle.link_verdicts.specs.Checking.{checker, at_floor, passed};
+ghost use Rattle.link_verdicts.specs.Packet.{IsPacket};
 ghost use Rattle.link_verdicts.specs.Timely.{IsTimely};
+ghost use Rattle.link_verdicts.specs.Verdicts.{CheckState, checked};
+ghost use Rattle.link_verdicts.specs.Verdicts.Verdict.{passed_with};
 ghost use Rattle.receiver_laws.specs.Reading.{ReadsWhatPassed};
-ghost use Rattle.receiver_laws.specs.Standing.{HavePassed};
+ghost use Rattle.receiver_laws.specs.Standing.{HavePassed, numbered};
 
 use line_rules::LineRules;
 
@@ -42,4 +47,20 @@ pub fn longer_links<R: LineRules>()
 pub fn passed_frames_stand_on_the_link<R: LineRules>()
     ensures { (profile : Profile) (floor : ℕ) (link : List Tick)
         → HavePassed profile R.rules floor link (passed profile R.rules floor link) }
+{}
+
+/// A law of the receiver's definitions, for the rules of each protocol, each profile whose tags
+/// have its length, and each state: the verdict on a whole packet is that it passes with its
+/// number. So on any link, whatever stands elsewhere on it, each burst that is a whole packet for
+/// the receiver as the bursts before leave it is among the frames that pass.
+pub fn whole_packets_pass<R: LineRules>()
+    ensures verdict { (profile : Profile) → HasTags profile
+        → (s : CheckState) (d : Burst) (number : ℕ) → IsPacket profile R.rules s d number
+        → checked profile R.rules s d ≡ passed_with number }
+    ensures passes { (profile : Profile) → HasTags profile
+        → (floor : ℕ) (link : List Tick) (front : List Burst) (d : Burst) (back : List Burst)
+        (number : ℕ) → bursts link ≡ front ++ d ∷ back
+        → IsPacket profile R.rules
+        (state_after (checker profile R.rules) (at_floor floor) front) d number
+        → Contains (passed profile R.rules floor link) (numbered R.rules d number) }
 {}

@@ -7,4 +7,6 @@
 
 mod laws;
 
-pub use laws::{device_reads_what_passed, longer_links, passed_frames_stand_on_the_link};
+pub use laws::{
+    device_reads_what_passed, longer_links, passed_frames_stand_on_the_link, whole_packets_pass,
+};

@@ -1,0 +1,110 @@
+-- A whole packet that stands on a link is among the frames that pass.
+use Rattle.std.proofs.Common.{◌≡◌, ◌∙◌, ℕ, ◌+◌, ◌<◌, ◌≤◌}
+use Rattle.std.proofs.Common.{List, [], ◌∷◌, ◌++◌, length}
+use Rattle.std.proofs.Common.{refl, sym, ap, subst, arith}
+use Rattle.std.proofs.Common.{nat_lt, length-append}
+use Rattle.std.specs.List.{Contains}
+use Rattle.std.proofs.lemmas.List.{length-map}
+use Rattle.std.proofs.lemmas.List.{length-take}
+use Rattle.std.proofs.lemmas.List.Elements.{Contains-append_right, filter-append, filter_map-append}
+use Rattle.yasir_ticks.specs.Ticks.{silent}
+use Rattle.yasir_ticks.specs.Bursts.{Burst, bursts, end_of}
+use Rattle.yasir_ticks.specs.declared.tick.Tick.{Tick}
+use Rattle.yasir_ticks.specs.declared.tick.Tick.TheVariants.{Byte}
+use Rattle.line_rules.specs.Rules.{Rules}
+use Rattle.line_rules.specs.RulesLaws.{IsFramed}
+use Rattle.frame_ending.specs.LiveBytes.{live_bytes, live_end}
+use Rattle.burst_walk.specs.Walk.{Noted, walked, state_after, notes_before}
+use Rattle.burst_walk.proofs.Spread.{EndBy, bursts-end}
+use Rattle.burst_walk.proofs.Walks.{walked-append, before-early}
+use Rattle.link_format.specs.NumberedFrame.{NumberedFrame}
+use Rattle.link_format.specs.Profile.{Profile, HasTags, pause_len, trailer_len, trailer}
+use Rattle.link_format.proofs.Profiles.{length-trailer}
+use Rattle.link_verdicts.specs.Verdicts.{CheckState, after_live}
+use Rattle.link_verdicts.specs.Verdicts.{checked}
+use Rattle.link_verdicts.specs.Verdicts.Verdict.{passed_with}
+use Rattle.link_verdicts.specs.Checking.{FullNote, note_tick, note_by, state_by, checker, at_floor}
+use Rattle.link_verdicts.specs.Checking.{passed_in, passed}
+use Rattle.link_verdicts.proofs.Settling.{after-long}
+use Rattle.link_verdicts.specs.Packet.{IsPacket}
+use Rattle.link_verdicts.proofs.Packets.{packet-passes}
+use Rattle.receiver_laws.specs.Standing.{numbered}
+use Rattle.receiver_laws.proofs.Notes.{frames_in}
+use Rattle.receiver_laws.proofs.Standing.{byte_ticks}
+
+-- a packet is all in the burst
+module _ (profile : Profile) (tags : HasTags profile) (rules : Rules) (s : CheckState) (d : Burst)
+    (n : ℕ) (packet : IsPacket profile rules s d n) where
+  abbrev bytes : List ℕ
+  bytes = trailer profile n (live_bytes rules d)
+
+  pub packet-ends : live_end rules d + pause_len + trailer_len profile ≤ end_of d
+  packet-ends =
+      let ticks : length (silent pause_len ++ byte_ticks bytes) ≡ pause_len + trailer_len profile =
+      length-append (silent pause_len) (byte_ticks bytes)
+      ∙ ap (λ k. pause_len + k)
+      (length-map bytes (λ b. Byte b)
+      ∙ length-trailer profile tags n (live_bytes rules d)) in
+      let first = length-take (pause_len + trailer_len profile) (after_live rules d) in
+      let same = ap length packet.trailed in
+      let long = after-long rules d in
+      omega arith
+
+-- ---- on a link
+
+ends-in : (m : ℕ) (front : List Burst) (d : Burst) (back : List Burst)
+    → EndBy m (front ++ d ∷ back) → end_of d ≤ m
+ends-in m [] d back ends = ends.0
+ends-in m (e ∷ front) d back ends = ends-in m front d back ends.1
+
+module _ (profile : Profile) (tags : HasTags profile) (rules : Rules) (well : IsFramed rules) where
+  pub packet-contained : (floor : ℕ) (link : List Tick) (front : List Burst) (d : Burst)
+      (back : List Burst) (n : ℕ)
+      → bursts link ≡ front ++ d ∷ back
+      → IsPacket profile rules (state_after (checker profile rules) (at_floor floor) front) d n
+      → Contains (passed profile rules floor link) (numbered rules d n)
+  packet-contained floor link front d back n is packet =
+      let m : ℕ = length link in
+      let s : CheckState = state_after (checker profile rules) (at_floor floor) front in
+      let passes : checked profile rules s d ≡ passed_with n =
+      packet-passes profile tags rules well s d n packet in
+      let within : end_of d ≤ m =
+      ends-in m front d back
+      (let P : List Burst → Type 0 = λ ds. EndBy m ds in subst P is (bursts-end link)) in
+      let ends = packet-ends profile tags rules s d n packet in
+      let note : Noted FullNote = record {
+        tick = note_tick profile rules d (checked profile rules s d);
+        note = note_by rules d (checked profile rules s d);
+      } in
+      let told : Noted FullNote = record {
+        tick = note_tick profile rules d (passed_with n);
+        note = note_by rules d (passed_with n);
+      } in
+      let same : note ≡ told =
+      ap (λ v. let x : Noted FullNote = record {
+        tick = note_tick profile rules d v;
+        note = note_by rules d v;
+      } in x) passes in
+      let rest : List (Noted FullNote) =
+      walked (checker profile rules) (state_by profile rules s d (checked profile rules s d))
+      back in
+      let early : told.tick < m = grind arith in
+      let before : List (Noted FullNote) =
+      walked (checker profile rules) (at_floor floor) front in
+      let all : passed profile rules floor link
+      ≡ frames_in (notes_before m before) ++ (numbered rules d n
+      ∷ frames_in (notes_before m rest)) =
+      ap (λ ds. frames_in (notes_before m (walked (checker profile rules) (at_floor floor) ds))) is
+      ∙ (ap (λ l. frames_in (notes_before m l))
+      (walked-append (checker profile rules) (at_floor floor) front (d ∷ back)
+      ∙ ap (λ x. before ++ (x ∷ rest)) same)
+      ∙ (ap frames_in (filter-append (λ x. nat_lt x.tick m) before (told ∷ rest))
+      ∙ (filter_map-append (λ x. passed_in x.note) (notes_before m before)
+      (notes_before m (told ∷ rest))
+      ∙ ap (λ l. frames_in (notes_before m before) ++ frames_in l)
+      (before-early m told rest early)))) in
+      let P : List NumberedFrame → Type 0 = λ l. Contains l (numbered rules d n) in
+      subst P (sym all)
+      (Contains-append_right (frames_in (notes_before m before))
+      (numbered rules d n ∷ frames_in (notes_before m rest)) (numbered rules d n)
+      (0, omega arith, refl))
