@@ -28,7 +28,7 @@ use Rattle.link_verdicts.specs.Checking.{passed_in, passed}
 use Rattle.link_verdicts.proofs.Settling.{after-long}
 use Rattle.link_verdicts.specs.Packet.{IsPacket}
 use Rattle.link_verdicts.proofs.Packets.{packet-passes}
-use Rattle.receiver_laws.specs.Standing.{numbered}
+use Rattle.receiver_laws.specs.Standing.{numbered_frame}
 use Rattle.receiver_laws.proofs.Notes.{frames_in}
 use Rattle.receiver_laws.proofs.Standing.{byte_ticks}
 
@@ -62,7 +62,7 @@ module _ (profile : Profile) (tags : HasTags profile) (rules : Rules) (well : Is
       (back : List Burst) (n : ℕ)
       → bursts link ≡ front ++ d ∷ back
       → IsPacket profile rules (state_after (checker profile rules) (at_floor floor) front) d n
-      → Contains (passed profile rules floor link) (numbered rules d n)
+      → Contains (passed profile rules floor link) (numbered_frame rules d n)
   packet-contained floor link front d back n is packet =
       let m : ℕ = length link in
       let s : CheckState = state_after (checker profile rules) (at_floor floor) front in
@@ -92,7 +92,7 @@ module _ (profile : Profile) (tags : HasTags profile) (rules : Rules) (well : Is
       let before : List (Noted FullNote) =
       walked (checker profile rules) (at_floor floor) front in
       let all : passed profile rules floor link
-      ≡ frames_in (notes_before m before) ++ (numbered rules d n
+      ≡ frames_in (notes_before m before) ++ (numbered_frame rules d n
       ∷ frames_in (notes_before m rest)) =
       ap (λ ds. frames_in (notes_before m (walked (checker profile rules) (at_floor floor) ds))) is
       ∙ (ap (λ l. frames_in (notes_before m l))
@@ -103,8 +103,8 @@ module _ (profile : Profile) (tags : HasTags profile) (rules : Rules) (well : Is
       (notes_before m (told ∷ rest))
       ∙ ap (λ l. frames_in (notes_before m before) ++ frames_in l)
       (before-early m told rest early)))) in
-      let P : List NumberedFrame → Type 0 = λ l. Contains l (numbered rules d n) in
+      let P : List NumberedFrame → Type 0 = λ l. Contains l (numbered_frame rules d n) in
       subst P (sym all)
       (Contains-append_right (frames_in (notes_before m before))
-      (numbered rules d n ∷ frames_in (notes_before m rest)) (numbered rules d n)
+      (numbered_frame rules d n ∷ frames_in (notes_before m rest)) (numbered_frame rules d n)
       (0, omega arith, refl))

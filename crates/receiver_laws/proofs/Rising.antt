@@ -19,7 +19,7 @@ use Rattle.link_verdicts.specs.Verdicts.Verdict.{passed_with, refused, dropped}
 use Rattle.link_verdicts.specs.Checking.{FullNote, note_tick, state_by, note_by, checker, at_floor}
 use Rattle.link_verdicts.specs.Checking.{passed}
 use Rattle.link_verdicts.proofs.Passing.{passed-passing, number-within}
-use Rattle.receiver_laws.specs.Standing.{StandsOn, HavePassed, numbered}
+use Rattle.receiver_laws.specs.Standing.{StandsOn, HavePassed, numbered_frame}
 use Rattle.receiver_laws.proofs.Notes.{frames_in, unnoted}
 use Rattle.receiver_laws.proofs.Standing.{AreOn, bursts-on, stands-on}
 
@@ -79,14 +79,15 @@ module _ (profile : Profile) (rules : Rules) where
 
   module _ (P : NumberedFrame → Type 0) (m : ℕ) where
     each-step : (s : CheckState) (d : Burst) (notes : List (Noted FullNote)) (v : Verdict)
-        → ((n : ℕ) → v ≡ passed_with n → P (numbered rules d n))
+        → ((n : ℕ) → v ≡ passed_with n → P (numbered_frame rules d n))
         → All P (frames_in (notes_before m notes))
         → All P (frames_in (notes_before m (note_of d v ∷ notes)))
     each-step s d notes (passed_with n) each rest =
         let Q : List (Noted FullNote) → Type 0 = λ l. All P (frames_in l) in
         ⊎_elim
         (λ early. subst Q (sym (before-early m (note_of d (passed_with n)) notes early))
-        (All-cons P (numbered rules d n) (frames_in (notes_before m notes)) (each n refl) rest))
+        (All-cons P (numbered_frame rules d n) (frames_in (notes_before m notes)) (each n refl)
+            rest))
         (λ late. subst Q (sym (before-late m (note_of d (passed_with n)) notes late)) rest)
         (cases_lt (note_tick profile rules d (passed_with n)) m)
     each-step s d notes (refused why) each rest =
@@ -98,7 +99,7 @@ module _ (profile : Profile) (rules : Rules) where
 
     each-walk : (link : List Tick)
         → ((s : CheckState) (d : Burst) (ds : List Burst) (n : ℕ) → AreOn link (d ∷ ds)
-        → checked profile rules s d ≡ passed_with n → P (numbered rules d n))
+        → checked profile rules s d ≡ passed_with n → P (numbered_frame rules d n))
         → (s : CheckState) (ds : List Burst) → AreOn link ds
         → All P (frames_in (notes_before m (walked (checker profile rules) s ds)))
     each-walk link each s [] on = All-nil P

@@ -11,7 +11,7 @@ ghost use Rattle.link_verdicts.specs.Timely.{IsTimely};
 ghost use Rattle.link_verdicts.specs.Verdicts.{CheckState, checked};
 ghost use Rattle.link_verdicts.specs.Verdicts.Verdict.{passed_with};
 ghost use Rattle.receiver_laws.specs.Reading.{ReadsWhatPassed};
-ghost use Rattle.receiver_laws.specs.Standing.{HavePassed, numbered};
+ghost use Rattle.receiver_laws.specs.Standing.{HavePassed, numbered_frame};
 
 use line_rules::LineRules;
 
@@ -62,5 +62,5 @@ pub fn whole_packets_pass<R: LineRules>()
         (number : ℕ) → bursts link ≡ front ++ d ∷ back
         → IsPacket profile R.rules
         (state_after (checker profile R.rules) (at_floor floor) front) d number
-        → Contains (passed profile R.rules floor link) (numbered R.rules d number) }
+        → Contains (passed profile R.rules floor link) (numbered_frame R.rules d number) }
 {}
