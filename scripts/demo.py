@@ -57,10 +57,9 @@ def prove_all(jobs):
             ended, _ = concurrent.futures.wait(running, return_when=concurrent.futures.FIRST_COMPLETED)
             for future in ended:
                 crate = running.pop(future)
-                waiting_for = [c for c in waiting]
                 seconds = future.result()
                 done.add(crate)
-                print("%-18s %5.0f s   %2d left" % (crate, seconds, len(waiting_for) + len(running)), flush=True)
+                print("%-18s %5.0f s   %2d left" % (crate, seconds, len(waiting) + len(running)), flush=True)
     print("\nProved in %.0f s.\n" % (time.monotonic() - began), flush=True)
 
 
