@@ -7,3 +7,4 @@ pub mod Standing
 pub mod Rising
 pub mod Packets
 pub mod Longer
+pub mod Worked

@@ -1,0 +1,107 @@
+-- What devices read of small lines of the receiver, with a tag that stands in for HMAC.
+use Rattle.std.proofs.Common.{◌≡◌, ℕ, List, [], ◌∷◌, ◌++◌, map, take, replicate, refl}
+use Rattle.yasir_ticks.specs.Ticks.{silent}
+use Rattle.yasir_ticks.specs.Bursts.{bursts_from, with_byte}
+use Rattle.yasir_ticks.specs.declared.tick.Tick.{Tick}
+use Rattle.yasir_ticks.specs.declared.tick.Tick.TheVariants.{Byte}
+use Rattle.line_rules.specs.Crc.{crc, byte_step, bit_steps, bit_step}
+use Rattle.rtu_frame.specs.Frame.{is_frame, has_right_ending}
+use Rattle.rtu_frame.specs.Rules.{rtu_rules}
+use Rattle.frame_ending.specs.LiveBytes.{before_pause, up_to_byte}
+use Rattle.device_model.specs.Frames.{FrameRead}
+use Rattle.device_model.specs.RtuReads.{has_silence, rtu_reads}
+use Rattle.burst_walk.specs.Laid.{tick_at}
+use Rattle.link_format.specs.Profile.{Profile}
+use Rattle.link_verdicts.specs.Shapes.{kept}
+use Rattle.link_verdicts.specs.Verdicts.{verdict_of, checked}
+use Rattle.link_verdicts.specs.Emissions.{spoiled}
+use Rattle.link_verdicts.specs.Checking.{received_line}
+use Rattle.receiver_laws.specs.Reading.{reads_with}
+
+-- twelve bytes of the number and the frame
+abbrev stand_in : ℕ → List ℕ → List ℕ
+stand_in number frame = take 12 (number ∷ frame ++ replicate 12 0xEE)
+
+abbrev profile : Profile
+profile = record { word_len = 2; tag_len = 12; tag = stand_in; limit = 281474976710655 }
+
+abbrev on_line : List ℕ → List Tick
+on_line x = map (λ b. Byte b) x
+
+-- a request to read ten registers
+abbrev READ_TEN_REGISTERS : List ℕ
+READ_TEN_REGISTERS = 0x01 ∷ 0x03 ∷ 0x00 ∷ 0x00 ∷ 0x00 ∷ 0x0A ∷ 0xC5 ∷ 0xCD ∷ []
+
+-- 25 ticks: the request, with a word of 1 and this as the last byte of the tag
+abbrev packet_ending : ℕ → List Tick
+packet_ending last =
+    on_line READ_TEN_REGISTERS ++ silent 3
+    ++ on_line (0x00 ∷ 0x01 ∷ 0x01 ∷ 0x01 ∷ 0x03 ∷ 0x00 ∷ 0x00 ∷ 0x00 ∷ 0x0A ∷ 0xC5 ∷ 0xCD ∷ 0xEE
+    ∷ 0xEE ∷ last ∷ [])
+
+-- what the device is sent of a whole packet, and of one whose tag is wrong in its last bit, with
+-- so many ticks of the link
+abbrev of_packet : ℕ → List Tick
+of_packet more = received_line profile rtu_rules 0 (packet_ending 0xEE ++ silent more)
+
+abbrev of_wrong : ℕ → List Tick
+of_wrong more = received_line profile rtu_rules 0 (packet_ending 0xEF ++ silent more)
+
+abbrev the_request : List FrameRead
+the_request = record { start = 18; frame = READ_TEN_REGISTERS } ∷ []
+
+-- ---- the last byte of the request leaves in tick 25
+
+not_yet : rtu_reads (of_packet 4) ≡ []
+unfolding bursts_from with_byte before_pause up_to_byte tick_at kept spoiled verdict_of checked crc
+    byte_step bit_steps bit_step is_frame has_right_ending has_silence
+not_yet = refl
+
+is_read-now : rtu_reads (of_packet 5) ≡ the_request
+unfolding bursts_from with_byte before_pause up_to_byte tick_at kept spoiled verdict_of checked crc
+    byte_step bit_steps bit_step is_frame has_right_ending has_silence
+is_read-now = refl
+
+-- ---- a device that two silent ticks suffice, and two that wait for 18
+
+soon_not_yet : reads_with 2 2 (of_packet 2) ≡ []
+unfolding bursts_from with_byte before_pause up_to_byte tick_at kept spoiled verdict_of checked crc
+    byte_step bit_steps bit_step is_frame has_right_ending has_silence
+soon_not_yet = refl
+
+soon : reads_with 2 2 (of_packet 3) ≡ the_request
+unfolding bursts_from with_byte before_pause up_to_byte tick_at kept spoiled verdict_of checked crc
+    byte_step bit_steps bit_step is_frame has_right_ending has_silence
+soon = refl
+
+late_not_yet : reads_with 18 2 (of_packet 18) ≡ []
+unfolding bursts_from with_byte before_pause up_to_byte tick_at kept spoiled verdict_of checked crc
+    byte_step bit_steps bit_step is_frame has_right_ending has_silence
+late_not_yet = refl
+
+late : reads_with 18 2 (of_packet 19) ≡ the_request
+unfolding bursts_from with_byte before_pause up_to_byte tick_at kept spoiled verdict_of checked crc
+    byte_step bit_steps bit_step is_frame has_right_ending has_silence
+late = refl
+
+late_patient : reads_with 18 18 (of_packet 19) ≡ the_request
+unfolding bursts_from with_byte before_pause up_to_byte tick_at kept spoiled verdict_of checked crc
+    byte_step bit_steps bit_step is_frame has_right_ending has_silence
+late_patient = refl
+
+-- ---- a wrong tag: none of them reads anything
+
+wrong-unread : rtu_reads (of_wrong 24) ≡ []
+unfolding bursts_from with_byte before_pause up_to_byte tick_at kept spoiled verdict_of checked crc
+    byte_step bit_steps bit_step is_frame has_right_ending has_silence
+wrong-unread = refl
+
+wrong-unread_soon : reads_with 2 2 (of_wrong 24) ≡ []
+unfolding bursts_from with_byte before_pause up_to_byte tick_at kept spoiled verdict_of checked crc
+    byte_step bit_steps bit_step is_frame has_right_ending has_silence
+wrong-unread_soon = refl
+
+wrong-unread_late : reads_with 18 18 (of_wrong 24) ≡ []
+unfolding bursts_from with_byte before_pause up_to_byte tick_at kept spoiled verdict_of checked crc
+    byte_step bit_steps bit_step is_frame has_right_ending has_silence
+wrong-unread_late = refl
