@@ -8,3 +8,6 @@ pub mod Rising
 pub mod Packets
 pub mod Longer
 pub mod Worked
+pub mod Packing
+pub mod Delivering
+pub mod Deliveries

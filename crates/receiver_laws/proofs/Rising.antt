@@ -87,7 +87,7 @@ module _ (profile : Profile) (rules : Rules) where
         ⊎_elim
         (λ early. subst Q (sym (before-early m (note_of d (passed_with n)) notes early))
         (All-cons P (numbered_frame rules d n) (frames_in (notes_before m notes)) (each n refl)
-            rest))
+        rest))
         (λ late. subst Q (sym (before-late m (note_of d (passed_with n)) notes late)) rest)
         (cases_lt (note_tick profile rules d (passed_with n)) m)
     each-step s d notes (refused why) each rest =

@@ -14,8 +14,11 @@ use Rattle.link_format.specs.NumberedFrame.{NumberedFrame, numbers_of}
 
 -- the live bytes of a burst, with a number
 abbrev pub numbered_frame : Rules → Burst → ℕ → NumberedFrame
-numbered_frame rules d number = record { number = number; start = d.start;
-    frame = live_bytes rules d }
+numbered_frame rules d number = record {
+  number = number;
+  start = d.start;
+  frame = live_bytes rules d;
+}
 
 -- A packet stands on the link: from its start on the ticks of the frame, no two silent ones
 -- together, then a pause, and then the word of the number and the tag of number and frame.

@@ -1,12 +1,15 @@
 //! Laws of the receiver's definitions, for each link, whatever stands on it: what a device behind
-//! the receiver reads of its line, and how notes, frames and line go on as the link does.
+//! the receiver reads of its line, what passes, what an untouched link delivers, and how notes,
+//! frames and line go on as the link does.
 //!
 //! Each law is the contract of a function that does nothing. `specs/` has the statements, over
 //! whole lines, and `proofs/` has how they follow from the walk over the bursts of the link.
 #![tactic(auto)]
 
 mod laws;
+mod untouched;
 
 pub use laws::{
     device_reads_what_passed, longer_links, passed_frames_stand_on_the_link, whole_packets_pass,
 };
+pub use untouched::untouched_link_delivers_all;

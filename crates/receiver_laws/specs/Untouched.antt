@@ -1,0 +1,54 @@
+-- A link on which nothing is changed between a transmitter and a receiver, and a device's line
+-- whose frames are spaced so that all of them are sealed.
+use Rattle.std.specs.Prelude.{◌≡◌, ℕ, suc, ◌+◌, ◌-◌, ◌<◌, ◌≤◌, true, false, List, [], ◌∷◌, ◌++◌}
+use Rattle.std.specs.Prelude.{length}
+use Rattle.yasir_ticks.specs.Ticks.{silent}
+use Rattle.yasir_ticks.specs.Bursts.{Burst, bursts, end_of}
+use Rattle.yasir_ticks.specs.declared.TheConstants.{T3_5_TICKS}
+use Rattle.yasir_ticks.specs.declared.tick.Tick.{Tick}
+use Rattle.line_rules.specs.Rules.{Rules}
+use Rattle.frame_ending.specs.LiveBytes.{live_bytes, has_extra}
+use Rattle.link_format.specs.NumberedFrame.{NumberedFrame}
+use Rattle.link_format.specs.Profile.{Profile, pause_len, trailer_len, words, delay}
+use Rattle.seal_transmitter.specs.Sealing.{link_line, sealed}
+use Rattle.link_verdicts.specs.Checking.{received_line, passed}
+use Rattle.receiver_laws.specs.Standing.{numbered_frame}
+
+-- All bytes of each of these bursts are live and are a frame; and from tick n on, a pause, a
+-- trailer and the silence that ends a burst fit between each and the next one.
+abbrev pub AreSpaced : Profile → Rules → ℕ → List Burst → Type 0
+AreSpaced profile rules n [] = Unit {0}
+AreSpaced profile rules n (d ∷ ds) =
+    (n ≤ d.start) × (has_extra rules d ≡ false) × (rules.is_frame (live_bytes rules d) ≡ true)
+    × AreSpaced profile rules (end_of d + pause_len + trailer_len profile + T3_5_TICKS) ds
+
+-- the frames of these bursts, with the numbers after this floor, one after the other
+abbrev pub numbered : Rules → ℕ → List Burst → List NumberedFrame
+numbered rules floor [] = []
+numbered rules floor (d ∷ ds) = numbered_frame rules d (suc floor) ∷ numbered rules (suc floor) ds
+
+-- what the transmitter makes of this line and so many silent ticks after it, and then so many more
+abbrev pub untouched : Profile → Rules → ℕ → List Tick → ℕ → ℕ → List Tick
+untouched profile rules floor line more rest =
+    link_line profile rules floor (line ++ silent more) ++ silent rest
+
+-- A line whose frames are spaced, with numbers enough for all of them up to the limit, and so many
+-- silent ticks after it that the last trailer is sent; and a receiver whose floor isn't above the
+-- transmitter's, nor so far below it that words don't tell.
+pub record IsUntouched (profile : Profile) (rules : Rules) (floor behind : ℕ) (line : List Tick)
+    (more : ℕ) : Type 0 where
+  pub spaced : AreSpaced profile rules 0 (bursts line)
+  pub numbers : floor + length (bursts line) ≤ profile.limit
+  pub not_above : behind ≤ floor
+  pub near : floor < behind + words profile
+  pub silence : delay profile ≤ more
+
+-- All frames of the line are sealed and pass, and the receiver's line is the device's as late as
+-- the receiver is.
+pub record DeliversAll (profile : Profile) (rules : Rules) (floor behind : ℕ) (line : List Tick)
+    (more rest : ℕ) : Type 0 where
+  pub seals : sealed profile rules floor (line ++ silent more) ≡ numbered rules floor (bursts line)
+  pub passes : passed profile rules behind (untouched profile rules floor line more rest)
+      ≡ numbered rules floor (bursts line)
+  pub comes : received_line profile rules behind (untouched profile rules floor line more rest)
+      ≡ silent (delay profile) ++ (line ++ silent (more - delay profile + rest))
