@@ -3,11 +3,10 @@ use Rattle.std.proofs.Common.{◌≡◌, ◌∙◌, ℕ, zero, suc, ◌+◌, ◌
 use Rattle.std.proofs.Common.{true, false, List, [], ◌∷◌, ◌++◌, length, map, take, drop, replicate}
 use Rattle.std.proofs.Common.{refl, sym, ap, arith, ⊎_elim, Some, None, length-append}
 use Rattle.std.proofs.Common.{append_assoc, cond}
-use Rattle.std.proofs.Common.{add-one}
 use Rattle.std.specs.Int.{bytes_high_first}
 use Rattle.std.proofs.lemmas.Bool.{cases_Bool, cases_lt, cond-true, le-leb}
 use Rattle.std.proofs.lemmas.List.{drop-take, take-append-drop}
-use Rattle.std.proofs.Math.Nat.{mod-lt, mod-add-div', mul-le-mul_right, suc-mul, one-le-pow}
+use Rattle.std.proofs.Math.Nat.{mod-lt, mod-add-div', mul-le-mul_right, one-le-pow}
 use Rattle.std.proofs.Math.Seq.{drop-append_seam}
 use Rattle.yasir_ticks.specs.Ticks.{bytes_in, silent}
 use Rattle.yasir_ticks.specs.Bursts.{Burst}
@@ -22,7 +21,7 @@ use Rattle.link_format.specs.Profile.{trailer}
 use Rattle.link_format.specs.Profile.{words}
 use Rattle.link_format.proofs.Profiles.{length-trailer, word_of-trailer}
 use Rattle.sequence_journal.specs.Numbers.{IsLeastWith, least_with, full_of}
-use Rattle.sequence_journal.proofs.NumberLaws.{least-is}
+use Rattle.sequence_journal.proofs.NumberLaws.{whole-more, least-is}
 use Rattle.link_verdicts.specs.Shapes.{kept}
 use Rattle.link_verdicts.specs.Verdicts.{CheckState, after_live, kept_after, trailer_of, number_of}
 use Rattle.link_verdicts.specs.Verdicts.{tag_in, checked}
@@ -46,11 +45,6 @@ bytes_in-map [] = refl
 bytes_in-map (b ∷ bytes) = ap (λ y. b ∷ y) (bytes_in-map bytes)
 
 -- ---- numbers by their words
-
-whole-more : (m p q : ℕ) → p < q → p * m + m ≤ q * m
-whole-more m p q less =
-    let more : suc p * m ≤ q * m = mul-le-mul_right m (omega (arith, add-one p)) in
-    omega (arith, more, suc-mul p m)
 
 -- a number soon enough after the floor is the least one there with its word
 least-near : (m floor number : ℕ) → 0 < m → floor < number → number ≤ floor + m

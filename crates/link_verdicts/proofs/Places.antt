@@ -100,9 +100,6 @@ module _ (profile : Profile) (rules : Rules) (lawful : IsLawful rules) (headed :
 
   module _ (d : Burst) (m : ℕ) (begun : d.start < m) (within : end_of d ≤ m)
       (waits : m ≤ (checker profile rules).tick s d) where
-    abbrev late : Type 0
-    late = s.earliest_start ≤ d.start
-
     is_late : s.earliest_start ≤ d.start
     is_late = waits-late profile rules s d m begun within waits
 

@@ -106,41 +106,36 @@ module _ (profile : Profile) (rules : Rules) (lawful : IsLawful rules) (headed :
 
   -- ---- where all bytes so far are live, and one more is
 
+  open-parts : is_over ≡ false → ((has_pause d.body || nat_le 2 gap) ≡ false)
+      × (fills_room rules (live_bytes rules d) ≡ false)
+  open-parts open' = or_parts (has_pause d.body || nat_le 2 gap)
+      (fills_room rules (live_bytes rules d)) open'
+
   pub open-near : is_over ≡ false → m < end_of d + 2
   open-near open' =
-      let parts = or_parts (has_pause d.body || nat_le 2 gap)
-      (fills_room rules (live_bytes rules d))
-      open' in
+      let parts = open-parts open' in
       let few = leb-false 2 gap (or_parts (has_pause d.body) (nat_le 2 gap) parts.0).1 in
       let after = may.after in
       omega arith
 
   open-ticks : is_over ≡ false → live_ticks rules d ≡ d.body
   open-ticks open' =
-      let parts = or_parts (has_pause d.body || nat_le 2 gap)
-      (fills_room rules (live_bytes rules d))
-      open' in
+      let parts = open-parts open' in
       live_ticks-open rules lawful m b d within parts.0 parts.1
 
   pub open-bytes : is_over ≡ false → live_bytes rules longer ≡ live_bytes rules d ++ b ∷ []
   open-bytes open' =
-      let parts = or_parts (has_pause d.body || nat_le 2 gap)
-      (fills_room rules (live_bytes rules d))
-      open' in
+      let parts = open-parts open' in
       live-more m b d within rules lawful parts.0 parts.1
 
   pub open-end : is_over ≡ false → live_end rules longer ≡ m + 1
   open-end open' =
-      let parts = or_parts (has_pause d.body || nat_le 2 gap)
-      (fills_room rules (live_bytes rules d))
-      open' in
+      let parts = open-parts open' in
       end-more m b d within rules lawful parts.0 parts.1
 
   open-pause : is_over ≡ false → before_pause d.body ≡ d.body
   open-pause open' =
-      let parts = or_parts (has_pause d.body || nat_le 2 gap)
-      (fills_room rules (live_bytes rules d))
-      open' in
+      let parts = open-parts open' in
       let none = (or_parts (has_pause d.body) (nat_le 2 gap) parts.0).0 in
       let last = contiguous-ends 4 d.body may.contiguous in
       let P : List Tick → Type 0 = λ x. has_pause x ≡ false → before_pause x ≡ x in
@@ -148,9 +143,7 @@ module _ (profile : Profile) (rules : Rules) (lawful : IsLawful rules) (headed :
 
   pub open-longer : is_over ≡ false → before_pause longer.body ≡ longer.body
   open-longer open' =
-      let parts = or_parts (has_pause d.body || nat_le 2 gap)
-      (fills_room rules (live_bytes rules d))
-      open' in
+      let parts = open-parts open' in
       let last = contiguous-ends 4 d.body may.contiguous in
       let P : List Tick → Type 0 = λ x. (has_pause x || nat_le 2 gap) ≡ false
       → before_pause (x ++ (silent gap ++ Byte b ∷ [])) ≡ x ++ (silent gap ++ Byte b ∷ []) in

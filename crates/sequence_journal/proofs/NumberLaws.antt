@@ -16,7 +16,7 @@ rest-is m word r fits small = elim (cases_lt word r) [
 ]
 
 -- whole words grow with their count
-whole-more : (m p q : ℕ) → p < q → p * m + m ≤ q * m
+pub whole-more : (m p q : ℕ) → p < q → p * m + m ≤ q * m
 whole-more m p q lt =
     let more : suc p * m ≤ q * m = mul-le-mul_right m (omega (arith, add-one p)) in
     omega (arith, more, suc-mul p m)
