@@ -13,8 +13,8 @@ const BURSTS: usize = 100;
 /// A slot that holds number 0.
 const AT_0: u128 = 0x0000000000000000_ffffffffffffffff;
 
-// The first write of ticks comes as 4,096 bytes of them wait. It fails here, as if the program were killed then: the log has
-// the notes of all the trailers that wait with them.
+// The first write of ticks comes as 4,096 bytes of them wait. It fails here, as if the program were
+// killed then: the log has the notes of all the trailers that wait with them.
 #[test]
 fn notes_go_to_the_log_before_ticks_go_out(rt: HostRuntime) -> Result<(), Fail> {
     let mut text = Vec::new(rt.alloc());
