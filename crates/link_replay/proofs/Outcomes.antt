@@ -1,5 +1,6 @@
 -- Right words, right input and no fault outside give `Done`, whatever the command is.
-use Rattle.std.proofs.Common.{◌≡◌, ◌∙◌, ℕ, ◌≤◌, List, [], Option, Some, None, IfSome, inl, inr, refl, sym, ap, subst, arith}
+use Rattle.std.proofs.Common.{◌≡◌, ◌∙◌, ℕ, ◌≤◌, List, [], Option, Some, None, IfSome, inl, inr}
+use Rattle.std.proofs.Common.{refl, sym, ap, subst, arith}
 use Rattle.yasir_io.specs.declared.source.Source.{Ghosts as Source}
 use Rattle.yasir_io.specs.declared.sink.Sink.{Ghosts as Sink}
 use Rattle.yasir_io.specs.declared.disk.SlotDisk.{Ghosts as SlotDisk}
@@ -15,7 +16,8 @@ use Rattle.link_replay.specs.ReadCommand.{device_reads}
 use Rattle.link_replay.specs.VectorsCommand.{PrintsTables}
 use Rattle.link_replay.specs.SealCommand.{seal_boxed, seal_rest}
 use Rattle.replay_status.specs.declared.status.Status.{Status}
-use Rattle.replay_status.specs.declared.status.Status.TheVariants.{Done, WriteFault, JournalFault, HasJournal}
+use Rattle.replay_status.specs.declared.status.Status.TheVariants.{Done, WriteFault, JournalFault}
+use Rattle.replay_status.specs.declared.status.Status.TheVariants.{HasJournal}
 use Rattle.link_replay.specs.declared.words.Command.{Command}
 use Rattle.link_replay.specs.declared.words.Command.TheVariants.{Init, Read, Vectors, Seal}
 use Rattle.replay_status.proofs.Logging.{sinks_after}
@@ -30,7 +32,8 @@ module _ (key0 key1 in0 in1 out0 out1 log0 log1 disk0 disk1 : ℕ)
   journal_done old new images_old images_new Done blank h sinks disk = refl
   journal_done old new images_old images_new WriteFault blank h sinks disk =
       elim sinks [ inl out ↦ absurd (calm.out out) | inr log ↦ absurd (calm.log log) ]
-  journal_done old new images_old images_new JournalFault blank h sinks disk = absurd (calm.disk disk)
+  journal_done old new images_old images_new JournalFault blank h sinks disk =
+      absurd (calm.disk disk)
   journal_done old new images_old images_new (HasJournal floor) blank h sinks disk =
       let stands : floor_of blank.0 ≡ Some floor =
       subst (λ told. IfSome told (λ slots. floor_of slots ≡ Some floor)) blank.1 h.stands in
@@ -39,7 +42,8 @@ module _ (key0 key1 in0 in1 out0 out1 log0 log1 disk0 disk1 : ℕ)
   journal_done old new images_old images_new status blank h sinks disk = absurd h
 
   tables_done : (out_before out_now : Option (List ℕ)) (status : Status)
-      → PrintsTables out_before out_now status → SinkCause out0 out1 log0 log1 status → status ≡ Done
+      → PrintsTables out_before out_now status → SinkCause out0 out1 log0 log1 status
+      → status ≡ Done
   tables_done out_before out_now Done h sinks = refl
   tables_done out_before out_now WriteFault h sinks =
       elim sinks [ inl out ↦ absurd (calm.out out) | inr log ↦ absurd (calm.log log) ]
@@ -50,7 +54,8 @@ rose-then a b c rose le = omega (arith, rose, le)
 
 module _ {K S O L D : Type 0} (k : Source K) (s : Source S) (o : Sink O) (l : Sink L)
     (d : SlotDisk D) where
-  own-after : (asked : Option Command) (before after : Outside K S O L D) (noted : L) (status : Status)
+  own-after : (asked : Option Command) (before after : Outside K S O L D) (noted : L)
+      (status : Status)
       → HasOwnCauses k s o l d asked before (record after { log = noted }) status
       → HasOwnCauses k s o l d asked before after status
   own-after (Some (Seal proto dir)) before after noted status h = h
@@ -67,18 +72,21 @@ module _ {K S O L D : Type 0} (k : Source K) (s : Source S) (o : Sink O) (l : Si
   causes_after asked before after noted status h rises same = record {
     reads = h.reads;
     sinks = sinks_after (o.faults before.out) (o.faults after.out) (l.faults before.log)
-        (l.faults noted) (l.faults after.log) status h.sinks rises (λ empty. ap l.faults (same empty));
+        (l.faults noted) (l.faults after.log) status h.sinks rises
+        (λ empty. ap l.faults (same empty));
     own = own-after asked before after noted status h.own;
   }
 
   -- no count had risen before the fault line
-  pub calm_before : (before after : Outside K S O L D) (noted : L) → l.faults noted ≤ l.faults after.log
+  pub calm_before : (before after : Outside K S O L D) (noted : L)
+      → l.faults noted ≤ l.faults after.log
       → IsCalm k s o l d before after → IsCalm k s o l d before (record after { log = noted })
   calm_before before after noted rises calm = record {
     key = calm.key;
     input = calm.input;
     out = calm.out;
-    log = λ rose. calm.log (rose-then (l.faults before.log) (l.faults noted) (l.faults after.log) rose rises);
+    log = λ rose. calm.log (rose-then (l.faults before.log) (l.faults noted) (l.faults after.log)
+        rose rises);
     disk = calm.disk;
   }
 
@@ -88,7 +96,8 @@ module _ {K S O L D : Type 0} (k : Source K) (s : Source S) (o : Sink O) (l : Si
       → status ≡ Done
   asked_done None before after status may calm does causes = absurd may
   asked_done (Some Init) before after status may calm does causes =
-      journal_done _ _ _ _ _ _ _ _ _ _ calm _ _ _ _ status may does.journal causes.sinks causes.own.1
+      journal_done _ _ _ _ _ _ _ _ _ _ calm _ _ _ _ status may does.journal causes.sinks
+      causes.own.1
   asked_done (Some (Read proto)) before after status may calm does causes =
       readable_done (device_reads proto) _ _ _ _ _ _ _ _ _ _ _ _ _ _ may calm status
       does.frames causes.own.0 causes.sinks

@@ -7,7 +7,8 @@ use Rattle.yasir_io.specs.declared.disk.Slot.TheVariants.{B}
 use Rattle.yasir_io.specs.Disks.{LeavesOnly}
 use Rattle.sequence_journal.specs.Journal.{IsBeside}
 use Rattle.replay_status.specs.Outside.{Outside}
-use Rattle.replay_status.specs.Causes.{InputCause, ReadsCause, SinkCause, DiskCause, LogsFault, NoneRose}
+use Rattle.replay_status.specs.Causes.{InputCause, ReadsCause, SinkCause, DiskCause, LogsFault}
+use Rattle.replay_status.specs.Causes.{NoneRose}
 use Rattle.link_replay.specs.InitCommand.{Inits, IsBlank}
 use Rattle.replay_status.specs.Readable.{IsReadable}
 use Rattle.link_replay.specs.ReadCommand.{Reads}
@@ -36,7 +37,8 @@ module _ {K S O L D : Type 0} (k : Source K) (s : Source S) (o : Sink O) (l : Si
   Does (Some Vectors) before after status = Tabulates o l before after status
   Does (Some (Seal proto dir)) before after status = Seals k s o l d proto dir before after status
 
-  -- What a run does: what was asked for, and then the fault line in the log, where the status has one.
+  -- What a run does: what was asked for, and then the fault line in the log, where the status has
+  -- one.
   pub record Runs (asked : Option Command) (before after : Outside K S O L D) (status : Status)
       : Type 0 where
     -- the log as the command left it

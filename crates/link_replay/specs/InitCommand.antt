@@ -8,16 +8,19 @@ use Rattle.sequence_journal.specs.Slots.{slot_bytes, floor_of}
 use Rattle.sequence_journal.specs.Journal.{told_with, MaySet}
 use Rattle.replay_status.specs.Outside.{Outside}
 use Rattle.replay_status.specs.declared.status.Status.{Status}
-use Rattle.replay_status.specs.declared.status.Status.TheVariants.{Done, WriteFault, JournalFault, HasJournal}
+use Rattle.replay_status.specs.declared.status.Status.TheVariants.{Done, WriteFault, JournalFault}
+use Rattle.replay_status.specs.declared.status.Status.TheVariants.{HasJournal}
 
--- Neither slot held a number; slot A holds number 0, slot B is as it was, and a crash leaves just this.
+-- Neither slot held a number; slot A holds number 0, slot B is as it was, and a crash leaves just
+-- this.
 pub record IsNewJournal (old new : Option Slots) (may_leave : Slots → Type 0) : Type 0 where
   pub none : IfSome old (λ slots. floor_of slots ≡ None)
   pub set : new ≡ told_with old A (slot_bytes 0)
   pub synced : OneImage new may_leave
 
 -- A slot holds a number, the greater one is the floor, and nothing is written.
-pub record IsOldJournal (old new : Option Slots) (may_leave_old may_leave_new : Slots → Type 0) (floor : ℕ) : Type 0 where
+pub record IsOldJournal (old new : Option Slots) (may_leave_old may_leave_new : Slots → Type 0)
+    (floor : ℕ) : Type 0 where
   pub stands : IfSome old (λ slots. floor_of slots ≡ Some floor)
   pub same : new ≡ old
   pub images : NoMore may_leave_old may_leave_new
@@ -37,12 +40,20 @@ MakesJournal old new may_leave_old may_leave_new status = ⊥
 abbrev pub IsBlank : Option Slots → Type 0
 IsBlank told = (slots : Slots) × (told ≡ Some slots) × (floor_of slots ≡ None)
 
+-- A journal that is made flushes the sinks, and a refusal leaves them as they were.
+abbrev pub LeavesSinks : {O L : Type 0} → Sink O → Sink L → O → O → L → L → Status → Type 0
+LeavesSinks o l out_before out_now log_before log_now Done =
+    (o.held out_now ≡ o.held out_before) × (l.held log_now ≡ l.held log_before)
+LeavesSinks o l out_before out_now log_before log_now WriteFault =
+    (o.held out_now ≡ o.held out_before) × (l.held log_now ≡ l.held log_before)
+LeavesSinks o l out_before out_now log_before log_now status =
+    (out_now ≡ out_before) × (log_now ≡ log_before)
+
 -- What `init` does: the sinks get nothing but a flush, and neither the key nor the input is read.
 pub record Inits {K S O L D : Type 0} (o : Sink O) (l : Sink L) (d : SlotDisk D)
     (before after : Outside K S O L D) (status : Status) : Type 0 where
   pub journal : MakesJournal (d.told before.disk) (d.told after.disk)
       (d.may_leave before.disk) (d.may_leave after.disk) status
-  pub out : o.held after.out ≡ o.held before.out
-  pub log : l.held after.log ≡ l.held before.log
+  pub sinks : LeavesSinks o l before.out after.out before.log after.log status
   pub key : after.key ≡ before.key
   pub input : after.input ≡ before.input

@@ -16,7 +16,8 @@ use Rattle.seal_replay.specs.SealBoxed.{sealing}
 use Rattle.link_replay.specs.declared.words.Proto.{Proto}
 use Rattle.link_replay.specs.declared.words.Proto.TheVariants.{Rtu}
 
--- How many silent ticks stand behind a whole input: they close its last burst and carry the trailer.
+-- How many silent ticks stand behind a whole input: they close its last burst and carry the
+-- trailer.
 abbrev pub seal_rest : ℕ
 seal_rest = 24
 

@@ -74,9 +74,10 @@ fn asked_by(words: &[String]) -> Option<Command>
     }
 }
 
-/// The program: reads its words, those after the program's name, and does what they ask for. No memory is taken.
+/// The program: reads its words, those after the program's name, and does what they ask for. No
+/// memory is taken.
 pub fn run<K: Source, S: Source, O: Sink, L: Sink, D: SlotDisk>(
-    alloc: Global,
+    _alloc: Global,
     words: &[String],
     key: &mut K,
     input: &mut S,
@@ -111,7 +112,6 @@ pub fn run<K: Source, S: Source, O: Sink, L: Sink, D: SlotDisk>(
         (outside key.old input.old out.old log.old disk.old)
         (outside key.new input.new out.new log.new disk.new) result }
 {
-    let _ = alloc;
     let asked = asked_by(words);
     let status = answer(asked, key, input, out, log, disk);
     write_fault(log, &status);

@@ -147,7 +147,8 @@ fn finds_the_paths_among_the_words(rt: HostRuntime) -> Result<(), Fail> {
     Ok(())
 }
 
-/// Words, the slots before, and what comes of them over the key and the input below, where calls of the output and the disk fail.
+/// Words, the slots before, and what comes of them over the key and the input below, where calls of
+/// the output and the disk fail.
 #[derive(Clone, Copy, Drop)]
 struct Row {
     words: &'static [&'static str],

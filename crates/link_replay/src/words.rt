@@ -3,7 +3,8 @@ ghost use Rattle.std.specs.String.{string_bytes};
 ghost use Rattle.hmac_tag.specs.declared.dir.Dir.{Dir};
 ghost use Rattle.link_replay.specs.declared.words.Proto.{Proto};
 ghost use Rattle.link_replay.specs.declared.words.Command.{Command};
-ghost use Rattle.link_replay.specs.Words.{IsCommand, Asks, proto_word, dir_word, key_place, journal_place};
+ghost use Rattle.link_replay.specs.Words.{IsCommand, Asks, proto_word, dir_word, key_place};
+ghost use Rattle.link_replay.specs.Words.{journal_place};
 
 use hmac_tag::Dir;
 
@@ -69,7 +70,8 @@ fn read_one(word: &str) -> Result<Command, Usage>
 // The command of two words.
 fn read_two(first: &str, second: &str) -> Result<Command, Usage>
     ensures ok { IfOk result (λ command. IsCommand (first.now ∷ second.now ∷ []) command) }
-    ensures usage { OnErr result ((command : Command) → IsCommand (first.now ∷ second.now ∷ []) command → ⊥) }
+    ensures usage { OnErr result ((command : Command)
+        → IsCommand (first.now ∷ second.now ∷ []) command → ⊥) }
 {
     if first == "init" {
         return read_init(first, second);
@@ -87,7 +89,8 @@ fn read_two(first: &str, second: &str) -> Result<Command, Usage>
 fn read_init(first: &str, path: &str) -> Result<Command, Usage>
     requires { first.now ≡ codes "init" }
     ensures ok { IfOk result (λ command. IsCommand (first.now ∷ path.now ∷ []) command) }
-    ensures usage { OnErr result ((command : Command) → IsCommand (first.now ∷ path.now ∷ []) command → ⊥) }
+    ensures usage { OnErr result ((command : Command)
+        → IsCommand (first.now ∷ path.now ∷ []) command → ⊥) }
 {
     if path.is_empty() {
         Err(Usage)
@@ -143,7 +146,8 @@ pub fn read_words(words: &[String]) -> Result<Command, Usage>
     }
 }
 
-/// The place of the word that is the key file's path, counted from 0; none where the words have none.
+/// The place of the word that is the key file's path, counted from 0; none where the words have
+/// none.
 pub fn key_word(words: &[String]) -> Option<usize>
     ensures place { (command : Command) → IsCommand (map string_bytes words.now) command
         → result ≡ key_place command }
@@ -156,7 +160,8 @@ pub fn key_word(words: &[String]) -> Option<usize>
     }
 }
 
-/// The place of the word that is the journal's path, counted from 0; none where the words have none.
+/// The place of the word that is the journal's path, counted from 0; none where the words have
+/// none.
 pub fn journal_word(words: &[String]) -> Option<usize>
     ensures place { (command : Command) → IsCommand (map string_bytes words.now) command
         → result ≡ journal_place command }
@@ -170,7 +175,8 @@ pub fn journal_word(words: &[String]) -> Option<usize>
     }
 }
 
-/// Whether a journal's file that is missing is made: by the command that makes a journal, and by no other.
+/// Whether a journal's file that is missing is made: by the command that makes a journal, and by no
+/// other.
 pub fn makes_journal(words: &[String]) -> bool
     ensures { IsTrue result ↔ IsCommand (map string_bytes words.now) Command.Init }
 {

@@ -1,4 +1,5 @@
-//! Tests of the libraries under the program: recorded lines as a device reads them, and as the transmitter seals them.
+//! Tests of the libraries under the program: recorded lines as a device reads them, and as the
+//! transmitter seals them.
 #![tactic(auto)]
 
 #[cfg(test)]

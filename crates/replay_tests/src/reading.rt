@@ -164,7 +164,8 @@ fn with_millions(alloc: Global, before: &[u8], behind: &[u8]) -> Result<Vec<u8>,
 #[test]
 fn takes_as_many_ticks_as_the_limit(rt: HostRuntime) -> Result<(), Fail> {
     let request: &[u8] = b"+01030000000ac5cd\n";
-    // what stands before and behind the silence, the sum that is too much, fault line, lines printed
+    // what stands before and behind the silence, the sum that is too much, fault line, lines
+    // printed
     let rows: [(&[u8], &[u8], u64, &[u8], &[u8]); 2] = [
         (
             b"",

@@ -128,8 +128,9 @@ const WHOLE: Row = Row {
     slots_now: (AT_0, AT_1),
 };
 
-// Each tag is HMAC-SHA-1 by openssl, under the key 00 01 .. 0f, of the protocol's byte 01, the direction's byte (00 for ab,
-// 01 for ba), the frame and the number as eight bytes, cut to 24 digits. For number 1 of 01030000000ac5cd:
+// Each tag is HMAC-SHA-1 by openssl, under the key 00 01 .. 0f, of the protocol's byte 01, the
+// direction's byte (00 for ab, 01 for ba), the frame and the number as eight bytes, cut to 24
+// digits. For number 1 of 01030000000ac5cd:
 //   printf 010001030000000ac5cd0000000000000001 | xxd -r -p
 //     | openssl dgst -sha1 -mac HMAC -macopt hexkey:000102030405060708090a0b0c0d0e0f | cut -c1-24
 const SEALED: [Row; 10] = [
@@ -246,7 +247,8 @@ const THREE_NOTES: [&[u8]; 4] = [
     b"sealed 1 at 0 len 8\nsealed 2 at 29 len 8\nsealed 3 at 58 len 8\n",
 ];
 
-/// What is answered of three frames up to the closing tick of the first, the second and the third, and up to the end.
+/// What is answered of three frames up to the closing tick of the first, the second and the third,
+/// and up to the end.
 const ONE_CLOSED: &[u8] = b"+01030000000ac5cd\n-3\n";
 
 const TWO_CLOSED: &[u8] =
@@ -258,7 +260,8 @@ const THREE_CLOSED: &[u8] =
 const THREE_SEALED: &[u8] =
     b"+01030000000ac5cd\n-3\n+0001014c5b8d33c6d29a347013b0\n-4\n+010300000001840a\n-3\n+0002ee5b1d1d6fc159af2411aeb5\n-4\n+1103006b00037687\n-3\n+00037f89dbbfa5b4b19474035c96\n-7\n";
 
-/// The call of the disk that fails, what is answered, which of the notes are written, and the floor that a later run loads.
+/// The call of the disk that fails, what is answered, which of the notes are written, and the floor
+/// that a later run loads.
 const DISK_FAULTS: [(&[u32], &[u8], usize, u64); 9] = [
     (&[1], b"", 0, 0),
     (&[2], b"", 0, 0),

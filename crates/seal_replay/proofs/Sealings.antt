@@ -1,5 +1,6 @@
 -- What a step of the transmitter answers, as a step of a box.
-use Rattle.std.proofs.Common.{◌≡◌, ◌∙◌, ℕ, ◌+◌, ◌≤◌, List, [], ◌∷◌, ◌++◌, length, Option, Some, None, IfSome, refl, ap, subst, sym, arith, append-nil}
+use Rattle.std.proofs.Common.{◌≡◌, ◌∙◌, ℕ, ◌+◌, ◌≤◌, List, [], ◌∷◌, ◌++◌, length, Option, Some}
+use Rattle.std.proofs.Common.{None, IfSome, refl, ap, subst, sym, arith, append-nil}
 use Rattle.std.specs.List.{flat_map, filter_map}
 use Rattle.std.proofs.lemmas.Grind.{flat_map-append}
 use Rattle.std.proofs.lemmas.List.Elements.{filter_map-append}
@@ -41,32 +42,45 @@ module _ (profile : Profile) (rules : Rules) (floor : ℕ) (line : List Tick) (t
       record {
         tick_is = answers.tick;
         note_is = ap (flat_map f) answers.note
-            ∙ (flat_map-append f (told_notes brief_note (seal_notes profile rules floor line)) (note_in (length line) step.note)
-            ∙ ap (λ l. seal_lines (seal_notes profile rules floor line) ++ l) (line_of_step (length line) step.note));
+            ∙ (flat_map-append f (told_notes brief_note (seal_notes profile rules floor line))
+            (note_in (length line) step.note)
+            ∙ ap (λ l. seal_lines (seal_notes profile rules floor line) ++ l)
+            (line_of_step (length line) step.note));
       }
 
   number-next : (number : ℕ) → SealsWith profile rules floor line t number
       → last_number floor (sealed profile rules floor (line ++ t ∷ [])) ≡ number
   number-next number seals =
-      let f : NumberedFrame = record { number = number; start = seals.start; frame = seals.frame } in
+      let f : NumberedFrame = record {
+        number = number;
+        start = seals.start;
+        frame = seals.frame;
+      } in
       ap (λ notes. last_number floor (filter_map (λ n. sealed_in n.note) notes)) seals.note
-      ∙ (ap (last_number floor) (filter_map-append (λ n. sealed_in n.note) (seal_notes profile rules floor line)
+      ∙ (ap (last_number floor) (filter_map-append (λ n. sealed_in n.note)
+      (seal_notes profile rules floor line)
       (record { tick = length line; note = sealed_note number seals.start seals.frame } ∷ []))
       ∙ last_number-more floor (sealed profile rules floor line) f)
 
   pub sealing-fails : (last : ℕ) (told : Option Slots)
       → last ≡ last_number floor (sealed profile rules floor line)
-      → SealsWith profile rules floor line t (last + 1) → IfSome told (IsEitherFloor last (last + 1))
+      → SealsWith profile rules floor line t (last + 1)
+      → IfSome told (IsEitherFloor last (last + 1))
       → FailsBox (sealing profile rules floor) line t told
   sealing-fails last told is seals either =
-      let next : last_number floor (sealed profile rules floor (line ++ t ∷ [])) ≡ last + 1 = number-next (last + 1) seals in
-      let P : ℕ → Type 0 = λ a. IfSome told (IsEitherFloor a (last_number floor (sealed profile rules floor (line ++ t ∷ [])))) in
+      let next : last_number floor (sealed profile rules floor (line ++ t ∷ [])) ≡ last + 1 =
+      number-next (last + 1) seals in
+      let P : ℕ → Type 0 = λ a. IfSome told
+      (IsEitherFloor a (last_number floor (sealed profile rules floor (line ++ t ∷ [])))) in
       let Q : ℕ → Type 0 = λ b. IfSome told (IsEitherFloor last b) in
       record { uses = omega arith; floor_told = subst P is (subst Q (sym next) either) }
 
 -- a step doesn't lower the journal's floor
-pub commits-rise : {D : Type 0} (d : SlotDisk D) (old new : Journal) (disk_old disk_new : D) (note : Option SealNote)
+pub commits-rise : {D : Type 0} (d : SlotDisk D) (old new : Journal) (disk_old disk_new : D)
+    (note : Option SealNote)
     → CommitsNoted d old new disk_old disk_new note → journal_floor old ≤ journal_floor new
 commits-rise d old new disk_old disk_new None h = omega (arith, ap journal_floor h.0)
-commits-rise d old new disk_old disk_new (Some (Unsealed start why)) h = omega (arith, ap journal_floor h.0)
-commits-rise d old new disk_old disk_new (Some (Sealed number start len)) h = omega (arith, h.1.above, h.1.floor)
+commits-rise d old new disk_old disk_new (Some (Unsealed start why)) h =
+    omega (arith, ap journal_floor h.0)
+commits-rise d old new disk_old disk_new (Some (Sealed number start len)) h =
+    omega (arith, h.1.above, h.1.floor)

@@ -13,5 +13,6 @@ unsealed_word Spent = codes " spent\n"
 -- `sealed N at S len L`, or `unsealed at S WHY`
 abbrev pub seal_line : SealNote → List ℕ
 seal_line (Sealed number start len) =
-    codes "sealed " ++ decimal number ++ codes " at " ++ decimal start ++ codes " len " ++ decimal len ++ codes "\n"
+    codes "sealed " ++ decimal number ++ codes " at " ++ decimal start ++ codes " len "
+    ++ decimal len ++ codes "\n"
 seal_line (Unsealed start why) = codes "unsealed at " ++ decimal start ++ unsealed_word why

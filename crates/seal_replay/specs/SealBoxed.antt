@@ -19,7 +19,8 @@ use Rattle.seal_replay.specs.NoteLines.{seal_line}
 abbrev pub seal_lines : List (Noted FullNote) → List ℕ
 seal_lines notes = flat_map (λ n. seal_line n.note) (told_notes brief_note notes)
 
--- what the transmitter of a profile and a protocol makes of a line, whose journal begins at this floor
+-- what the transmitter of a profile and a protocol makes of a line, whose journal begins at this
+-- floor
 abbrev pub sealing : Profile → Rules → ℕ → Boxed
 sealing profile rules floor = record {
   other_line = λ line. link_line profile rules floor line;

@@ -26,7 +26,8 @@ use Rattle.seal_transmitter.proofs.Numbers.{sealed-numbered, sealed-extends}
 use Rattle.box_replay.specs.Boxes.{IsBoxed}
 use Rattle.seal_replay.specs.SealBoxed.{sealing, sealing_by}
 
--- frames with the numbers after a floor, one after the other: the last number is as far above it as there are frames
+-- frames with the numbers after a floor, one after the other: the last number is as far above it as
+-- there are frames
 counted : (floor : ℕ) (frames : List NumberedFrame)
     → numbers_of frames ≡ range_with_len (floor + 1) (length frames)
     → last_number floor frames ≡ floor + length frames
@@ -39,7 +40,8 @@ counted floor (f ∷ frames) are =
 
 -- then they rise from it
 rise-counted : (floor : ℕ) (frames : List NumberedFrame)
-    → numbers_of frames ≡ range_with_len (floor + 1) (length frames) → RiseFrom floor (numbers_of frames)
+    → numbers_of frames ≡ range_with_len (floor + 1) (length frames)
+    → RiseFrom floor (numbers_of frames)
 rise-counted floor [] are = tt
 rise-counted floor (f ∷ frames) are =
     let first : f.number ≡ floor + 1 = cc in
@@ -56,7 +58,8 @@ last_from-frames floor (f ∷ frames) = last_from-frames f.number frames
 
 module _ (profile : Profile) (rules : Rules) (lawful : IsLawful rules) (floor : ℕ) where
   number-counts : (line : List Tick)
-      → last_number floor (sealed profile rules floor line) ≡ floor + length (sealed profile rules floor line)
+      → last_number floor (sealed profile rules floor line)
+      ≡ floor + length (sealed profile rules floor line)
   number-counts line = counted floor (sealed profile rules floor line)
       (sealed-numbered profile rules lawful floor line).numbers
 
@@ -64,7 +67,8 @@ module _ (profile : Profile) (rules : Rules) (lawful : IsLawful rules) (floor : 
       → last_number floor (sealed profile rules floor line)
       ≤ last_number floor (sealed profile rules floor (line ++ more))
   number-rises line more =
-      let longer : Begins (sealed profile rules floor line) (sealed profile rules floor (line ++ more)) =
+      let longer : Begins (sealed profile rules floor line)
+      (sealed profile rules floor (line ++ more)) =
       sealed-extends profile rules lawful floor line more in
       let long : length (sealed profile rules floor (line ++ more))
       ≡ length (sealed profile rules floor line) + length longer.rest =
@@ -86,12 +90,15 @@ module _ (profile : Profile) (rules : Rules) (lawful : IsLawful rules) (floor : 
 
 module _ {R M : Type 0} (proto : LineRules R) (code : Mac M) where
   -- what it makes of a line is what a box makes of it
-  pub seals-boxed : (word_len : ℕ) (setup : Setup) → IsBoxed (sealing_by proto code word_len setup) setup.floor
+  pub seals-boxed : (word_len : ℕ) (setup : Setup)
+      → IsBoxed (sealing_by proto code word_len setup) setup.floor
   seals-boxed word_len setup =
-      sealing-boxed (profile_of proto code word_len LIMIT setup) proto.rules proto.lawful setup.floor
+      sealing-boxed (profile_of proto code word_len LIMIT setup) proto.rules proto.lawful
+      setup.floor
 
   -- the journal's floor is the number of the last frame that it sealed
-  pub seals-floor : {B : ℕ} (value : Sealer R M B) (journal : Journal) (setup : Setup) (line : List Tick)
+  pub seals-floor : {B : ℕ} (value : Sealer R M B) (journal : Journal) (setup : Setup)
+      (line : List Tick)
       → StandsFor proto code value journal setup line
       → journal_floor journal ≡ (sealing_by proto code B setup).number line
   seals-floor {B = B} value journal setup line stands = number-is proto code B setup line

@@ -42,8 +42,8 @@ fn unsealed_line(start: u64, why: UnsealedWhy) -> NoteLine
     line
 }
 
-/// The line of a note of the transmitter, LF included. The longest has 7 bytes, three numbers of up to 20 digits, 9 bytes between
-/// them and an LF.
+/// The line of a note of the transmitter, LF included. The longest has 7 bytes, three numbers of up
+/// to 20 digits, 9 bytes between them and an LF.
 pub fn note_line(note: SealNote) -> NoteLine
     ensures { result.items ≡ seal_line note }
 {

@@ -2,7 +2,7 @@ ghost use Rattle.std.specs.Prelude.{◌≡◌};
 ghost use Rattle.yasir_io.specs.declared.disk.Slot.TheVariants.{B};
 ghost use Rattle.yasir_io.specs.Disks.{LeavesOnly};
 ghost use Rattle.sequence_journal.specs.Journal.{IsBeside};
-ghost use Rattle.link_replay.specs.InitCommand.{MakesJournal};
+ghost use Rattle.link_replay.specs.InitCommand.{MakesJournal, LeavesSinks};
 ghost use Rattle.replay_status.specs.Causes.{SinkCause, DiskCause};
 
 use replay_status::{Status, flush_both};
@@ -11,11 +11,13 @@ use yasir_io::{Sink, SlotDisk};
 
 /// Makes a new journal at floor 0, where none stands.
 pub fn make_journal<O: Sink, L: Sink, D: SlotDisk>(out: &mut O, log: &mut L, disk: &mut D) -> Status
-    ensures journal { MakesJournal (D.told disk.old) (D.told disk.new) (D.may_leave disk.old) (D.may_leave disk.new) result }
-    ensures any_moment { LeavesOnly D.moment D.left_since disk.old disk.new (IsBeside B (D.may_leave disk.old)) }
-    ensures out { O.held out.new ≡ O.held out.old }
-    ensures log { L.held log.new ≡ L.held log.old }
-    ensures sinks { SinkCause (O.faults out.old) (O.faults out.new) (L.faults log.old) (L.faults log.new) result }
+    ensures journal { MakesJournal (D.told disk.old) (D.told disk.new) (D.may_leave disk.old)
+        (D.may_leave disk.new) result }
+    ensures any_moment { LeavesOnly D.moment D.left_since disk.old disk.new
+        (IsBeside B (D.may_leave disk.old)) }
+    ensures untouched { LeavesSinks O.Sink L.Sink out.old out.new log.old log.new result }
+    ensures sinks { SinkCause (O.faults out.old) (O.faults out.new) (L.faults log.old)
+        (L.faults log.new) result }
     ensures disk { DiskCause (D.faults disk.old) (D.faults disk.new) result }
 {
     match Journal::init(disk) {

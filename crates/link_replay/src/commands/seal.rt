@@ -12,7 +12,8 @@ use rtu_frame::Rtu;
 use seal_replay::SealBox;
 use yasir_io::{Sink, SlotDisk, Source};
 
-/// How many silent ticks stand behind a whole input, so that its last burst is closed and its trailer leaves.
+/// How many silent ticks stand behind a whole input, so that its last burst is closed and its
+/// trailer leaves.
 const REST: u32 = 24;
 
 /// Seals the frames of a recorded line of a device, with words of two bytes and tags by HMAC-SHA-1.

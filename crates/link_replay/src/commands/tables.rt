@@ -46,7 +46,8 @@ fn table_lines() -> Line
 pub fn print_tables<O: Sink, L: Sink>(out: &mut O, log: &mut L) -> Status
     ensures tables { PrintsTables (O.held out.old) (O.held out.new) result }
     ensures log { L.held log.new ≡ L.held log.old }
-    ensures sinks { SinkCause (O.faults out.old) (O.faults out.new) (L.faults log.old) (L.faults log.new) result }
+    ensures sinks { SinkCause (O.faults out.old) (O.faults out.new) (L.faults log.old)
+        (L.faults log.new) result }
 {
     match write_all(out, table_lines().as_slice()) {
         Ok(()) => flush_both(out, log),

@@ -11,41 +11,57 @@ use Rattle.link_replay.proofs.program.run.Goals as goal
 
 pub returns-clause-usage : goal.returns-clause-usage
 returns-clause-usage g c = (
-  λ is. subst (Asks (map string_bytes c.args.words.now)) (c.answer-status.ensures.usage.0 is) c.asked_by-asked.ensures,
+  λ is. subst (Asks (map string_bytes c.args.words.now)) (c.answer-status.ensures.usage.0 is)
+      c.asked_by-asked.ensures,
   λ none. c.answer-status.ensures.usage.1 (asks-one _ _ _ c.asked_by-asked.ensures none),
 )
 
 pub returns-clause-runs : goal.returns-clause-runs
 returns-clause-runs g c = λ asked asks.
     let same = asks-one _ _ _ c.asked_by-asked.ensures asks in
-    let before = outside c.args.key.now c.args.input.now c.args.out.now c.args.log.now c.args.disk.now in
-    let after = outside c.answer-status.new.key c.answer-status.new.input c.answer-status.new.out c.write_fault.new.log c.answer-status.new.disk in
-    subst (λ a. Runs g.K.Source g.S.Source g.O.Sink g.L.Sink g.D.SlotDisk a before after c.answer-status.result) same (record {
+    let before = outside c.args.key.now c.args.input.now c.args.out.now c.args.log.now
+    c.args.disk.now in
+    let after = outside c.answer-status.new.key c.answer-status.new.input c.answer-status.new.out
+    c.write_fault.new.log c.answer-status.new.disk in
+    subst (λ a. Runs g.K.Source g.S.Source g.O.Sink g.L.Sink g.D.SlotDisk a before after
+    c.answer-status.result) same (record {
       noted = c.answer-status.new.log;
       does = c.answer-status.ensures.does;
-      faults = logs-from _ _ _ _ _ _ _ c.answer-status.result c.answer-status.ensures.causes.sinks c.write_fault.ensures.logs;
+      faults = logs-from _ _ _ _ _ _ _ c.answer-status.result c.answer-status.ensures.causes.sinks
+          c.write_fault.ensures.logs;
     })
 
 pub returns-clause-any_moment : goal.returns-clause-any_moment
 returns-clause-any_moment g c = λ asked asks.
-    subst (λ a. KeepsDisk g.D.SlotDisk a c.args.disk.now c.answer-status.new.disk) (asks-one _ _ _ c.asked_by-asked.ensures asks) c.answer-status.ensures.any_moment
+    subst (λ a. KeepsDisk g.D.SlotDisk a c.args.disk.now c.answer-status.new.disk)
+    (asks-one _ _ _ c.asked_by-asked.ensures asks) c.answer-status.ensures.any_moment
 
 pub returns-clause-causes : goal.returns-clause-causes
 returns-clause-causes g c = λ asked asks.
     let same = asks-one _ _ _ c.asked_by-asked.ensures asks in
-    let before = outside c.args.key.now c.args.input.now c.args.out.now c.args.log.now c.args.disk.now in
-    let after = outside c.answer-status.new.key c.answer-status.new.input c.answer-status.new.out c.write_fault.new.log c.answer-status.new.disk in
-    subst (λ a. HasCauses g.K.Source g.S.Source g.O.Sink g.L.Sink g.D.SlotDisk a before after c.answer-status.result) same
-    (causes_after g.K.Source g.S.Source g.O.Sink g.L.Sink g.D.SlotDisk c.asked_by-asked.result before after c.answer-status.new.log c.answer-status.result
+    let before = outside c.args.key.now c.args.input.now c.args.out.now c.args.log.now
+    c.args.disk.now in
+    let after = outside c.answer-status.new.key c.answer-status.new.input c.answer-status.new.out
+    c.write_fault.new.log c.answer-status.new.disk in
+    subst (λ a. HasCauses g.K.Source g.S.Source g.O.Sink g.L.Sink g.D.SlotDisk a before after
+    c.answer-status.result) same
+    (causes_after g.K.Source g.S.Source g.O.Sink g.L.Sink g.D.SlotDisk c.asked_by-asked.result
+    before after c.answer-status.new.log c.answer-status.result
     c.answer-status.ensures.causes c.write_fault.ensures.never_falls c.write_fault.ensures.same)
 
 pub returns-clause-done : goal.returns-clause-done
 returns-clause-done g c = λ asked asks may calm.
     let same = asks-one _ _ _ c.asked_by-asked.ensures asks in
-    let before = outside c.args.key.now c.args.input.now c.args.out.now c.args.log.now c.args.disk.now in
-    let after = outside c.answer-status.new.key c.answer-status.new.input c.answer-status.new.out c.write_fault.new.log c.answer-status.new.disk in
-    let right = subst (λ a. MayDo g.K.Source g.S.Source g.O.Sink g.L.Sink g.D.SlotDisk a before) (sym same) may in
-    let mid = outside c.answer-status.new.key c.answer-status.new.input c.answer-status.new.out c.answer-status.new.log c.answer-status.new.disk in
-    asked_done g.K.Source g.S.Source g.O.Sink g.L.Sink g.D.SlotDisk c.asked_by-asked.result before mid c.answer-status.result right
-    (calm_before g.K.Source g.S.Source g.O.Sink g.L.Sink g.D.SlotDisk before after c.answer-status.new.log c.write_fault.ensures.never_falls calm)
+    let before = outside c.args.key.now c.args.input.now c.args.out.now c.args.log.now
+    c.args.disk.now in
+    let after = outside c.answer-status.new.key c.answer-status.new.input c.answer-status.new.out
+    c.write_fault.new.log c.answer-status.new.disk in
+    let right = subst (λ a. MayDo g.K.Source g.S.Source g.O.Sink g.L.Sink g.D.SlotDisk a before)
+    (sym same) may in
+    let mid = outside c.answer-status.new.key c.answer-status.new.input c.answer-status.new.out
+    c.answer-status.new.log c.answer-status.new.disk in
+    asked_done g.K.Source g.S.Source g.O.Sink g.L.Sink g.D.SlotDisk c.asked_by-asked.result before
+    mid c.answer-status.result right
+    (calm_before g.K.Source g.S.Source g.O.Sink g.L.Sink g.D.SlotDisk before after
+    c.answer-status.new.log c.write_fault.ensures.never_falls calm)
     c.answer-status.ensures.does c.answer-status.ensures.causes

@@ -7,7 +7,9 @@ use Rattle.link_replay.proofs.commands.seal.seal.Goals as goal
 
 pub returns-clause-seals : goal.returns-clause-seals
 returns-clause-seals g c =
-    let P : Proto → Type 0 = λ proto. Seals g.K.Source g.S.Source g.O.Sink g.L.Sink g.D.SlotDisk proto c.args.dir
+    let P : Proto → Type 0 = λ proto. Seals g.K.Source g.S.Source g.O.Sink g.L.Sink g.D.SlotDisk
+    proto c.args.dir
     (outside c.args.key.now c.args.input.now c.args.out.now c.args.log.now c.args.disk.now)
-    (outside c.replay_box.new.key c.replay_box.new.input c.replay_box.new.out c.replay_box.new.log c.replay_box.new.disk) c.replay_box.result in
+    (outside c.replay_box.new.key c.replay_box.new.input c.replay_box.new.out c.replay_box.new.log
+    c.replay_box.new.disk) c.replay_box.result in
     subst P (sym (proto-is-rtu c.args.proto)) c.replay_box.ensures.replays

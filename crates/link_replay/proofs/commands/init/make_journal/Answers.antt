@@ -1,0 +1,6 @@
+use Rattle.link_replay.proofs.Flushing.{flush-leaves}
+use Rattle.link_replay.proofs.commands.init.make_journal.Goals as goal
+
+pub returns-in-Ok-clause-untouched : goal.returns-in-Ok-clause-untouched
+returns-in-Ok-clause-untouched g c = flush-leaves g.O.Sink g.L.Sink _ _ _ _ c.flush_both.result
+    c.flush_both.ensures.status c.flush_both.ensures.out c.flush_both.ensures.log
