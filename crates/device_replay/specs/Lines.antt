@@ -3,11 +3,16 @@ use Rattle.std.specs.Prelude.{ℕ, List, ◌++◌, codes, decimal}
 use Rattle.std.specs.List.{flat_map}
 use Rattle.hex.specs.Hex.{encode_lower}
 use Rattle.device_model.specs.Frames.{FrameRead}
+use Rattle.device_model.specs.declared.device.FrameAt.{FrameAt}
 
 -- a frame that a device reads, with the tick of its first byte
 abbrev pub frame_line : FrameRead → List ℕ
 frame_line read = codes "read at " ++ decimal read.start ++ codes " " ++ encode_lower read.frame
     ++ codes "\n"
+
+-- the frame of a step's answer
+abbrev pub read_at : FrameAt → FrameRead
+read_at frame = record { start = frame.start; frame = frame.bytes.items }
 
 abbrev pub frame_lines : List FrameRead → List ℕ
 frame_lines reads = flat_map frame_line reads

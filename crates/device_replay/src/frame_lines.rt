@@ -3,9 +3,10 @@ ghost use Rattle.std.specs.Prelude.{OnErr};
 ghost use Rattle.yasir_io.specs.Causes.{HasCause};
 ghost use Rattle.yasir_io.specs.Output.{Buffered, GotPrefix};
 ghost use Rattle.yasir_io.specs.TextBuffer.{waiting_bytes};
+ghost use Rattle.device_replay.specs.Lines.{frame_line, read_at};
 
 use crate::text::frame_line;
-use device_model::Device;
+use device_model::{Device, FrameAt};
 use tick_drive::{Consumer, Stop};
 use yasir_io::{Failed, Sink, SlotDisk, TextBuffer};
 use yasir_ticks::Tick;
@@ -15,6 +16,21 @@ use yasir_ticks::Tick;
 pub struct FrameLines<V> {
     device: V,
     lines: TextBuffer,
+}
+
+// Adds the line of a frame. It stands apart from a step, since few ticks end a frame.
+#[inline(never)]
+fn push_frame<O: Sink>(lines: &mut TextBuffer, out: &mut O, frame: &FrameAt) -> Result<(), Failed>
+    ensures ok { OnOk result ((start : Option (List ℕ)) (text : List ℕ)
+        → Buffered start (O.held out.old) (waiting_bytes lines.old) text
+        → Buffered start (O.held out.new) (waiting_bytes lines.new)
+        (text ++ frame_line (read_at frame.now))) }
+    ensures err { OnErr result ((start : Option (List ℕ)) (text : List ℕ)
+        → Buffered start (O.held out.old) (waiting_bytes lines.old) text
+        → GotPrefix start (O.held out.new) (text ++ frame_line (read_at frame.now))) }
+    ensures cause { HasCause (O.faults out.old) (O.faults out.new) result }
+{
+    lines.push(out, frame_line(frame).as_slice())
 }
 
 impl<V: Device + Drop> FrameLines<V> {
@@ -61,7 +77,7 @@ impl<V: Device + Drop, O: Sink, L: Sink, D: SlotDisk> Consumer<O, L, D> for Fram
             Some(frame) => frame,
             None => return Ok(()),
         };
-        match self.lines.push(out, frame_line(&frame).as_slice()) {
+        match push_frame(&mut self.lines, out, &frame) {
             Ok(()) => Ok(()),
             Err(Failed) => Err(Stop::WriteFault),
         }

@@ -1,14 +1,12 @@
 ghost use Rattle.std.specs.Prelude.{◌≡◌};
-ghost use Rattle.device_replay.specs.Lines.{frame_line};
-ghost use Rattle.device_model.specs.Frames.{FrameRead};
+ghost use Rattle.device_replay.specs.Lines.{frame_line, read_at};
 
 use device_model::FrameAt;
 use replay_status::{Line, push_decimal, push_hex};
 
 /// `read at S HEX`: a frame, and the tick of its first byte.
 pub fn frame_line(frame: &FrameAt) -> Line
-    ensures { result.items ≡ frame_line
-        (record { start = frame.now.start; frame = frame.now.bytes.items }) }
+    ensures { result.items ≡ frame_line (read_at frame.now) }
 {
     let mut line = Line::new();
     line.try_extend_from_slice(b"read at ").unwrap();

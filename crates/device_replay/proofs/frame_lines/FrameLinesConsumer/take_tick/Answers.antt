@@ -25,8 +25,7 @@ returns-in-Ok g c = record {
   moved = λ began items before. prints_line g.V.Device _ _ _ _ c.in-Some.ensures.stands
       c.in-Some.ensures.answer
       began _ _ items before _ refl _ _
-      (λ text waits. rw (← c.frame_line.ensures, ← c.as_slice.ensures.value)
-      (c.in-Ok.ensures.ok began.out text waits)) refl;
+      (λ text waits. c.in-Ok.ensures.ok began.out text waits) refl;
   stopped = tt;
   counted = c.in-Some.ensures.taken;
   is_able = tt;
@@ -48,8 +47,7 @@ returns-in-Err g c = record {
     at = λ began items before. stops_at_line g.V.Device _ _ _ _ c.in-Some.ensures.stands
         c.in-Some.ensures.answer
         began _ _ items before _ refl _
-        (λ text waits. rw (← c.frame_line.ensures, ← c.as_slice.ensures.value)
-        (c.in-Err.ensures.err began.out text waits)) refl;
+        (λ text waits. c.in-Err.ensures.err began.out text waits) refl;
   };
   counted = tt;
   is_able = tt;
