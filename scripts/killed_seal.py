@@ -5,7 +5,7 @@
 
 Each run seals a recording of many frames and is killed (SIGKILL) after a random time. A number counts as used where a
 byte of its trailer reached the output, or its note the log. It must be above every number used before, and the journal's
-floor after the kill must not be below it. The files stand in a new folder inside FOLDER; on a tmpfs (/dev/shm) a sync is quick, and a run seals thousands of frames.
+floor after the kill must not be below it; and no trailer may stand on the link whose note isn't in the log. The files stand in a new folder inside FOLDER; on a tmpfs (/dev/shm) a sync is quick, and a run seals thousands of frames.
 It is no part of the gate: what a killed process leaves of a file is the system's.
 """
 import os, random, re, shutil, signal, subprocess, sys, tempfile, time
@@ -60,6 +60,7 @@ def main():
             assert seen == sorted(set(seen)), "a number came twice in one run"
             assert not seen or seen[0] > last, "number %d came again" % seen[0]
             assert not seen or seen[-1] <= floor, "number %d is above the journal's floor" % seen[-1]
+        assert set(numbers) <= set(noted), "a trailer stands on the link without its note"
         used.update(numbers, noted)
         last = max([last] + numbers + noted)
     shutil.rmtree(folder)
