@@ -1,5 +1,5 @@
 -- The words of the program's commands.
-use Rattle.std.specs.Prelude.{◌≡◌, ◌≢◌, ℕ, List, [], ◌∷◌, Option, Some, None, codes}
+use Rattle.std.specs.Prelude.{◌≡◌, ◌≢◌, ℕ, List, [], ◌∷◌, Option, Some, None, codes, slice_get}
 use Rattle.hmac_tag.specs.declared.dir.Dir.{Dir}
 use Rattle.hmac_tag.specs.declared.dir.Dir.TheVariants.{Ab, Ba}
 use Rattle.link_replay.specs.declared.words.Proto.{Proto}
@@ -41,3 +41,8 @@ journal_place Init = Some 1
 journal_place (Read proto) = None
 journal_place Vectors = None
 journal_place (Seal proto dir) = Some 4
+
+-- the word at a place, where there is one
+abbrev pub word_in : List (List ℕ) → Option ℕ → Option (List ℕ)
+word_in words None = None
+word_in words (Some place) = slice_get words place

@@ -1,6 +1,10 @@
 //! `link_replay`: replays a recorded serial line.
 #![tactic(auto)]
 
+ghost use Rattle.std.specs.Prelude.{◌≡◌, IfOk, option_map, map};
+ghost use Rattle.std.specs.String.{string_bytes};
+ghost use Rattle.link_replay.specs.Words.{word_in};
+
 mod commands;
 mod program;
 #[cfg(test)]
@@ -31,9 +35,15 @@ fn words_after_name(alloc: Global, args: Args) -> Result<Vec<String>, AllocError
 }
 
 // A copy of the word at this place, where there is one.
-fn path_at(words: &[String], place: Option<usize>) -> Result<Option<String>, AllocError> {
-    match place.and_then(|place| words.get(place)) {
-        Some(word) => Ok(Some(word.clone()?)),
+fn path_at(words: &[String], place: Option<usize>) -> Result<Option<String>, AllocError>
+    ensures { IfOk result (λ path.
+        option_map string_bytes path ≡ word_in (map string_bytes words.now) place) }
+{
+    match place {
+        Some(place) => match words.get(place) {
+            Some(word) => Ok(Some(word.clone()?)),
+            None => Ok(None),
+        },
         None => Ok(None),
     }
 }
