@@ -1,0 +1,159 @@
+-- One turn: what leaves, and what then is still to leave.
+use Rattle.std.proofs.Common.{◌≡◌, ◌∙◌, ℕ, zero, suc, ◌-◌, ◌<◌, ◌≤◌, Bool, false, List, [], ◌∷◌}
+use Rattle.std.proofs.Common.{◌++◌, length, length-append, take, drop, get_or, refl, sym, ap, arith}
+use Rattle.std.proofs.Common.{append_assoc, subst}
+use Rattle.std.proofs.Common.{Option, Some}
+use Rattle.std.proofs.lemmas.Bool.{ne_eqb, cond-false}
+use Rattle.std.proofs.lemmas.List.{append-nil}
+use Rattle.yasir_ticks.specs.Ticks.{bytes_in}
+use Rattle.yasir_ticks.specs.declared.tick.Tick.{Tick}
+use Rattle.yasir_ticks.specs.declared.tick.Tick.TheVariants.{Silent, Byte}
+use Rattle.line_rules.specs.Rules.{Rules, fills_room}
+use Rattle.line_rules.specs.RulesLaws.{IsLawful}
+use Rattle.line_rules.specs.declared.line_rules.LineRules.{Ghosts as LineRules}
+use Rattle.spoiler.specs.declared.outlet.Outlet.{Outlet}
+use Rattle.spoiler.specs.Outlet.{StandsFor as OutletStandsFor, owed_by, emitted, owed_after, filled}
+use Rattle.spoiler.specs.Outlet.{filled_bytes}
+use Rattle.check_walk.specs.Leaving.{is_none, leaves}
+use Rattle.check_walk.specs.Turns.{HasTurned, tick_or_silence}
+use Rattle.check_walk.proofs.Leavings.{leaves-none, leaves-silent, leaves-byte, fill_out-zero}
+use Rattle.check_walk.proofs.Leavings.{fill_out-suc}
+
+-- a room that is full stays as it is
+room-stays : (rules : Rules) → IsLawful rules → (x y : List ℕ) → rules.room x ≤ length x
+    → rules.room (x ++ y) ≡ rules.room x
+room-stays rules lawful x [] full = ap rules.room (append-nil x)
+room-stays rules lawful x (b ∷ y) full =
+    let same = lawful.stays x b full in
+    let long = length-append x (b ∷ []) in
+    let still : rules.room (x ++ b ∷ []) ≤ length (x ++ b ∷ []) = omega arith in
+    ap rules.room (sym (append_assoc x (b ∷ []) y))
+    ∙ (room-stays rules lawful (x ++ b ∷ []) y still ∙ same)
+
+-- there is room for a byte of bytes that have room
+pub room-before : (rules : Rules) → IsLawful rules → (x : List ℕ) (b : ℕ) (y : List ℕ)
+    → length (x ++ b ∷ y) ≤ rules.room (x ++ b ∷ y) → fills_room rules x ≡ false
+room-before rules lawful x b y room =
+    ne_eqb (length x) (rules.room x) (λ full.
+    let long = length-append x (b ∷ y) in
+    let same = room-stays rules lawful x (b ∷ y) (omega arith) in
+    omega arith)
+
+module _ {R : Type 0} (proto : LineRules R) (passes : Bool) where
+  -- What has left, where a turn has answered so: what is still to leave is all but the first tick.
+  pub record Flows (left : List ℕ) (live : List Tick) (owed : ℕ) (new : Outlet R) (answer : Tick) :
+      Type 0 where
+    pub after : List ℕ
+    pub stands : OutletStandsFor proto new after
+    pub answer_is : answer ≡ get_or (leaves proto.rules passes left live owed) 0 Silent
+    pub rest : leaves proto.rules passes after (drop 1 live) (owed_by new)
+        ≡ drop 1 (leaves proto.rules passes left live owed)
+    pub bytes : 0 < length live → after ++ bytes_in (drop 1 live) ≡ left ++ bytes_in live
+    pub after_is : owed ≡ 0 → after ≡ left ++ bytes_in (take 1 live)
+    pub unowed : 1 < length live → owed_by new ≡ 0
+
+  -- nothing is to leave but a fill
+  flows-fill : (left : List ℕ) (old new : Outlet R) (owed : ℕ) (answer : Tick)
+      → owed_by old ≡ owed
+      → (answer ≡ tick_or_silence (filled proto.rules left owed))
+      × OutletStandsFor proto new (left ++ filled_bytes (filled proto.rules left owed))
+      × (owed_by new ≡ owed - 1)
+      → Flows left [] owed new answer
+  flows-fill left old new zero answer is turned =
+      let none = leaves-none proto.rules passes left 0 ∙ fill_out-zero proto.rules left in
+      record {
+        after = left;
+        stands = subst (λ x. OutletStandsFor proto new x) (append-nil left) turned.1;
+        answer_is = turned.0 ∙ sym (ap (λ l. get_or l 0 Silent) none);
+        rest = ap (λ k. leaves proto.rules passes left [] k) turned.2
+            ∙ (none ∙ sym (ap (λ l. drop 1 l) none));
+        bytes = λ some. absurd (omega arith);
+        after_is = λ unowed. sym (append-nil left);
+        unowed = λ some. absurd (omega arith);
+      }
+  flows-fill left old new (suc zero) answer is turned =
+      let some = leaves-none proto.rules passes left 1 ∙ fill_out-suc proto.rules left 0 in
+      record {
+        after = left ++ 0 ∷ [];
+        stands = turned.1;
+        answer_is = turned.0 ∙ sym (ap (λ l. get_or l 0 Silent) some);
+        rest = ap (λ k. leaves proto.rules passes (left ++ 0 ∷ []) [] k) turned.2
+            ∙ (leaves-none proto.rules passes (left ++ 0 ∷ []) 0 ∙ sym (ap (λ l. drop 1 l) some));
+        bytes = λ some. absurd (omega arith);
+        after_is = λ unowed. absurd (omega arith);
+        unowed = λ some. absurd (omega arith);
+      }
+  flows-fill left old new (suc (suc k)) answer is turned =
+      let filling : filled proto.rules left (suc (suc k)) ≡ Some 0 =
+      cond-false _ _ _ (ne_eqb (suc (suc k)) 0 (λ e. omega arith))
+      ∙ cond-false _ _ _ (ne_eqb (suc (suc k)) 1 (λ e. omega arith)) in
+      let P : Option ℕ → Type 0 = λ o. (answer ≡ tick_or_silence o)
+      × OutletStandsFor proto new (left ++ filled_bytes o)
+      × (owed_by new ≡ suc (suc k) - 1) in
+      let out : P (Some 0) = subst P filling turned in
+      let less : suc (suc k) - 1 ≡ suc k = omega arith in
+      let some = leaves-none proto.rules passes left (suc (suc k))
+      ∙ fill_out-suc proto.rules left (suc k) in
+      record {
+        after = left ++ 0 ∷ [];
+        stands = out.1;
+        answer_is = out.0 ∙ sym (ap (λ l. get_or l 0 Silent) some);
+        rest = ap (λ k. leaves proto.rules passes (left ++ 0 ∷ []) [] k) (out.2 ∙ less)
+            ∙ (leaves-none proto.rules passes (left ++ 0 ∷ []) (suc k)
+            ∙ sym (ap (λ l. drop 1 l) some));
+        bytes = λ some. absurd (omega arith);
+        after_is = λ unowed. absurd (omega arith);
+        unowed = λ some. absurd (omega arith);
+      }
+
+  -- One turn.
+  pub flows : (left : List ℕ) (live : List Tick) (old new : Outlet R) (last : Bool) (answer : Tick)
+      → (0 < length live → owed_by old ≡ 0)
+      → (0 < length live → last ≡ is_none (drop 1 live))
+      → (0 < length live
+      → length (left ++ bytes_in live) ≤ proto.rules.room (left ++ bytes_in live))
+      → HasTurned proto old new last passes left answer (get_or live 0 Silent)
+      → Flows left live (owed_by old) new answer
+  flows left [] old new last answer unowed is room turned =
+      flows-fill left old new (owed_by old) answer refl turned
+  flows left (Silent ∷ live) old new last answer unowed is room turned =
+      let none : owed_by old ≡ 0 = unowed (omega arith) in
+      let P : ℕ → Type 0 = λ k. (answer ≡ tick_or_silence (filled proto.rules left k))
+      × OutletStandsFor proto new (left ++ filled_bytes (filled proto.rules left k))
+      × (owed_by new ≡ k - 1) in
+      let quiet : P 0 = subst P none turned in
+      let first = leaves-silent proto.rules passes left live (owed_by old) in
+      record {
+        after = left;
+        stands = subst (λ x. OutletStandsFor proto new x) (append-nil left) quiet.1;
+        answer_is = quiet.0 ∙ sym (ap (λ l. get_or l 0 Silent) first);
+        rest = ap (λ k. leaves proto.rules passes left live k) (quiet.2 ∙ sym none)
+            ∙ sym (ap (λ l. drop 1 l) first);
+        bytes = λ some. refl;
+        after_is = λ some. sym (append-nil left);
+        unowed = λ some. quiet.2;
+      }
+  flows left (Byte b ∷ live) old new last answer unowed is room turned =
+      let rules : Rules = proto.rules in
+      let fits = room-before rules proto.lawful left b (bytes_in live) (room (omega arith)) in
+      let lasts : last ≡ is_none live = is (omega arith) in
+      let P : Bool → Type 0 = λ l. (answer ≡ Byte (emitted rules left b l passes))
+      × OutletStandsFor proto new (left ++ b ∷ [])
+      × (owed_by new ≡ owed_after rules left b l passes) in
+      let out : P (is_none live) = subst P lasts (turned fits) in
+      let first = leaves-byte rules passes left b live (owed_by old) in
+      record {
+        after = left ++ b ∷ [];
+        stands = out.1;
+        answer_is = out.0 ∙ sym (ap (λ l. get_or l 0 Silent) first);
+        rest = ap (λ k. leaves rules passes (left ++ b ∷ []) live k) out.2
+            ∙ sym (ap (λ l. drop 1 l) first);
+        bytes = λ some. append_assoc left (b ∷ []) (bytes_in live);
+        after_is = λ some. refl;
+        unowed = λ some. out.2 ∙ unowed-some live some;
+      }
+    where
+      unowed-some : (live : List Tick) → 1 < length (Byte b ∷ live)
+          → owed_after proto.rules left b (is_none live) passes ≡ 0
+      unowed-some [] some = absurd (omega arith)
+      unowed-some (t ∷ live) some = refl

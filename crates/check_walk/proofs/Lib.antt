@@ -1,0 +1,13 @@
+pub mod Leavings
+pub mod Flow
+pub mod Past
+pub mod Resting
+pub mod Opening
+pub mod Shaping
+pub mod Growing
+pub mod Rings
+pub mod Beginning
+pub mod Numbers
+pub mod Lives
+pub mod Extras
+pub mod Begun

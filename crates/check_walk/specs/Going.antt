@@ -1,0 +1,24 @@
+-- What one more tick does.
+use Rattle.std.specs.Prelude.{ℕ, Bool, List, [], ◌∷◌, ◌++◌, length, Option}
+use Rattle.yasir_ticks.specs.Bursts.{Burst, bursts}
+use Rattle.yasir_ticks.specs.declared.tick.Tick.{Tick}
+use Rattle.line_rules.specs.Rules.{Rules}
+use Rattle.burst_walk.specs.Answers.{AnswersTick}
+use Rattle.link_format.specs.Profile.{Profile}
+use Rattle.link_verdicts.specs.Verdicts.{CheckState}
+use Rattle.link_verdicts.specs.Checking.{checker, at_floor, brief_note}
+use Rattle.link_verdicts.specs.declared.note.CheckNote.{CheckNote}
+use Rattle.check_walk.specs.Holding.{HasWalked}
+
+module _ (profile : Profile) (rules : Rules) (floor : ℕ) (line : List Tick) (t : Tick) where
+  -- one more tick of the link is answered so
+  abbrev pub Answers : Tick → Option CheckNote → Type 0
+  Answers answer told =
+      AnswersTick (checker profile rules) brief_note (at_floor floor) line t answer told
+
+  -- After these ticks of a link comes one more: the walk over them then stands so, and answers so.
+  pub record Goes (s : CheckState) (passes : Bool) (left : List ℕ) (live : List Tick) (owed : ℕ)
+      (waiting : Option Burst) (answer : Tick) (told : Option CheckNote) : Type 0 where
+    pub walked : HasWalked profile rules floor (length (line ++ t ∷ []))
+        (bursts (line ++ t ∷ [])) s passes left live owed waiting
+    pub answers : Answers answer told

@@ -1,0 +1,4 @@
+pub mod Leaving
+pub mod Turns
+pub mod Holding
+pub mod Going

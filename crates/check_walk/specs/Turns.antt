@@ -1,0 +1,28 @@
+-- What the outlet makes of the tick that is to leave.
+use Rattle.std.specs.Prelude.{◌≡◌, ℕ, ◌-◌, Bool, false, List, ◌∷◌, [], ◌++◌, Option, Some, None}
+use Rattle.yasir_ticks.specs.declared.tick.Tick.{Tick}
+use Rattle.yasir_ticks.specs.declared.tick.Tick.TheVariants.{Silent, Byte}
+use Rattle.line_rules.specs.Rules.{fills_room}
+use Rattle.line_rules.specs.declared.line_rules.LineRules.{Ghosts as LineRules}
+use Rattle.spoiler.specs.declared.outlet.Outlet.{Outlet}
+use Rattle.spoiler.specs.Outlet.{StandsFor as OutletStandsFor, owed_by, emitted, owed_after}
+use Rattle.spoiler.specs.Outlet.{filled, filled_bytes}
+
+-- the tick of a byte, or silence where there is none
+abbrev pub tick_or_silence : Option ℕ → Tick
+tick_or_silence None = Silent
+tick_or_silence (Some b) = Byte b
+
+-- After these bytes a byte goes through the outlet, the last one or not, and silence lets a fill
+-- out.
+abbrev pub HasTurned : {R : Type 0} → LineRules R → Outlet R → Outlet R → Bool → Bool → List ℕ
+    → Tick → Tick → Type 0
+HasTurned proto old new last passes x answer Silent =
+    (answer ≡ tick_or_silence (filled proto.rules x (owed_by old)))
+    × OutletStandsFor proto new (x ++ filled_bytes (filled proto.rules x (owed_by old)))
+    × (owed_by new ≡ owed_by old - 1)
+HasTurned proto old new last passes x answer (Byte b) =
+    fills_room proto.rules x ≡ false
+    → (answer ≡ Byte (emitted proto.rules x b last passes))
+    × OutletStandsFor proto new (x ++ b ∷ [])
+    × (owed_by new ≡ owed_after proto.rules x b last passes)
