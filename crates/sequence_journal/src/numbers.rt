@@ -61,8 +61,8 @@ pub fn full_number(floor: u64, word: u16) -> Option<u64>
     full_with(LIMIT, 65_536, floor, u64::from(word))
 }
 
-// The same of any limit, and of words that are numbers modulo any other.
-fn full_with(limit: u64, words: u64, floor: u64, word: u64) -> Option<u64>
+/// The same of any limit, and of words that are numbers below `words`.
+pub fn full_with(limit: u64, words: u64, floor: u64, word: u64) -> Option<u64>
     requires limit { limit ≤ LIMIT }
     requires words { words ≤ 2 ^ 32 }
     requires floor { floor ≤ limit }

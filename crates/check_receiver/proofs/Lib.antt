@@ -1,0 +1,5 @@
+pub mod Words
+pub mod Machine
+pub mod Silences
+pub mod Resting
+pub mod Entering

@@ -1,0 +1,137 @@
+-- How the machine's parts stand together after a step.
+use Rattle.std.proofs.Common.{◌≡◌, ◌∙◌, ℕ, zero, suc, ◌+◌, ◌-◌, ◌<◌, ◌≤◌, ◌==◌, Bool, true, false, List, [], ◌∷◌}
+use Rattle.std.proofs.Common.{◌++◌, length, take, drop, get_or, refl, sym, ap, subst, arith, Option, Some, None, IfSome, is_some}
+use Rattle.std.proofs.lemmas.Bool.{ne_eqb}
+use Rattle.std.proofs.lemmas.List.{get_or-drop}
+use Rattle.yasir_ticks.specs.Ticks.{silent, bytes_in}
+use Rattle.yasir_ticks.specs.Bursts.{Burst, bursts, end_of}
+use Rattle.yasir_ticks.specs.declared.tick.Tick.{Tick}
+use Rattle.yasir_ticks.specs.declared.tick.Tick.TheVariants.{Silent, Byte}
+use Rattle.line_rules.specs.Rules.{Rules}
+use Rattle.line_rules.specs.declared.line_rules.LineRules.{Ghosts as LineRules}
+use Rattle.frame_ending.specs.LiveBytes.{live_bytes, live_end}
+use Rattle.frame_ending.specs.SoFar.{last_of, last_burst}
+use Rattle.frame_ending.specs.Stands.{StandsFor as CutStandsFor}
+use Rattle.delay_ring.specs.DelayRing.{ring_ticks}
+use Rattle.spoiler.specs.declared.outlet.Outlet.{Outlet}
+use Rattle.spoiler.specs.Outlet.{StandsFor as OutletStandsFor, owed_by}
+use Rattle.burst_walk.specs.Answers.{AnswersTick}
+use Rattle.hmac_tag.specs.declared.tag.Mac.{Ghosts as Mac}
+use Rattle.hmac_tag.specs.Tag.{direction_number}
+use Rattle.link_format.specs.Profile.{Profile, profile_of, IsWordLen, delay}
+use Rattle.link_format.specs.Setup.{Setup}
+use Rattle.sequence_journal.specs.declared.numbers.TheConstants.{LIMIT}
+use Rattle.link_verdicts.specs.Verdicts.{CheckState}
+use Rattle.link_verdicts.specs.Checking.{checker, at_floor, brief_note}
+use Rattle.link_verdicts.specs.declared.note.CheckNote.{CheckNote}
+use Rattle.link_verdicts.specs.Holding.{HasWalked, Opens, as_it_came}
+use Rattle.link_verdicts.specs.Going.{Goes}
+use Rattle.link_verdicts.specs.Leaving.{is_none, leaves}
+use Rattle.link_verdicts.specs.Turns.{HasTurned}
+use Rattle.link_verdicts.proofs.Flow.{Flows, flows}
+use Rattle.link_verdicts.proofs.Rings.{ring-first, ring-silent}
+use Rattle.link_verdicts.proofs.Opening.{leaves-front}
+use Rattle.link_verdicts.proofs.Numbers.{walked-number}
+use Rattle.check_receiver.specs.Stands.{Codes, HasTaken}
+use Rattle.check_receiver.specs.Turning.{Turned}
+use Rattle.check_receiver.specs.declared.checker.Checker.{Checker}
+use Rattle.check_receiver.specs.declared.step.CheckStep.{CheckStep}
+
+pub last_of-more : (ds : List Burst) (d : Burst) → last_of (ds ++ d ∷ []) ≡ Some d
+unfolding last_of
+last_of-more [] d = refl
+last_of-more (e ∷ []) d = refl
+last_of-more (e ∷ f ∷ ds) d = last_of-more (f ∷ ds) d
+
+pub waiting-none : (o : Option Burst) → is_some o ≡ false → o ≡ None
+waiting-none None never = refl
+waiting-none (Some d) never = absurd cc
+
+pub waiting-some : (o : Option Burst) → is_some o ≡ true → (d : Burst) × (o ≡ Some d)
+waiting-some None there = absurd cc
+waiting-some (Some d) there = (d, refl)
+
+-- the last live byte leaves where no step is left until it does
+pub until-last : (live : List Tick) (n : ℕ) → n ≡ length live - 1 → 0 < length live
+    → (n == 0) ≡ is_none (drop 1 live)
+until-last [] n is some = absurd (omega arith)
+until-last (t ∷ []) n is some = let none : n ≡ 0 = omega arith in ap (λ k. k == 0) none
+until-last (t ∷ u ∷ live) n is some = ne_eqb n 0 (λ e. omega arith)
+
+module _ {R M : Type 0} (proto : LineRules R) (code : Mac M) {B D : ℕ} where
+  -- ---- a turn, by what is to leave
+
+  module _ (base new : Checker R M B D) (entering answer : Tick)
+      (turned : Turned proto base new entering answer) (left : List ℕ) (live : List Tick)
+      (stands : OutletStandsFor proto base.outlet left)
+      (ring_is : ring_ticks base.ring ≡ live ++ silent (D - length live)) where
+    pub flow : (0 < length live → owed_by base.outlet ≡ 0)
+        → (0 < length live → (base.until == 0) ≡ is_none (drop 1 live))
+        → (0 < length live
+        → length (left ++ bytes_in live) ≤ proto.rules.room (left ++ bytes_in live))
+        → Flows proto base.passed left live (owed_by base.outlet) new.outlet answer
+    flow unowed last room =
+        let P : Tick → Type 0 = λ u. HasTurned proto base.outlet new.outlet (base.until == 0)
+        base.passed left answer u in
+        let first = ap (λ l. get_or l 0 Silent) ring_is ∙ ring-first live (D - length live) in
+        flows proto base.passed left live base.outlet new.outlet (base.until == 0) answer unowed
+        last room (subst P first (turned.out left stands))
+
+  pub ring-waits : (base new : Checker R M B D) (answer : Tick)
+      → Turned proto base new Silent answer → (live : List Tick)
+      → ring_ticks base.ring ≡ live ++ silent (D - length live) → 1 ≤ D → length live ≤ D
+      → ring_ticks new.ring ≡ drop 1 live ++ silent (D - length (drop 1 live))
+  ring-waits base new answer turned live is some few =
+      turned.ring
+      ∙ (ap (λ l. drop 1 l ++ Silent ∷ []) is ∙ ring-silent live D some few)
+
+  module _ (setup : Setup) (line : List Tick) (t : Tick) where
+    -- the machine's parts after a step
+    pub assembled : (base new : Checker R M B D) (entering : Tick) (step : CheckStep)
+        → Turned proto base new entering step.tick
+        → IsWordLen B → 2 ≤ B → D ≡ 4 + B + code.TAG
+        → direction_number base.direction ≡ setup.direction
+        → CutStandsFor proto base.cut (line ++ t ∷ [])
+        → (number : ℕ) (left : List ℕ) (live : List Tick) (waiting : Option Burst)
+        (told : Option CheckNote)
+        → Goes (profile_of proto code B LIMIT setup) proto.rules setup.floor line t
+        (record { floor = number; earliest_start = base.earliest_start }) base.passed left live
+        (owed_by new.outlet) waiting step.tick told
+        → step.note ≡ told → OutletStandsFor proto new.outlet left
+        → ring_ticks new.ring ≡ live ++ silent (D - length live) → length live ≤ D
+        → base.until ≡ length live → base.waits ≡ is_some waiting
+        → ((text : List ℕ) × code.stands base.mac setup.key text)
+        → IfSome waiting (λ d. Codes proto code setup number base.mac base.arriving d)
+        → HasTaken proto code new number setup line t step
+    assembled base new entering step turned word_is wide delay_is direction_is cuts number left live
+        waiting told goes noted stands ring_is few until_is waits_is code_is coded =
+        let P : Checker R M B D → Type 0 = λ v. HasTaken proto code v number setup line t step in
+        let N : Option CheckNote → Type 0 = λ n. AnswersTick (checker (profile_of proto code B LIMIT setup) proto.rules)
+        brief_note (at_floor setup.floor) line t step.tick n in
+        subst P (sym turned.rest)
+        (record {
+          stands = record {
+            word_is = word_is;
+            wide = wide;
+            delay_is = delay_is;
+            direction_is = direction_is;
+            cuts = cuts;
+            walks = record {
+              waiting = waiting;
+              left = left;
+              live = live;
+              walked = goes.walked;
+              outlet_is = stands;
+              ring_is = ring_is;
+              few = few;
+              until_is = until_is;
+              waits_is = waits_is;
+              code_is = code_is;
+              coded = coded;
+            };
+          };
+          floor = walked-number (profile_of proto code B LIMIT setup) proto.rules setup.floor (line ++ t ∷ [])
+              (record { floor = number; earliest_start = base.earliest_start }) base.passed left
+              live (owed_by new.outlet) waiting goes.walked;
+          answers = subst N (sym noted) goes.answers;
+        })

@@ -1,0 +1,93 @@
+-- A byte where no verdict is open, of a burst that is noted.
+use Rattle.std.proofs.Common.{◌≡◌, ◌∙◌, ◌⊎◌, ⊎_elim, ℕ, ◌+◌, ◌-◌, ◌<◌, ◌≤◌, Bool, true, false, List, [], ◌∷◌}
+use Rattle.std.proofs.Common.{◌++◌, length, drop, refl, sym, ap, subst, arith, Option, Some, None}
+use Rattle.std.proofs.lemmas.List.{length-drop, append-nil}
+use Rattle.yasir_ticks.specs.Bursts.{Burst, bursts}
+use Rattle.yasir_ticks.specs.declared.tick.Tick.{Tick}
+use Rattle.yasir_ticks.specs.declared.tick.Tick.TheVariants.{Silent, Byte}
+use Rattle.line_rules.specs.Rules.{Rules}
+use Rattle.line_rules.specs.RulesLaws.{IsLawful}
+use Rattle.line_rules.specs.declared.line_rules.LineRules.{Ghosts as LineRules}
+use Rattle.frame_ending.specs.Cuts.{cut_of}
+use Rattle.frame_ending.specs.declared.cut.Cut.{Cut}
+use Rattle.frame_ending.specs.declared.cut.Cut.TheVariants.{Live, Extra}
+use Rattle.frame_ending.proofs.Running.{divided-running, byte-lives, byte-over}
+use Rattle.spoiler.specs.Outlet.{owed_by}
+use Rattle.burst_walk.specs.HasCome.{HasCome}
+use Rattle.burst_walk.proofs.Coming.{RunsOn, closed-or-runs_on, come-runs_on}
+use Rattle.hmac_tag.specs.declared.tag.Mac.{Ghosts as Mac}
+use Rattle.link_format.specs.Profile.{Profile, profile_of}
+use Rattle.link_format.specs.Setup.{Setup}
+use Rattle.sequence_journal.specs.declared.numbers.TheConstants.{LIMIT}
+use Rattle.link_verdicts.specs.Verdicts.{CheckState}
+use Rattle.link_verdicts.specs.Checking.{checker, at_floor}
+use Rattle.link_verdicts.specs.Holding.{HasWalked}
+use Rattle.link_verdicts.proofs.Resting.{causal, rest-goes}
+use Rattle.check_receiver.specs.Between.{IsBetween}
+use Rattle.check_receiver.specs.Stands.{HasTaken}
+use Rattle.check_receiver.specs.Turning.{Turned}
+use Rattle.check_receiver.specs.declared.checker.Checker.{Checker}
+use Rattle.check_receiver.specs.declared.step.CheckStep.{CheckStep}
+use Rattle.check_receiver.proofs.Machine.{waiting-none, until-last, flow, ring-waits, assembled}
+use Rattle.check_receiver.proofs.Silences.{timely}
+
+-- a byte that begins no burst comes while one runs
+pub runs-on : (rules : Rules) (lawful : IsLawful rules) (line : List Tick) (b : ℕ)
+    → (cut_of rules line (Byte b) ≡ Live b) ⊎ (cut_of rules line (Byte b) ≡ Extra b)
+    → RunsOn (length line) (bursts line)
+runs-on rules lawful line b which =
+    ⊎_elim
+    (λ closed.
+    let run = divided-running line (bursts line) None
+    (record { is = sym (append-nil (bursts line)); are_closed = closed; is_running = tt }) in
+    ⊎_elim
+    (λ live. let on = (byte-lives rules lawful line b None run live).is in absurd cc)
+    (λ extra. let on = (byte-over rules lawful line b None run extra).is in absurd cc) which)
+    (λ on. on)
+    (closed-or-runs_on line)
+
+module _ {R M : Type 0} (proto : LineRules R) (code : Mac M) {B D : ℕ} (old : Checker R M B D)
+    (last : ℕ) (setup : Setup) (line : List Tick) (t : Tick) (cut : Cut)
+    (between : IsBetween proto code old last setup line t cut)
+    (new : Checker R M B D) (step : CheckStep)
+    (turned : Turned proto old new Silent step.tick) (noted : step.note ≡ None) where
+  abbrev profile : Profile
+  profile = profile_of proto code B LIMIT setup
+
+  abbrev state : CheckState
+  state = record { floor = last; earliest_start = old.earliest_start }
+
+  -- no verdict is open before it
+  pub rest-byte : (b : ℕ) → t ≡ Byte b
+      → (cut_of proto.rules line (Byte b) ≡ Live b) ⊎ (cut_of proto.rules line (Byte b) ≡ Extra b)
+      → old.waits ≡ false → HasTaken proto code new last setup line t step
+  rest-byte b is which closed =
+      let W : Option Burst → Type 0 = λ o. HasWalked profile proto.rules setup.floor (length line)
+      (bursts line) state old.passed between.walks.left between.walks.live (owed_by old.outlet) o in
+      let none = waiting-none between.walks.waiting (sym between.walks.waits_is ∙ closed) in
+      let walked : W None = subst W none between.walks.walked in
+      let time = timely proto code B setup between.wide in
+      let until = between.one_less ∙ ap (λ k. k - 1) between.walks.until_is in
+      let flows = flow proto code old new Silent step.tick turned between.walks.left
+      between.walks.live between.walks.outlet_is between.walks.ring_is walked.unowed
+      (λ there. until-last between.walks.live old.until until there) walked.room in
+      let C : Tick → Type 0 = λ u. HasCome (checker profile proto.rules) (at_floor setup.floor)
+      (length line) (bursts (line ++ u ∷ [])) state walked.emissions None in
+      let come : C t = subst C (sym is) (come-runs_on (checker profile proto.rules)
+      (causal proto profile time setup.floor line (Byte b)) (at_floor setup.floor) line state
+      walked.emissions b walked.come (runs-on proto.rules proto.lawful line b which)) in
+      let less = length-drop 1 between.walks.live in
+      let one = between.one_less in
+      let until_is = between.walks.until_is in
+      let few = between.walks.few in
+      let delay_is = between.delay_is in
+      assembled proto code setup line t old new Silent step turned between.word_is between.wide
+      between.delay_is between.direction_is between.cuts last flows.after
+      (drop 1 between.walks.live) None None
+      (rest-goes proto profile time setup.floor line t state walked.emissions old.passed
+      between.walks.left between.walks.live (owed_by old.outlet) new.outlet step.tick flows
+      walked.rests walked.room come)
+      noted flows.stands
+      (ring-waits proto code old new step.tick turned between.walks.live between.walks.ring_is
+      (omega arith) between.walks.few)
+      (omega arith) (omega arith) closed between.walks.code_is tt

@@ -1,0 +1,43 @@
+use Rattle.std.proofs.Common.{◌≡◌, ◌∙◌, ⊎_elim, ap, sym, subst, inl, Option, [], ◌∷◌, ◌++◌}
+use Rattle.link_verdicts.specs.declared.note.CheckNote.{CheckNote}
+use Rattle.check_receiver.specs.Between.{IsNoPass, IsBetween}
+use Rattle.check_receiver.specs.Stands.{HasTaken}
+use Rattle.check_receiver.proofs.Machine.{waiting-some}
+use Rattle.yasir_ticks.specs.declared.tick.Tick.TheVariants.{Byte}
+use Rattle.yasir_ticks.specs.declared.tick.Tick.{Tick}
+use Rattle.frame_ending.specs.Cuts.{cut_of}
+use Rattle.frame_ending.specs.declared.cut.Cut.TheVariants.{Live}
+use Rattle.frame_ending.proofs.Running.{live-tick}
+use Rattle.check_receiver.proofs.Resting.{rest-byte}
+use Rattle.check_receiver.proofs.Entering.{live-taken, live-coded}
+use Rattle.check_receiver.proofs.checker.Checker.go_on.Goals as goal
+
+pub returns-then-not-self-clause-step : goal.returns-then-not-self-clause-step
+returns-then-not-self-clause-step g c = λ last setup line t between.
+    let is = live-tick g.R.LineRules.rules line t c.args.byte between.is_cut in
+    let C : Tick → Type 0 = λ u. cut_of g.R.LineRules.rules line u ≡ Live c.args.byte in
+    rest-byte g.R.LineRules g.M.Mac c.args.self.now last setup line t (Live c.args.byte) between
+    c.pass_by.new.self c.pass_by.result c.pass_by.ensures.turned c.pass_by.ensures.note
+    c.args.byte is (inl (subst C is between.is_cut)) c.if-not-self.true
+
+pub returns-in-Short : goal.returns-in-Short
+returns-in-Short g c = record {
+  cut = ap (λ v. v.cut) c.enter.ensures.turned.rest;
+  note = let P : Option CheckNote → Type 0 = λ n. IsNoPass n in subst P (sym c.enter.ensures.note) tt;
+  step = λ last setup line t between.
+      let is = live-tick g.R.LineRules.rules line t c.args.byte between.is_cut in
+      let P : Tick → Type 0 = λ u. IsBetween g.R.LineRules g.M.Mac c.args.self.now last setup line u
+      (Live c.args.byte)
+      → HasTaken g.R.LineRules g.M.Mac c.enter.new.self last setup line u c.enter.result in
+      let taken : P (Byte c.args.byte) = λ at.
+      let d = waiting-some at.walks.waiting (sym at.walks.waits_is ∙ c.if-not-self.false) in
+      let coded = live-coded g.R.LineRules g.M.Mac c.args.self.now last setup line c.args.byte at
+      c.update.new.self d.0 d.1 (λ key text codes. c.update.ensures key text codes) in
+      live-taken g.R.LineRules g.M.Mac c.args.self.now last setup line c.args.byte at
+      c.update.new.self c.enter.new.self.until c.enter.new.self c.enter.result
+      c.enter.ensures.turned c.enter.ensures.until c.enter.ensures.note
+      (λ bad. let head = c.head.ensures (line ++ Byte c.args.byte ∷ []) at.cuts in
+      ⊎_elim (λ short. absurd cc) (λ good. absurd cc) c.in-Short.is)
+      d.0 d.1 (coded.text, coded.codes) coded c.if-not-self.false in
+      subst P (sym is) taken between;
+}

@@ -1,0 +1,43 @@
+use Rattle.std.proofs.Common.{◌≡◌, ◌∙◌, ◌+◌, ◌-◌, ◌≤◌, ℕ, refl, sym, ap, subst, arith, List, [], ◌++◌, length, false, None}
+use Rattle.yasir_ticks.specs.Ticks.{silent}
+use Rattle.yasir_ticks.specs.Bursts.{bursts}
+use Rattle.yasir_ticks.specs.declared.tick.Tick.{Tick}
+use Rattle.delay_ring.specs.DelayRing.{ring_ticks}
+use Rattle.spoiler.specs.Outlet.{owed_by}
+use Rattle.link_format.specs.Profile.{Profile, profile_of}
+use Rattle.link_format.specs.Setup.{Setup, setup_of}
+use Rattle.sequence_journal.specs.declared.numbers.TheConstants.{LIMIT}
+use Rattle.sequence_journal.specs.Journal.{journal_floor}
+use Rattle.link_verdicts.specs.Checking.{at_floor}
+use Rattle.link_verdicts.specs.Holding.{HasWalked}
+use Rattle.link_verdicts.proofs.Begun.{walked-begun}
+use Rattle.check_receiver.proofs.checker.Checker.new.Goals as goal
+
+pub returns-clause-stands : goal.returns-clause-stands
+returns-clause-stands g c = λ journal.
+    let setup : Setup = setup_of c.args.key.now c.args.dir (journal_floor journal) in
+    let profile : Profile = profile_of g.R.LineRules g.M.Mac g.row.B LIMIT setup in
+    let W : ℕ → Type 0 = λ o. HasWalked profile g.R.LineRules.rules setup.floor 0 (bursts [])
+    (at_floor setup.floor) false [] [] o None in
+    let whole : g.row.D ≡ g.row.D - length {A = Tick} [] = omega arith in
+    record {
+      word_is = c.requires.word;
+      wide = c.requires.wide;
+      delay_is = c.requires.delay;
+      direction_is = refl;
+      cuts = c.new.ensures.stands;
+      walks = record {
+        waiting = None;
+        left = [];
+        live = [];
+        walked = subst W (sym c.new-3.ensures.owed)
+            (walked-begun profile g.R.LineRules.rules setup.floor);
+        outlet_is = c.new-3.ensures.stands;
+        ring_is = c.new-2.ensures ∙ ap silent whole;
+        few = omega arith;
+        until_is = refl;
+        waits_is = refl;
+        code_is = ([], c.with_key.ensures);
+        coded = tt;
+      };
+    }

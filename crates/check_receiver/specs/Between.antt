@@ -1,0 +1,87 @@
+-- A receiver in the middle of a step: the value that cuts the link has taken the tick, one step
+-- fewer is left until the last live byte leaves, and all else is as before.
+use Rattle.std.specs.Prelude.{◌≡◌, ℕ, ◌+◌, ◌-◌, ◌≤◌, true, List, [], ◌∷◌, ◌++◌, Option, Some, None, IfSome, Result, Ok, Err}
+use Rattle.yasir_ticks.specs.declared.tick.Tick.{Tick}
+use Rattle.yasir_ticks.specs.declared.tick.Tick.TheVariants.{Silent}
+use Rattle.line_rules.specs.Rules.{Rules}
+use Rattle.line_rules.specs.declared.line_rules.LineRules.{Ghosts as LineRules}
+use Rattle.frame_ending.specs.declared.cut.Cut.{Cut}
+use Rattle.frame_ending.specs.declared.cut.Cut.TheVariants.{Start, Live, Extra, Closed, Pause, Quiet}
+use Rattle.frame_ending.specs.Cuts.{cut_of}
+use Rattle.frame_ending.specs.Stands.{StandsFor as CutStandsFor}
+use Rattle.hmac_tag.specs.declared.tag.Mac.{Ghosts as Mac}
+use Rattle.hmac_tag.specs.Tag.{direction_number}
+use Rattle.yasir_ticks.specs.Bursts.{Burst}
+use Rattle.frame_ending.specs.SoFar.{last_burst}
+use Rattle.frame_ending.specs.LiveBytes.{live_bytes}
+use Rattle.link_format.specs.Profile.{IsWordLen, profile_of}
+use Rattle.link_format.specs.Setup.{Setup}
+use Rattle.link_verdicts.specs.declared.note.CheckNote.{CheckNote}
+use Rattle.link_verdicts.specs.declared.note.CheckNote.TheVariants.{Passed, Refused, Dropped}
+use Rattle.sequence_journal.specs.declared.numbers.TheConstants.{LIMIT}
+use Rattle.link_verdicts.specs.declared.note.RefusedWhy.{RefusedWhy}
+use Rattle.link_verdicts.specs.Verdicts.{Verdict}
+use Rattle.link_verdicts.specs.Verdicts.Verdict.{passed_with, refused, dropped}
+use Rattle.check_receiver.specs.Arrivals.{Arrives}
+use Rattle.link_verdicts.specs.Holding.{trailer_so_far}
+use Rattle.check_receiver.specs.Stands.{Walks}
+use Rattle.check_receiver.specs.declared.arriving.Arriving.{Arriving}
+use Rattle.check_receiver.specs.declared.checker.Checker.{Checker}
+
+module _ {R M : Type 0} (proto : LineRules R) (code : Mac M) {B D : ℕ} (value : Checker R M B D)
+    (last : ℕ) (setup : Setup) (line : List Tick) where
+  pub record IsBetween (t : Tick) (cut : Cut) : Type 0 where
+    pub word_is : IsWordLen B
+    pub wide : 2 ≤ B
+    pub delay_is : D ≡ 4 + B + code.TAG
+    pub direction_is : direction_number value.direction ≡ setup.direction
+    pub cuts : CutStandsFor proto value.cut (line ++ t ∷ [])
+    pub is_cut : cut_of proto.rules line t ≡ cut
+    pub before : ℕ
+    pub one_less : value.until ≡ before - 1
+    pub walks : Walks proto code B D last value.earliest_start value.waits value.passed value.mac
+        value.arriving value.ring before value.outlet setup line
+
+  -- A byte has come that isn't live: the last one of a trailer of the burst whose verdict is open,
+  -- and it is weighed.
+  pub record IsWhole (t : Tick) : Type 0 where
+    pub word_is : IsWordLen B
+    pub wide : 2 ≤ B
+    pub delay_is : D ≡ 4 + B + code.TAG
+    pub direction_is : direction_number value.direction ≡ setup.direction
+    pub cuts : CutStandsFor proto value.cut (line ++ t ∷ [])
+    pub byte : ℕ
+    pub is_cut : cut_of proto.rules line t ≡ Extra byte
+    pub mac : M
+    pub arriving : Arriving B
+    pub before : ℕ
+    pub one_less : value.until ≡ before - 1
+    pub last_place : value.until ≡ 1
+    pub walks : Walks proto code B D last value.earliest_start true value.passed mac arriving
+        value.ring before value.outlet setup line
+    pub key_text : List ℕ
+    pub codes : code.stands value.mac setup.key key_text
+    pub arrives : (d : Burst) → last_burst (line ++ t ∷ []) ≡ Some d
+        → Arrives (λ n. (profile_of proto code B LIMIT setup).tag n (live_bytes proto.rules d))
+        last value.arriving (trailer_so_far proto.rules d)
+
+-- the verdict on a burst with a whole trailer, by the number with which it passes or why not
+abbrev pub verdict_told : Result ℕ RefusedWhy → Verdict
+verdict_told (Ok number) = passed_with number
+verdict_told (Err why) = refused why
+
+-- a tick that is silent, as it is told
+abbrev pub IsSilence : Cut → Type 0
+IsSilence (Start b) = ⊥
+IsSilence (Live b) = ⊥
+IsSilence (Extra b) = ⊥
+IsSilence (Pause n) = Unit {0}
+IsSilence Closed = Unit {0}
+IsSilence Quiet = Unit {0}
+
+-- a note with which nothing is committed
+abbrev pub IsNoPass : Option CheckNote → Type 0
+IsNoPass None = Unit {0}
+IsNoPass (Some (Passed number start len)) = ⊥
+IsNoPass (Some (Refused start why)) = Unit {0}
+IsNoPass (Some (Dropped start why)) = Unit {0}

@@ -1,0 +1,59 @@
+-- What the steps of a receiver answer, and what they do to its journal.
+use Rattle.std.specs.Prelude.{◌≡◌, ℕ, List, [], ◌∷◌, ◌++◌, length, Option, Some, None}
+use Rattle.std.specs.Prelude.{Result, IfOk, OnOk}
+use Rattle.yasir_ticks.specs.declared.tick.Tick.{Tick}
+use Rattle.yasir_io.specs.Causes.{HasCause}
+use Rattle.yasir_io.specs.Disks.{LeavesOnly}
+use Rattle.yasir_io.specs.declared.disk.SlotDisk.{Ghosts as SlotDisk}
+use Rattle.line_rules.specs.Rules.{Rules}
+use Rattle.burst_walk.specs.Answers.{AnswersTick as AnswersTickOf}
+use Rattle.link_format.specs.Profile.{Profile}
+use Rattle.sequence_journal.specs.declared.journal.Journal.{Journal}
+use Rattle.sequence_journal.specs.declared.journal.JournalFault.{JournalFault}
+use Rattle.sequence_journal.specs.Commits.{HasCommitted}
+use Rattle.sequence_journal.specs.Journal.{journal_floor, Fits, IsCrashSafe, HasFloorAtLeast}
+use Rattle.link_verdicts.specs.Checking.{checker, at_floor, check_notes, brief_note}
+use Rattle.link_verdicts.specs.Checking.FullNote.{passed_note}
+use Rattle.link_verdicts.specs.declared.note.CheckNote.{CheckNote}
+use Rattle.link_verdicts.specs.declared.note.CheckNote.TheVariants.{Passed, Refused, Dropped}
+use Rattle.check_receiver.specs.declared.step.CheckStep.{CheckStep}
+
+-- A step answers, after these ticks of the link and with one tick more, the tick of the device's
+-- line and the note that the definitions add.
+abbrev pub AnswersTick : Profile → Rules → ℕ → List Tick → Tick → CheckStep → Type 0
+AnswersTick profile rules floor line t step =
+    AnswersTickOf (checker profile rules) brief_note (at_floor floor) line t step.tick step.note
+
+-- By the definitions a burst passes with this number in the step of this tick.
+pub record PassesWith (profile : Profile) (rules : Rules) (floor : ℕ) (line : List Tick) (t : Tick)
+    (number : ℕ) : Type 0 where
+  pub start : ℕ
+  pub frame : List ℕ
+  pub note : check_notes profile rules floor (line ++ t ∷ [])
+      ≡ check_notes profile rules floor line
+      ++ record { tick = length line; note = passed_note number start frame } ∷ []
+
+-- By its note a step has committed the number of a frame that passes, or has left journal and disk
+-- as they were.
+abbrev pub CommitsNoted : {S : Type 0} → SlotDisk S → Journal → Journal → S → S → Option CheckNote
+    → Type 0
+CommitsNoted d old new disk_old disk_new (Some (Passed number start len)) =
+    HasCommitted old new (d.told disk_old) (d.told disk_new) (d.may_leave disk_new) number
+CommitsNoted d old new disk_old disk_new (Some (Refused start why)) =
+    (new ≡ old) × (disk_new ≡ disk_old)
+CommitsNoted d old new disk_old disk_new (Some (Dropped start why)) =
+    (new ≡ old) × (disk_new ≡ disk_old)
+CommitsNoted d old new disk_old disk_new None = (new ≡ old) × (disk_new ≡ disk_old)
+
+-- What a step does to the journal and its disk.
+pub record KeepsJournal {S : Type 0} (d : SlotDisk S) (old new : Journal) (disk_old disk_new : S)
+    (result : Result CheckStep JournalFault) : Type 0 where
+  pub commits : IfOk result (λ step. CommitsNoted d old new disk_old disk_new step.note)
+  pub fits : OnOk result (Fits new (d.told disk_new))
+  -- Where a crash before the step left no floor below the journal's, one after it leaves none below
+  -- what is then the journal's, and one at any moment inside it leaves none below what was.
+  pub crash_safe : IsCrashSafe old (d.told disk_old) (d.may_leave disk_old)
+      → IsCrashSafe new (d.told disk_new) (d.may_leave disk_new)
+  pub any_moment : IsCrashSafe old (d.told disk_old) (d.may_leave disk_old)
+      → LeavesOnly d.moment d.left_since disk_old disk_new (HasFloorAtLeast (journal_floor old))
+  pub cause : HasCause (d.faults disk_old) (d.faults disk_new) result

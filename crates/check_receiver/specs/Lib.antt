@@ -1,0 +1,5 @@
+pub mod Checkings
+pub mod Arrivals
+pub mod Stands
+pub mod Turning
+pub mod Between

@@ -1,0 +1,95 @@
+-- What a receiver stands for.
+use Rattle.std.specs.Prelude.{◌≡◌, ℕ, ◌+◌, ◌-◌, ◌<◌, ◌≤◌, nat_le, Bool, true, false, List, ◌∷◌, ◌++◌, [], length}
+use Rattle.std.specs.Prelude.{Option, IfSome, is_some}
+use Rattle.yasir_ticks.specs.Ticks.{silent, bytes_in}
+use Rattle.yasir_ticks.specs.Bursts.{Burst, bursts, end_of}
+use Rattle.yasir_ticks.specs.declared.tick.Tick.{Tick}
+use Rattle.yasir_ticks.specs.declared.tick.Tick.TheVariants.{Silent, Byte}
+use Rattle.line_rules.specs.Rules.{Rules, head_of}
+use Rattle.line_rules.specs.declared.head.Head.{Head}
+use Rattle.line_rules.specs.declared.head.Head.TheVariants.{Short, Good, Bad}
+use Rattle.line_rules.specs.declared.line_rules.LineRules.{Ghosts as LineRules}
+use Rattle.frame_ending.specs.LiveBytes.{live_bytes, live_ticks, live_end}
+use Rattle.frame_ending.specs.Stands.{StandsFor as CutStandsFor, ticks_taken as ticks_cut}
+use Rattle.burst_walk.specs.Laid.{tick_at}
+use Rattle.burst_walk.specs.HasCome.{HasCome}
+use Rattle.delay_ring.specs.declared.delay_ring.DelayRing.{DelayRing}
+use Rattle.delay_ring.specs.DelayRing.{ring_ticks}
+use Rattle.spoiler.specs.declared.outlet.Outlet.{Outlet}
+use Rattle.spoiler.specs.Outlet.{StandsFor as OutletStandsFor, owed_by}
+use Rattle.hmac_tag.specs.declared.tag.Mac.{Ghosts as Mac}
+use Rattle.hmac_tag.specs.Tag.{direction_number}
+use Rattle.link_format.specs.NumberedFrame.{last_number}
+use Rattle.link_format.specs.Profile.{Profile, profile_of, IsWordLen, delay, pause_len}
+use Rattle.link_format.specs.Setup.{Setup}
+use Rattle.sequence_journal.specs.declared.journal.Journal.{Journal}
+use Rattle.sequence_journal.specs.declared.numbers.TheConstants.{LIMIT}
+use Rattle.sequence_journal.specs.Journal.{journal_floor}
+use Rattle.link_verdicts.specs.Verdicts.{CheckState, after_live, kept_after}
+use Rattle.link_verdicts.specs.Checking.{checker, at_floor, passed}
+use Rattle.check_receiver.specs.Arrivals.{Arrives}
+use Rattle.check_receiver.specs.Checkings.{AnswersTick}
+use Rattle.link_verdicts.specs.Holding.{HasWalked, trailer_so_far}
+use Rattle.check_receiver.specs.declared.arriving.Arriving.{Arriving}
+use Rattle.check_receiver.specs.declared.checker.Checker.{Checker}
+use Rattle.check_receiver.specs.declared.step.CheckStep.{CheckStep}
+
+module _ {R M : Type 0} (proto : LineRules R) (code : Mac M) where
+  -- The code of a burst whose verdict is open: until the word has come its text is the burst's.
+  pub record Codes {B : ℕ} (setup : Setup) (last : ℕ) (mac : M) (arriving : Arriving B)
+      (d : Burst) : Type 0 where
+    pub text : List ℕ
+    pub codes : code.stands mac setup.key text
+    pub text_is : length (trailer_so_far proto.rules d) < B
+        → text ≡ proto.rules.label ∷ setup.direction ∷ live_bytes proto.rules d
+    pub arrives : Arrives (λ n. (profile_of proto code B LIMIT setup).tag n
+        (live_bytes proto.rules d)) last arriving (trailer_so_far proto.rules d)
+
+  -- A receiver has come so far over a link: the last number that passed, the first tick at which a
+  -- burst isn't too soon, and what it holds.
+  pub record Walks (B D last earliest : ℕ) (waits passes : Bool) (mac : M) (arriving : Arriving B)
+      (ring : DelayRing D) (until : ℕ) (outlet : Outlet R) (setup : Setup) (line : List Tick) :
+      Type 0 where
+    pub waiting : Option Burst
+    pub left : List ℕ
+    pub live : List Tick
+    pub walked : HasWalked (profile_of proto code B LIMIT setup) proto.rules setup.floor
+        (length line) (bursts line) (record { floor = last; earliest_start = earliest }) passes
+        left live (owed_by outlet) waiting
+    pub outlet_is : OutletStandsFor proto outlet left
+    pub ring_is : ring_ticks ring ≡ live ++ silent (D - length live)
+    pub few : length live ≤ D
+    pub until_is : until ≡ length live
+    pub waits_is : waits ≡ is_some waiting
+    pub code_is : (text : List ℕ) × code.stands mac setup.key text
+    pub coded : IfSome waiting (λ d. Codes setup last mac arriving d)
+
+  -- Set up so, the receiver has taken these ticks, and the last number that passed is this one.
+  pub record StandsAt {B D : ℕ} (value : Checker R M B D) (last : ℕ) (setup : Setup)
+      (line : List Tick) : Type 0 where
+    pub word_is : IsWordLen B
+    -- so that a header is whole before its first byte leaves
+    pub wide : 2 ≤ B
+    pub delay_is : D ≡ 4 + B + code.TAG
+    pub direction_is : direction_number value.direction ≡ setup.direction
+    pub cuts : CutStandsFor proto value.cut line
+    pub walks : Walks B D last value.earliest_start value.waits value.passed value.mac
+        value.arriving value.ring value.until value.outlet setup line
+
+  -- set up so, it has taken these ticks, and its journal is this one
+  abbrev pub StandsFor : {B D : ℕ} → Checker R M B D → Journal → Setup → List Tick → Type 0
+  StandsFor value journal setup line = StandsAt value (journal_floor journal) setup line
+
+  -- After these ticks the receiver has taken one more: it then stands for this, the last number
+  -- is that of the last frame that passed, and it answers as the definitions say.
+  pub record HasTaken {B D : ℕ} (value : Checker R M B D) (last : ℕ) (setup : Setup)
+      (line : List Tick) (t : Tick) (step : CheckStep) : Type 0 where
+    pub stands : StandsAt value last setup (line ++ t ∷ [])
+    pub floor : last ≡ last_number setup.floor
+        (passed (profile_of proto code B LIMIT setup) proto.rules setup.floor (line ++ t ∷ []))
+    pub answers : AnswersTick (profile_of proto code B LIMIT setup) proto.rules setup.floor line t
+        step
+
+-- how many ticks it has taken
+abbrev pub ticks_taken : {R M : Type 0} {B D : ℕ} → Checker R M B D → ℕ
+ticks_taken value = ticks_cut value.cut

@@ -1,0 +1,41 @@
+-- What the turn of the ring does: a tick enters it, and what leaves goes through the outlet.
+use Rattle.std.specs.Prelude.{◌≡◌, ℕ, ◌-◌, ◌==◌, Bool, false, List, [], ◌∷◌, ◌++◌, Option, Some, None, slice_index_or, drop}
+use Rattle.yasir_ticks.specs.declared.tick.Tick.{Tick}
+use Rattle.yasir_ticks.specs.declared.tick.Tick.TheVariants.{Silent, Byte}
+use Rattle.line_rules.specs.Rules.{fills_room}
+use Rattle.line_rules.specs.declared.line_rules.LineRules.{Ghosts as LineRules}
+use Rattle.delay_ring.specs.declared.delay_ring.DelayRing.{DelayRing}
+use Rattle.delay_ring.specs.DelayRing.{ring_ticks}
+use Rattle.yasir_ticks.specs.Ticks.{silent}
+use Rattle.spoiler.specs.declared.outlet.Outlet.{Outlet}
+use Rattle.spoiler.specs.Outlet.{StandsFor as OutletStandsFor, owed_by, emitted, owed_after, filled, filled_bytes}
+use Rattle.link_verdicts.specs.Turns.{HasTurned}
+use Rattle.check_receiver.specs.declared.checker.Checker.{Checker}
+
+-- A tick has entered the ring, and this one has left; all else is as it was.
+pub record Turned {R M : Type 0} {B D : ℕ} (proto : LineRules R) (old new : Checker R M B D)
+    (entering answer : Tick) : Type 0 where
+  pub rest : new ≡ record old { ring = new.ring; outlet = new.outlet }
+  pub ring : ring_ticks new.ring ≡ drop 1 (ring_ticks old.ring) ++ entering ∷ []
+  pub out : (x : List ℕ) → OutletStandsFor proto old.outlet x
+      → HasTurned proto old.outlet new.outlet (old.until == 0) old.passed x answer
+      (slice_index_or (ring_ticks old.ring) 0 Silent)
+
+-- with this ring, and no burst whose verdict is open
+abbrev pub dropped : {R M : Type 0} {B D : ℕ} → Checker R M B D → DelayRing D → Checker R M B D
+dropped old ring = record old { waits = false; until = 0; ring = ring }
+
+-- all ticks of the ring are gone, and then a silent one has entered
+pub record TurnedClear {R M : Type 0} {B D : ℕ} (proto : LineRules R) (old new : Checker R M B D)
+    (answer : Tick) : Type 0 where
+  pub ring : DelayRing D
+  pub clear : ring_ticks ring ≡ silent D
+  pub turned : Turned proto (dropped old ring) new Silent answer
+
+-- the last live byte leaves so many steps later
+abbrev pub with_until : {R M : Type 0} {B D : ℕ} → ℕ → Checker R M B D → Checker R M B D
+with_until n old = record old { until = n }
+
+-- no verdict is open, and the next burst may start from this tick on
+abbrev pub closed_at : {R M : Type 0} {B D : ℕ} → ℕ → Checker R M B D → Checker R M B D
+closed_at earliest old = record old { waits = false; earliest_start = earliest }

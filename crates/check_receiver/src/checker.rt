@@ -1,0 +1,464 @@
+use crate::CheckStep;
+use crate::arriving::Arriving;
+use delay_ring::DelayRing;
+use frame_ending::{BurstCut, Cut};
+use hmac_tag::{Dir, Mac};
+use line_rules::{Head, LineRules};
+use link_verdicts::{CheckNote, DroppedWhy, RefusedWhy};
+use sequence_journal::{Journal, JournalFault, LIMIT};
+use spoiler::Outlet;
+use yasir_io::SlotDisk;
+use yasir_ticks::{MAX_TICKS, Tick};
+
+/// How many silent ticks stand between a frame and its trailer.
+const PAUSE: usize = 3;
+
+/// The receiver, by the rules `R` of a protocol, with words of `B` bytes and tags by `M`. Each live
+/// byte of a burst that isn't dropped leaves `D` ticks after it came, before the verdict on its
+/// burst is known; the last one of a burst that is refused leaves spoiled.
+///
+/// It keeps no frame: each live byte goes into the text of the tag as it comes, and each byte of a
+/// trailer is weighed as it comes.
+#[derive(Drop)]
+pub struct Checker<R, M, const B: usize, const D: usize> {
+    cut: BurstCut<R>,
+    mac: M,
+    direction: Dir,
+    // the first tick at which a burst that starts isn't dropped for want of time
+    earliest_start: u64,
+    // there is a burst whose verdict is open, and this has come of its trailer
+    waits: bool,
+    arriving: Arriving<B>,
+    // the live ticks that are still to leave, and how many steps from now the last of them leaves
+    ring: DelayRing<D>,
+    until: u8,
+    outlet: Outlet<R>,
+    // the last verdict was that the burst passes
+    passed: bool,
+}
+
+impl<R: LineRules, M: Mac, const B: usize, const D: usize> Checker<R, M, B, D> {
+    ghost use Rattle.std.specs.Prelude.{◌≡◌, ℕ, ◌+◌, ◌-◌, ◌<◌, ◌≤◌, List, [], ◌∷◌, ◌++◌, Some, None};
+    ghost use Rattle.std.specs.Prelude.{Ok, Err, OnOk, OnErr, IfOk, IfErr, true, false};
+    ghost use Rattle.yasir_ticks.specs.declared.tick.Tick.{Tick};
+    ghost use Rattle.yasir_ticks.specs.declared.tick.Tick.TheVariants.{Silent, Byte};
+    ghost use Rattle.frame_ending.specs.declared.cut.Cut.{Cut};
+    ghost use Rattle.frame_ending.specs.declared.cut.Cut.TheVariants.{Start, Live, Extra};
+    ghost use Rattle.frame_ending.specs.SoFar.{live_bytes_so_far};
+    ghost use Rattle.frame_ending.specs.Stands.{ticks_taken as ticks_cut, StandsFor as CutStandsFor};
+    ghost use Rattle.delay_ring.specs.DelayRing.{ring_ticks};
+    ghost use Rattle.link_format.specs.Profile.{IsWordLen, profile_of};
+    ghost use Rattle.link_format.specs.Setup.{Setup, setup_of};
+    ghost use Rattle.sequence_journal.specs.declared.journal.Journal.{Journal};
+    ghost use Rattle.sequence_journal.specs.declared.numbers.TheConstants.{LIMIT};
+    ghost use Rattle.sequence_journal.specs.Commits.{HasFailed};
+    ghost use Rattle.sequence_journal.specs.Journal.{journal_floor, Fits};
+    ghost use Rattle.link_verdicts.specs.declared.note.CheckNote.TheVariants.{Passed, Refused};
+    ghost use Rattle.link_verdicts.specs.declared.note.CheckNote.TheVariants.{Dropped};
+    ghost use Rattle.check_receiver.specs.Checkings.{PassesWith, KeepsJournal};
+    ghost use Rattle.check_receiver.specs.Stands.{StandsFor, HasTaken, ticks_taken};
+    ghost use Rattle.std.specs.Prelude.{length};
+    ghost use Rattle.yasir_ticks.specs.Bursts.{Burst};
+    ghost use Rattle.line_rules.specs.Rules.{head_of, left_of};
+    ghost use Rattle.frame_ending.specs.SoFar.{last_burst, start_so_far};
+    ghost use Rattle.frame_ending.specs.LiveBytes.{live_bytes};
+    ghost use Rattle.link_verdicts.specs.declared.note.DroppedWhy.TheVariants.{Busy};
+    ghost use Rattle.link_verdicts.specs.declared.note.DroppedWhy.TheVariants.{Head as NoHead};
+    ghost use Rattle.link_verdicts.specs.Verdicts.{whole_verdict};
+    ghost use Rattle.check_receiver.specs.Arrivals.{Arrives};
+    ghost use Rattle.link_verdicts.specs.Holding.{trailer_so_far};
+    ghost use Rattle.check_receiver.specs.Turning.{Turned, TurnedClear, with_until};
+    ghost use Rattle.check_receiver.specs.Between.{IsBetween, IsWhole, IsSilence, IsNoPass};
+    ghost use Rattle.check_receiver.specs.Between.{verdict_told};
+
+    /// A receiver that has taken no tick, for a key of any length and a direction.
+    pub fn new(key: &[u8], dir: Dir) -> Checker<R, M, B, D>
+        requires word { IsWordLen B }
+        requires wide { 2 ≤ B }
+        requires delay { D ≡ 4 + B + M.TAG }
+        ensures taken { ticks_taken result ≡ 0 }
+        ensures stands { (journal : Journal) → StandsFor R.LineRules M.Mac result journal
+            (setup_of key.now dir (journal_floor journal)) [] }
+    {
+        Checker {
+            cut: BurstCut::new(),
+            mac: M::with_key(key),
+            direction: dir,
+            earliest_start: 0,
+            waits: false,
+            arriving: Arriving::none(),
+            ring: DelayRing::new(),
+            until: 0,
+            outlet: Outlet::new(),
+            passed: false,
+        }
+    }
+
+    /// Takes the next tick of the link, and answers the tick that the device is sent at the same
+    /// place, with the note that falls into this step. The journal is that of the steps before, and
+    /// the disk is the journal's. Fewer than `MAX_TICKS` ticks were taken before.
+    ///
+    /// It fails where the number of a frame that passes isn't committed. No step follows.
+    #[inline(always)]
+    pub fn step<S: SlotDisk>(
+        &mut self,
+        t: Tick,
+        journal: &mut Journal,
+        disk: &mut S,
+    ) -> Result<CheckStep, JournalFault>
+        requires room { ticks_taken self.old < MAX_TICKS }
+        requires fits { Fits journal.old (S.told disk.old) }
+
+        ensures taken { OnOk result (ticks_taken self.new ≡ ticks_taken self.old + 1) }
+        ensures step { IfOk result (λ step. (setup : Setup) (line : List Tick)
+            → StandsFor R.LineRules M.Mac self.old journal.old setup line
+            → HasTaken R.LineRules M.Mac self.new (journal_floor journal.new) setup line t step) }
+
+        // It fails only in a step in which a burst passes, with the number that isn't committed.
+        ensures err_passes { OnErr result ((number : ℕ)
+            × HasFailed journal.old journal.new (S.told disk.old) (S.told disk.new) number
+            × ((setup : Setup) (line : List Tick)
+            → StandsFor R.LineRules M.Mac self.old journal.old setup line
+            → PassesWith (profile_of R.LineRules M.Mac B LIMIT setup) R.rules setup.floor line t
+            number)) }
+        ensures journal { KeepsJournal S.SlotDisk journal.old journal.new disk.old disk.new result }
+    {
+        let cut = self.cut.step(t);
+        if self.until > 0 {
+            self.until -= 1;
+        }
+        match cut {
+            Cut::Start(byte) => Ok(self.begin(byte)),
+            Cut::Live(byte) => Ok(self.go_on(byte)),
+            Cut::Extra(byte) => self.hear_extra(byte, journal, disk),
+            Cut::Pause(_) | Cut::Closed | Cut::Quiet => Ok(self.wait()),
+        }
+    }
+
+    // What leaves in this step, where the tick `t` enters the ring.
+    #[inline]
+    fn turn(&mut self, t: Tick) -> Tick
+        ensures { Turned R.LineRules self.old self.new t result }
+    {
+        match self.ring.turn(t) {
+            Tick::Byte(byte) => {
+                // there is always room for the byte of a frame's room
+                if !self.outlet.has_room() {
+                    return Tick::Byte(byte);
+                }
+                Tick::Byte(self.outlet.emit(byte, self.until == 0, self.passed))
+            }
+            Tick::Silent => match self.outlet.fill() {
+                Some(byte) => Tick::Byte(byte),
+                None => Tick::Silent,
+            },
+        }
+    }
+
+    // A step in which no live byte enters the ring.
+    #[inline]
+    fn pass_by(&mut self) -> CheckStep
+        ensures turned { Turned R.LineRules self.old self.new Silent result.tick }
+        ensures note { result.note ≡ None }
+    {
+        CheckStep {
+            tick: self.turn(Tick::Silent),
+            note: None,
+        }
+    }
+
+    // What the header of the burst says that is running or was the last.
+    #[inline]
+    fn head(&self) -> Head
+        ensures { (line : List Tick) → CutStandsFor R.LineRules self.now.cut line
+            → result ≡ head_of R.rules (live_bytes_so_far R.rules line) }
+    {
+        self.cut.rules().head()
+    }
+
+    // The first byte of a burst.
+    #[inline]
+    fn begin(&mut self, byte: u8) -> CheckStep
+        ensures cut { self.new.cut ≡ self.old.cut }
+        ensures note { IsNoPass result.note }
+        ensures step { (last : ℕ) (setup : Setup) (line : List Tick) (t : Tick)
+            → IsBetween R.LineRules M.Mac self.old last setup line t (Start byte)
+            → HasTaken R.LineRules M.Mac self.new last setup line t result }
+    {
+        if self.cut.start() < self.earliest_start {
+            return self.drop_busy();
+        }
+        self.waits = true;
+        self.passed = false;
+        self.arriving.begin();
+        self.outlet.begin();
+        self.mac.begin();
+        self.mac.update(&[R::LABEL, self.direction.number(), byte]);
+        match self.head() {
+            Head::Bad => self.drop_headless(),
+            Head::Short | Head::Good => self.enter(byte),
+        }
+    }
+
+    // A further live byte of it.
+    #[inline]
+    fn go_on(&mut self, byte: u8) -> CheckStep
+        ensures cut { self.new.cut ≡ self.old.cut }
+        ensures note { IsNoPass result.note }
+        ensures step { (last : ℕ) (setup : Setup) (line : List Tick) (t : Tick)
+            → IsBetween R.LineRules M.Mac self.old last setup line t (Live byte)
+            → HasTaken R.LineRules M.Mac self.new last setup line t result }
+    {
+        if !self.waits {
+            return self.pass_by();
+        }
+        self.mac.update(&[byte]);
+        match self.head() {
+            Head::Bad => self.drop_headless(),
+            Head::Short | Head::Good => self.enter(byte),
+        }
+    }
+
+    // A live byte of the burst whose verdict is open enters the ring.
+    #[inline]
+    fn enter(&mut self, byte: u8) -> CheckStep
+        ensures turned { Turned R.LineRules (with_until self.new.until self.old) self.new (Byte byte)
+            result.tick }
+        ensures until { D ≤ 64 → self.new.until ≡ D }
+        ensures note { result.note ≡ None }
+    {
+        self.until = D as u8;
+        CheckStep {
+            tick: self.turn(Tick::Byte(byte)),
+            note: None,
+        }
+    }
+
+    // Silence.
+    #[inline]
+    fn wait(&mut self) -> CheckStep
+        requires room { ticks_cut self.old.cut ≤ MAX_TICKS }
+        ensures cut { self.new.cut ≡ self.old.cut }
+        ensures note { IsNoPass result.note }
+        ensures step { (last : ℕ) (setup : Setup) (line : List Tick) (cut : Cut)
+            → IsSilence cut
+            → IsBetween R.LineRules M.Mac self.old last setup line Silent cut
+            → HasTaken R.LineRules M.Mac self.new last setup line Silent result }
+    {
+        if !self.waits {
+            return self.pass_by();
+        }
+        if usize::from(self.until) + PAUSE < D {
+            return self.refuse(RefusedWhy::Trailer);
+        }
+        // the second silent tick after a live byte
+        if usize::from(self.until) + 2 == D {
+            return self.pause();
+        }
+        self.pass_by()
+    }
+
+    // The burst has no further live byte.
+    #[inline]
+    fn pause(&mut self) -> CheckStep
+        requires room { ticks_cut self.old.cut ≤ MAX_TICKS }
+        ensures cut { self.new.cut ≡ self.old.cut }
+        ensures note { IsNoPass result.note }
+        ensures step { (last : ℕ) (setup : Setup) (line : List Tick) (cut : Cut)
+            → IsSilence cut → self.old.waits ≡ true → self.old.until + 2 ≡ D
+            → IsBetween R.LineRules M.Mac self.old last setup line Silent cut
+            → HasTaken R.LineRules M.Mac self.new last setup line Silent result }
+    {
+        match self.head() {
+            Head::Short => self.drop_headless(),
+            Head::Bad | Head::Good => self.pass_by(),
+        }
+    }
+
+    // A byte that isn't live.
+    #[inline]
+    fn hear_extra<S: SlotDisk>(
+        &mut self,
+        byte: u8,
+        journal: &mut Journal,
+        disk: &mut S,
+    ) -> Result<CheckStep, JournalFault>
+        requires room { ticks_cut self.old.cut ≤ MAX_TICKS }
+        requires fits { Fits journal.old (S.told disk.old) }
+        ensures cut { OnOk result (self.new.cut ≡ self.old.cut) }
+        ensures step { IfOk result (λ step. (setup : Setup) (line : List Tick) (t : Tick)
+            → IsBetween R.LineRules M.Mac self.old (journal_floor journal.old) setup line t
+            (Extra byte)
+            → HasTaken R.LineRules M.Mac self.new (journal_floor journal.new) setup line t step) }
+        ensures err_passes { OnErr result ((number : ℕ)
+            × HasFailed journal.old journal.new (S.told disk.old) (S.told disk.new) number
+            × ((setup : Setup) (line : List Tick) (t : Tick)
+            → IsBetween R.LineRules M.Mac self.old (journal_floor journal.old) setup line t
+            (Extra byte)
+            → PassesWith (profile_of R.LineRules M.Mac B LIMIT setup) R.rules setup.floor line t
+            number)) }
+        ensures journal { KeepsJournal S.SlotDisk journal.old journal.new disk.old disk.new result }
+    {
+        if !self.waits {
+            return Ok(self.pass_by());
+        }
+        if usize::from(self.until) + PAUSE >= D {
+            return Ok(self.refuse(RefusedWhy::Trailer));
+        }
+        let place = D - PAUSE - 1 - usize::from(self.until);
+        self.arriving.take(place, byte, journal.floor(), &mut self.mac);
+        if self.until > 1 {
+            return Ok(self.pass_by());
+        }
+        self.decide(journal, disk)
+    }
+
+    // The trailer's last byte has come: the verdict.
+    fn decide<S: SlotDisk>(
+        &mut self,
+        journal: &mut Journal,
+        disk: &mut S,
+    ) -> Result<CheckStep, JournalFault>
+        requires room { ticks_cut self.old.cut ≤ MAX_TICKS }
+        requires fits { Fits journal.old (S.told disk.old) }
+        ensures cut { OnOk result (self.new.cut ≡ self.old.cut) }
+        ensures step { IfOk result (λ step. (setup : Setup) (line : List Tick) (t : Tick)
+            → IsWhole R.LineRules M.Mac self.old (journal_floor journal.old) setup line t
+            → HasTaken R.LineRules M.Mac self.new (journal_floor journal.new) setup line t step) }
+        ensures err_passes { OnErr result ((number : ℕ)
+            × HasFailed journal.old journal.new (S.told disk.old) (S.told disk.new) number
+            × ((setup : Setup) (line : List Tick) (t : Tick)
+            → IsWhole R.LineRules M.Mac self.old (journal_floor journal.old) setup line t
+            → PassesWith (profile_of R.LineRules M.Mac B LIMIT setup) R.rules setup.floor line t
+            number)) }
+        ensures journal { KeepsJournal S.SlotDisk journal.old journal.new disk.old disk.new result }
+    {
+        let number = match self.verdict(journal) {
+            Ok(number) => number,
+            Err(why) => return Ok(self.refuse(why)),
+        };
+        let Ok(()) = journal.commit(disk, number) else {
+            return Err(JournalFault);
+        };
+        Ok(self.pass(number))
+    }
+
+    // The number with which the burst with a whole trailer passes, or why it is refused.
+    fn verdict(&self, journal: &Journal) -> Result<u64, RefusedWhy>
+        ensures above { IfOk result (λ number. journal_floor journal.now < number) }
+        ensures within { IfOk result (λ number. number ≤ LIMIT) }
+        ensures judged { (setup : Setup) (line : List Tick) (d : Burst)
+            → CutStandsFor R.LineRules self.now.cut line
+            → last_burst line ≡ Some d
+            → Arrives (λ n. (profile_of R.LineRules M.Mac B LIMIT setup).tag n
+            (live_bytes R.rules d)) (journal_floor journal.now) self.now.arriving
+            (trailer_so_far R.rules d)
+            → length (trailer_so_far R.rules d) ≡ B + M.TAG
+            → verdict_told result
+            ≡ whole_verdict (profile_of R.LineRules M.Mac B LIMIT setup) R.rules
+            (journal_floor journal.now) (live_bytes R.rules d) (trailer_so_far R.rules d) }
+    {
+        if !self.cut.rules().good() {
+            return Err(RefusedWhy::Form);
+        }
+        let Some(number) = self.arriving.number() else {
+            return Err(RefusedWhy::Number);
+        };
+        // what a word stands for is above the floor and within the limit
+        if number <= journal.floor() {
+            return Err(RefusedWhy::Number);
+        }
+        if number > LIMIT {
+            return Err(RefusedWhy::Number);
+        }
+        if !self.arriving.same() {
+            return Err(RefusedWhy::Tag);
+        }
+        Ok(number)
+    }
+
+    // The burst passes with a number that is committed.
+    fn pass(&mut self, number: u64) -> CheckStep
+        requires room { ticks_cut self.old.cut ≤ MAX_TICKS }
+        ensures turned { Turned R.LineRules (record self.old {
+            waits = false; passed = true; earliest_start = self.new.earliest_start; })
+            self.new Silent result.tick }
+        ensures earliest { self.new.earliest_start ≡ ticks_cut self.old.cut + self.old.until }
+        ensures note { (start : ℕ) × (len : ℕ) × (result.note ≡ Some (Passed number start len)) }
+        ensures told { (line : List Tick) → CutStandsFor R.LineRules self.old.cut line
+            → result.note ≡ Some (Passed number (start_so_far line)
+            (length (live_bytes_so_far R.rules line))) }
+    {
+        self.waits = false;
+        self.passed = true;
+        self.earliest_start = self.cut.ticks() + u64::from(self.until);
+        CheckStep {
+            tick: self.turn(Tick::Silent),
+            note: Some(CheckNote::Passed {
+                number,
+                start: self.cut.start(),
+                len: self.cut.rules().len(),
+            }),
+        }
+    }
+
+    // The burst is refused.
+    fn refuse(&mut self, why: RefusedWhy) -> CheckStep
+        requires room { ticks_cut self.old.cut ≤ MAX_TICKS }
+        ensures turned { Turned R.LineRules (record self.old {
+            waits = false; earliest_start = self.new.earliest_start; })
+            self.new Silent result.tick }
+        ensures earliest { (line : List Tick) → CutStandsFor R.LineRules self.old.cut line
+            → self.new.earliest_start ≡ length line + self.old.until
+            + left_of R.rules (live_bytes_so_far R.rules line) }
+        ensures note { (start : ℕ) × (result.note ≡ Some (Refused start why)) }
+        ensures told { (line : List Tick) → CutStandsFor R.LineRules self.old.cut line
+            → result.note ≡ Some (Refused (start_so_far line) why) }
+    {
+        self.waits = false;
+        self.earliest_start =
+            self.cut.ticks() + u64::from(self.until) + u64::from(self.cut.rules().left());
+        CheckStep {
+            tick: self.turn(Tick::Silent),
+            note: Some(CheckNote::Refused {
+                start: self.cut.start(),
+                why,
+            }),
+        }
+    }
+
+    // The burst is dropped, for its header: its bytes don't leave.
+    fn drop_headless(&mut self) -> CheckStep
+        ensures turned { TurnedClear R.LineRules self.old self.new result.tick }
+        ensures note { (start : ℕ) × (result.note ≡ Some (Dropped start NoHead)) }
+        ensures told { (line : List Tick) → CutStandsFor R.LineRules self.old.cut line
+            → result.note ≡ Some (Dropped (start_so_far line) NoHead) }
+    {
+        self.waits = false;
+        self.until = 0;
+        self.ring.clear();
+        CheckStep {
+            tick: self.turn(Tick::Silent),
+            note: Some(CheckNote::Dropped {
+                start: self.cut.start(),
+                why: DroppedWhy::Head,
+            }),
+        }
+    }
+
+    // The burst is dropped: others still leave.
+    fn drop_busy(&mut self) -> CheckStep
+        ensures turned { Turned R.LineRules self.old self.new Silent result.tick }
+        ensures note { (start : ℕ) × (result.note ≡ Some (Dropped start Busy)) }
+        ensures told { (line : List Tick) → CutStandsFor R.LineRules self.old.cut line
+            → result.note ≡ Some (Dropped (start_so_far line) Busy) }
+    {
+        CheckStep {
+            tick: self.turn(Tick::Silent),
+            note: Some(CheckNote::Dropped {
+                start: self.cut.start(),
+                why: DroppedWhy::Busy,
+            }),
+        }
+    }
+}

@@ -1,0 +1,15 @@
+//! The receiver: it hands each byte of a link on a fixed number of ticks later, before it knows the
+//! verdict on its burst, and spoils the ending of what it refuses.
+#![tactic(auto)]
+
+mod arriving;
+mod checker;
+mod step;
+
+pub use checker::Checker;
+pub use hmac_tag::Dir;
+pub use link_verdicts::{CheckNote, DroppedWhy, RefusedWhy};
+pub use step::CheckStep;
+
+#[cfg(test)]
+mod tests;
