@@ -10,3 +10,16 @@ pub mod Apart
 pub mod Passing
 pub mod Places
 pub mod Packets
+pub mod Leavings
+pub mod Flow
+pub mod Past
+pub mod Resting
+pub mod Opening
+pub mod Shaping
+pub mod Growing
+pub mod Rings
+pub mod Beginning
+pub mod Numbers
+pub mod Lives
+pub mod Extras
+pub mod Begun

@@ -4,3 +4,7 @@ pub mod Emissions
 pub mod Checking
 pub mod Timely
 pub mod Packet
+pub mod Leaving
+pub mod Turns
+pub mod Holding
+pub mod Going

@@ -3,7 +3,8 @@
 //!
 //! A receiver judges each burst of the link in turn, as a transmitter judges those of the device's
 //! line: it is a second value of the walk over bursts. `specs/` has the definitions over whole
-//! lists of ticks; `proofs/` has worked lines, and that a verdict needs no tick before its time.
+//! lists of ticks, and what a receiver holds between two ticks; `proofs/` has worked lines, that a
+//! verdict needs no tick before its time, and what one more tick adds for the machine.
 #![tactic(auto)]
 
 mod note;

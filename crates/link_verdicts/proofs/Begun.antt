@@ -9,8 +9,8 @@ use Rattle.burst_walk.proofs.Coming.{come-begun}
 use Rattle.burst_walk.proofs.Emissions.{tick_at-none}
 use Rattle.link_format.specs.Profile.{Profile}
 use Rattle.link_verdicts.specs.Checking.{checker, at_floor}
-use Rattle.check_walk.specs.Holding.{HasWalked}
-use Rattle.check_walk.proofs.Leavings.{leaves-none, fill_out-zero}
+use Rattle.link_verdicts.specs.Holding.{HasWalked}
+use Rattle.link_verdicts.proofs.Leavings.{leaves-none, fill_out-zero}
 
 bursts-none : bursts [] ≡ []
 unfolding bursts_from

@@ -12,7 +12,7 @@ use Rattle.burst_walk.specs.HasCome.{HasCome}
 use Rattle.link_format.specs.Profile.{Profile, delay, pause_len}
 use Rattle.link_verdicts.specs.Verdicts.{CheckState, after_live, kept_after}
 use Rattle.link_verdicts.specs.Checking.{checker, at_floor}
-use Rattle.check_walk.specs.Leaving.{leaves}
+use Rattle.link_verdicts.specs.Leaving.{leaves}
 
 -- the bytes that have come of the trailer of a burst
 abbrev pub trailer_so_far : Rules → Burst → List ℕ

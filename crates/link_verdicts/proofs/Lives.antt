@@ -25,13 +25,13 @@ use Rattle.link_verdicts.specs.Verdicts.{CheckState}
 use Rattle.link_verdicts.specs.Checking.{checker, at_floor}
 use Rattle.link_verdicts.specs.Timely.{IsTimely}
 use Rattle.link_verdicts.proofs.Settling.{is_over, open-near}
-use Rattle.check_walk.specs.Leaving.{leaves}
-use Rattle.check_walk.specs.Holding.{Opens, as_it_came}
-use Rattle.check_walk.specs.Going.{Goes}
-use Rattle.check_walk.proofs.Flow.{Flows}
-use Rattle.check_walk.proofs.Opening.{open-goes, leaves-front, length-silent}
-use Rattle.check_walk.proofs.Growing.{live-long, opens-live, open-seen, open-end_is, open-whole}
-use Rattle.check_walk.proofs.Resting.{causal}
+use Rattle.link_verdicts.specs.Leaving.{leaves}
+use Rattle.link_verdicts.specs.Holding.{Opens, as_it_came}
+use Rattle.link_verdicts.specs.Going.{Goes}
+use Rattle.link_verdicts.proofs.Flow.{Flows}
+use Rattle.link_verdicts.proofs.Opening.{open-goes, leaves-front, length-silent}
+use Rattle.link_verdicts.proofs.Growing.{live-long, opens-live, open-seen, open-end_is, open-whole}
+use Rattle.link_verdicts.proofs.Resting.{causal}
 
 -- what leaves of a burst whose verdict is open is as it came
 pub seen : {R : Type 0} (proto : LineRules R) (profile : Profile) (m earliest : ℕ) (d : Burst)

@@ -11,7 +11,7 @@ use Rattle.yasir_ticks.specs.declared.tick.Tick.TheVariants.{Silent, Byte}
 use Rattle.line_rules.specs.Rules.{Rules, left_of, spoil_of}
 use Rattle.spoiler.specs.Outlet.{emitted, owed_after}
 use Rattle.link_verdicts.specs.Emissions.{spoiled}
-use Rattle.check_walk.specs.Leaving.{is_none, fill_byte, fill_out, leaves}
+use Rattle.link_verdicts.specs.Leaving.{is_none, fill_byte, fill_out, leaves}
 
 module _ (rules : Rules) where
   pub leaves-none : (p : Bool) (left : List ℕ) (owed : ℕ)

@@ -14,10 +14,10 @@ use Rattle.line_rules.specs.declared.line_rules.LineRules.{Ghosts as LineRules}
 use Rattle.spoiler.specs.declared.outlet.Outlet.{Outlet}
 use Rattle.spoiler.specs.Outlet.{StandsFor as OutletStandsFor, owed_by, emitted, owed_after, filled}
 use Rattle.spoiler.specs.Outlet.{filled_bytes}
-use Rattle.check_walk.specs.Leaving.{is_none, leaves}
-use Rattle.check_walk.specs.Turns.{HasTurned, tick_or_silence}
-use Rattle.check_walk.proofs.Leavings.{leaves-none, leaves-silent, leaves-byte, fill_out-zero}
-use Rattle.check_walk.proofs.Leavings.{fill_out-suc}
+use Rattle.link_verdicts.specs.Leaving.{is_none, leaves}
+use Rattle.link_verdicts.specs.Turns.{HasTurned, tick_or_silence}
+use Rattle.link_verdicts.proofs.Leavings.{leaves-none, leaves-silent, leaves-byte, fill_out-zero}
+use Rattle.link_verdicts.proofs.Leavings.{fill_out-suc}
 
 -- a room that is full stays as it is
 room-stays : (rules : Rules) → IsLawful rules → (x y : List ℕ) → rules.room x ≤ length x

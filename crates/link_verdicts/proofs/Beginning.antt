@@ -10,9 +10,9 @@ use Rattle.line_rules.specs.Rules.{Rules}
 use Rattle.line_rules.specs.RulesLaws.{IsLawful}
 use Rattle.frame_ending.specs.LiveBytes.{up_to_byte, live_bytes, live_ticks, live_end}
 use Rattle.link_format.specs.Profile.{Profile, delay}
-use Rattle.check_walk.specs.Leaving.{leaves}
-use Rattle.check_walk.specs.Holding.{Opens, Rests, as_it_came}
-use Rattle.check_walk.proofs.Leavings.{leaves-silent, leaves-byte}
+use Rattle.link_verdicts.specs.Leaving.{leaves}
+use Rattle.link_verdicts.specs.Holding.{Opens, Rests, as_it_came}
+use Rattle.link_verdicts.proofs.Leavings.{leaves-silent, leaves-byte}
 
 -- where a burst may start, nothing is to leave
 pub rests-none : (rules : Rules) (p : Bool) (m earliest : ℕ) (left : List ℕ) (live : List Tick)

@@ -12,7 +12,7 @@ use Rattle.link_verdicts.specs.Verdicts.{CheckState, Verdict, checked}
 use Rattle.link_verdicts.specs.Verdicts.Verdict.{passed_with, refused, dropped}
 use Rattle.link_verdicts.specs.Checking.{FullNote, checker, at_floor, state_by, note_by, note_tick}
 use Rattle.link_verdicts.specs.Checking.{passed_in, passed}
-use Rattle.check_walk.specs.Holding.{HasWalked}
+use Rattle.link_verdicts.specs.Holding.{HasWalked}
 
 abbrev frames_in : List (Noted FullNote) → List NumberedFrame
 frames_in notes = filter_map (λ n. passed_in n.note) notes

@@ -28,10 +28,10 @@ use Rattle.link_verdicts.specs.Checking.{note_tick}
 use Rattle.link_verdicts.specs.declared.note.RefusedWhy.TheVariants.{Trailer}
 use Rattle.link_verdicts.proofs.Judging.{checked-good, verdict-cut}
 use Rattle.link_verdicts.proofs.Settling.{after-long, within, is_over, open-end, open-near}
-use Rattle.check_walk.specs.Holding.{Opens, as_it_came}
-use Rattle.check_walk.proofs.Shaping.{pause-goes_on, kept-most, byte-keeps, byte-breaks}
-use Rattle.check_walk.proofs.Shaping.{pause-longer}
-use Rattle.check_walk.proofs.Opening.{short-ticks, length-silent}
+use Rattle.link_verdicts.specs.Holding.{Opens, as_it_came}
+use Rattle.link_verdicts.proofs.Shaping.{pause-goes_on, kept-most, byte-keeps, byte-breaks}
+use Rattle.link_verdicts.proofs.Shaping.{pause-longer}
+use Rattle.link_verdicts.proofs.Opening.{short-ticks, length-silent}
 
 -- ---- one tick leaves
 

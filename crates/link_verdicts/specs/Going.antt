@@ -8,7 +8,7 @@ use Rattle.link_format.specs.Profile.{Profile}
 use Rattle.link_verdicts.specs.Verdicts.{CheckState}
 use Rattle.link_verdicts.specs.Checking.{checker, at_floor, brief_note}
 use Rattle.link_verdicts.specs.declared.note.CheckNote.{CheckNote}
-use Rattle.check_walk.specs.Holding.{HasWalked}
+use Rattle.link_verdicts.specs.Holding.{HasWalked}
 
 module _ (profile : Profile) (rules : Rules) (floor : ℕ) (line : List Tick) (t : Tick) where
   -- one more tick of the link is answered so

@@ -29,10 +29,10 @@ use Rattle.link_verdicts.specs.declared.note.CheckNote.TheVariants.{Dropped}
 use Rattle.link_verdicts.specs.declared.note.DroppedWhy.{DroppedWhy}
 use Rattle.link_verdicts.specs.Timely.{IsTimely}
 use Rattle.link_verdicts.proofs.Causality.{checker-causal}
-use Rattle.check_walk.specs.Holding.{HasWalked, Rests}
-use Rattle.check_walk.specs.Going.{Answers, Goes}
-use Rattle.check_walk.specs.Leaving.{leaves}
-use Rattle.check_walk.proofs.Flow.{Flows}
+use Rattle.link_verdicts.specs.Holding.{HasWalked, Rests}
+use Rattle.link_verdicts.specs.Going.{Answers, Goes}
+use Rattle.link_verdicts.specs.Leaving.{leaves}
+use Rattle.link_verdicts.proofs.Flow.{Flows}
 
 module _ {R : Type 0} (proto : LineRules R) (m earliest : ℕ) (emissions : List Burst)
     (passes : Bool) (left : List ℕ) (live : List Tick) (owed : ℕ) (new : Outlet R) (answer : Tick)

@@ -26,15 +26,15 @@ use Rattle.link_verdicts.specs.declared.note.RefusedWhy.TheVariants.{Trailer}
 use Rattle.link_verdicts.specs.Timely.{IsTimely}
 use Rattle.link_verdicts.proofs.Judging.{checked-good, verdict-whole}
 use Rattle.link_verdicts.proofs.Settling.{is_over}
-use Rattle.check_walk.specs.Holding.{Opens, as_it_came}
-use Rattle.check_walk.specs.Going.{Goes}
-use Rattle.check_walk.proofs.Flow.{Flows}
-use Rattle.check_walk.proofs.Opening.{open-goes, refuse-goes, pass-goes}
-use Rattle.check_walk.proofs.Growing.{live-long, opens-over, over-end, over-whole, over-left}
-use Rattle.check_walk.proofs.Growing.{over-live}
-use Rattle.check_walk.proofs.Growing.{over-breaks, over-keeps, over-good, over-long-header, breaks}
-use Rattle.check_walk.proofs.Lives.{seen}
-use Rattle.check_walk.proofs.Resting.{causal, room-more}
+use Rattle.link_verdicts.specs.Holding.{Opens, as_it_came}
+use Rattle.link_verdicts.specs.Going.{Goes}
+use Rattle.link_verdicts.proofs.Flow.{Flows}
+use Rattle.link_verdicts.proofs.Opening.{open-goes, refuse-goes, pass-goes}
+use Rattle.link_verdicts.proofs.Growing.{live-long, opens-over, over-end, over-whole, over-left}
+use Rattle.link_verdicts.proofs.Growing.{over-live}
+use Rattle.link_verdicts.proofs.Growing.{over-breaks, over-keeps, over-good, over-long-header, breaks}
+use Rattle.link_verdicts.proofs.Lives.{seen}
+use Rattle.link_verdicts.proofs.Resting.{causal, room-more}
 
 module _ {R : Type 0} (proto : LineRules R) (profile : Profile)
     (timely : IsTimely profile proto.rules) (floor : ℕ) (line : List Tick) (b : ℕ)

@@ -34,14 +34,14 @@ use Rattle.link_verdicts.proofs.Judging.{IsJudged, judged-verdict, checked-good,
 use Rattle.link_verdicts.proofs.Judging.{tick-good}
 use Rattle.link_verdicts.specs.Timely.{IsTimely}
 use Rattle.link_verdicts.proofs.Causality.{emission-dark, emission-shown}
-use Rattle.check_walk.specs.Leaving.{leaves}
-use Rattle.check_walk.specs.Holding.{Opens, Rests, as_it_came}
-use Rattle.check_walk.specs.Going.{Goes}
-use Rattle.check_walk.proofs.Leavings.{leaves-none, fill_out-zero, leaves-silent, leaves-byte}
-use Rattle.check_walk.proofs.Leavings.{leaves-passed}
-use Rattle.check_walk.proofs.Leavings.{leaves-spoiled, leaves-drop, leaves-behind}
-use Rattle.check_walk.proofs.Past.{past, judged-late, length-spoiled}
-use Rattle.check_walk.proofs.Resting.{goes-at, noted-come, noted-answers, still-come, still-answers}
+use Rattle.link_verdicts.specs.Leaving.{leaves}
+use Rattle.link_verdicts.specs.Holding.{Opens, Rests, as_it_came}
+use Rattle.link_verdicts.specs.Going.{Goes}
+use Rattle.link_verdicts.proofs.Leavings.{leaves-none, fill_out-zero, leaves-silent, leaves-byte}
+use Rattle.link_verdicts.proofs.Leavings.{leaves-passed}
+use Rattle.link_verdicts.proofs.Leavings.{leaves-spoiled, leaves-drop, leaves-behind}
+use Rattle.link_verdicts.proofs.Past.{past, judged-late, length-spoiled}
+use Rattle.link_verdicts.proofs.Resting.{goes-at, noted-come, noted-answers, still-come, still-answers}
 
 -- ---- silence in front
 

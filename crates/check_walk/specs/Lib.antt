@@ -1,4 +1,0 @@
-pub mod Leaving
-pub mod Turns
-pub mod Holding
-pub mod Going
