@@ -100,11 +100,8 @@ fn letters_and_burst(alloc: Global, parts: &[Part]) -> Result<(Vec<u8>, Told), F
 const QUERY: &[u8] = b"\x01\x03\x00\x00\x00\x0A\xC5\xCD";
 
 #[test]
-fn bursts_of_lines(rt: HostRuntime) -> Result<(), Fail> {
-    let alloc = rt.alloc();
-
-    // nothing yet
-    let (letters, burst) = letters_and_burst(alloc, &[Silence(5)])?;
+fn no_burst_yet(rt: HostRuntime) -> Result<(), Fail> {
+    let (letters, burst) = letters_and_burst(rt.alloc(), &[Silence(5)])?;
     assert_eq!(rt; letters.as_slice(), b"-----".as_slice());
     assert_eq!(rt;
         burst,
@@ -116,8 +113,11 @@ fn bursts_of_lines(rt: HostRuntime) -> Result<(), Fail> {
             over: false
         }
     );
+    Ok(())
+}
 
-    // one silent tick between all bytes
+#[test]
+fn one_silent_tick_between_all_bytes(rt: HostRuntime) -> Result<(), Fail> {
     let apart = [
         Silence(2),
         Bytes(b"\x01"),
@@ -137,7 +137,7 @@ fn bursts_of_lines(rt: HostRuntime) -> Result<(), Fail> {
         Bytes(b"\xCD"),
         Silence(1),
     ];
-    let (letters, burst) = letters_and_burst(alloc, &apart)?;
+    let (letters, burst) = letters_and_burst(rt.alloc(), &apart)?;
     assert_eq!(rt; letters.as_slice(), b"--s1l1l1l1l1l1l1l1".as_slice());
     assert_eq!(rt;
         burst,
@@ -149,15 +149,18 @@ fn bursts_of_lines(rt: HostRuntime) -> Result<(), Fail> {
             over: false
         }
     );
+    Ok(())
+}
 
-    // two silent ticks inside
+#[test]
+fn two_silent_ticks_inside(rt: HostRuntime) -> Result<(), Fail> {
     let parted = [
         Bytes(b"\x01\x03\x00"),
         Silence(2),
         Bytes(b"\x00\x00\x0A\xC5\xCD"),
         Silence(6),
     ];
-    let (letters, burst) = letters_and_burst(alloc, &parted)?;
+    let (letters, burst) = letters_and_burst(rt.alloc(), &parted)?;
     assert_eq!(rt; letters.as_slice(), b"sll12xxxxx123c--".as_slice());
     assert_eq!(rt;
         burst,
@@ -169,9 +172,15 @@ fn bursts_of_lines(rt: HostRuntime) -> Result<(), Fail> {
             over: true
         }
     );
+    Ok(())
+}
 
-    // three silent ticks and a byte
-    let (letters, burst) = letters_and_burst(alloc, &[Bytes(QUERY), Silence(3), Bytes(b"\x00")])?;
+#[test]
+fn three_silent_ticks_and_a_byte(rt: HostRuntime) -> Result<(), Fail> {
+    let (letters, burst) = letters_and_burst(
+        rt.alloc(),
+        &[Bytes(QUERY), Silence(3), Bytes(b"\x00")],
+    )?;
     assert_eq!(rt; letters.as_slice(), b"slllllll123x".as_slice());
     assert_eq!(rt;
         burst,
@@ -183,9 +192,15 @@ fn bursts_of_lines(rt: HostRuntime) -> Result<(), Fail> {
             over: true
         }
     );
+    Ok(())
+}
 
-    // four silent ticks and a byte
-    let (letters, burst) = letters_and_burst(alloc, &[Bytes(QUERY), Silence(4), Bytes(b"\x00")])?;
+#[test]
+fn four_silent_ticks_and_a_byte(rt: HostRuntime) -> Result<(), Fail> {
+    let (letters, burst) = letters_and_burst(
+        rt.alloc(),
+        &[Bytes(QUERY), Silence(4), Bytes(b"\x00")],
+    )?;
     assert_eq!(rt; letters.as_slice(), b"slllllll123cs".as_slice());
     assert_eq!(rt;
         burst,

@@ -369,7 +369,8 @@ module _ {C O L D : Type 0} (meaning : Consuming C D) (o : Sink O) (l : Sink L)
             few = omega (arith, h.few, p.sum, ticks_with (ended_items p.text) line);
             are = sym (append-nil _);
           });
-          gives = gives_then meaning o l d start mid new (ended_items p.text) line (Err stop) p.gives
+          gives =
+              gives_then meaning o l d start mid new (ended_items p.text) line (Err stop) p.gives
               h.gives;
         },
         refl,

@@ -112,7 +112,8 @@ begins_at {place} {bytes} {line} {left} {marks} {text} at =
     ≡ (lines_of text).ended ++ ((lines_of text).last ++ (c.more ++ []))
     ∷ replicate left (37 ∷ []) =
     all_lines-append text (c.more ++ mark_lines left)
-    ∙ ap (λ ls. (lines_of text).ended ++ joined (lines_of text).last ls) (completed_lines c left) in (
+    ∙ ap (λ ls. (lines_of text).ended ++ joined (lines_of text).last ls)
+    (completed_lines c left) in (
       c.more ++ mark_lines left,
       ended_items text ++ (c.items ++ m.0),
       record {

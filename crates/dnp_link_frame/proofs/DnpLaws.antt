@@ -1,0 +1,387 @@
+-- What a value keeps of its bytes, and what one more byte does to it.
+use Rattle.std.proofs.Common.{◌≡◌, ℕ, suc, ◌+◌, ◌-◌, ◌*◌, ◌/◌, ◌%◌, ◌<◌, ◌≤◌, nat_le}
+use Rattle.std.proofs.Common.{◌&&◌, ◌==◌, Bool, true, false, List, [], ◌∷◌, ◌++◌, length, take}
+use Rattle.std.proofs.Common.{drop, refl, arith, sym, ◌∙◌, ap, ⊎_elim, inl, inr, ◌⊎◌}
+use Rattle.std.proofs.Common.{lit<, lit≤}
+use Rattle.std.proofs.lemmas.List.{length_push, get_or_push}
+use Rattle.std.proofs.lemmas.List.{take_all, drop_all, length-drop}
+use Rattle.std.proofs.lemmas.List.{take-append-le, drop-append-le}
+use Rattle.std.proofs.lemmas.List.Elements.{All-nil, All-push, All-drop}
+use Rattle.std.proofs.lemmas.Bool.{cases_lt, cases_eq, cases_Bool, cond-true, cond-false}
+use Rattle.std.proofs.lemmas.Bool.{and_from, and_left, and_right, lt-ltb, le-ltb, lt-leb, le-leb}
+use Rattle.std.proofs.lemmas.Bool.{eq-eqb, ne_eqb}
+use Rattle.line_rules.specs.Bytes.{AreBytes}
+use Rattle.line_rules.specs.Crc.{byte_step}
+use Rattle.line_rules.specs.Rules.{head_of}
+use Rattle.line_rules.specs.declared.head.Head.TheVariants.{Good, Bad}
+use Rattle.line_rules.proofs.CrcLaws.{crc-nil}
+use Rattle.line_rules.proofs.CrcZero.{crc-append}
+use Rattle.dnp_link_frame.specs.Crc.{register_of}
+use Rattle.dnp_link_frame.specs.Frame.{blocks_for}
+use Rattle.dnp_link_frame.specs.Blocks.{length_byte, user_len_by, size_by, room_by}
+use Rattle.dnp_link_frame.specs.Blocks.{ends_in_crc, is_good_header, end_in_crcs}
+use Rattle.dnp_link_frame.specs.Blocks.{block_start, running_block, is_frame, has_right_ending}
+use Rattle.dnp_link_frame.specs.BlockLaws.{length_byte-append, length_byte-none, end_in_crcs-none}
+use Rattle.dnp_link_frame.specs.BlockLaws.{end_in_crcs-last, end_in_crcs-append}
+use Rattle.dnp_link_frame.specs.BlockLaws.{block_start-header, block_start-user, blocks_for-last}
+use Rattle.dnp_link_frame.specs.BlockLaws.{running_block-header, running_block-user}
+use Rattle.dnp_link_frame.specs.BlockLaws.{is_good_header-begins}
+use Rattle.dnp_link_frame.specs.BlockLaws.{room_by-least}
+use Rattle.dnp_link_frame.specs.Rules.{dnp_rules}
+use Rattle.dnp_link_frame.specs.RulesLaws.{dnp_lawful, running_block-push, head_of-good}
+use Rattle.dnp_link_frame.specs.RulesLaws.{head_of-bad}
+use Rattle.dnp_link_frame.specs.Steps.{residue, begins_block, register_after, fits_header}
+use Rattle.dnp_link_frame.specs.Steps.{blocks_after, len_byte_after, is_whole, ends_right}
+use Rattle.dnp_link_frame.specs.Dnp.{DnpStandsFor, header_so_far, blocks_so_far}
+use Rattle.dnp_link_frame.specs.Dnp.{is_full_dnp}
+use Rattle.dnp_link_frame.specs.declared.dnp.Dnp.{Dnp}
+use Rattle.dnp_link_frame.proofs.Residue.{residue_decides}
+use Rattle.dnp_link_frame.proofs.HeaderLaws.{header_so_far-push, header_so_far-none}
+use Rattle.dnp_link_frame.proofs.HeaderLaws.{header_so_far-whole}
+
+-- ---- a byte begins a block of user data, or goes on in the one before
+
+record Begins (n : ℕ) : Type 0 where
+  is : begins_block n ≡ true
+  behind_header : 10 ≤ n
+  place : block_start (n + 1) ≡ n
+
+record GoesOn (n : ℕ) : Type 0 where
+  is : begins_block n ≡ false
+  place : block_start (n + 1) ≡ block_start n
+  blocks : (n + 1 - 11) / 18 ≡ (n - 11) / 18
+
+begins_from : (n : ℕ) → 10 ≤ n → (n - 10) % 18 ≡ 0 → Begins n
+begins_from n behind whole = record {
+  is = and_from _ _ (le-leb 10 n behind) (eq-eqb ((n - 10) % 18) 0 whole);
+  behind_header = behind;
+  place = let at = block_start-user (n + 1) (omega arith) in omega arith;
+}
+
+goes_on_in_header : (n : ℕ) → n < 10 → GoesOn n
+goes_on_in_header n few = record {
+  is = and_left (nat_le 10 n) ((n - 10) % 18 == 0) (lt-leb 10 n few);
+  place = block_start-header (n + 1) (omega arith) ∙ sym (block_start-header n (omega arith));
+  blocks = omega arith;
+}
+
+goes_on_in_user : (n : ℕ) → 10 ≤ n → ((n - 10) % 18 ≡ 0 → ⊥) → GoesOn n
+goes_on_in_user n behind inside =
+    let same : (n + 1 - 11) / 18 ≡ (n - 11) / 18 = omega arith in
+    record {
+      is = and_right (nat_le 10 n) ((n - 10) % 18 == 0) (ne_eqb ((n - 10) % 18) 0 inside);
+      place = block_start-user (n + 1) (omega arith)
+          ∙ (ap (λ k. 10 + 18 * k) same ∙ sym (block_start-user n (omega arith)));
+      blocks = same;
+    }
+
+begins_or_goes_on : (n : ℕ) → Begins n ⊎ GoesOn n
+begins_or_goes_on n =
+    ⊎_elim
+    (λ few. inr (goes_on_in_header n few))
+    (λ behind. ⊎_elim
+    (λ whole. inl (begins_from n behind whole))
+    (λ inside. inr (goes_on_in_user n behind inside))
+    (cases_eq ((n - 10) % 18) 0))
+    (cases_lt n 10)
+
+-- ---- the register
+
+pub register_of-push : (x : List ℕ) (b : ℕ)
+    → register_of (running_block (x ++ b ∷ []))
+    ≡ register_after (length x) (register_of (running_block x)) b
+register_of-push x b =
+    let appended = λ (y : List ℕ). crc-append 0xA6BC (lit≤ tt) (lit< tt) 0 y b in
+    ap register_of (running_block-push x b)
+    ∙ ⊎_elim
+    (λ (begins : Begins (length x)).
+    ap (λ k. register_of (drop k x ++ b ∷ [])) begins.place
+    ∙ (ap (λ y. register_of (y ++ b ∷ [])) (drop_all (length x) x (omega arith))
+    ∙ (appended []
+    ∙ (ap (λ r. byte_step 0xA6BC r b) (crc-nil 0xA6BC 0)
+    ∙ sym (cond-true (begins_block (length x)) _ _ begins.is)))))
+    (λ (goes_on : GoesOn (length x)).
+    ap (λ k. register_of (drop k x ++ b ∷ [])) goes_on.place
+    ∙ (appended (running_block x)
+    ∙ sym (cond-false (begins_block (length x)) _ _ goes_on.is)))
+    (begins_or_goes_on (length x))
+
+-- ---- the blocks
+
+-- where a block ends, it counts from now on
+blocks-ended : (x : List ℕ) (b : ℕ) → AreBytes x → 10 < length x → Begins (length x)
+    → blocks_so_far (x ++ b ∷ []) ≡ (blocks_so_far x && register_of (running_block x) == residue)
+blocks-ended x b bytes user begins =
+    let behind = begins.behind_header in
+    let place = begins.place in
+    let start = block_start-user (length x + 1) (omega arith) in
+    let longer = length_push x b in
+    let k : ℕ = (length x - 11) / 18 in
+    let one_more : (length (x ++ b ∷ []) - 11) / 18 ≡ suc ((length x - 11) / 18) = omega arith in
+    let rest : 18 + 18 * ((length x - 11) / 18) ≡ length (drop 10 x) =
+    omega (arith, length-drop 10 x) in
+    let front : drop 10 (x ++ b ∷ []) ≡ drop 10 x ++ b ∷ [] =
+    drop-append-le 10 x (b ∷ []) (omega arith) in
+    let last : take 18 (drop (18 * ((length x - 11) / 18)) (drop 10 x ++ b ∷ []))
+    ≡ running_block x =
+    ap (take 18) (drop-append-le (18 * ((length x - 11) / 18)) (drop 10 x) (b ∷ []) (omega arith))
+    ∙ (take-append-le 18 (drop (18 * ((length x - 11) / 18)) (drop 10 x)) (b ∷ [])
+    (omega (arith, length-drop (18 * ((length x - 11) / 18)) (drop 10 x)))
+    ∙ running_block-user x ((length x - 11) / 18) user refl) in
+    ap (λ n. end_in_crcs n (drop 10 (x ++ b ∷ []))) one_more
+    ∙ (ap (end_in_crcs (suc ((length x - 11) / 18))) front
+    ∙ (end_in_crcs-last ((length x - 11) / 18) (drop 10 x ++ b ∷ [])
+    ∙ (ap (λ t. t
+    && ends_in_crc (take 18 (drop (18 * ((length x - 11) / 18)) (drop 10 x ++ b ∷ []))))
+    (end_in_crcs-append ((length x - 11) / 18) (drop 10 x) (b ∷ []) (omega arith))
+    ∙ ap (λ t. blocks_so_far x && t)
+    (ap ends_in_crc last
+    ∙ sym (residue_decides (running_block x)
+    (All-drop (λ c. c < 256) (block_start (length x)) x bytes))))))
+
+-- and before, nothing changes
+blocks-kept : (x : List ℕ) (b : ℕ) → 10 < length x → GoesOn (length x)
+    → blocks_so_far (x ++ b ∷ []) ≡ blocks_so_far x
+blocks-kept x b user goes_on =
+    let longer = length_push x b in
+    let same : (length (x ++ b ∷ []) - 11) / 18 ≡ (length x - 11) / 18 =
+    ap (λ n. (n - 11) / 18) longer ∙ goes_on.blocks in
+    ap (λ n. end_in_crcs n (drop 10 (x ++ b ∷ []))) same
+    ∙ (ap (end_in_crcs ((length x - 11) / 18)) (drop-append-le 10 x (b ∷ []) (omega arith))
+    ∙ end_in_crcs-append ((length x - 11) / 18) (drop 10 x) (b ∷ [])
+    (omega (arith, length-drop 10 x)))
+
+-- no block is finished with the header
+blocks-none : (x : List ℕ) → length x ≤ 11 → blocks_so_far x ≡ true
+blocks-none x header =
+    let none : (length x - 11) / 18 ≡ 0 = omega arith in
+    ap (λ n. end_in_crcs n (drop 10 x)) none ∙ end_in_crcs-none (drop 10 x)
+
+pub blocks_so_far-push : (x : List ℕ) (b : ℕ) → AreBytes x
+    → blocks_so_far (x ++ b ∷ [])
+    ≡ blocks_after (length x) (blocks_so_far x) (register_of (running_block x))
+blocks_so_far-push x b bytes =
+    ⊎_elim
+    (λ user. ⊎_elim
+    (λ (begins : Begins (length x)). blocks-ended x b bytes user begins
+    ∙ sym (cond-true _ _ _ (and_from _ _ begins.is (lt-ltb 10 (length x) user))))
+    (λ (goes_on : GoesOn (length x)). blocks-kept x b user goes_on
+    ∙ sym (cond-false _ _ _ (and_left (begins_block (length x)) _ goes_on.is)))
+    (begins_or_goes_on (length x)))
+    (λ header. let longer = length_push x b in
+    blocks-none (x ++ b ∷ []) (omega arith)
+    ∙ (sym (blocks-none x (omega arith))
+    ∙ sym (cond-false _ _ _ (and_right (begins_block (length x)) _ (le-ltb 10 (length x) header)))))
+    (cases_lt 10 (length x))
+
+-- ---- LEN
+
+pub length_byte-push : (x : List ℕ) (b : ℕ)
+    → length_byte (x ++ b ∷ []) ≡ len_byte_after (length x) (length_byte x) b
+length_byte-push x b =
+    ⊎_elim
+    (λ early. let longer = length_push x b in
+    length_byte-none (x ++ b ∷ []) (omega arith)
+    ∙ (sym (length_byte-none x (omega arith))
+    ∙ sym (cond-false (length x == 2) _ _ (ne_eqb (length x) 2 (λ two. omega arith)))))
+    (λ there. ⊎_elim
+    (λ two. get_or_push x b 0 2 two
+    ∙ sym (cond-true (length x == 2) _ _ (eq-eqb (length x) 2 two)))
+    (λ more. length_byte-append x (b ∷ []) (omega arith)
+    ∙ sym (cond-false (length x == 2) _ _ (ne_eqb (length x) 2 more)))
+    (cases_eq (length x) 2))
+    (cases_lt (length x) 2)
+
+-- ---- frames and right endings
+
+-- the last block of a frame
+last_block : (x : List ℕ) → AreBytes x → length x ≡ size_by (length_byte x)
+    → is_good_header (take 10 x) ≡ true
+    → (blocks_so_far x && register_of (running_block x) == residue)
+    ≡ end_in_crcs (blocks_for (user_len_by (length_byte x))) (drop 10 x)
+last_block x bytes size good =
+    let ends : (register_of (running_block x) == residue) ≡ ends_in_crc (running_block x) =
+    residue_decides (running_block x) (All-drop (λ c. c < 256) (block_start (length x)) x bytes) in
+    ⊎_elim
+    (λ user.
+    let k : blocks_for (user_len_by (length_byte x)) ≡ suc ((length x - 11) / 18) =
+    blocks_for-last (length_byte x) (omega arith)
+    ∙ ap (λ n. suc ((n - 11) / 18)) (sym size) in
+    ap (λ t. blocks_so_far x && t)
+    (ends ∙ ap ends_in_crc (sym (running_block-user x ((length x - 11) / 18) user refl)))
+    ∙ (sym (end_in_crcs-last ((length x - 11) / 18) (drop 10 x))
+    ∙ ap (λ n. end_in_crcs n (drop 10 x)) (sym k)))
+    (λ header.
+    let none : blocks_for (user_len_by (length_byte x)) ≡ 0 = omega arith in
+    let right : ends_in_crc (running_block x) ≡ true =
+    ap ends_in_crc (running_block-header x header ∙ sym (take_all 10 x header))
+    ∙ (is_good_header-begins (take 10 x) good).2 in
+    and_from _ _ (blocks-none x (omega arith)) (ends ∙ right)
+    ∙ sym (ap (λ n. end_in_crcs n (drop 10 x)) none ∙ end_in_crcs-none (drop 10 x)))
+    (cases_lt 10 (length x))
+
+pub is_whole-is_frame : (x : List ℕ) → AreBytes x
+    → is_whole (length x) (length_byte x) (header_so_far x) (blocks_so_far x)
+    (register_of (running_block x))
+    ≡ is_frame x
+unfolding is_frame
+is_whole-is_frame x bytes =
+    let b : Bool = blocks_so_far x in
+    let r : Bool = register_of (running_block x) == residue in
+    let rest : Bool = end_in_crcs (blocks_for (user_len_by (length_byte x))) (drop 10 x) in
+    ⊎_elim
+    (λ size.
+    let same : (length x == size_by (length_byte x)) ≡ true = eq-eqb _ _ size in
+    let header : header_so_far x ≡ is_good_header (take 10 x) =
+    header_so_far-whole x (omega arith) in
+    ⊎_elim
+    (λ good.
+    ap (λ t. ((t && header_so_far x) && blocks_so_far x)
+    && register_of (running_block x) == residue) same
+    ∙ (ap (λ t. (t && blocks_so_far x) && register_of (running_block x) == residue)
+    (header ∙ good)
+    ∙ (last_block x bytes size good
+    ∙ ap (λ t. t && end_in_crcs (blocks_for (user_len_by (length_byte x))) (drop 10 x))
+    (sym (and_from _ _ good same)))))
+    (λ bad.
+    and_left _ _ (and_left _ _ (and_right _ _ (header ∙ bad)))
+    ∙ sym (and_left _ _ (and_left _ _ bad)))
+    (cases_Bool (is_good_header (take 10 x))))
+    (λ other.
+    let apart : (length x == size_by (length_byte x)) ≡ false = ne_eqb _ _ other in
+    and_left _ _ (and_left _ _ (and_left _ _ apart))
+    ∙ sym (and_left _ _ (and_right _ _ apart)))
+    (cases_eq (length x) (size_by (length_byte x)))
+
+pub ends_right-push : (x : List ℕ) (b : ℕ) → AreBytes (x ++ b ∷ [])
+    → ends_right (length x + 1) (length_byte x) (register_of (running_block (x ++ b ∷ [])))
+    ≡ has_right_ending (x ++ b ∷ [])
+unfolding has_right_ending
+ends_right-push x b bytes =
+    let longer : length (x ++ b ∷ []) ≡ length x + 1 = length_push x b in
+    ⊎_elim
+    (λ few.
+    and_left _ _ (and_right _ _
+    (ne_eqb (length x + 1) (size_by (length_byte x)) (λ e. omega arith)))
+    ∙ sym (and_left _ _ (and_right _ _
+    (ne_eqb (length (x ++ b ∷ [])) (size_by (length_byte (x ++ b ∷ []))) (λ e. omega arith)))))
+    (λ there.
+    let len : length_byte (x ++ b ∷ []) ≡ length_byte x =
+    length_byte-append x (b ∷ []) (omega arith) in
+    ap (λ t. (nat_le 5 (length_byte x) && length x + 1 == size_by (length_byte x)) && t)
+    (residue_decides (running_block (x ++ b ∷ []))
+    (All-drop (λ c. c < 256) (block_start (length (x ++ b ∷ []))) (x ++ b ∷ []) bytes))
+    ∙ (ap (λ n. (nat_le 5 (length_byte x) && n == size_by (length_byte x))
+    && ends_in_crc (running_block (x ++ b ∷ []))) (sym longer)
+    ∙ ap (λ n. (nat_le 5 n && length (x ++ b ∷ []) == size_by n)
+    && ends_in_crc (running_block (x ++ b ∷ []))) (sym len)))
+    (cases_lt (length x) 9)
+
+-- ---- a value and its bytes
+
+pub dnp_fresh : DnpStandsFor (record {
+  len = 0;
+  len_byte = 0;
+  register = 0;
+  header_right = true;
+  blocks_right = true;
+}) []
+dnp_fresh = record {
+  count = refl;
+  tells = refl;
+  check = sym (ap register_of (running_block-header [] (omega arith)) ∙ crc-nil 0xA6BC 0);
+  header = sym header_so_far-none;
+  blocks = sym (blocks-none [] (omega arith));
+  short = omega arith;
+  bytes = All-nil (λ b. b < 256);
+}
+
+pub dnp_take : (value next : Dnp) (b : ℕ) → value.len < room_by value.len_byte → b < 256
+    → next.len ≡ value.len + 1
+    → next.len_byte ≡ len_byte_after value.len value.len_byte b
+    → next.register ≡ register_after value.len value.register b
+    → next.header_right ≡ (value.header_right && fits_header value.len next.register b)
+    → next.blocks_right ≡ blocks_after value.len value.blocks_right value.register
+    → (x : List ℕ) → DnpStandsFor value x → DnpStandsFor next (x ++ b ∷ [])
+dnp_take value next b room byte count tells check header blocks x stands =
+    let longer : length (x ++ b ∷ []) ≡ length x + 1 = length_push x b in
+    let bytes : AreBytes (x ++ b ∷ []) = All-push (λ n. n < 256) x b stands.bytes byte in
+    let n : value.len ≡ length x = stands.count in
+    let register : next.register ≡ register_of (running_block (x ++ b ∷ [])) =
+    check ∙ (ap (λ k. register_after k value.register b) n
+    ∙ (ap (λ r. register_after (length x) r b) stands.check ∙ sym (register_of-push x b))) in
+    let fits = dnp_lawful.fits x b (let e = ap room_by stands.tells in omega arith) in
+    record {
+      count = omega arith;
+      tells = tells ∙ (ap (λ k. len_byte_after k value.len_byte b) n
+          ∙ (ap (λ l. len_byte_after (length x) l b) stands.tells ∙ sym (length_byte-push x b)));
+      check = register;
+      header = header ∙ (ap (λ k. value.header_right && fits_header k next.register b) n
+          ∙ (ap (λ t. t && fits_header (length x) next.register b) stands.header
+          ∙ (ap (λ r. header_so_far x && fits_header (length x) r b) register
+          ∙ sym (header_so_far-push x b bytes))));
+      blocks = blocks ∙ (ap (λ k. blocks_after k value.blocks_right value.register) n
+          ∙ (ap (λ t. blocks_after (length x) t value.register) stands.blocks
+          ∙ (ap (λ r. blocks_after (length x) (blocks_so_far x) r) stands.check
+          ∙ sym (blocks_so_far-push x b stands.bytes))));
+      short = omega arith;
+      bytes = bytes;
+    }
+
+pub dnp_good : (value : Dnp) (x : List ℕ) → DnpStandsFor value x
+    → is_whole value.len value.len_byte value.header_right value.blocks_right value.register
+    ≡ is_frame x
+dnp_good value x stands =
+    ap (λ n. is_whole n value.len_byte value.header_right value.blocks_right value.register)
+    stands.count
+    ∙ (ap (λ l. is_whole (length x) l value.header_right value.blocks_right value.register)
+    stands.tells
+    ∙ (ap (λ t. is_whole (length x) (length_byte x) t value.blocks_right value.register)
+    stands.header
+    ∙ (ap (λ t. is_whole (length x) (length_byte x) (header_so_far x) t value.register)
+    stands.blocks
+    ∙ (ap (λ r. is_whole (length x) (length_byte x) (header_so_far x) (blocks_so_far x) r)
+    stands.check
+    ∙ is_whole-is_frame x stands.bytes))))
+
+pub dnp_ends_right : (value : Dnp) (next b : ℕ) (x : List ℕ) → DnpStandsFor value x → b < 256
+    → next ≡ register_after value.len value.register b
+    → ends_right (value.len + 1) value.len_byte next ≡ has_right_ending (x ++ b ∷ [])
+dnp_ends_right value next b x stands byte is =
+    let bytes : AreBytes (x ++ b ∷ []) = All-push (λ n. n < 256) x b stands.bytes byte in
+    let register : next ≡ register_of (running_block (x ++ b ∷ [])) =
+    is ∙ (ap (λ k. register_after k value.register b) stands.count
+    ∙ (ap (λ r. register_after (length x) r b) stands.check ∙ sym (register_of-push x b))) in
+    ap (λ r. ends_right (value.len + 1) value.len_byte r) register
+    ∙ (ap (λ k. ends_right (k + 1) value.len_byte (register_of (running_block (x ++ b ∷ []))))
+    stands.count
+    ∙ (ap (λ l. ends_right (length x + 1) l (register_of (running_block (x ++ b ∷ []))))
+    stands.tells
+    ∙ ends_right-push x b bytes))
+
+pub dnp_fresh-room : is_full_dnp (record {
+  len = 0;
+  len_byte = 0;
+  register = 0;
+  header_right = true;
+  blocks_right = true;
+}) ≡ false
+dnp_fresh-room = lt-leb (room_by 0) 0 (let least = room_by-least 0 in omega arith)
+
+-- what a value says of the header
+pub dnp_header : (value : Dnp) (x : List ℕ) → DnpStandsFor value x → 10 ≤ value.len
+    → is_good_header (take 10 x) ≡ value.header_right
+dnp_header value x stands whole =
+    let count = stands.count in
+    sym (stands.header ∙ header_so_far-whole x (omega arith))
+
+pub dnp_head_good : (value : Dnp) (x : List ℕ) → DnpStandsFor value x → 10 ≤ value.len
+    → value.header_right ≡ true → Good ≡ head_of dnp_rules x
+dnp_head_good value x stands whole right =
+    sym (head_of-good x (dnp_header value x stands whole ∙ right))
+
+pub dnp_head_bad : (value : Dnp) (x : List ℕ) → DnpStandsFor value x → 10 ≤ value.len
+    → value.header_right ≡ false → Bad ≡ head_of dnp_rules x
+dnp_head_bad value x stands whole wrong =
+    let count = stands.count in
+    sym (head_of-bad x (omega arith) (dnp_header value x stands whole ∙ wrong))

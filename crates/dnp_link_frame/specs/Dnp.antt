@@ -1,0 +1,52 @@
+-- What a value of the rules of the DNP3 link layer stands for.
+use Rattle.std.specs.Prelude.{◌≡◌, ℕ, ◌-◌, ◌/◌, ◌≤◌, ◌==◌, ◌&&◌, ◌||◌, nat_le, nat_lt, Bool, List}
+use Rattle.std.specs.Prelude.{length, take, drop}
+use Rattle.std.proofs.Common.{arith, ◌∙◌, sym, ap, ⊎_elim}
+use Rattle.std.proofs.lemmas.Bool.{cases_lt, le-leb, lt-leb, eq-eqb, ne_eqb}
+use Rattle.line_rules.specs.Bytes.{AreBytes}
+use Rattle.dnp_link_frame.specs.Crc.{register_of}
+use Rattle.dnp_link_frame.specs.Blocks.{length_byte, room_by, room_of, ends_in_crc, begins_right}
+use Rattle.dnp_link_frame.specs.Blocks.{end_in_crcs, running_block}
+use Rattle.dnp_link_frame.specs.declared.dnp.Dnp.{Dnp}
+
+-- the header is right as far as it is there
+unfoldable pub header_so_far : List ℕ → Bool
+header_so_far x = begins_right x && (nat_lt (length x) 10 || ends_in_crc (take 10 x))
+
+-- the blocks of user data behind which another byte came end in their CRC
+abbrev pub blocks_so_far : List ℕ → Bool
+blocks_so_far x = end_in_crcs ((length x - 11) / 18) (drop 10 x)
+
+-- It keeps how many bytes there are, LEN, the register of the last byte's block, whether the header
+-- is right as far as it is there, and whether each finished block of user data is.
+pub record DnpStandsFor (value : Dnp) (x : List ℕ) : Type 0 where
+  pub count : value.len ≡ length x
+  pub tells : value.len_byte ≡ length_byte x
+  pub check : value.register ≡ register_of (running_block x)
+  pub header : value.header_right ≡ header_so_far x
+  pub blocks : value.blocks_right ≡ blocks_so_far x
+  pub short : length x ≤ room_of x
+  pub bytes : AreBytes x
+
+abbrev pub is_full_dnp : Dnp → Bool
+is_full_dnp value = nat_le (room_by value.len_byte) value.len
+
+-- the room is full where the value says so
+pub dnp_fullness : (value : Dnp) (x : List ℕ) → DnpStandsFor value x
+    → is_full_dnp value ≡ (length x == room_of x)
+dnp_fullness value x stands =
+    let count = stands.count in
+    let room = ap room_by stands.tells in
+    let short = stands.short in
+    ⊎_elim
+    (λ below. lt-leb (room_by value.len_byte) value.len below
+    ∙ sym (ne_eqb (length x) (room_of x) (λ all. omega arith)))
+    (λ full. le-leb (room_by value.len_byte) value.len full
+    ∙ sym (eq-eqb (length x) (room_of x) (omega arith)))
+    (cases_lt value.len (room_by value.len_byte))
+
+pub dnp_bytes : (value : Dnp) (x : List ℕ) → DnpStandsFor value x → AreBytes x
+dnp_bytes value x stands = stands.bytes
+
+pub dnp_within : (value : Dnp) (x : List ℕ) → DnpStandsFor value x → length x ≤ room_of x
+dnp_within value x stands = stands.short

@@ -1,0 +1,9 @@
+pub mod Crc
+pub mod Endings
+pub mod Frame
+pub mod Blocks
+pub mod BlockLaws
+pub mod Rules
+pub mod RulesLaws
+pub mod Steps
+pub mod Dnp

@@ -1,0 +1,47 @@
+-- What one more byte does to what is kept of the bytes so far: functions of how many bytes there
+-- are before it, of what was kept, and of the byte.
+use Rattle.std.specs.Prelude.{ℕ, ◌-◌, ◌%◌, ◌==◌, ◌&&◌, nat_le, nat_lt, Bool, true, if◌then◌else◌}
+use Rattle.line_rules.specs.Crc.{byte_step}
+use Rattle.dnp_link_frame.specs.Blocks.{size_by}
+
+-- the register after bytes that end in their CRC
+abbrev pub residue : ℕ
+residue = 0x66C5
+
+-- the byte after so many is the first of a block of user data
+abbrev pub begins_block : ℕ → Bool
+begins_block n = nat_le 10 n && (n - 10) % 18 == 0
+
+-- the register of the block that the byte belongs to
+abbrev pub register_after : ℕ → ℕ → ℕ → ℕ
+register_after n register byte =
+    if begins_block n then byte_step 0xA6BC 0 byte else byte_step 0xA6BC register byte
+
+-- whether a header may have this byte here, where the register is what the byte leaves
+abbrev pub fits_header : ℕ → ℕ → ℕ → Bool
+fits_header n register byte =
+    if n == 0 then byte == 0x05
+    else if n == 1 then byte == 0x64
+    else if n == 2 then nat_le 5 byte
+    else if n == 9 then register == residue
+    else true
+
+-- whether the finished blocks of user data end in their CRC, where the register is the one before
+-- the byte
+abbrev pub blocks_after : ℕ → Bool → ℕ → Bool
+blocks_after n right register =
+    if begins_block n && nat_lt 10 n then right && register == residue else right
+
+-- LEN, once it is there
+abbrev pub len_byte_after : ℕ → ℕ → ℕ → ℕ
+len_byte_after n len byte = if n == 2 then byte else len
+
+-- whether so many bytes, of which LEN is this, are a frame's, where this is known of its header, of
+-- its blocks but the last, and of the last
+abbrev pub is_whole : ℕ → ℕ → Bool → Bool → ℕ → Bool
+is_whole n len header_right blocks_right register =
+    n == size_by len && header_right && blocks_right && register == residue
+
+-- whether so many bytes have a right ending
+abbrev pub ends_right : ℕ → ℕ → ℕ → Bool
+ends_right n len register = nat_le 5 len && n == size_by len && register == residue

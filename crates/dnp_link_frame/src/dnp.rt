@@ -1,0 +1,139 @@
+use crate::crc::FIRST_REGISTER;
+use crate::size::{HEADER_LEN, LONGEST, room_by, size_by};
+use crate::steps::{
+    blocks_after, ends_right, header_after, is_whole, len_byte_after, register_after,
+};
+use line_rules::{Head, LineRules};
+
+/// The bytes of a burst so far, as the rules of the DNP3 link layer see them: how many there are,
+/// LEN, the register of the last byte's block, and whether what stands before that block is right.
+/// A block is judged when the next one begins, so that the register is always that of the last
+/// byte's block.
+#[derive(Drop)]
+pub struct Dnp {
+    len: u16,
+    // LEN, or 0 where it isn't there yet
+    len_byte: u8,
+    register: u16,
+    // the header is right as far as it is there
+    header_right: bool,
+    // each finished block of user data is right
+    blocks_right: bool,
+}
+
+impl LineRules for Dnp {
+    ghost use Rattle.std.specs.Prelude.{ℕ};
+    ghost use Rattle.dnp_link_frame.specs.Rules.{dnp_rules};
+    ghost use Rattle.dnp_link_frame.specs.RulesLaws.{dnp_lawful, dnp_headed, dnp_framed};
+    ghost use Rattle.dnp_link_frame.specs.RulesLaws.{dnp_filling, dnp_spoiling, dnp_numbers};
+    ghost use Rattle.dnp_link_frame.specs.Dnp.{DnpStandsFor, is_full_dnp, dnp_fullness, dnp_bytes};
+    ghost use Rattle.dnp_link_frame.specs.Dnp.{dnp_within};
+
+    ghost rules = { dnp_rules };
+
+    ghost stands = { DnpStandsFor };
+
+    ghost is_full = { is_full_dnp };
+
+    ghost MAX = { 292 };
+
+    ghost LABEL = { 2 };
+
+    ghost lawful = { dnp_lawful };
+
+    ghost headed = { dnp_headed };
+
+    ghost framed = { dnp_framed };
+
+    ghost filling = { dnp_filling };
+
+    ghost spoiling = { dnp_spoiling };
+
+    ghost numbers = { dnp_numbers };
+
+    ghost fullness = { dnp_fullness };
+
+    ghost bytes = { dnp_bytes };
+
+    ghost within = { dnp_within };
+
+    const MAX: u16 = LONGEST;
+
+    const LABEL: u8 = 2;
+
+    #[inline]
+    fn fresh() -> Dnp {
+        Dnp {
+            len: 0,
+            len_byte: 0,
+            register: FIRST_REGISTER,
+            header_right: true,
+            blocks_right: true,
+        }
+    }
+
+    #[inline]
+    fn restart(&mut self) {
+        *self = Dnp::fresh();
+    }
+
+    #[inline]
+    fn len(&self) -> u16 {
+        self.len
+    }
+
+    #[inline]
+    fn full(&self) -> bool {
+        self.len >= room_by(self.len_byte)
+    }
+
+    #[inline]
+    fn take(&mut self, b: u8) {
+        self.blocks_right = blocks_after(self.len, self.blocks_right, self.register);
+        self.register = register_after(self.len, self.register, b);
+        self.header_right = header_after(self.len, self.header_right, self.register, b);
+        self.len_byte = len_byte_after(self.len, self.len_byte, b);
+        self.len += 1;
+    }
+
+    #[inline]
+    fn good(&self) -> bool {
+        is_whole(
+            self.len,
+            self.len_byte,
+            self.header_right,
+            self.blocks_right,
+            self.register,
+        )
+    }
+
+    #[inline]
+    fn head(&self) -> Head {
+        if self.len < HEADER_LEN {
+            return Head::Short;
+        }
+        if self.header_right {
+            Head::Good
+        } else {
+            Head::Bad
+        }
+    }
+
+    #[inline]
+    fn left(&self) -> u16 {
+        match self.head() {
+            Head::Good => size_by(self.len_byte).saturating_sub(self.len),
+            Head::Short | Head::Bad => 0,
+        }
+    }
+
+    #[inline]
+    fn spoiled(&self, b: u8) -> u8 {
+        let register = register_after(self.len, self.register, b);
+        if ends_right(self.len + 1, self.len_byte, register) {
+            b ^ 1
+        } else {
+            b
+        }
+    }
+}

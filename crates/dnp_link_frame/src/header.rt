@@ -1,0 +1,10 @@
+/// What the header of a frame says besides the length.
+#[derive(Clone, Copy, Debug, PartialEq, Eq)]
+pub struct Header {
+    /// The CONTROL byte: direction, primary, frame count bits and the function code.
+    pub control: u8,
+    /// The address of who is to read the frame.
+    pub destination: u16,
+    /// The address of who sends it.
+    pub source: u16,
+}

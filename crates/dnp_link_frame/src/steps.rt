@@ -1,0 +1,89 @@
+//! What one more byte does to what is kept of the bytes so far.
+ghost use Rattle.std.specs.Prelude.{◌≡◌, ◌&&◌};
+ghost use Rattle.dnp_link_frame.specs.Steps.{begins_block, register_after, fits_header};
+ghost use Rattle.dnp_link_frame.specs.Steps.{blocks_after, len_byte_after, is_whole, ends_right};
+
+use crate::crc::{FIRST_REGISTER, RESIDUE, after_byte};
+use crate::size::{BLOCK_DATA_LEN, COUNTED_OF_HEADER, CRC_LEN, HEADER_LEN, size_by};
+
+// The two bytes that a frame begins with.
+pub(crate) const START: [u8; 2] = [0x05, 0x64];
+
+const BLOCK_LEN: u16 = BLOCK_DATA_LEN + CRC_LEN;
+
+// Whether the byte after so many is the first of a block of user data.
+#[inline]
+fn begins_block(len: u16) -> bool
+    ensures { result ≡ begins_block len }
+{
+    len >= HEADER_LEN && (len - HEADER_LEN) % BLOCK_LEN == 0
+}
+
+#[inline]
+pub(crate) fn register_after(len: u16, register: u16, byte: u8) -> u16
+    ensures { result ≡ register_after len register byte }
+{
+    if begins_block(len) {
+        return after_byte(FIRST_REGISTER, byte);
+    }
+    after_byte(register, byte)
+}
+
+// Whether a header may have this byte after so many; the register is the one that it leaves.
+#[inline]
+fn fits_header(len: u16, register: u16, byte: u8) -> bool
+    ensures { result ≡ fits_header len register byte }
+{
+    match len {
+        0 => byte == START[0],
+        1 => byte == START[1],
+        2 => byte >= COUNTED_OF_HEADER,
+        9 => register == RESIDUE,
+        _ => true,
+    }
+}
+
+#[inline]
+pub(crate) fn header_after(len: u16, header_right: bool, register: u16, byte: u8) -> bool
+    ensures { result ≡ (header_right && fits_header len register byte) }
+{
+    header_right && fits_header(len, register, byte)
+}
+
+// The register is the one before the byte, so that of a block that it may end.
+#[inline]
+pub(crate) fn blocks_after(len: u16, blocks_right: bool, register: u16) -> bool
+    ensures { result ≡ blocks_after len blocks_right register }
+{
+    if begins_block(len) && len > HEADER_LEN {
+        return blocks_right && register == RESIDUE;
+    }
+    blocks_right
+}
+
+#[inline]
+pub(crate) fn len_byte_after(len: u16, len_byte: u8, byte: u8) -> u8
+    ensures { result ≡ len_byte_after len len_byte byte }
+{
+    if len == 2 { byte } else { len_byte }
+}
+
+#[inline]
+pub(crate) fn is_whole(
+    len: u16,
+    len_byte: u8,
+    header_right: bool,
+    blocks_right: bool,
+    register: u16,
+) -> bool
+    ensures { result ≡ is_whole len len_byte header_right blocks_right register }
+{
+    len == size_by(len_byte) && header_right && blocks_right && register == RESIDUE
+}
+
+#[inline]
+pub(crate) fn ends_right(len: u16, len_byte: u8, register: u16) -> bool
+    ensures { result ≡ ends_right len len_byte register }
+{
+    len_byte >= COUNTED_OF_HEADER && len == size_by(len_byte) && register == RESIDUE
+}
