@@ -3,3 +3,4 @@ pub mod Begun
 pub mod Floors
 pub mod Outcomes
 pub mod Replayable
+pub mod Walking

@@ -50,7 +50,7 @@ pub trait LineBox: Drop {
     /// What must hold of the widths that it is made with.
     ghost widths_fit: { Type 0 };
 
-    ghost is_boxed: { (setup : Setup) → IsBoxed (boxed setup) setup.floor };
+    ghost is_boxed: { widths_fit → (setup : Setup) → IsBoxed (boxed setup) setup.floor };
 
     ghost floor_is: { (value : Self) (journal : Journal) (setup : Setup) (line : List Tick)
         → stands value journal setup line → journal_floor journal ≡ (boxed setup).number line };

@@ -33,7 +33,7 @@ impl<R: LineRules, M: Mac, const B: usize> LineBox for SealBox<R, M, B> {
 
     ghost widths_fit = { IsWordLen B };
 
-    ghost is_boxed = { seals-boxed R.LineRules M.Mac B };
+    ghost is_boxed = { λ fit. seals-boxed R.LineRules M.Mac B };
 
     ghost floor_is = { λ value. seals-floor R.LineRules M.Mac value.sealer };
 

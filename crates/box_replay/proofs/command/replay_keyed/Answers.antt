@@ -18,7 +18,8 @@ returns-then-is_write_stop-clause-runs g c =
     (around c.drive_to_rest-end.new.input c.drive_to_rest-end.new.out c.drive_to_rest-end.new.log
     c.drive_to_rest-end.new.disk)
     c.load.new.disk c.new-lines.result c.drive_to_rest-end.new.consumer
-    (g.B.LineBox.is_boxed (setup_of c.args.key.now c.args.dir (journal_floor c.in-Ok.journal)))
+    (g.B.LineBox.is_boxed c.requires (setup_of c.args.key.now c.args.dir
+    (journal_floor c.in-Ok.journal)))
     (λ texts. c.new-lines.ensures.drives texts (g.D.SlotDisk.told c.load.new.disk)
     c.in-Ok.ensures.fits)
     (told_before g.D.SlotDisk c.in-Ok.journal c.args.disk.now c.load.new.disk c.in-Ok.ensures.told
@@ -42,7 +43,8 @@ returns-in-Err-clause-runs g c =
     (around c.drive_to_rest-end.new.input c.drive_to_rest-end.new.out c.drive_to_rest-end.new.log
     c.drive_to_rest-end.new.disk)
     c.load.new.disk c.new-lines.result c.drive_to_rest-end.new.consumer
-    (g.B.LineBox.is_boxed (setup_of c.args.key.now c.args.dir (journal_floor c.in-Ok.journal)))
+    (g.B.LineBox.is_boxed c.requires (setup_of c.args.key.now c.args.dir
+    (journal_floor c.in-Ok.journal)))
     (λ texts. c.new-lines.ensures.drives texts (g.D.SlotDisk.told c.load.new.disk)
     c.in-Ok.ensures.fits)
     (told_before g.D.SlotDisk c.in-Ok.journal c.args.disk.now c.load.new.disk c.in-Ok.ensures.told
@@ -66,7 +68,8 @@ returns-in-Whole-clause-runs g c =
     (around c.drive_to_rest-end.new.input c.drive_to_rest-end.new.out c.drive_to_rest-end.new.log
     c.drive_to_rest-end.new.disk)
     c.load.new.disk c.new-lines.result c.drive_to_rest-end.new.consumer
-    (g.B.LineBox.is_boxed (setup_of c.args.key.now c.args.dir (journal_floor c.in-Ok.journal)))
+    (g.B.LineBox.is_boxed c.requires (setup_of c.args.key.now c.args.dir
+    (journal_floor c.in-Ok.journal)))
     (λ texts. c.new-lines.ensures.drives texts (g.D.SlotDisk.told c.load.new.disk)
     c.in-Ok.ensures.fits)
     (told_before g.D.SlotDisk c.in-Ok.journal c.args.disk.now c.load.new.disk c.in-Ok.ensures.told
@@ -95,7 +98,7 @@ returns-in_default g c =
           (around c.drive_to_rest-end.new.input c.drive_to_rest-end.new.out
           c.drive_to_rest-end.new.log c.drive_to_rest-end.new.disk)
           c.load.new.disk c.new-lines.result c.drive_to_rest-end.new.consumer
-          (g.B.LineBox.is_boxed (setup_of c.args.key.now c.args.dir
+          (g.B.LineBox.is_boxed c.requires (setup_of c.args.key.now c.args.dir
           (journal_floor c.in-Ok.journal)))
           (λ texts. c.new-lines.ensures.drives texts (g.D.SlotDisk.told c.load.new.disk)
           c.in-Ok.ensures.fits)

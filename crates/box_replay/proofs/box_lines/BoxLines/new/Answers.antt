@@ -8,7 +8,7 @@ returns-clause-drives g c = λ texts told fits.
     let setup = setup_of c.args.key.now c.args.dir (journal_floor c.args.journal) in record {
       steps = c.new.ensures.stands c.args.journal;
       sends = begins (g.B.LineBox.boxed setup) setup.floor c.new-2.result _ _ texts
-          (g.B.LineBox.is_boxed setup)
+          (g.B.LineBox.is_boxed c.requires setup)
           c.new-2.ensures c.new-3.ensures.waits c.new-4.ensures.waits;
       floor_told = fits.floor;
     }
