@@ -8,7 +8,7 @@ use Rattle.link_replay.specs.Words.{IsCommand, Asks}
 use Rattle.link_replay.specs.declared.words.Proto.{Proto}
 use Rattle.link_replay.specs.declared.words.Proto.TheVariants.{Rtu}
 use Rattle.link_replay.specs.declared.words.Command.{Command}
-use Rattle.link_replay.specs.declared.words.Command.TheVariants.{Init, Read, Vectors, Seal}
+use Rattle.link_replay.specs.declared.words.Command.TheVariants.{Init, Read, Vectors, Seal, Check}
 
 -- there is one protocol
 pub proto-is-rtu : (proto : Proto) → proto ≡ Rtu
@@ -34,7 +34,8 @@ command_by verb first second =
     cond (is_word (codes "init") verb) Init
     (cond (is_word (codes "read") verb) (Read (proto_by first))
     (cond (is_word (codes "vectors") verb) Vectors
-    (Seal (proto_by first) (dir_by second))))
+    (cond (is_word (codes "seal") verb) (Seal (proto_by first) (dir_by second))
+    (Check (proto_by first) (dir_by second)))))
 
 abbrev word_at : ℕ → List (List ℕ) → List ℕ
 word_at zero [] = []
@@ -52,6 +53,8 @@ command-in words (Read Rtu) h = ap command_in h
 command-in words Vectors h = ap command_in h
 command-in words (Seal Rtu Ab) h = ap command_in h.4
 command-in words (Seal Rtu Ba) h = ap command_in h.4
+command-in words (Check Rtu Ab) h = ap command_in h.4
+command-in words (Check Rtu Ba) h = ap command_in h.4
 
 pub asks-one : (words : List (List ℕ)) (a b : Option Command) → Asks words a → Asks words b → a ≡ b
 asks-one words None None ha hb = refl

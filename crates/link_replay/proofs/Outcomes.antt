@@ -15,11 +15,12 @@ use Rattle.link_replay.specs.InitCommand.{MakesJournal, IsBlank}
 use Rattle.link_replay.specs.ReadCommand.{device_reads}
 use Rattle.link_replay.specs.VectorsCommand.{PrintsTables}
 use Rattle.link_replay.specs.SealCommand.{seal_boxed, seal_rest}
+use Rattle.link_replay.specs.CheckCommand.{check_boxed, check_rest}
 use Rattle.replay_status.specs.declared.status.Status.{Status}
 use Rattle.replay_status.specs.declared.status.Status.TheVariants.{Done, WriteFault, JournalFault}
 use Rattle.replay_status.specs.declared.status.Status.TheVariants.{HasJournal}
 use Rattle.link_replay.specs.declared.words.Command.{Command}
-use Rattle.link_replay.specs.declared.words.Command.TheVariants.{Init, Read, Vectors, Seal}
+use Rattle.link_replay.specs.declared.words.Command.TheVariants.{Init, Read, Vectors, Seal, Check}
 use Rattle.replay_status.proofs.Logging.{sinks_after}
 use Rattle.device_replay.proofs.Readable.{readable_done}
 use Rattle.box_replay.proofs.Replayable.{replayable_done}
@@ -59,6 +60,7 @@ module _ {K S O L D : Type 0} (k : Source K) (s : Source S) (o : Sink O) (l : Si
       → HasOwnCauses k s o l d asked before (record after { log = noted }) status
       → HasOwnCauses k s o l d asked before after status
   own-after (Some (Seal proto dir)) before after noted status h = h
+  own-after (Some (Check proto dir)) before after noted status h = h
   own-after None before after noted status h = h
   own-after (Some Init) before after noted status h = h
   own-after (Some (Read proto)) before after noted status h = h
@@ -105,4 +107,7 @@ module _ {K S O L D : Type 0} (k : Source K) (s : Source S) (o : Sink O) (l : Si
       tables_done _ _ _ _ _ _ _ _ _ _ calm _ _ status does.tables causes.sinks
   asked_done (Some (Seal proto dir)) before after status may calm does causes =
       replayable_done k s o l d (seal_boxed proto) dir seal_rest before after may calm status
+      does causes.reads causes.own causes.sinks
+  asked_done (Some (Check proto dir)) before after status may calm does causes =
+      replayable_done k s o l d (check_boxed proto) dir check_rest before after may calm status
       does causes.reads causes.own causes.sinks

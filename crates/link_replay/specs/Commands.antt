@@ -15,16 +15,18 @@ use Rattle.link_replay.specs.ReadCommand.{Reads}
 use Rattle.link_replay.specs.VectorsCommand.{Tabulates}
 use Rattle.box_replay.specs.ReplaysBox.{BoxDiskCause, IsReplayable, KeepsFloorThroughout}
 use Rattle.link_replay.specs.SealCommand.{Seals}
+use Rattle.link_replay.specs.CheckCommand.{Checks}
 use Rattle.replay_status.specs.declared.status.Status.{Status}
 use Rattle.replay_status.specs.declared.status.Status.TheVariants.{Usage}
 use Rattle.link_replay.specs.declared.words.Command.{Command}
-use Rattle.link_replay.specs.declared.words.Command.TheVariants.{Init, Read, Vectors, Seal}
+use Rattle.link_replay.specs.declared.words.Command.TheVariants.{Init, Read, Vectors, Seal, Check}
 
 -- What a crash may leave of the disk, at any moment of the run or at its end.
 abbrev pub KeepsDisk : {D : Type 0} → SlotDisk D → Option Command → D → D → Type 0
 KeepsDisk d (Some Init) old new =
     LeavesOnly d.moment d.left_since old new (IsBeside B (d.may_leave old))
 KeepsDisk d (Some (Seal proto dir)) old new = KeepsFloorThroughout d old new
+KeepsDisk d (Some (Check proto dir)) old new = KeepsFloorThroughout d old new
 KeepsDisk d asked old new = new ≡ old
 
 module _ {K S O L D : Type 0} (k : Source K) (s : Source S) (o : Sink O) (l : Sink L)
@@ -36,6 +38,8 @@ module _ {K S O L D : Type 0} (k : Source K) (s : Source S) (o : Sink O) (l : Si
   Does (Some (Read proto)) before after status = Reads s o l proto before after status
   Does (Some Vectors) before after status = Tabulates o l before after status
   Does (Some (Seal proto dir)) before after status = Seals k s o l d proto dir before after status
+  Does (Some (Check proto dir)) before after status =
+      Checks k s o l d proto dir before after status
 
   -- What a run does: what was asked for, and then the fault line in the log, where the status has
   -- one.
@@ -55,6 +59,8 @@ module _ {K S O L D : Type 0} (k : Source K) (s : Source S) (o : Sink O) (l : Si
   MayDo (Some Vectors) before = Unit {0}
   MayDo (Some (Seal proto dir)) before =
       IsReplayable (k.left before.key) (d.told before.disk) (s.left before.input)
+  MayDo (Some (Check proto dir)) before =
+      IsReplayable (k.left before.key) (d.told before.disk) (s.left before.input)
 
   -- Nothing outside failed.
   abbrev pub IsCalm : Outside K S O L D → Outside K S O L D → Type 0
@@ -65,6 +71,8 @@ module _ {K S O L D : Type 0} (k : Source K) (s : Source S) (o : Sink O) (l : Si
   -- The causes that depend on the command: a box may write after a call of the disk has failed.
   abbrev pub HasOwnCauses : Option Command → Outside K S O L D → Outside K S O L D → Status → Type 0
   HasOwnCauses (Some (Seal proto dir)) before after status =
+      BoxDiskCause (d.faults before.disk) (d.faults after.disk) status
+  HasOwnCauses (Some (Check proto dir)) before after status =
       BoxDiskCause (d.faults before.disk) (d.faults after.disk) status
   HasOwnCauses asked before after status =
       InputCause (s.faults before.input) (s.faults after.input) status

@@ -3,4 +3,5 @@ pub mod InitCommand
 pub mod ReadCommand
 pub mod VectorsCommand
 pub mod SealCommand
+pub mod CheckCommand
 pub mod Commands

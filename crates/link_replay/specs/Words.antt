@@ -5,7 +5,7 @@ use Rattle.hmac_tag.specs.declared.dir.Dir.TheVariants.{Ab, Ba}
 use Rattle.link_replay.specs.declared.words.Proto.{Proto}
 use Rattle.link_replay.specs.declared.words.Proto.TheVariants.{Rtu}
 use Rattle.link_replay.specs.declared.words.Command.{Command}
-use Rattle.link_replay.specs.declared.words.Command.TheVariants.{Init, Read, Vectors, Seal}
+use Rattle.link_replay.specs.declared.words.Command.TheVariants.{Init, Read, Vectors, Seal, Check}
 
 abbrev pub proto_word : Proto → List ℕ
 proto_word Rtu = codes "rtu"
@@ -14,14 +14,20 @@ abbrev pub dir_word : Dir → List ℕ
 dir_word Ab = codes "ab"
 dir_word Ba = codes "ba"
 
+-- These words ask for a box: its name, a protocol, a direction, and the paths of its key and its
+-- journal.
+abbrev pub AskForBox : List ℕ → Proto → Dir → List (List ℕ) → Type 0
+AskForBox name proto dir words =
+    (key : List ℕ) × (path : List ℕ) × (key ≢ []) × (path ≢ [])
+    × (words ≡ name ∷ proto_word proto ∷ dir_word dir ∷ key ∷ path ∷ [])
+
 -- These words ask for the command.
 abbrev pub IsCommand : List (List ℕ) → Command → Type 0
 IsCommand words Init = (path : List ℕ) × (path ≢ []) × (words ≡ codes "init" ∷ path ∷ [])
 IsCommand words (Read proto) = words ≡ codes "read" ∷ proto_word proto ∷ []
 IsCommand words Vectors = words ≡ codes "vectors" ∷ []
-IsCommand words (Seal proto dir) =
-    (key : List ℕ) × (path : List ℕ) × (key ≢ []) × (path ≢ [])
-    × (words ≡ codes "seal" ∷ proto_word proto ∷ dir_word dir ∷ key ∷ path ∷ [])
+IsCommand words (Seal proto dir) = AskForBox (codes "seal") proto dir words
+IsCommand words (Check proto dir) = AskForBox (codes "check") proto dir words
 
 -- what the words ask for: a command, or none where they fit no command
 abbrev pub Asks : List (List ℕ) → Option Command → Type 0
@@ -34,6 +40,7 @@ key_place Init = None
 key_place (Read proto) = None
 key_place Vectors = None
 key_place (Seal proto dir) = Some 3
+key_place (Check proto dir) = Some 3
 
 -- the place of the word that is the journal's path
 abbrev pub journal_place : Command → Option ℕ
@@ -41,6 +48,7 @@ journal_place Init = Some 1
 journal_place (Read proto) = None
 journal_place Vectors = None
 journal_place (Seal proto dir) = Some 4
+journal_place (Check proto dir) = Some 4
 
 -- the word at a place, where there is one
 abbrev pub word_in : List (List ℕ) → Option ℕ → Option (List ℕ)

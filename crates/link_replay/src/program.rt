@@ -5,6 +5,7 @@ ghost use Rattle.link_replay.specs.declared.words.Command.{Command};
 ghost use Rattle.link_replay.specs.Words.{Asks};
 ghost use Rattle.link_replay.specs.Commands.{Does, Runs, KeepsDisk, MayDo, IsCalm, HasCauses};
 
+use crate::commands::check::check;
 use crate::commands::init::make_journal;
 use crate::commands::read::read_line;
 use crate::commands::seal::seal;
@@ -37,6 +38,7 @@ fn perform<K: Source, S: Source, O: Sink, L: Sink, D: SlotDisk>(
         Command::Read(proto) => read_line(proto, input, out, log),
         Command::Vectors => print_tables(out, log),
         Command::Seal(proto, dir) => seal(proto, dir, key, input, out, log, disk),
+        Command::Check(proto, dir) => check(proto, dir, key, input, out, log, disk),
     }
 }
 

@@ -74,7 +74,7 @@ fn run_over<D: SlotDisk>(
 
 #[test]
 fn refuses_words_of_no_command(rt: HostRuntime) -> Result<(), Fail> {
-    let rows: [&[&str]; 16] = [
+    let rows: [&[&str]; 21] = [
         &[],
         &["read"],
         &["read", "dnp3"],
@@ -88,6 +88,11 @@ fn refuses_words_of_no_command(rt: HostRuntime) -> Result<(), Fail> {
         &["seal", "rtu", "AB", "key", "journal"],
         &["seal", "dnp3", "ab", "key", "journal"],
         &["seal", "rtu", "ab", "key", "journal", "x"],
+        &["check", "rtu", "ab", "key"],
+        &["check", "rtu", "ab", "", "journal"],
+        &["check", "rtu", "ab", "key", ""],
+        &["check", "dnp3", "ab", "key", "journal"],
+        &["checks", "rtu", "ab", "key", "journal"],
         &["init"],
         &["init", ""],
         &["vectors", "x"],
@@ -112,7 +117,7 @@ fn refuses_words_of_no_command(rt: HostRuntime) -> Result<(), Fail> {
 #[test]
 fn finds_the_paths_among_the_words(rt: HostRuntime) -> Result<(), Fail> {
     // words, command, place of the key's path, place of the journal's, whether the journal is made
-    let rows: [(&[&str], Command, Option<usize>, Option<usize>, bool); 5] = [
+    let rows: [(&[&str], Command, Option<usize>, Option<usize>, bool); 6] = [
         (&["init", "journal"], Command::Init, None, Some(1), true),
         (
             &["read", "rtu"],
@@ -132,6 +137,13 @@ fn finds_the_paths_among_the_words(rt: HostRuntime) -> Result<(), Fail> {
         (
             &["seal", "rtu", "ba", "key", "journal"],
             Command::Seal(Proto::Rtu, Dir::Ba),
+            Some(3),
+            Some(4),
+            false,
+        ),
+        (
+            &["check", "rtu", "ba", "key", "journal"],
+            Command::Check(Proto::Rtu, Dir::Ba),
             Some(3),
             Some(4),
             false,
@@ -205,16 +217,27 @@ const DISK_FAULT: Row = Row {
 };
 
 // The tag is that of the transmitter's rows in `replay_tests`.
+const SEALED_REQUEST: &[u8] = b"+01030000000ac5cd\n-3\n+0001014c5b8d33c6d29a347013b0\n-11\n";
+
 const SEAL: Row = Row {
     words: &["seal", "rtu", "ab", "key", "journal"],
     slots: (NUMBER_0, NO_NUMBER),
-    out: b"+01030000000ac5cd\n-3\n+0001014c5b8d33c6d29a347013b0\n-11\n",
+    out: SEALED_REQUEST,
     log: b"sealed 1 at 0 len 8\n",
     slots_now: (NUMBER_0, NUMBER_1),
     ..READ
 };
 
-const ROWS: [Row; 15] = [
+// What `seal` has made of the request, checked.
+const CHECK: Row = Row {
+    words: &["check", "rtu", "ab", "key", "journal"],
+    text: SEALED_REQUEST,
+    out: b"-18\n+01030000000ac5cd\n-330\n",
+    log: b"passed 1 at 0 len 8\n",
+    ..SEAL
+};
+
+const ROWS: [Row; 18] = [
     READ,
     Row {
         text: b"+01030000000ac5cd\n-4\nx",
@@ -288,6 +311,24 @@ const ROWS: [Row; 15] = [
         log: b"fault: bad journal 11111111111111111111111111111111 11111111111111111111111111111111\n",
         slots_now: (NO_NUMBER, NO_NUMBER),
         ..SEAL
+    },
+    CHECK,
+    // It was sealed for the other direction.
+    Row {
+        words: &["check", "rtu", "ba", "key", "journal"],
+        out: b"-18\n+01030000000ac5cc\n-330\n",
+        log: b"refused at 0 tag\n",
+        slots_now: (NUMBER_0, NO_NUMBER),
+        ..CHECK
+    },
+    // The number isn't committed, so the frame doesn't pass.
+    Row {
+        disk_fails: &[4],
+        status: Status::JournalFault,
+        code: 7,
+        out: b"-18\n+01030000000a\n",
+        log: b"fault: journal\n",
+        ..CHECK
     },
 ];
 

@@ -25,6 +25,8 @@ pub enum Command {
     Vectors,
     /// Seals the frames of a line on its way from one end to the other.
     Seal(Proto, Dir),
+    /// Checks the packets of a link, and hands on what passes.
+    Check(Proto, Dir),
 }
 
 /// The words name no command.
@@ -112,9 +114,6 @@ fn read_five(
     ensures usage { OnErr result ((command : Command)
         → IsCommand (first.now ∷ second.now ∷ third.now ∷ key.now ∷ path.now ∷ []) command → ⊥) }
 {
-    if first != "seal" {
-        return Err(Usage);
-    }
     if key.is_empty() {
         return Err(Usage);
     }
@@ -123,7 +122,11 @@ fn read_five(
     }
     let proto = read_proto(second)?;
     let dir = read_dir(third)?;
-    Ok(Command::Seal(proto, dir))
+    match first {
+        "seal" => Ok(Command::Seal(proto, dir)),
+        "check" => Ok(Command::Check(proto, dir)),
+        _ => Err(Usage),
+    }
 }
 
 /// The command that the words after the program's name ask for, each word compared byte for byte.
@@ -155,7 +158,7 @@ pub fn key_word(words: &[String]) -> Option<usize>
 {
     match read_words(words) {
         Ok(Command::Init | Command::Read(_) | Command::Vectors) => None,
-        Ok(Command::Seal(_, _)) => Some(3),
+        Ok(Command::Seal(_, _) | Command::Check(_, _)) => Some(3),
         Err(Usage) => None,
     }
 }
@@ -169,7 +172,7 @@ pub fn journal_word(words: &[String]) -> Option<usize>
 {
     match read_words(words) {
         Ok(Command::Init) => Some(1),
-        Ok(Command::Seal(_, _)) => Some(4),
+        Ok(Command::Seal(_, _) | Command::Check(_, _)) => Some(4),
         Ok(Command::Read(_) | Command::Vectors) => None,
         Err(Usage) => None,
     }
@@ -182,7 +185,8 @@ pub fn makes_journal(words: &[String]) -> bool
 {
     match read_words(words) {
         Ok(Command::Init) => true,
-        Ok(Command::Read(_) | Command::Vectors | Command::Seal(_, _)) => false,
+        Ok(Command::Read(_) | Command::Vectors) => false,
+        Ok(Command::Seal(_, _) | Command::Check(_, _)) => false,
         Err(Usage) => false,
     }
 }

@@ -1,0 +1,3 @@
+pub mod NoteLines
+pub mod CheckBoxed
+pub mod CheckBoxedLaws

@@ -1,0 +1,15 @@
+use Rattle.std.proofs.Common.{sym, subst}
+use Rattle.replay_status.specs.Outside.{outside}
+use Rattle.link_replay.specs.CheckCommand.{Checks}
+use Rattle.link_replay.specs.declared.words.Proto.{Proto}
+use Rattle.link_replay.proofs.Asking.{proto-is-rtu}
+use Rattle.link_replay.proofs.commands.check.check.Goals as goal
+
+pub returns-clause-checks : goal.returns-clause-checks
+returns-clause-checks g c =
+    let P : Proto → Type 0 = λ proto. Checks g.K.Source g.S.Source g.O.Sink g.L.Sink g.D.SlotDisk
+    proto c.args.dir
+    (outside c.args.key.now c.args.input.now c.args.out.now c.args.log.now c.args.disk.now)
+    (outside c.replay_box.new.key c.replay_box.new.input c.replay_box.new.out c.replay_box.new.log
+    c.replay_box.new.disk) c.replay_box.result in
+    subst P (sym (proto-is-rtu c.args.proto)) c.replay_box.ensures.replays
