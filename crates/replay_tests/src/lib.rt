@@ -1,11 +1,17 @@
-//! Tests of the libraries under the program: recorded lines as a device reads them, and as the
-//! transmitter seals them.
+//! Tests of the libraries under the program: recorded lines as a device reads them, as the
+//! transmitter seals them, and as the receiver checks them.
 #![tactic(auto)]
 
+#[cfg(test)]
+mod box_parts;
+#[cfg(test)]
+mod checking;
 #[cfg(test)]
 mod order;
 #[cfg(test)]
 mod outside;
+#[cfg(test)]
+mod over_boxes;
 #[cfg(test)]
 mod reading;
 #[cfg(test)]

@@ -16,14 +16,14 @@ const REQUEST_LINE: &[u8] = b"read at 0 01030000000ac5cd\n";
 
 /// How a reading ended, and what its sinks hold.
 #[derive(Drop)]
-struct Ran {
-    status: Status,
-    out: MemSink,
-    log: MemSink,
+pub struct Ran {
+    pub status: Status,
+    pub out: MemSink,
+    pub log: MemSink,
 }
 
-// What a device reads of this text, with the fault line behind it.
-fn read(rt: &impl Abort, alloc: Global, text: &[u8], outside: &Failing) -> Result<Ran, Fail> {
+/// What a device reads of this text, with the fault line behind it.
+pub fn read(rt: &impl Abort, alloc: Global, text: &[u8], outside: &Failing) -> Result<Ran, Fail> {
     let piece = outside.piece;
     assert!(rt; piece >= 1 && piece <= 512);
     let mut input = MemSource::new(text, piece, plan(outside.input));

@@ -1,14 +1,13 @@
-use crate::outside::{Failing, STEADY, plan};
-use box_replay::replay_box;
+use crate::outside::{Failing, STEADY};
+use crate::over_boxes::{
+    AT_0, AT_1, AT_2, AT_LIMIT, DiskFault, FRESH, KEY, NO_NUMBER, NOTHING, Row, compare,
+    fail_each_call, replay,
+};
 use hmac_tag::{Dir, HmacSha1};
-use replay_status::{Status, write_fault};
+use replay_status::Status;
 use rtu_frame::Rtu;
 use seal_replay::SealBox;
-use sequence_journal::Journal;
-use std::alloc::Global;
-use std::process::Abort;
 use std::test::Fail;
-use yasir_io::{MemSink, MemSlots, MemSource, Slot, SteadySlots};
 use yasir_ticks::{BadTicks, TickFault};
 
 /// The transmitter of a line of Modbus RTU, with words of two bytes.
@@ -17,100 +16,10 @@ type RtuSealBox = SealBox<Rtu, HmacSha1, 2>;
 /// The silent ticks behind a whole input, as the program has them.
 const REST: u32 = 24;
 
-const KEY: &[u8] = b"000102030405060708090a0b0c0d0e0f";
-
 /// Slots that hold these numbers.
-const AT_0: u128 = 0x0000000000000000_ffffffffffffffff;
-
-const AT_1: u128 = 0x0000000000000001_fffffffffffffffe;
-
-const AT_2: u128 = 0x0000000000000002_fffffffffffffffd;
-
 const AT_5: u128 = 0x0000000000000005_fffffffffffffffa;
 
 const AT_6: u128 = 0x0000000000000006_fffffffffffffff9;
-
-const AT_LIMIT: u128 = 0x0000ffffffffffff_ffff000000000000;
-
-const NOTHING: u128 = 0;
-
-const NO_NUMBER: u128 = 0x11111111111111111111111111111111;
-
-const FRESH: (u128, u128) = (AT_0, NOTHING);
-
-/// How a run ended, what its sinks hold, and its disk.
-#[derive(Drop)]
-struct Ran {
-    status: Status,
-    out: MemSink,
-    log: MemSink,
-    disk: MemSlots,
-}
-
-// The line of this text, sealed with this key, with the fault line behind its notes.
-fn seal(
-    alloc: Global,
-    dir: Dir,
-    key: &[u8],
-    slots: (u128, u128),
-    text: &[u8],
-    failing: &Failing,
-) -> Result<Ran, Fail> {
-    let (a, b) = slots;
-    let mut key = MemSource::new(key, 512, plan(failing.key));
-    let mut input = MemSource::new(text, 512, plan(failing.input));
-    let mut out = MemSink::with_room(alloc, 2000, 512, plan(failing.out))?;
-    let mut log = MemSink::with_room(alloc, 200, 512, plan(failing.log))?;
-    let mut disk = MemSlots::with_room(
-        alloc,
-        a.to_be_bytes(),
-        b.to_be_bytes(),
-        16,
-        plan(failing.disk),
-    )?;
-    let status = replay_box::<RtuSealBox, MemSource, MemSource, MemSink, MemSink, MemSlots>(
-        dir, REST, &mut key, &mut input, &mut out, &mut log, &mut disk,
-    );
-    write_fault(&mut log, &status);
-    Ok(Ran {
-        status,
-        out,
-        log,
-        disk,
-    })
-}
-
-fn slots_of(disk: &MemSlots) -> (u128, u128) {
-    (
-        u128::from_be_bytes(disk.slot(Slot::A)),
-        u128::from_be_bytes(disk.slot(Slot::B)),
-    )
-}
-
-/// A recorded line, what fails as it is sealed, and what comes of it.
-#[derive(Clone, Copy, Drop)]
-struct Row {
-    dir: Dir,
-    key: &'static [u8],
-    slots: (u128, u128),
-    text: &'static [u8],
-    failing: Failing,
-    status: Status,
-    code: u8,
-    out: &'static [u8],
-    log: &'static [u8],
-    slots_now: (u128, u128),
-}
-
-fn check(rt: &impl Abort, alloc: Global, row: &Row) -> Result<(), Fail> {
-    let ran = seal(alloc, row.dir, row.key, row.slots, row.text, &row.failing)?;
-    assert_eq!(rt; ran.status, row.status);
-    assert_eq!(rt; ran.status.code(), row.code);
-    assert_eq!(rt; ran.out.held(), row.out);
-    assert_eq!(rt; ran.log.held(), row.log);
-    assert_eq!(rt; slots_of(&ran.disk), row.slots_now);
-    Ok(())
-}
 
 const SEALED_WHOLE: &[u8] = b"+01030000000ac5cd\n-3\n+0001014c5b8d33c6d29a347013b0\n-47\n";
 
@@ -204,7 +113,7 @@ const SEALED: [Row; 10] = [
 #[test]
 fn seals_the_frames_of_a_line(rt: HostRuntime) -> Result<(), Fail> {
     for row in SEALED {
-        check(&rt, rt.alloc(), &row)?;
+        compare::<HostRuntime, RtuSealBox>(&rt, rt.alloc(), REST, &row)?;
     }
     Ok(())
 }
@@ -221,21 +130,19 @@ fn seals_the_longest_frame(rt: HostRuntime) -> Result<(), Fail> {
     text.extend_from_slice(b"+000000000000000000000000000000000000000000000000000000000000554e\n")?;
     let mut out = text.clone()?;
     out.extend_from_slice(b"-3\n+000101c84727bb115a36d1402d21\n-7\n")?;
-    let ran = seal(rt.alloc(), Dir::Ab, KEY, FRESH, text.as_slice(), &STEADY)?;
+    let ran = replay::<RtuSealBox>(
+        rt.alloc(),
+        REST,
+        Dir::Ab,
+        KEY,
+        FRESH,
+        text.as_slice(),
+        &STEADY,
+    )?;
     assert_eq!(rt; ran.status, Status::Done);
     assert_eq!(rt; ran.out.held(), out.as_slice());
     assert_eq!(rt; ran.log.held(), b"sealed 1 at 0 len 256\n".as_slice());
     Ok(())
-}
-
-// The floor that a later run loads from these slots.
-fn floor_of(slots: (u128, u128)) -> Option<u64> {
-    let (a, b) = slots;
-    let mut disk = SteadySlots::new(a.to_be_bytes(), b.to_be_bytes());
-    match Journal::load(&mut disk) {
-        Ok(journal) => Some(journal.floor()),
-        Err(_) => None,
-    }
 }
 
 const THREE_FRAMES: &[u8] = b"+01030000000ac5cd\n-21\n+010300000001840a\n-21\n+1103006b00037687\n";
@@ -260,9 +167,7 @@ const THREE_CLOSED: &[u8] =
 const THREE_SEALED: &[u8] =
     b"+01030000000ac5cd\n-3\n+0001014c5b8d33c6d29a347013b0\n-4\n+010300000001840a\n-3\n+0002ee5b1d1d6fc159af2411aeb5\n-4\n+1103006b00037687\n-3\n+00037f89dbbfa5b4b19474035c96\n-7\n";
 
-/// The call of the disk that fails, what is answered, which of the notes are written, and the floor
-/// that a later run loads.
-const DISK_FAULTS: [(&[u32], &[u8], usize, u64); 9] = [
+const DISK_FAULTS: [DiskFault; 9] = [
     (&[1], b"", 0, 0),
     (&[2], b"", 0, 0),
     (&[3], ONE_CLOSED, 0, 0),
@@ -276,29 +181,14 @@ const DISK_FAULTS: [(&[u32], &[u8], usize, u64); 9] = [
 
 #[test]
 fn a_failed_call_of_the_disk_loses_no_number(rt: HostRuntime) -> Result<(), Fail> {
-    for (disk, out, notes, floor) in DISK_FAULTS {
-        let failing = Failing { disk, ..STEADY };
-        let ran = seal(rt.alloc(), Dir::Ab, KEY, FRESH, THREE_FRAMES, &failing)?;
-        let mut log = THREE_NOTES[notes].to_vec(rt.alloc())?;
-        if notes < 3 {
-            assert_eq!(rt; ran.status, Status::JournalFault);
-            assert_eq!(rt; ran.status.code(), 7);
-            log.extend_from_slice(b"fault: journal\n")?;
-        } else {
-            assert_eq!(rt; ran.status, Status::Done);
-        }
-        assert_eq!(rt; ran.out.held(), out);
-        assert_eq!(rt; ran.log.held(), log.as_slice());
-        let (a, b) = slots_of(&ran.disk);
-        assert_eq!(rt; floor_of((a, b)), Some(floor));
-        // Where a sync failed, the slot that was written may be torn.
-        match disk {
-            [4] => assert_eq!(rt; floor_of((a, NO_NUMBER)), Some(0)),
-            [6] => assert_eq!(rt; floor_of((NO_NUMBER, b)), Some(1)),
-            _ => {}
-        }
-    }
-    Ok(())
+    fail_each_call::<HostRuntime, RtuSealBox>(
+        &rt,
+        rt.alloc(),
+        REST,
+        THREE_FRAMES,
+        &THREE_NOTES,
+        &DISK_FAULTS,
+    )
 }
 
 /// Nothing is written but the fault line.
@@ -409,7 +299,7 @@ const NOT_DONE: [Row; 9] = [
 #[test]
 fn answers_why_a_line_is_not_sealed_whole(rt: HostRuntime) -> Result<(), Fail> {
     for row in NOT_DONE {
-        check(&rt, rt.alloc(), &row)?;
+        compare::<HostRuntime, RtuSealBox>(&rt, rt.alloc(), REST, &row)?;
     }
     Ok(())
 }

@@ -1,0 +1,47 @@
+use check_receiver::Checker;
+use delay_ring::DelayRing;
+use hmac_tag::HmacSha1;
+use rtu_frame::Rtu;
+use seal_transmitter::Sealer;
+use spoiler::Outlet;
+
+// Neither box keeps a frame, which would be 256 bytes of Modbus RTU in its rules, and 292 in a box:
+// so many bytes more than its parts have it doesn't have.
+const BESIDE_THE_PARTS: usize = 280;
+
+const _: () = prove!(size_of::<Rtu>() <= 128);
+
+const _: () = prove!(
+    size_of::<Sealer<Rtu, HmacSha1, 2>>()
+        <= size_of::<Rtu>() + size_of::<HmacSha1>() + BESIDE_THE_PARTS
+);
+
+const _: () = prove!(
+    size_of::<Checker<Rtu, HmacSha1, 2, 18>>()
+        <= 2 * size_of::<Rtu>()
+            + size_of::<HmacSha1>()
+            + size_of::<DelayRing<18>>()
+            + BESIDE_THE_PARTS
+);
+
+// What leaves for the bytes 01 7e 80, which have a right ending and are no frame.
+fn last_byte(passed: bool) -> Option<u8> {
+    let mut outlet = Outlet::<Rtu>::new();
+    outlet.begin();
+    for byte in [0x01, 0x7e] {
+        if !outlet.has_room() {
+            return None;
+        }
+        outlet.emit(byte, false, false);
+    }
+    if !outlet.has_room() {
+        return None;
+    }
+    Some(outlet.emit(0x80, true, passed))
+}
+
+#[test]
+fn a_right_ending_is_spoiled(rt: HostRuntime) {
+    assert_eq!(rt; last_byte(false), Some(0x81));
+    assert_eq!(rt; last_byte(true), Some(0x80));
+}

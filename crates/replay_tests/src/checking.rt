@@ -1,0 +1,432 @@
+use crate::outside::{Failing, STEADY};
+use crate::over_boxes::{
+    AT_0, AT_1, AT_2, AT_LIMIT, DiskFault, FRESH, KEY, NO_NUMBER, NOTHING, Row, compare,
+    fail_each_call, replay,
+};
+use crate::reading::read;
+use check_replay::CheckBox;
+use hmac_tag::{Dir, HmacSha1};
+use replay_status::Status;
+use rtu_frame::Rtu;
+use std::test::Fail;
+use yasir_ticks::{BadTicks, TickFault};
+
+/// The receiver of a link of Modbus RTU, with words of two bytes and a delay of 18 ticks.
+type RtuCheckBox = CheckBox<Rtu, HmacSha1, 2, 18>;
+
+/// The silent ticks behind a whole input, as the program has them.
+const REST: u32 = 320;
+
+/// Slots that hold these numbers.
+const AT_3: u128 = 0x0000000000000003_fffffffffffffffc;
+
+const AT_65536: u128 = 0x0000000000010000_fffffffffffeffff;
+
+const AT_BEFORE_LIMIT: u128 = 0x0000fffffffffffe_ffff000000000001;
+
+/// The packet of number 1, which the transmitter makes of a request, and the ticks that it passes
+/// as.
+const PACKET: &[u8] = b"+01030000000ac5cd\n-3\n+0001014c5b8d33c6d29a347013b0\n-47\n";
+
+const PASSED_LINE: &[u8] = b"-18\n+01030000000ac5cd\n-366\n";
+
+const REFUSED_LINE: &[u8] = b"-18\n+01030000000ac5cc\n-366\n";
+
+/// The packet passes.
+const WHOLE: Row = Row {
+    dir: Dir::Ab,
+    key: KEY,
+    slots: FRESH,
+    text: PACKET,
+    failing: STEADY,
+    status: Status::Done,
+    code: 0,
+    out: PASSED_LINE,
+    log: b"passed 1 at 0 len 8\n",
+    slots_now: (AT_0, AT_1),
+};
+
+/// Nothing passes.
+const REFUSED: Row = Row {
+    out: REFUSED_LINE,
+    log: b"refused at 0 tag\n",
+    slots_now: FRESH,
+    ..WHOLE
+};
+
+// Ticks and notes here were computed from the rules of `docs/LINK.md` by a program in another
+// language, over whole lines; each tag by openssl, as those of the sealed lines.
+const CHECKED: [Row; 17] = [
+    WHOLE,
+    // The last byte of the tag is wrong, so the last byte of the frame leaves spoiled.
+    Row {
+        text: b"+01030000000ac5cd\n-3\n+0001014c5b8d33c6d29a347013b1\n-47\n",
+        ..REFUSED
+    },
+    // A wrong ending isn't spoiled: that might make it right.
+    Row {
+        text: b"+01030000000ac5cc\n-4\n",
+        out: b"-18\n+01030000000ac5cc\n-306\n",
+        log: b"refused at 0 trailer\n",
+        ..REFUSED
+    },
+    // Three bytes with a right ending are no frame, and leave spoiled.
+    Row {
+        text: b"+017e80\n-4\n",
+        out: b"-18\n+017e81\n-306\n",
+        log: b"refused at 0 trailer\n",
+        ..REFUSED
+    },
+    // The packet twice: the second time its word stands for 65,537.
+    Row {
+        text: b"+01030000000ac5cd\n-3\n+0001014c5b8d33c6d29a347013b0\n-47\n+01030000000ac5cd\n-3\n+0001014c5b8d33c6d29a347013b0\n-47\n",
+        out: b"-18\n+01030000000ac5cd\n-64\n+01030000000ac5cc\n-366\n",
+        log: b"passed 1 at 0 len 8\nrefused at 72 tag\n",
+        ..WHOLE
+    },
+    // A byte directly behind the trailer is swallowed.
+    Row {
+        text: b"+01030000000ac5cd\n-3\n+0001014c5b8d33c6d29a347013b000\n-46\n",
+        ..WHOLE
+    },
+    // 257 bytes without a right ending: the last one isn't live, and the last but one stays.
+    Row {
+        text: b"+0000000000000000000000000000000000000000000000000000000000000000\n+0000000000000000000000000000000000000000000000000000000000000000\n+0000000000000000000000000000000000000000000000000000000000000000\n+0000000000000000000000000000000000000000000000000000000000000000\n+0000000000000000000000000000000000000000000000000000000000000000\n+0000000000000000000000000000000000000000000000000000000000000000\n+0000000000000000000000000000000000000000000000000000000000000000\n+0000000000000000000000000000000000000000000000000000000000000000\n+00\n-4\n",
+        out: b"-18\n+0000000000000000000000000000000000000000000000000000000000000000\n+0000000000000000000000000000000000000000000000000000000000000000\n+0000000000000000000000000000000000000000000000000000000000000000\n+0000000000000000000000000000000000000000000000000000000000000000\n+0000000000000000000000000000000000000000000000000000000000000000\n+0000000000000000000000000000000000000000000000000000000000000000\n+0000000000000000000000000000000000000000000000000000000000000000\n+0000000000000000000000000000000000000000000000000000000000000000\n-307\n",
+        log: b"refused at 0 trailer\n",
+        ..REFUSED
+    },
+    // The longest frame: 254 bytes 00 and their CRC.
+    Row {
+        text: b"+0000000000000000000000000000000000000000000000000000000000000000\n+0000000000000000000000000000000000000000000000000000000000000000\n+0000000000000000000000000000000000000000000000000000000000000000\n+0000000000000000000000000000000000000000000000000000000000000000\n+0000000000000000000000000000000000000000000000000000000000000000\n+0000000000000000000000000000000000000000000000000000000000000000\n+0000000000000000000000000000000000000000000000000000000000000000\n+000000000000000000000000000000000000000000000000000000000000554e\n-3\n+000101c84727bb115a36d1402d21\n-47\n",
+        out: b"-18\n+0000000000000000000000000000000000000000000000000000000000000000\n+0000000000000000000000000000000000000000000000000000000000000000\n+0000000000000000000000000000000000000000000000000000000000000000\n+0000000000000000000000000000000000000000000000000000000000000000\n+0000000000000000000000000000000000000000000000000000000000000000\n+0000000000000000000000000000000000000000000000000000000000000000\n+0000000000000000000000000000000000000000000000000000000000000000\n+000000000000000000000000000000000000000000000000000000000000554e\n-366\n",
+        log: b"passed 1 at 0 len 256\n",
+        ..WHOLE
+    },
+    // Single silent ticks inside a frame.
+    Row {
+        text: b"+01\n-1\n+03\n-1\n+00\n-1\n+00\n-1\n+00\n-1\n+0a\n-1\n+c5\n-1\n+cd\n-3\n+0001014c5b8d33c6d29a347013b0\n-40\n",
+        out: b"-18\n+01\n-1\n+03\n-1\n+00\n-1\n+00\n-1\n+00\n-1\n+0a\n-1\n+c5\n-1\n+cd\n-359\n",
+        ..WHOLE
+    },
+    // A pause of two ticks inside a frame: what comes behind it isn't live.
+    Row {
+        text: b"+010300\n-2\n+00000ac5cd\n-3\n+0001014c5b8d33c6d29a347013b0\n-40\n",
+        out: b"-18\n+010300\n-366\n",
+        log: b"refused at 0 trailer\n",
+        ..REFUSED
+    },
+    // The packet comes from the other direction, or is checked with another key.
+    Row {
+        text: b"+01030000000ac5cd\n-3\n+0001150da56830aa1fa9417becc1\n-47\n",
+        ..REFUSED
+    },
+    Row {
+        key: b"000102030405060708090a0b0c0d0e0e",
+        ..REFUSED
+    },
+    // A burst that starts while the bytes of the one before still leave.
+    Row {
+        text: b"+01030000000ac5cc\n-4\n+010300000001840a\n-40\n+01030000000ac5cd\n-3\n+0001014c5b8d33c6d29a347013b0\n-40\n",
+        out: b"-18\n+01030000000ac5cc\n-52\n+01030000000ac5cd\n-359\n",
+        log: b"refused at 0 trailer\ndropped at 12 busy\npassed 1 at 60 len 8\n",
+        ..WHOLE
+    },
+    // 65,535 packets were lost: the number is the least one above the floor with the word 0000.
+    Row {
+        text: b"+01030000000ac5cd\n-3\n+000031c815494ddb8e3fc69792d9\n-47\n",
+        log: b"passed 65536 at 0 len 8\n",
+        slots_now: (AT_0, AT_65536),
+        ..WHOLE
+    },
+    // The greatest number, and none behind it.
+    Row {
+        slots: (AT_BEFORE_LIMIT, NOTHING),
+        text: b"+01030000000ac5cd\n-3\n+ffff710643be303e9adae9527b89\n-47\n",
+        log: b"passed 281474976710655 at 0 len 8\n",
+        slots_now: (AT_BEFORE_LIMIT, AT_LIMIT),
+        ..WHOLE
+    },
+    Row {
+        slots: (AT_LIMIT, NOTHING),
+        log: b"refused at 0 number\n",
+        slots_now: (AT_LIMIT, NOTHING),
+        ..REFUSED
+    },
+    Row {
+        text: b"",
+        out: b"-320\n",
+        log: b"",
+        ..REFUSED
+    },
+];
+
+#[test]
+fn checks_the_packets_of_a_link(rt: HostRuntime) -> Result<(), Fail> {
+    for row in CHECKED {
+        compare::<HostRuntime, RtuCheckBox>(&rt, rt.alloc(), REST, &row)?;
+    }
+    Ok(())
+}
+
+/// Three requests, as they were sealed and stood on a link.
+const EXCHANGE: Row = Row {
+    text: b"+01030000000ac5cd\n-3\n+0001014c5b8d33c6d29a347013b0\n-40\n+010300000001840a\n-3\n+0002ee5b1d1d6fc159af2411aeb5\n-40\n+1103006b00037687\n-3\n+00037f89dbbfa5b4b19474035c96\n-40\n",
+    out: b"-18\n+01030000000ac5cd\n-57\n+010300000001840a\n-57\n+1103006b00037687\n-359\n",
+    log: b"passed 1 at 0 len 8\npassed 2 at 65 len 8\npassed 3 at 130 len 8\n",
+    slots_now: (AT_2, AT_3),
+    ..WHOLE
+};
+
+/// The recorded link as it was, and altered by hand in seven ways.
+const ALTERED: [Row; 8] = [
+    EXCHANGE,
+    // In the first request 0b for 0a, so that it asks for one register more.
+    Row {
+        text: b"+01030000000bc5cd\n-3\n+0001014c5b8d33c6d29a347013b0\n-40\n+010300000001840a\n-3\n+0002ee5b1d1d6fc159af2411aeb5\n-40\n+1103006b00037687\n-3\n+00037f89dbbfa5b4b19474035c96\n-40\n",
+        out: b"-18\n+01030000000bc5cd\n-57\n+010300000001840a\n-57\n+1103006b00037687\n-359\n",
+        log: b"refused at 0 form\npassed 2 at 65 len 8\npassed 3 at 130 len 8\n",
+        slots_now: (AT_3, AT_2),
+        ..EXCHANGE
+    },
+    // The same with a right CRC.
+    Row {
+        text: b"+01030000000b040d\n-3\n+0001014c5b8d33c6d29a347013b0\n-40\n+010300000001840a\n-3\n+0002ee5b1d1d6fc159af2411aeb5\n-40\n+1103006b00037687\n-3\n+00037f89dbbfa5b4b19474035c96\n-40\n",
+        out: b"-18\n+01030000000b040c\n-57\n+010300000001840a\n-57\n+1103006b00037687\n-359\n",
+        log: b"refused at 0 tag\npassed 2 at 65 len 8\npassed 3 at 130 len 8\n",
+        slots_now: (AT_3, AT_2),
+        ..EXCHANGE
+    },
+    // A byte in the pause before the first trailer.
+    Row {
+        text: b"+01030000000ac5cd\n-1\n+55\n-1\n+0001014c5b8d33c6d29a347013b0\n-40\n+010300000001840a\n-3\n+0002ee5b1d1d6fc159af2411aeb5\n-40\n+1103006b00037687\n-3\n+00037f89dbbfa5b4b19474035c96\n-40\n",
+        out: b"-18\n+01030000000ac5cd\n-1\n+55\n-1\n+0001014c5b8d33c6d29a347013b0\n-40\n+010300000001840a\n-57\n+1103006b00037687\n-359\n",
+        log: b"refused at 0 trailer\npassed 2 at 65 len 8\npassed 3 at 130 len 8\n",
+        slots_now: (AT_3, AT_2),
+        ..EXCHANGE
+    },
+    // The last byte of the first trailer is left out.
+    Row {
+        text: b"+01030000000ac5cd\n-3\n+0001014c5b8d33c6d29a347013\n-41\n+010300000001840a\n-3\n+0002ee5b1d1d6fc159af2411aeb5\n-40\n",
+        out: b"-18\n+01030000000ac5cc\n-57\n+010300000001840a\n-359\n",
+        log: b"refused at 0 trailer\npassed 2 at 65 len 8\n",
+        slots_now: (AT_0, AT_2),
+        ..EXCHANGE
+    },
+    // The first packet comes again behind itself.
+    Row {
+        text: b"+01030000000ac5cd\n-3\n+0001014c5b8d33c6d29a347013b0\n-40\n+01030000000ac5cd\n-3\n+0001014c5b8d33c6d29a347013b0\n-40\n+010300000001840a\n-3\n+0002ee5b1d1d6fc159af2411aeb5\n-40\n",
+        out: b"-18\n+01030000000ac5cd\n-57\n+01030000000ac5cc\n-57\n+010300000001840a\n-359\n",
+        log: b"passed 1 at 0 len 8\nrefused at 65 tag\npassed 2 at 130 len 8\n",
+        slots_now: (AT_2, AT_1),
+        ..EXCHANGE
+    },
+    // The second packet is left out: no note tells of it.
+    Row {
+        text: b"+01030000000ac5cd\n-3\n+0001014c5b8d33c6d29a347013b0\n-40\n+1103006b00037687\n-3\n+00037f89dbbfa5b4b19474035c96\n-40\n",
+        out: b"-18\n+01030000000ac5cd\n-57\n+1103006b00037687\n-359\n",
+        log: b"passed 1 at 0 len 8\npassed 3 at 65 len 8\n",
+        slots_now: (AT_3, AT_1),
+        ..EXCHANGE
+    },
+    // The second packet comes before the first.
+    Row {
+        text: b"+010300000001840a\n-3\n+0002ee5b1d1d6fc159af2411aeb5\n-40\n+01030000000ac5cd\n-3\n+0001014c5b8d33c6d29a347013b0\n-40\n+1103006b00037687\n-3\n+00037f89dbbfa5b4b19474035c96\n-40\n",
+        out: b"-18\n+010300000001840a\n-57\n+01030000000ac5cc\n-57\n+1103006b00037687\n-359\n",
+        log: b"passed 2 at 0 len 8\nrefused at 65 tag\npassed 3 at 130 len 8\n",
+        slots_now: (AT_3, AT_2),
+        ..EXCHANGE
+    },
+];
+
+#[test]
+fn notes_how_a_link_was_altered(rt: HostRuntime) -> Result<(), Fail> {
+    for row in ALTERED {
+        compare::<HostRuntime, RtuCheckBox>(&rt, rt.alloc(), REST, &row)?;
+    }
+    Ok(())
+}
+
+/// Seven packets, 100 ticks apart: of the second a byte is altered, the third comes twice, and the
+/// sixth before the fifth.
+const SEVEN_PACKETS: &[u8] =
+    b"+01030000000ac5cd\n-3\n+0001014c5b8d33c6d29a347013b0\n-75\n+010300000001840b\n-3\n+0002ee5b1d1d6fc159af2411aeb5\n-75\n+1103006b00037687\n-3\n+00037f89dbbfa5b4b19474035c96\n-75\n+1103006b00037687\n-3\n+00037f89dbbfa5b4b19474035c96\n-75\n+01030000000ac5cd\n-3\n+0004e978a8dacbc39328af15b86d\n-75\n+1103006b00037687\n-3\n+0006a95674d7227aa3c4c9a7e69d\n-75\n+010300000001840a\n-3\n+0005ffc67a568388534ed1ce11e1\n-75\n";
+
+const SEVEN_NOTES: &[u8] =
+    b"passed 1 at 0 len 8\nrefused at 100 form\npassed 3 at 200 len 8\nrefused at 300 tag\npassed 4 at 400 len 8\npassed 6 at 500 len 8\nrefused at 600 tag\n";
+
+/// A link, the notes on it, and the frames that a device behind the receiver reads.
+const READ: [(&[u8], &[u8], &[u8]); 4] = [
+    (
+        PACKET,
+        b"passed 1 at 0 len 8\n",
+        b"read at 18 01030000000ac5cd\n",
+    ),
+    (
+        b"+01030000000ac5cd\n-3\n+0001014c5b8d33c6d29a347013b1\n-47\n",
+        b"refused at 0 tag\n",
+        b"",
+    ),
+    (b"+01030000000ac5cc\n-4\n", b"refused at 0 trailer\n", b""),
+    (
+        SEVEN_PACKETS,
+        SEVEN_NOTES,
+        b"read at 18 01030000000ac5cd\nread at 218 1103006b00037687\nread at 418 01030000000ac5cd\nread at 518 1103006b00037687\n",
+    ),
+];
+
+#[test]
+fn a_device_reads_what_passed(rt: HostRuntime) -> Result<(), Fail> {
+    for (text, notes, frames) in READ {
+        let alloc = rt.alloc();
+        let checked = replay::<RtuCheckBox>(alloc, REST, Dir::Ab, KEY, FRESH, text, &STEADY)?;
+        assert_eq!(rt; checked.log.held(), notes);
+        let device = read(&rt, alloc, checked.out.held(), &STEADY)?;
+        assert_eq!(rt; device.status, Status::Done);
+        assert_eq!(rt; device.out.held(), frames);
+    }
+    Ok(())
+}
+
+const THREE_PACKETS: &[u8] =
+    b"+01030000000ac5cd\n-3\n+0001014c5b8d33c6d29a347013b0\n-4\n+010300000001840a\n-3\n+0002ee5b1d1d6fc159af2411aeb5\n-4\n+1103006b00037687\n-3\n+00037f89dbbfa5b4b19474035c96\n-7\n";
+
+const THREE_NOTES: [&[u8]; 4] = [
+    b"",
+    b"passed 1 at 0 len 8\n",
+    b"passed 1 at 0 len 8\npassed 2 at 29 len 8\n",
+    b"passed 1 at 0 len 8\npassed 2 at 29 len 8\npassed 3 at 58 len 8\n",
+];
+
+/// What is answered of three packets up to the tick of the last byte of the first trailer, of the
+/// second and of the third, and up to the end.
+const BEFORE_ONE: &[u8] = b"-18\n+01030000000a\n";
+
+const BEFORE_TWO: &[u8] = b"-18\n+01030000000ac5cd\n-21\n+010300000001\n";
+
+const BEFORE_THREE: &[u8] = b"-18\n+01030000000ac5cd\n-21\n+010300000001840a\n-21\n+1103006b0003\n";
+
+const THREE_PASSED: &[u8] =
+    b"-18\n+01030000000ac5cd\n-21\n+010300000001840a\n-21\n+1103006b00037687\n-326\n";
+
+const DISK_FAULTS: [DiskFault; 9] = [
+    (&[1], b"", 0, 0),
+    (&[2], b"", 0, 0),
+    (&[3], BEFORE_ONE, 0, 0),
+    (&[4], BEFORE_ONE, 0, 1),
+    (&[5], BEFORE_TWO, 1, 1),
+    (&[6], BEFORE_TWO, 1, 2),
+    (&[7], BEFORE_THREE, 2, 2),
+    (&[8], BEFORE_THREE, 2, 3),
+    (&[9], THREE_PASSED, 3, 3),
+];
+
+#[test]
+fn a_failed_call_of_the_disk_passes_no_number_twice(rt: HostRuntime) -> Result<(), Fail> {
+    fail_each_call::<HostRuntime, RtuCheckBox>(
+        &rt,
+        rt.alloc(),
+        REST,
+        THREE_PACKETS,
+        &THREE_NOTES,
+        &DISK_FAULTS,
+    )
+}
+
+/// Nothing is written but the fault line.
+const UNTOUCHED: Row = Row {
+    status: Status::ReadFault,
+    code: 5,
+    out: b"",
+    log: b"fault: read\n",
+    slots_now: FRESH,
+    ..WHOLE
+};
+
+/// The packet passes, without the silence of a whole input, and then something fails.
+const CUT_SHORT: Row = Row {
+    status: Status::ReadFault,
+    code: 5,
+    out: b"-18\n+01030000000ac5cd\n-46\n",
+    log: b"passed 1 at 0 len 8\nfault: read\n",
+    ..WHOLE
+};
+
+const WRITE_FAULT: Row = Row {
+    status: Status::WriteFault,
+    code: 6,
+    out: b"",
+    ..WHOLE
+};
+
+const NOT_DONE: [Row; 7] = [
+    Row {
+        key: b"000102030405060708090a0b0c0d0e",
+        status: Status::BadKey { place: 30 },
+        code: 3,
+        log: b"fault: key at 30\n",
+        ..UNTOUCHED
+    },
+    Row {
+        slots: (NO_NUMBER, NO_NUMBER),
+        status: Status::BadJournal {
+            a: [0x11; 16],
+            b: [0x11; 16],
+        },
+        code: 8,
+        log: b"fault: bad journal 11111111111111111111111111111111 11111111111111111111111111111111\n",
+        slots_now: (NO_NUMBER, NO_NUMBER),
+        ..UNTOUCHED
+    },
+    Row {
+        text: b"+01030000000ac5cd\n-3\n+0001014c5b8d33c6d29a347013b0\n-47\nx",
+        status: Status::BadTicks(BadTicks {
+            line: 5,
+            why: TickFault::Char,
+        }),
+        code: 4,
+        log: b"passed 1 at 0 len 8\nfault: line 5 char\n",
+        ..CUT_SHORT
+    },
+    // The first read gives the whole text, the next one fails.
+    Row {
+        failing: Failing {
+            input: &[2],
+            ..STEADY
+        },
+        ..CUT_SHORT
+    },
+    // The notes are written before the ticks.
+    Row {
+        failing: Failing {
+            log: &[1],
+            ..STEADY
+        },
+        log: b"",
+        ..WRITE_FAULT
+    },
+    Row {
+        failing: Failing {
+            out: &[1],
+            ..STEADY
+        },
+        ..WRITE_FAULT
+    },
+    // The flush.
+    Row {
+        failing: Failing {
+            out: &[2],
+            ..STEADY
+        },
+        out: PASSED_LINE,
+        ..WRITE_FAULT
+    },
+];
+
+#[test]
+fn answers_why_a_link_is_not_checked_whole(rt: HostRuntime) -> Result<(), Fail> {
+    for row in NOT_DONE {
+        compare::<HostRuntime, RtuCheckBox>(&rt, rt.alloc(), REST, &row)?;
+    }
+    Ok(())
+}
