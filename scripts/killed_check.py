@@ -1,0 +1,67 @@
+#!/usr/bin/env python3
+"""Kills `link_replay check` at random moments, starts it again over the same link and journal file, and looks for a number that passes twice.
+
+    python3 scripts/killed_check.py [RUNS] [PROGRAM] [FOLDER]
+
+The link has many packets, of numbers 1, 2, .. in order. Each run checks it from its beginning and is killed (SIGKILL)
+after a random time, so that it meets again all packets that the runs before have passed. A number counts as passed where
+the last byte of its frame left unspoiled, or its note reached the log. It must be above every number that passed before,
+and the journal's floor after the kill must not be below it; and no frame may leave whole whose note isn't in the log.
+The files stand in a new folder inside FOLDER; on a tmpfs (/dev/shm) a sync is quick, and a run passes thousands of frames.
+It is no part of the gate: what a killed process leaves of a file is the system's.
+"""
+import shutil, subprocess, sys
+
+from killed import Killed
+
+FRAME = "01030000000ac5cd"
+
+# From one packet's first tick to the next one's: the frame, and 40 silent ticks of the device's line.
+PERIOD = 48
+
+# How many ticks later a frame leaves.
+DELAY = 18
+
+PACKETS = 200000
+
+
+def left_whole(text):
+    """The numbers of the frames that have left with their right ending: packet N begins at tick (N - 1) * PERIOD."""
+    tick = 0
+    for line in text.splitlines():
+        if line.startswith("-"):
+            tick += int(line[1:] or 0)
+        else:
+            if line[1:] == FRAME:
+                number, rest = divmod(tick - DELAY, PERIOD)
+                assert rest == 0, "a frame left at tick %d, where none was due" % tick
+                yield number + 1
+            tick += len(line) // 2
+
+
+def seal_link(box):
+    """Makes the link: the frames, sealed over a journal of their own."""
+    frames = "".join("+%s\n-40\n" % FRAME for _ in range(PACKETS))
+    box.init("sealer")
+    with open(box.path("line"), "w") as link:
+        subprocess.run(box.words("seal", "sealer"), check=True, input=frames, text=True, stdout=link, stderr=subprocess.DEVNULL)
+
+
+def main():
+    runs = int(sys.argv[1]) if len(sys.argv) > 1 else 200
+    box = Killed(sys.argv[2] if len(sys.argv) > 2 else "crates/link_replay/out/link_replay", "check", sys.argv[3] if len(sys.argv) > 3 else None)
+    seal_link(box)
+    for _ in range(runs):
+        box.run()
+        numbers = list(left_whole(box.text("out")))
+        noted = [number for number, start in box.noted("passed") if start == (number - 1) * PERIOD]
+        assert len(noted) == len(box.noted("passed")), "a packet passed at a tick that isn't its own"
+        for seen in (numbers, noted):
+            box.look_at(seen)
+        assert set(numbers) <= set(noted), "a frame left whole without its note"
+        box.keep(numbers + noted)
+    shutil.rmtree(box.folder)
+    print(box.summary(runs))
+
+
+main()
