@@ -1,6 +1,8 @@
 -- A live byte enters the ring.
-use Rattle.std.proofs.Common.{◌≡◌, ◌∙◌, ◌||◌, ℕ, zero, suc, ◌+◌, ◌-◌, ◌<◌, ◌≤◌, ◌==◌, Bool, true, false, List, [], ◌∷◌}
-use Rattle.std.proofs.Common.{◌++◌, length, length-append, take, drop, refl, sym, ap, subst, arith, ⊎_elim, Option, Some, None}
+use Rattle.std.proofs.Common.{◌≡◌, ◌∙◌, ◌||◌, ℕ, zero, suc, ◌+◌, ◌-◌, ◌<◌, ◌≤◌, ◌==◌, Bool, true}
+use Rattle.std.proofs.Common.{false, List, [], ◌∷◌}
+use Rattle.std.proofs.Common.{◌++◌, length, length-append, take, drop, refl, sym, ap, subst, arith}
+use Rattle.std.proofs.Common.{⊎_elim, Option, Some, None}
 use Rattle.std.proofs.lemmas.Bool.{cases_Bool, ne_eqb}
 use Rattle.std.proofs.lemmas.List.{append-nil, length-drop}
 use Rattle.yasir_ticks.specs.Ticks.{silent, bytes_in}
@@ -59,9 +61,9 @@ use Rattle.check_receiver.specs.declared.arriving.Arriving.{Arriving}
 use Rattle.link_format.specs.Profile.{trailer_len}
 
 -- a live byte finds its burst open
-pub live-open : {R : Type 0} (proto : LineRules R) (profile : Profile) (some : 1 ≤ trailer_len profile)
-    (line : List Tick) (earliest : ℕ) (d : Burst) (left : List ℕ) (live : List Tick) (b : ℕ)
-    (may : MayGoOn d (length line))
+pub live-open : {R : Type 0} (proto : LineRules R) (profile : Profile)
+    (some : 1 ≤ trailer_len profile) (line : List Tick) (earliest : ℕ) (d : Burst) (left : List ℕ)
+    (live : List Tick) (b : ℕ) (may : MayGoOn d (length line))
     → Opens profile proto.rules (length line) earliest d left live
     → last_burst line ≡ Some d → cut_of proto.rules line (Byte b) ≡ Live b
     → is_over profile proto.rules proto.lawful proto.headed d (length line) b may ≡ false
@@ -125,8 +127,8 @@ module _ {R M : Type 0} (proto : LineRules R) (code : Mac M) {B D : ℕ} (old : 
       let fits : F (Some e) = subst F next (proto.within _ _ between.cuts.bytes) in
       let N : Option Burst → Type 0 = λ o. head_of rules (live_bytes_in rules o) ≡ Bad → ⊥ in
       let never : N (Some e) = subst N next not_bad in
-      let long = live-long profile rules proto.headed some m old.earliest_start d left live may.after
-      opens in
+      let long = live-long profile rules proto.headed some m old.earliest_start d left live
+      may.after opens in
       let near = opens.near in
       let more : 1 < length live = omega arith in
       let none : owed_by old.outlet ≡ 0 = walked.unowed (omega arith) in
@@ -168,12 +170,12 @@ module _ {R M : Type 0} (proto : LineRules R) (code : Mac M) {B D : ℕ} (old : 
       ∙ (ring-byte live (D - length live) b (omega arith)
       ∙ (ap (λ k. drop 1 live ++ (silent k ++ Byte b ∷ [])) same
       ∙ (sym (append-nil entered) ∙ ap (λ k. entered ++ silent k) (sym empty))))) in
-      assembled proto code setup line (Byte b) (with_until n (record old { mac = mac })) new (Byte b)
-      step turned between.word_is between.wide between.delay_is between.direction_is between.cuts
-      last flows.after entered (Some e) None (subst G (sym walked.opens.1) goes) noted flows.stands
-      ring (omega arith) (omega arith) waits code_is coded
+      assembled proto code setup line (Byte b) (with_until n (record old { mac = mac })) new
+      (Byte b) step turned between.word_is between.wide between.delay_is between.direction_is
+      between.cuts last flows.after entered (Some e) None (subst G (sym walked.opens.1) goes) noted
+      flows.stands ring (omega arith) (omega arith) waits code_is coded
 
-nothing-after : (x : List Tick) → length x ≡ 0 → bytes_in (drop 3 x) ≡ []
+pub nothing-after : (x : List Tick) → length x ≡ 0 → bytes_in (drop 3 x) ≡ []
 nothing-after [] none = refl
 nothing-after (t ∷ x) none = absurd (omega arith)
 

@@ -1,5 +1,10 @@
 pub mod Words
 pub mod Machine
+pub mod Heads
 pub mod Silences
 pub mod Resting
 pub mod Entering
+pub mod Dropping
+pub mod Starting
+pub mod Journals
+pub mod WholeSteps

@@ -1,6 +1,8 @@
 -- How the machine's parts stand together after a step.
-use Rattle.std.proofs.Common.{◌≡◌, ◌∙◌, ℕ, zero, suc, ◌+◌, ◌-◌, ◌<◌, ◌≤◌, ◌==◌, Bool, true, false, List, [], ◌∷◌}
-use Rattle.std.proofs.Common.{◌++◌, length, take, drop, get_or, refl, sym, ap, subst, arith, Option, Some, None, IfSome, is_some}
+use Rattle.std.proofs.Common.{◌≡◌, ◌∙◌, ℕ, zero, suc, ◌+◌, ◌-◌, ◌<◌, ◌≤◌, ◌==◌, Bool, true, false}
+use Rattle.std.proofs.Common.{List, [], ◌∷◌}
+use Rattle.std.proofs.Common.{◌++◌, length, take, drop, get_or, refl, sym, ap, subst, arith, Option}
+use Rattle.std.proofs.Common.{Some, None, IfSome, is_some}
 use Rattle.std.proofs.lemmas.Bool.{ne_eqb}
 use Rattle.std.proofs.lemmas.List.{get_or-drop}
 use Rattle.yasir_ticks.specs.Ticks.{silent, bytes_in}
@@ -106,8 +108,9 @@ module _ {R M : Type 0} (proto : LineRules R) (code : Mac M) {B D : ℕ} where
     assembled base new entering step turned word_is wide delay_is direction_is cuts number left live
         waiting told goes noted stands ring_is few until_is waits_is code_is coded =
         let P : Checker R M B D → Type 0 = λ v. HasTaken proto code v number setup line t step in
-        let N : Option CheckNote → Type 0 = λ n. AnswersTick (checker (profile_of proto code B LIMIT setup) proto.rules)
-        brief_note (at_floor setup.floor) line t step.tick n in
+        let N : Option CheckNote → Type 0 = λ n. AnswersTick
+        (checker (profile_of proto code B LIMIT setup) proto.rules) brief_note
+        (at_floor setup.floor) line t step.tick n in
         subst P (sym turned.rest)
         (record {
           stands = record {
@@ -130,8 +133,8 @@ module _ {R M : Type 0} (proto : LineRules R) (code : Mac M) {B D : ℕ} where
               coded = coded;
             };
           };
-          floor = walked-number (profile_of proto code B LIMIT setup) proto.rules setup.floor (line ++ t ∷ [])
-              (record { floor = number; earliest_start = base.earliest_start }) base.passed left
-              live (owed_by new.outlet) waiting goes.walked;
+          floor = walked-number (profile_of proto code B LIMIT setup) proto.rules setup.floor
+              (line ++ t ∷ []) (record { floor = number; earliest_start = base.earliest_start })
+              base.passed left live (owed_by new.outlet) waiting goes.walked;
           answers = subst N (sym noted) goes.answers;
         })

@@ -1,33 +1,19 @@
 -- A silent tick.
 use Rattle.std.proofs.Common.{◌≡◌, ◌∙◌, ℕ, ◌+◌, ◌-◌, ◌<◌, ◌≤◌, Bool, true, false, List, [], ◌∷◌}
-use Rattle.std.proofs.Common.{◌++◌, length, take, drop, get_or, refl, sym, ap, subst, arith, ⊎_elim, Option, Some, None, IfSome}
-use Rattle.std.proofs.lemmas.List.{length-drop, get_or-drop}
-use Rattle.yasir_ticks.specs.Ticks.{bytes_in}
-use Rattle.yasir_ticks.specs.Bursts.{Burst, bursts, end_of}
+use Rattle.std.proofs.Common.{◌++◌, length, drop, sym, ap, subst, arith, ⊎_elim, refl}
+use Rattle.std.proofs.Common.{Option, Some, None, IfSome}
+use Rattle.std.proofs.lemmas.List.{length-drop}
+use Rattle.yasir_ticks.specs.Bursts.{Burst, bursts}
 use Rattle.yasir_ticks.specs.declared.tick.Tick.{Tick}
 use Rattle.yasir_ticks.specs.declared.tick.Tick.TheVariants.{Silent}
-use Rattle.line_rules.specs.Rules.{Rules}
+use Rattle.line_rules.specs.Rules.{left_of}
 use Rattle.line_rules.specs.declared.line_rules.LineRules.{Ghosts as LineRules}
 use Rattle.frame_ending.specs.declared.cut.Cut.{Cut}
 use Rattle.frame_ending.specs.LiveBytes.{live_bytes, live_end}
-use Rattle.frame_ending.specs.SoFar.{last_of, last_burst, start_in, start_so_far, live_bytes_in, live_bytes_so_far}
+use Rattle.frame_ending.specs.SoFar.{last_of, last_burst, start_in, start_so_far, live_bytes_in}
+use Rattle.frame_ending.specs.SoFar.{live_bytes_so_far}
 use Rattle.frame_ending.proofs.LastBurst.{last_burst-silent}
 use Rattle.frame_ending.proofs.Dividing.{longer-line}
-use Rattle.std.proofs.lemmas.Bool.{cases_Bool, cases_lt}
-use Rattle.yasir_ticks.specs.Ticks.{silent}
-use Rattle.delay_ring.specs.DelayRing.{ring_ticks}
-use Rattle.line_rules.specs.Rules.{left_of, head_of}
-use Rattle.line_rules.specs.declared.head.Head.TheVariants.{Short, Good, Bad}
-use Rattle.link_verdicts.specs.Checking.{head_tick, note_tick}
-use Rattle.link_verdicts.specs.Verdicts.Verdict.{dropped as dropped_for}
-use Rattle.link_verdicts.specs.declared.note.CheckNote.TheVariants.{Dropped}
-use Rattle.link_verdicts.specs.declared.note.DroppedWhy.TheVariants.{Head as NoHead}
-use Rattle.link_verdicts.proofs.Judging.{head-short, head-good, head-bad, checked-short}
-use Rattle.link_verdicts.specs.Holding.{Rests}
-use Rattle.link_verdicts.specs.Emissions.{owed}
-use Rattle.link_verdicts.specs.declared.note.CheckNote.TheVariants.{Refused}
-use Rattle.link_verdicts.specs.declared.note.RefusedWhy.TheVariants.{Trailer}
-use Rattle.spoiler.specs.declared.outlet.Outlet.{Outlet}
 use Rattle.spoiler.specs.Outlet.{owed_by}
 use Rattle.burst_walk.specs.Walk.{Walker}
 use Rattle.burst_walk.specs.Causal.{MayGoOn}
@@ -38,21 +24,26 @@ use Rattle.link_format.specs.Profile.{Profile, profile_of, delay, trailer_len}
 use Rattle.link_format.specs.Setup.{Setup}
 use Rattle.sequence_journal.specs.declared.numbers.TheConstants.{LIMIT}
 use Rattle.link_verdicts.specs.Verdicts.{CheckState}
+use Rattle.link_verdicts.specs.Emissions.{owed}
 use Rattle.link_verdicts.specs.Checking.{FullNote, checker, at_floor}
 use Rattle.link_verdicts.specs.Timely.{IsTimely}
-use Rattle.link_verdicts.specs.Holding.{HasWalked, Opens, as_it_came}
+use Rattle.link_verdicts.specs.Holding.{HasWalked, Opens}
 use Rattle.link_verdicts.specs.Going.{Goes}
-use Rattle.link_verdicts.specs.Leaving.{leaves}
+use Rattle.link_verdicts.specs.declared.note.CheckNote.TheVariants.{Refused}
+use Rattle.link_verdicts.specs.declared.note.RefusedWhy.TheVariants.{Trailer}
 use Rattle.link_verdicts.proofs.Flow.{Flows}
-use Rattle.link_verdicts.proofs.Growing.{opens-silent, live-long, breaks, silent-kept, next-live, next-left}
-use Rattle.link_verdicts.proofs.Opening.{open-goes, refuse-goes, leaves-front, short-same, come-rests}
-use Rattle.link_verdicts.proofs.Resting.{causal, rest-goes, rest-drops, room-more}
+use Rattle.link_verdicts.proofs.Growing.{opens-silent, live-long, breaks, silent-kept, next-live}
+use Rattle.link_verdicts.proofs.Growing.{next-left}
+use Rattle.link_verdicts.proofs.Lives.{seen}
+use Rattle.link_verdicts.proofs.Opening.{open-goes, refuse-goes}
+use Rattle.link_verdicts.proofs.Resting.{causal, rest-goes, room-more}
 use Rattle.check_receiver.specs.Between.{IsBetween}
 use Rattle.check_receiver.specs.Stands.{Codes, HasTaken}
-use Rattle.check_receiver.specs.Turning.{Turned, TurnedClear, closed_at, dropped}
+use Rattle.check_receiver.specs.Turning.{Turned, closed_at}
 use Rattle.check_receiver.specs.declared.checker.Checker.{Checker}
 use Rattle.check_receiver.specs.declared.step.CheckStep.{CheckStep}
-use Rattle.check_receiver.proofs.Machine.{last_of-more, waiting-none, waiting-some, until-last, flow, ring-waits, assembled}
+use Rattle.check_receiver.proofs.Machine.{last_of-more, waiting-none, until-last, flow, ring-waits}
+use Rattle.check_receiver.proofs.Machine.{assembled}
 
 -- a header is whole before its first byte leaves
 pub timely : {R M : Type 0} (proto : LineRules R) (code : Mac M) (B : ℕ) (setup : Setup) → 2 ≤ B
@@ -62,22 +53,6 @@ timely proto code B setup wide =
     record {
       in_time = ⊎_elim (λ twelve. omega arith) (λ sixteen. omega arith) code.tag_size;
     }
-
--- what leaves of a burst whose verdict is open is as it came
-pub seen : {R : Type 0} (proto : LineRules R) (profile : Profile) (m earliest : ℕ) (d : Burst)
-    (left : List ℕ) (live : List Tick) (owed : ℕ) (new : Outlet R) (answer : Tick)
-    → Flows proto false left live owed new answer → owed ≡ 0 → 1 < length live
-    → Opens profile proto.rules m earliest d left live
-    → answer ≡ get_or (as_it_came profile proto.rules d) (m - d.start) Silent
-seen proto profile m earliest d left live owed new answer flows none more opens =
-    let k : ℕ = m - d.start in
-    let whole : List Tick = as_it_came profile proto.rules d in
-    let here : k + 0 ≡ k = omega arith in
-    flows.answer_is
-    ∙ (ap (λ n. get_or (leaves proto.rules false left live n) 0 Silent) none
-    ∙ (leaves-front proto.rules false left live 0 (omega arith)
-    ∙ (ap (λ l. get_or l 0 Silent) opens.live_is
-    ∙ (get_or-drop k whole 0 Silent ∙ ap (λ j. get_or whole j Silent) here))))
 
 module _ {R M : Type 0} (proto : LineRules R) (code : Mac M) {B D : ℕ} (old : Checker R M B D)
     (last : ℕ) (setup : Setup) (line : List Tick) (cut : Cut)
@@ -247,7 +222,8 @@ module _ {R M : Type 0} (proto : LineRules R) (code : Mac M) {B D : ℕ} (old : 
       → live_end proto.rules d + 3 ≤ at → HasTaken proto code new last setup line Silent step
   refuse-silent d is behind =
       let W : Option Burst → Type 0 = λ o. HasWalked refusing proto.rules setup.floor at
-      (bursts line) before old.passed between.walks.left between.walks.live (owed_by old.outlet) o in
+      (bursts line) before old.passed between.walks.left between.walks.live (owed_by old.outlet)
+      o in
       let walked : W (Some d) = subst W is between.walks.walked in
       let opens = walked.opens.0 in
       let left : List ℕ = between.walks.left in
@@ -339,85 +315,3 @@ waits-header proto code {B} {D} old last setup line cut between d is behind =
     between.walks.live (owed_by old.outlet) o in
     let walked : W (Some d) = subst W is between.walks.walked in
     walked.opens.0.not_short behind
-
--- A header is short where the head says so, and is whole where it says anything else.
-pub head-is-short : (rules : Rules) (x : List ℕ) → head_of rules x ≡ Short
-    → length x < rules.header_len
-head-is-short rules x is =
-    ⊎_elim
-    (λ short. short)
-    (λ long. ⊎_elim
-    (λ good. let other = head-good rules x long good in absurd cc)
-    (λ bad. let other = head-bad rules x long bad in absurd cc)
-    (cases_Bool (rules.is_good_header (take rules.header_len x))))
-    (cases_lt (length x) rules.header_len)
-
-pub head-isn't-short : (rules : Rules) (x : List ℕ) → (head_of rules x ≡ Short → ⊥)
-    → rules.header_len ≤ length x
-head-isn't-short rules x other =
-    ⊎_elim (λ short. absurd (other (head-short rules x short))) (λ long. long)
-    (cases_lt (length x) rules.header_len)
-
-module _ {R M : Type 0} (proto : LineRules R) (code : Mac M) {B D : ℕ} (old : Checker R M B D)
-    (last : ℕ) (setup : Setup) (line : List Tick) (cut : Cut)
-    (between : IsBetween proto code old last setup line Silent cut) (new : Checker R M B D)
-    (step : CheckStep) (clear : TurnedClear proto old new step.tick)
-    (noted : step.note ≡ Some (Dropped (start_so_far (line ++ Silent ∷ [])) NoHead)) where
-  abbrev dropping : Profile
-  dropping = profile_of proto code B LIMIT setup
-
-  abbrev so_far : CheckState
-  so_far = record { floor = last; earliest_start = old.earliest_start }
-
-  abbrev here : ℕ
-  here = length line
-
-  -- a burst is dropped whose header is too short
-  pub drop-silent : (d : Burst) → between.walks.waiting ≡ Some d
-      → here ≡ live_end proto.rules d + 1
-      → length (live_bytes proto.rules d) < proto.rules.header_len
-      → HasTaken proto code new last setup line Silent step
-  drop-silent d is second short =
-      let base : Checker R M B D = dropped old clear.ring in
-      let W : Option Burst → Type 0 = λ o. HasWalked dropping proto.rules setup.floor here
-      (bursts line) so_far old.passed between.walks.left between.walks.live (owed_by old.outlet)
-      o in
-      let walked : W (Some d) = subst W is between.walks.walked in
-      let opens = walked.opens.0 in
-      let left : List ℕ = between.walks.left in
-      let time = timely proto code B setup between.wide in
-      let long = waits-long proto code old last setup line cut between d is in
-      let near = opens.near in
-      let late = opens.late in
-      let from = opens.from in
-      let delay_is = between.delay_is in
-      let none : owed_by old.outlet ≡ 0 = walked.unowed (omega arith) in
-      let ring_is : ring_ticks clear.ring ≡ [] ++ silent (D - length {A = Tick} []) =
-      clear.clear ∙ (let whole : D ≡ D - length {A = Tick} [] = omega arith in ap silent whole) in
-      let flows = flow proto code base new Silent step.tick clear.turned left []
-      between.walks.outlet_is ring_is (λ some. absurd (omega arith)) (λ some. absurd (omega arith))
-      (λ some. absurd (omega arith)) in
-      let come = come-silent (checker dropping proto.rules)
-      (causal proto dropping time setup.floor line Silent) (at_floor setup.floor) line so_far
-      walked.emissions (Some d) walked.come in
-      let Rest : ℕ → Type 0 = λ o. Rests proto.rules old.passed here old.earliest_start left [] o
-      walked.emissions in
-      let rests : Rest (owed_by old.outlet) = subst Rest (sym none)
-      (come-rests dropping proto.rules setup.floor here (bursts (line ++ Silent ∷ [])) so_far
-      walked.emissions (Some d) come old.passed left (omega arith)) in
-      let same = short-same proto.rules proto.headed d short in
-      let tick = ap (λ h. head_tick proto.rules d h)
-      (head-short proto.rules (live_bytes proto.rules d) short) in
-      let now : note_tick dropping proto.rules d (dropped_for NoHead) ≡ here = omega arith in
-      let goes = rest-drops proto dropping time setup.floor line Silent so_far walked.emissions
-      old.passed left [] (owed_by old.outlet) new.outlet step.tick flows rests
-      (λ some. absurd (omega arith)) d NoHead
-      (checked-short dropping proto.rules so_far d late short) come now in
-      let whose = last-waits proto code B setup line so_far walked.emissions d walked.come in
-      assembled proto code setup line Silent base new Silent step clear.turned between.word_is
-      between.wide between.delay_is between.direction_is between.cuts last flows.after [] None
-      (Some (Dropped d.start NoHead)) goes
-      (noted ∙ ap (λ o. Some (Dropped (start_in o) NoHead)) whose) flows.stands
-      (ring-waits proto code base new step.tick clear.turned [] ring_is (omega arith)
-      (omega arith))
-      (omega arith) refl refl between.walks.code_is tt

@@ -124,9 +124,7 @@ impl<R: LineRules, M: Mac, const B: usize, const D: usize> Checker<R, M, B, D> {
         ensures journal { KeepsJournal S.SlotDisk journal.old journal.new disk.old disk.new result }
     {
         let cut = self.cut.step(t);
-        if self.until > 0 {
-            self.until -= 1;
-        }
+        self.until = self.until.saturating_sub(1);
         match cut {
             Cut::Start(byte) => Ok(self.begin(byte)),
             Cut::Live(byte) => Ok(self.go_on(byte)),

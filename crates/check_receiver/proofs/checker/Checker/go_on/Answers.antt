@@ -10,6 +10,7 @@ use Rattle.frame_ending.specs.declared.cut.Cut.TheVariants.{Live}
 use Rattle.frame_ending.proofs.Running.{live-tick}
 use Rattle.check_receiver.proofs.Resting.{rest-byte}
 use Rattle.check_receiver.proofs.Entering.{live-taken, live-coded}
+use Rattle.check_receiver.proofs.Dropping.{drop-live}
 use Rattle.check_receiver.proofs.checker.Checker.go_on.Goals as goal
 
 pub returns-then-not-self-clause-step : goal.returns-then-not-self-clause-step
@@ -23,7 +24,9 @@ returns-then-not-self-clause-step g c = λ last setup line t between.
 pub returns-in-Short : goal.returns-in-Short
 returns-in-Short g c = record {
   cut = ap (λ v. v.cut) c.enter.ensures.turned.rest;
-  note = let P : Option CheckNote → Type 0 = λ n. IsNoPass n in subst P (sym c.enter.ensures.note) tt;
+  note =
+      let P : Option CheckNote → Type 0 = λ n. IsNoPass n in
+      subst P (sym c.enter.ensures.note) tt;
   step = λ last setup line t between.
       let is = live-tick g.R.LineRules.rules line t c.args.byte between.is_cut in
       let P : Tick → Type 0 = λ u. IsBetween g.R.LineRules g.M.Mac c.args.self.now last setup line u
@@ -41,3 +44,20 @@ returns-in-Short g c = record {
       d.0 d.1 (coded.text, coded.codes) coded c.if-not-self.false in
       subst P (sym is) taken between;
 }
+
+pub returns-in-Bad-clause-step : goal.returns-in-Bad-clause-step
+returns-in-Bad-clause-step g c = λ last setup line t between.
+    let is = live-tick g.R.LineRules.rules line t c.args.byte between.is_cut in
+    let P : Tick → Type 0 = λ u. IsBetween g.R.LineRules g.M.Mac c.args.self.now last setup line u
+    (Live c.args.byte)
+    → HasTaken g.R.LineRules g.M.Mac c.drop_headless.new.self last setup line u
+    c.drop_headless.result in
+    let taken : P (Byte c.args.byte) = λ at.
+    let d = waiting-some at.walks.waiting (sym at.walks.waits_is ∙ c.if-not-self.false) in
+    let text = at.walks.code_is in
+    drop-live g.R.LineRules g.M.Mac c.args.self.now last setup line c.args.byte at c.update.new.self
+    c.drop_headless.new.self c.drop_headless.result c.drop_headless.ensures.turned
+    (c.drop_headless.ensures.told (line ++ Byte c.args.byte ∷ []) at.cuts)
+    (sym (c.head.ensures (line ++ Byte c.args.byte ∷ []) at.cuts) ∙ c.in-Bad.is)
+    (text.0 ++ c.args.byte ∷ [], c.update.ensures setup.key text.0 text.1) d.0 d.1 in
+    subst P (sym is) taken between

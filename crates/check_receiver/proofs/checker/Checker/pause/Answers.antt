@@ -1,4 +1,5 @@
-use Rattle.std.proofs.Common.{◌≡◌, ◌∙◌, ◌+◌, ◌≤◌, ◌<◌, ◌⊎◌, ⊎_elim, ℕ, List, sym, ap, subst, arith, length, Option, None, Some, [], ◌∷◌, ◌++◌}
+use Rattle.std.proofs.Common.{◌≡◌, ◌∙◌, ◌+◌, ◌≤◌, ◌<◌, ◌⊎◌, ⊎_elim, ℕ, List, sym, ap, subst, arith}
+use Rattle.std.proofs.Common.{length, Option, None, Some, [], ◌∷◌, ◌++◌}
 use Rattle.yasir_ticks.specs.Bursts.{Burst}
 use Rattle.yasir_ticks.specs.declared.tick.Tick.TheVariants.{Silent}
 use Rattle.line_rules.specs.Rules.{head_of}
@@ -8,8 +9,9 @@ use Rattle.frame_ending.specs.SoFar.{live_bytes_in}
 use Rattle.link_verdicts.specs.declared.note.CheckNote.{CheckNote}
 use Rattle.check_receiver.specs.Between.{IsNoPass}
 use Rattle.check_receiver.proofs.Machine.{waiting-some}
-use Rattle.check_receiver.proofs.Silences.{drop-silent, open-silent, waits-long, waits-last, head-is-short}
-use Rattle.check_receiver.proofs.Silences.{head-isn't-short}
+use Rattle.check_receiver.proofs.Heads.{head-is-short, head-isn't-short}
+use Rattle.check_receiver.proofs.Silences.{open-silent, waits-long, waits-last}
+use Rattle.check_receiver.proofs.Dropping.{drop-silent}
 use Rattle.check_receiver.proofs.checker.Checker.pause.Goals as goal
 
 pub returns-in-Short-clause-step : goal.returns-in-Short-clause-step

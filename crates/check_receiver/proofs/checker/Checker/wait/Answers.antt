@@ -1,8 +1,10 @@
-use Rattle.std.proofs.Common.{◌≡◌, ◌∙◌, ◌+◌, ◌≤◌, ◌<◌, ℕ, sym, arith, length, true, Some, [], ◌∷◌, ◌++◌}
+use Rattle.std.proofs.Common.{◌≡◌, ◌∙◌, ◌+◌, ◌≤◌, ◌<◌, ℕ, sym, arith, length, true, Some, [], ◌∷◌}
+use Rattle.std.proofs.Common.{◌++◌}
 use Rattle.yasir_ticks.specs.declared.tick.Tick.TheVariants.{Silent}
 use Rattle.frame_ending.specs.LiveBytes.{live_end}
 use Rattle.check_receiver.proofs.Machine.{waiting-some}
-use Rattle.check_receiver.proofs.Silences.{rest-silent, refuse-silent, open-silent, waits-long, waits-header}
+use Rattle.check_receiver.proofs.Silences.{rest-silent, refuse-silent, open-silent, waits-long}
+use Rattle.check_receiver.proofs.Silences.{waits-header}
 use Rattle.check_receiver.proofs.checker.Checker.wait.Goals as goal
 
 pub returns-then-not-self-clause-step : goal.returns-then-not-self-clause-step

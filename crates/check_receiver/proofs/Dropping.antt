@@ -1,0 +1,222 @@
+-- A burst is dropped for its header: nothing of it leaves.
+use Rattle.std.proofs.Common.{◌≡◌, ◌∙◌, ℕ, ◌+◌, ◌-◌, ◌<◌, ◌≤◌, Bool, true, false, List, [], ◌∷◌}
+use Rattle.std.proofs.Common.{◌++◌, length, length-append, take, refl, sym, ap, subst, arith}
+use Rattle.std.proofs.Common.{⊎_elim}
+use Rattle.std.proofs.Common.{Option, Some, None}
+use Rattle.std.proofs.lemmas.Bool.{cases_lt}
+use Rattle.yasir_ticks.specs.Ticks.{silent}
+use Rattle.yasir_ticks.specs.Bursts.{Burst, bursts, end_of}
+use Rattle.yasir_ticks.specs.declared.tick.Tick.{Tick}
+use Rattle.yasir_ticks.specs.declared.tick.Tick.TheVariants.{Silent, Byte}
+use Rattle.line_rules.specs.Rules.{Rules, head_of}
+use Rattle.line_rules.specs.RulesLaws.{IsLawful, IsHeaded}
+use Rattle.line_rules.specs.declared.head.Head.TheVariants.{Bad}
+use Rattle.line_rules.specs.declared.line_rules.LineRules.{Ghosts as LineRules}
+use Rattle.frame_ending.specs.declared.cut.Cut.{Cut}
+use Rattle.frame_ending.specs.declared.cut.Cut.TheVariants.{Live}
+use Rattle.frame_ending.specs.LiveBytes.{up_to_byte, live_bytes, live_end}
+use Rattle.frame_ending.specs.SoFar.{last_of, last_burst, start_in, start_so_far, live_bytes_in}
+use Rattle.frame_ending.specs.SoFar.{live_bytes_so_far}
+use Rattle.frame_ending.specs.Stands.{StandsFor as CutStandsFor}
+use Rattle.delay_ring.specs.DelayRing.{ring_ticks}
+use Rattle.spoiler.specs.Outlet.{StandsFor as OutletStandsFor, owed_by}
+use Rattle.burst_walk.specs.Causal.{MayGoOn, going_on}
+use Rattle.burst_walk.specs.HasCome.{HasCome}
+use Rattle.burst_walk.proofs.Coming.{come-silent, come-joined, waiting-may}
+use Rattle.hmac_tag.specs.declared.tag.Mac.{Ghosts as Mac}
+use Rattle.hmac_tag.specs.Tag.{direction_number}
+use Rattle.link_format.specs.Profile.{Profile, profile_of, IsWordLen, delay, trailer_len}
+use Rattle.link_format.specs.Setup.{Setup}
+use Rattle.sequence_journal.specs.declared.numbers.TheConstants.{LIMIT}
+use Rattle.link_verdicts.specs.Verdicts.{CheckState, checked}
+use Rattle.link_verdicts.specs.Verdicts.Verdict.{dropped as dropped_for}
+use Rattle.link_verdicts.specs.Checking.{checker, at_floor, head_tick, note_tick}
+use Rattle.link_verdicts.specs.Holding.{HasWalked, Rests}
+use Rattle.link_verdicts.specs.declared.note.CheckNote.TheVariants.{Dropped}
+use Rattle.link_verdicts.specs.declared.note.DroppedWhy.TheVariants.{Head as NoHead}
+use Rattle.link_verdicts.proofs.Judging.{head-short, checked-short, checked-bad}
+use Rattle.link_verdicts.proofs.Settling.{is_over, open-bytes, open-end, long-header}
+use Rattle.link_verdicts.proofs.Growing.{live-long}
+use Rattle.link_verdicts.proofs.Opening.{short-same, come-rests}
+use Rattle.link_verdicts.proofs.Resting.{causal, rest-drops}
+use Rattle.check_receiver.specs.Between.{IsBetween}
+use Rattle.check_receiver.specs.Stands.{HasTaken}
+use Rattle.check_receiver.specs.Turning.{TurnedClear, dropped}
+use Rattle.check_receiver.specs.declared.checker.Checker.{Checker}
+use Rattle.check_receiver.specs.declared.step.CheckStep.{CheckStep}
+use Rattle.check_receiver.proofs.Heads.{head-is-bad, head-isn't-short}
+use Rattle.check_receiver.proofs.Machine.{last_of-more, flow, ring-waits, assembled}
+use Rattle.check_receiver.proofs.Silences.{timely, waits-long}
+use Rattle.check_receiver.proofs.Entering.{live-open}
+
+-- ---- the ring is emptied
+
+module _ {R M : Type 0} (proto : LineRules R) (code : Mac M) {B D : ℕ} (setup : Setup)
+    (line : List Tick) (t : Tick) (base new : Checker R M B D) (step : CheckStep)
+    (clear : TurnedClear proto base new step.tick) (word_is : IsWordLen B) (wide : 2 ≤ B)
+    (delay_is : D ≡ 4 + B + code.TAG)
+    (direction_is : direction_number base.direction ≡ setup.direction)
+    (cuts : CutStandsFor proto base.cut (line ++ t ∷ [])) (last : ℕ) (left : List ℕ)
+    (stands : OutletStandsFor proto base.outlet left) (none : owed_by base.outlet ≡ 0)
+    (code_is : (text : List ℕ) × code.stands base.mac setup.key text) where
+  abbrev profile : Profile
+  profile = profile_of proto code B LIMIT setup
+
+  abbrev state : CheckState
+  state = record { floor = last; earliest_start = base.earliest_start }
+
+  abbrev m : ℕ
+  m = length line
+
+  -- all that was to leave is the burst's
+  pub drops : (emissions : List Burst) (d : Burst)
+      → HasCome (checker profile proto.rules) (at_floor setup.floor) m (bursts (line ++ t ∷ []))
+      state emissions (Some d)
+      → base.earliest_start ≤ m → checked profile proto.rules state d ≡ dropped_for NoHead
+      → note_tick profile proto.rules d (dropped_for NoHead) ≡ m
+      → step.note ≡ Some (Dropped (start_so_far (line ++ t ∷ [])) NoHead)
+      → HasTaken proto code new last setup line t step
+  drops emissions d come free is now noted =
+      let gone : Checker R M B D = dropped base clear.ring in
+      let ring_is : ring_ticks clear.ring ≡ [] ++ silent (D - length {A = Tick} []) =
+      clear.clear ∙ (let whole : D ≡ D - length {A = Tick} [] = omega arith in ap silent whole) in
+      let flows = flow proto code gone new Silent step.tick clear.turned left [] stands ring_is
+      (λ some. absurd (omega arith)) (λ some. absurd (omega arith))
+      (λ some. absurd (omega arith)) in
+      let Rest : ℕ → Type 0 = λ o. Rests proto.rules base.passed m base.earliest_start left [] o
+      emissions in
+      let rests : Rest (owed_by base.outlet) = subst Rest (sym none)
+      (come-rests profile proto.rules setup.floor m (bursts (line ++ t ∷ [])) state emissions
+      (Some d) come base.passed left free) in
+      let goes = rest-drops proto profile (timely proto code B setup wide) setup.floor line t state
+      emissions base.passed left [] (owed_by base.outlet) new.outlet step.tick flows rests
+      (λ some. absurd (omega arith)) d NoHead is come now in
+      let whose = ap (λ x. last_of x) come.is ∙ last_of-more come.settled d in
+      assembled proto code setup line t gone new Silent step clear.turned word_is wide delay_is
+      direction_is cuts last flows.after [] None (Some (Dropped d.start NoHead)) goes
+      (noted ∙ ap (λ o. Some (Dropped (start_in o) NoHead)) whose) flows.stands
+      (ring-waits proto code gone new step.tick clear.turned [] ring_is (omega arith)
+      (omega arith))
+      (omega arith) refl refl code_is tt
+
+-- ---- a header that is too short
+
+module _ {R M : Type 0} (proto : LineRules R) (code : Mac M) {B D : ℕ} (old : Checker R M B D)
+    (last : ℕ) (setup : Setup) (line : List Tick) (cut : Cut)
+    (between : IsBetween proto code old last setup line Silent cut) (new : Checker R M B D)
+    (step : CheckStep) (clear : TurnedClear proto old new step.tick)
+    (noted : step.note ≡ Some (Dropped (start_so_far (line ++ Silent ∷ [])) NoHead)) where
+  -- the second silent tick in a row comes after it
+  pub drop-silent : (d : Burst) → between.walks.waiting ≡ Some d
+      → length line ≡ live_end proto.rules d + 1
+      → length (live_bytes proto.rules d) < proto.rules.header_len
+      → HasTaken proto code new last setup line Silent step
+  drop-silent d is second short =
+      let profile : Profile = profile_of proto code B LIMIT setup in
+      let state : CheckState = record { floor = last; earliest_start = old.earliest_start } in
+      let m : ℕ = length line in
+      let W : Option Burst → Type 0 = λ o. HasWalked profile proto.rules setup.floor m
+      (bursts line) state old.passed between.walks.left between.walks.live (owed_by old.outlet)
+      o in
+      let walked : W (Some d) = subst W is between.walks.walked in
+      let opens = walked.opens.0 in
+      let time = timely proto code B setup between.wide in
+      let long = waits-long proto code old last setup line cut between d is in
+      let near = opens.near in
+      let late = opens.late in
+      let from = opens.from in
+      let delay_is = between.delay_is in
+      let none : owed_by old.outlet ≡ 0 = walked.unowed (omega arith) in
+      let come = come-silent (checker profile proto.rules)
+      (causal proto profile time setup.floor line Silent) (at_floor setup.floor) line state
+      walked.emissions (Some d) walked.come in
+      let same = short-same proto.rules proto.headed d short in
+      let tick = ap (λ h. head_tick proto.rules d h)
+      (head-short proto.rules (live_bytes proto.rules d) short) in
+      let now : note_tick profile proto.rules d (dropped_for NoHead) ≡ m = omega arith in
+      drops proto code setup line Silent old new step clear between.word_is between.wide
+      between.delay_is between.direction_is between.cuts last between.walks.left
+      between.walks.outlet_is none between.walks.code_is walked.emissions d come (omega arith)
+      (checked-short profile proto.rules state d late short) now noted
+
+-- ---- a header that isn't good
+
+-- A live byte that makes it so is its last one: the burst is noted then.
+pub bad-now : (profile : Profile) (rules : Rules) (lawful : IsLawful rules)
+    (headed : IsHeaded rules) (d : Burst) (m b : ℕ) (may : MayGoOn d m) → d.start < m
+    → is_over profile rules lawful headed d m b may ≡ false
+    → (rules.header_len ≤ length (live_bytes rules d)
+    → rules.is_good_header (take rules.header_len (live_bytes rules d)) ≡ true)
+    → head_of rules (live_bytes rules (going_on d m b)) ≡ Bad
+    → note_tick profile rules (going_on d m b) (dropped_for NoHead) ≡ m
+bad-now profile rules lawful headed d m b may begun open' good bad =
+    let e : Burst = going_on d m b in
+    let long = head-isn't-short rules (live_bytes rules e) (λ short. cc) in
+    let size = ap length (open-bytes profile rules lawful headed d m b may open')
+    ∙ length-append (live_bytes rules d) (b ∷ []) in
+    let end = open-end profile rules lawful headed d m b may open' in
+    let last : length (live_bytes rules e) ≡ rules.header_len =
+    ⊎_elim
+    (λ short. omega arith)
+    (λ whole.
+    let was = good whole in
+    let same = ap (λ x. rules.is_good_header x)
+    (long-header profile rules lawful headed d m b may whole) in
+    let is = head-is-bad rules (live_bytes rules e) bad in
+    absurd cc)
+    (cases_lt (length (live_bytes rules d)) rules.header_len) in
+    let ticks = ap (λ k. length (up_to_byte k e.body)) last in
+    let tick = ap (λ h. head_tick rules e h) bad in
+    omega arith
+
+module _ {R M : Type 0} (proto : LineRules R) (code : Mac M) {B D : ℕ} (old : Checker R M B D)
+    (last : ℕ) (setup : Setup) (line : List Tick) (b : ℕ)
+    (between : IsBetween proto code old last setup line (Byte b) (Live b)) (mac : M)
+    (new : Checker R M B D) (step : CheckStep)
+    (clear : TurnedClear proto (record old { mac = mac }) new step.tick)
+    (noted : step.note ≡ Some (Dropped (start_so_far (line ++ Byte b ∷ [])) NoHead))
+    (bad : head_of proto.rules (live_bytes_so_far proto.rules (line ++ Byte b ∷ [])) ≡ Bad)
+    (code_is : (text : List ℕ) × code.stands mac setup.key text) where
+  -- its last byte comes
+  pub drop-live : (d : Burst) → between.walks.waiting ≡ Some d
+      → HasTaken proto code new last setup line (Byte b) step
+  drop-live d is =
+      let rules : Rules = proto.rules in
+      let profile : Profile = profile_of proto code B LIMIT setup in
+      let state : CheckState = record { floor = last; earliest_start = old.earliest_start } in
+      let m : ℕ = length line in
+      let e : Burst = going_on d m b in
+      let W : Option Burst → Type 0 = λ o. HasWalked profile rules setup.floor m (bursts line) state
+      old.passed between.walks.left between.walks.live (owed_by old.outlet) o in
+      let walked : W (Some d) = subst W is between.walks.walked in
+      let opens = walked.opens.0 in
+      let left : List ℕ = between.walks.left in
+      let live : List Tick = between.walks.live in
+      let time = timely proto code B setup between.wide in
+      let wide = between.wide in
+      let some : 1 ≤ trailer_len profile = omega arith in
+      let why = causal proto profile time setup.floor line (Byte b) in
+      let may : MayGoOn d m = waiting-may (checker profile rules) why (at_floor setup.floor) line
+      state walked.emissions d walked.come in
+      let whose = ap (λ x. last_of x) walked.come.is ∙ last_of-more walked.come.settled d in
+      let open' = live-open proto profile some line old.earliest_start d left live b may opens whose
+      between.is_cut in
+      let come = come-joined (checker profile rules) why (at_floor setup.floor) line state
+      walked.emissions b d walked.come in
+      let next = ap (λ x. last_of x) come.is ∙ last_of-more come.settled e in
+      let H : Option Burst → Type 0 = λ o. head_of rules (live_bytes_in rules o) ≡ Bad in
+      let now : head_of rules (live_bytes rules e) ≡ Bad = subst H next bad in
+      let long = live-long profile rules proto.headed some m old.earliest_start d left live
+      may.after opens in
+      let near = opens.near in
+      let late = opens.late in
+      let from = opens.from in
+      let none : owed_by old.outlet ≡ 0 = walked.unowed (omega arith) in
+      drops proto code setup line (Byte b) (record old { mac = mac }) new step clear between.word_is
+      between.wide between.delay_is between.direction_is between.cuts last left
+      between.walks.outlet_is none code_is walked.emissions e come (omega arith)
+      (checked-bad profile rules state e late
+      (head-isn't-short rules (live_bytes rules e) (λ short. cc))
+      (head-is-bad rules (live_bytes rules e) now))
+      (bad-now profile rules proto.lawful proto.headed d m b may from open' opens.not_bad now)
+      noted

@@ -1,0 +1,35 @@
+-- What a step does to the journal and its disk.
+use Rattle.std.proofs.Common.{refl, arith, inl, Ok, Option, Some, None}
+use Rattle.yasir_io.specs.Disks.{Slots}
+use Rattle.yasir_io.specs.declared.disk.SlotDisk.{Ghosts as SlotDisk}
+use Rattle.sequence_journal.specs.declared.journal.Journal.{Journal}
+use Rattle.sequence_journal.specs.Journal.{Fits}
+use Rattle.link_verdicts.specs.declared.note.CheckNote.{CheckNote}
+use Rattle.link_verdicts.specs.declared.note.CheckNote.TheVariants.{Passed, Refused, Dropped}
+use Rattle.check_receiver.specs.Between.{IsNoPass}
+use Rattle.check_receiver.specs.Checkings.{CommitsNoted, KeepsJournal}
+use Rattle.check_receiver.specs.declared.step.CheckStep.{CheckStep}
+
+module _ {S : Type 0} (d : SlotDisk S) (journal : Journal) (disk : S) where
+  commits-none : (note : Option CheckNote) → IsNoPass note
+      → CommitsNoted d journal journal disk disk note
+  commits-none None none = (refl, refl)
+  commits-none (Some (Passed number start len)) none = absurd none
+  commits-none (Some (Refused start why)) none = (refl, refl)
+  commits-none (Some (Dropped start why)) none = (refl, refl)
+
+  -- A step in which no burst passes leaves both as they were.
+  pub journal-kept : ((c : Slots) → d.left_since disk (d.moment disk) c → d.may_leave disk c)
+      → Fits journal (d.told disk) → (step : CheckStep) → IsNoPass step.note
+      → KeepsJournal d journal journal disk disk (Ok step)
+  journal-kept only_now fits step none = record {
+    commits = commits-none step.note none;
+    fits = fits;
+    crash_safe = λ safe. safe;
+    any_moment = λ safe. record {
+      later = omega arith;
+      each = λ c left. safe.floors c (only_now c left);
+      before = λ t c le left. inl left;
+    };
+    cause = record { never_falls = omega arith; failed = tt; same = refl };
+  }

@@ -1,0 +1,308 @@
+-- The first byte of a burst.
+use Rattle.std.proofs.Common.{◌≡◌, ◌∙◌, ℕ, ◌+◌, ◌-◌, ◌<◌, ◌≤◌, ◌==◌, Bool, true, false, List}
+use Rattle.std.proofs.Common.{[], ◌∷◌}
+use Rattle.std.proofs.Common.{◌++◌, length, take, drop, get_or, refl, sym, ap, subst, arith, ⊎_elim}
+use Rattle.std.proofs.Common.{Option, Some, None, is_some}
+use Rattle.std.proofs.lemmas.Bool.{cases_Bool}
+use Rattle.std.proofs.lemmas.List.{append-nil, length-drop}
+use Rattle.yasir_ticks.specs.Ticks.{silent, bytes_in}
+use Rattle.yasir_ticks.specs.Bursts.{Burst, bursts, end_of, AreClosed}
+use Rattle.yasir_ticks.specs.BurstsOf.{one}
+use Rattle.yasir_ticks.specs.declared.tick.Tick.{Tick}
+use Rattle.yasir_ticks.specs.declared.tick.Tick.TheVariants.{Silent, Byte}
+use Rattle.yasir_ticks.proofs.BurstLaws.{alone}
+use Rattle.line_rules.specs.Rules.{Rules, head_of}
+use Rattle.line_rules.specs.RulesLaws.{IsLawful}
+use Rattle.line_rules.specs.declared.head.Head.TheVariants.{Bad}
+use Rattle.line_rules.specs.declared.line_rules.LineRules.{Ghosts as LineRules}
+use Rattle.frame_ending.specs.Cuts.{cut_of}
+use Rattle.frame_ending.specs.declared.cut.Cut.TheVariants.{Start}
+use Rattle.frame_ending.specs.LiveBytes.{up_to_byte, live_bytes, live_ticks, live_end}
+use Rattle.frame_ending.specs.SoFar.{last_of, last_burst, start_in, start_so_far, live_bytes_in}
+use Rattle.frame_ending.specs.SoFar.{live_bytes_so_far}
+use Rattle.frame_ending.proofs.Pauses.{up_to_byte-le}
+use Rattle.frame_ending.proofs.Running.{byte-starts, start-bytes}
+use Rattle.delay_ring.specs.DelayRing.{ring_ticks}
+use Rattle.spoiler.specs.declared.outlet.Outlet.{Outlet}
+use Rattle.spoiler.specs.Outlet.{StandsFor as OutletStandsFor, owed_by, filled, filled_bytes}
+use Rattle.burst_walk.specs.HasCome.{HasCome}
+use Rattle.burst_walk.proofs.Coming.{closed-or-runs_on, come-alone, waiting-may}
+use Rattle.hmac_tag.specs.declared.tag.Mac.{Ghosts as Mac}
+use Rattle.link_format.specs.Profile.{Profile, profile_of, delay}
+use Rattle.link_format.specs.Setup.{Setup}
+use Rattle.sequence_journal.specs.declared.numbers.TheConstants.{LIMIT}
+use Rattle.link_verdicts.specs.Verdicts.{CheckState, after_live}
+use Rattle.link_verdicts.specs.Verdicts.Verdict.{dropped as dropped_for}
+use Rattle.link_verdicts.specs.Checking.{checker, at_floor, head_tick, note_tick}
+use Rattle.link_verdicts.specs.Holding.{HasWalked, Opens, as_it_came, trailer_so_far}
+use Rattle.link_verdicts.specs.Timely.{IsTimely}
+use Rattle.link_verdicts.specs.Turns.{HasTurned, tick_or_silence}
+use Rattle.link_verdicts.specs.declared.note.CheckNote.TheVariants.{Dropped}
+use Rattle.link_verdicts.specs.declared.note.DroppedWhy.TheVariants.{Busy, Head as NoHead}
+use Rattle.link_verdicts.proofs.Beginning.{rests-none, live-none, begun-end, begun-seen}
+use Rattle.link_verdicts.proofs.Beginning.{opens-begun}
+use Rattle.link_verdicts.proofs.Judging.{head-bad, checked-busy, checked-bad}
+use Rattle.link_verdicts.proofs.Lives.{whole-bytes}
+use Rattle.link_verdicts.proofs.Opening.{open-goes, length-silent}
+use Rattle.link_verdicts.proofs.Resting.{causal, rest-drops}
+use Rattle.link_verdicts.proofs.Rings.{ring-first, ring-begun}
+use Rattle.link_verdicts.proofs.Settling.{after-long}
+use Rattle.check_receiver.specs.Arrivals.{Arrives}
+use Rattle.check_receiver.specs.Between.{IsBetween}
+use Rattle.check_receiver.specs.Stands.{Codes, HasTaken}
+use Rattle.check_receiver.specs.Turning.{Turned, TurnedClear, with_until}
+use Rattle.check_receiver.specs.declared.arriving.Arriving.{Arriving}
+use Rattle.check_receiver.specs.declared.checker.Checker.{Checker}
+use Rattle.check_receiver.specs.declared.step.CheckStep.{CheckStep}
+use Rattle.check_receiver.proofs.Heads.{head-is-bad, head-isn't-short}
+use Rattle.check_receiver.proofs.Machine.{last_of-more, until-last, flow, ring-waits, assembled}
+use Rattle.check_receiver.proofs.Silences.{timely}
+use Rattle.check_receiver.proofs.Entering.{nothing-after}
+use Rattle.check_receiver.proofs.Dropping.{drops}
+
+-- ---- no burst runs before it
+
+module _ (rules : Rules) (lawful : IsLawful rules) (line : List Tick) (b : ℕ)
+    (is : cut_of rules line (Byte b) ≡ Start b) where
+  none-runs : (d : Burst) → last_burst line ≡ Some d → length line < end_of d + 4 → ⊥
+  none-runs d last near =
+      let none = byte-starts rules lawful line b (Some d) (last, near) is in
+      cc
+
+  all-closed : AreClosed 4 (length line) (bursts line)
+  all-closed =
+      ⊎_elim
+      (λ closed. closed)
+      (λ on. absurd (none-runs on.last
+      (ap (λ x. last_of x) on.is ∙ last_of-more on.front on.last) on.near))
+      (closed-or-runs_on line)
+
+module _ {R M : Type 0} (proto : LineRules R) (code : Mac M) {B D : ℕ} (old : Checker R M B D)
+    (last : ℕ) (setup : Setup) (line : List Tick) (b : ℕ)
+    (between : IsBetween proto code old last setup line (Byte b) (Start b)) where
+  abbrev rules : Rules
+  rules = proto.rules
+
+  abbrev profile : Profile
+  profile = profile_of proto code B LIMIT setup
+
+  abbrev state : CheckState
+  state = record { floor = last; earliest_start = old.earliest_start }
+
+  abbrev m : ℕ
+  m = length line
+
+  abbrev e : Burst
+  e = alone m b
+
+  abbrev Walked : Option Burst → Type 0
+  Walked o = HasWalked profile rules setup.floor m (bursts line) state old.passed
+      between.walks.left between.walks.live (owed_by old.outlet) o
+
+  time : IsTimely profile rules
+  time = timely proto code B setup between.wide
+
+  -- so no verdict is open
+  rests-still : (o : Option Burst) → Walked o → o ≡ None
+  rests-still None walked = refl
+  rests-still (Some d) walked =
+      let may = waiting-may (checker profile rules)
+      (causal proto profile time setup.floor line (Byte b)) (at_floor setup.floor) line state
+      walked.emissions d walked.come in
+      absurd (none-runs rules proto.lawful line b between.is_cut d
+      (ap (λ x. last_of x) walked.come.is ∙ last_of-more walked.come.settled d) may.near)
+
+  none-waits : between.walks.waiting ≡ None
+  none-waits = rests-still between.walks.waiting between.walks.walked
+
+  resting : Walked None
+  resting = subst Walked none-waits between.walks.walked
+
+  begins : HasCome (checker profile rules) (at_floor setup.floor) m (bursts (line ++ Byte b ∷ []))
+      state resting.emissions (Some e)
+  begins = come-alone (checker profile rules)
+      (causal proto profile time setup.floor line (Byte b)) (at_floor setup.floor) line state
+      resting.emissions b resting.come (all-closed rules proto.lawful line b between.is_cut)
+
+  last-is : last_burst (line ++ Byte b ∷ []) ≡ Some e
+  last-is = ap (λ x. last_of x) begins.is ∙ last_of-more begins.settled e
+
+  pub start-is : start_so_far (line ++ Byte b ∷ []) ≡ m
+  start-is = ap start_in last-is
+
+  -- ---- others still leave
+
+  module _ (new : Checker R M B D) (step : CheckStep)
+      (turned : Turned proto old new Silent step.tick)
+      (noted : step.note ≡ Some (Dropped (start_so_far (line ++ Byte b ∷ [])) Busy)) where
+    pub start-busy : m < old.earliest_start → HasTaken proto code new last setup line (Byte b) step
+    start-busy early =
+        let left : List ℕ = between.walks.left in
+        let live : List Tick = between.walks.live in
+        let until = between.one_less ∙ ap (λ k. k - 1) between.walks.until_is in
+        let flows = flow proto code old new Silent step.tick turned left live
+        between.walks.outlet_is between.walks.ring_is resting.unowed
+        (λ there. until-last live old.until until there) resting.room in
+        let less = length-drop 1 live in
+        let fewer = between.one_less in
+        let until_is = between.walks.until_is in
+        let few = between.walks.few in
+        let delay_is = between.delay_is in
+        assembled proto code setup line (Byte b) old new Silent step turned between.word_is
+        between.wide between.delay_is between.direction_is between.cuts last flows.after
+        (drop 1 live) None (Some (Dropped e.start Busy))
+        (rest-drops proto profile time setup.floor line (Byte b) state resting.emissions old.passed
+        left live (owed_by old.outlet) new.outlet step.tick flows resting.rests resting.room e Busy
+        (checked-busy profile rules state e early) begins refl)
+        (noted ∙ ap (λ o. Some (Dropped (start_in o) Busy)) last-is) flows.stands
+        (ring-waits proto code old new step.tick turned live between.walks.ring_is (omega arith)
+        between.walks.few)
+        (omega arith) (omega arith)
+        (between.walks.waits_is ∙ ap (λ o. is_some o) none-waits) between.walks.code_is tt
+
+  -- ---- nothing is left to leave
+
+  bytes : live_bytes rules e ≡ b ∷ []
+  bytes = start-bytes rules proto.lawful line b
+
+  ends : live_end rules e ≡ m + 1
+  ends = begun-end profile rules proto.lawful m b bytes
+
+  module _ (mac : M) (arriving : Arriving B) (outlet : Outlet R)
+      (begun : OutletStandsFor proto outlet []) (unowed : owed_by outlet ≡ 0)
+      (free : old.earliest_start ≤ m) (new : Checker R M B D) (step : CheckStep) where
+    -- another burst begins
+    abbrev base : Checker R M B D
+    base = record old {
+      waits = true;
+      passed = false;
+      mac = mac;
+      arriving = arriving;
+      outlet = outlet;
+    }
+
+    -- its one byte is a header that isn't good
+    pub start-bad : TurnedClear proto base new step.tick
+        → step.note ≡ Some (Dropped (start_so_far (line ++ Byte b ∷ [])) NoHead)
+        → head_of rules (live_bytes_so_far rules (line ++ Byte b ∷ [])) ≡ Bad
+        → ((text : List ℕ) × code.stands mac setup.key text)
+        → HasTaken proto code new last setup line (Byte b) step
+    start-bad clear noted bad code_is =
+        let H : Option Burst → Type 0 = λ o. head_of rules (live_bytes_in rules o) ≡ Bad in
+        let is : head_of rules (live_bytes rules e) ≡ Bad = subst H last-is bad in
+        let few = up_to_byte-le rules.header_len e.body in
+        let tick = ap (λ h. head_tick rules e h) is in
+        let now : note_tick profile rules e (dropped_for NoHead) ≡ m = omega arith in
+        drops proto code setup line (Byte b) base new step clear between.word_is between.wide
+        between.delay_is between.direction_is between.cuts last [] begun unowed code_is
+        resting.emissions e begins free
+        (checked-bad profile rules state e free
+        (head-isn't-short rules (live_bytes rules e) (λ short. cc))
+        (head-is-bad rules (live_bytes rules e) is))
+        now noted
+
+    -- or its verdict is open
+    module _ (n : ℕ) (turned : Turned proto (with_until n base) new (Byte b) step.tick) where
+      empty : ring_ticks old.ring ≡ silent D
+      empty =
+          let live : List Tick = between.walks.live in
+          let none : live ≡ [] = live-none rules old.passed between.walks.left live
+          (owed_by old.outlet) (rests-none rules old.passed m old.earliest_start between.walks.left
+          live (owed_by old.outlet) resting.emissions resting.rests free) in
+          let whole : D - length {A = Tick} [] ≡ D = omega arith in
+          between.walks.ring_is
+          ∙ (ap (λ l. l ++ silent (D - length l)) none ∙ ap (λ k. silent k) whole)
+
+      -- silence leaves
+      quiet : (step.tick ≡ Silent) × OutletStandsFor proto new.outlet [] × (owed_by new.outlet ≡ 0)
+      quiet =
+          let T : Tick → Type 0 = λ u. HasTurned proto outlet new.outlet (n == 0) false [] step.tick
+          u in
+          let turn : T Silent = subst T
+          (ap (λ l. get_or l 0 Silent) empty ∙ ring-first [] D) (turned.out [] begun) in
+          let Q : ℕ → Type 0 = λ k. (step.tick ≡ tick_or_silence (filled rules [] k))
+          × OutletStandsFor proto new.outlet ([] ++ filled_bytes (filled rules [] k))
+          × (owed_by new.outlet ≡ k - 1) in
+          let out : Q 0 = subst Q unowed turn in
+          let none : owed_by new.outlet ≡ 0 - 1 = out.2 in
+          (out.0, out.1, omega arith)
+
+      abbrev entered : List Tick
+      entered = drop 1 (silent D ++ Byte b ∷ [])
+
+      size : length entered ≡ D
+      size =
+          let less = length-drop 1 (silent D ++ Byte b ∷ []) in
+          let long = length-silent D (Byte b ∷ []) in
+          omega arith
+
+      opens : (head_of rules (live_bytes_so_far rules (line ++ Byte b ∷ [])) ≡ Bad → ⊥)
+          → Opens profile rules (m + 1) old.earliest_start e [] entered
+      opens not_bad =
+          let N : Option Burst → Type 0 = λ o. head_of rules (live_bytes_in rules o) ≡ Bad → ⊥ in
+          let never : N (Some e) = subst N last-is not_bad in
+          let O : ℕ → Type 0 = λ k. Opens profile rules (m + 1) old.earliest_start e []
+          (drop 1 (silent k ++ Byte b ∷ [])) in
+          let delay_is = between.delay_is in
+          let same : delay profile ≡ D = omega arith in
+          subst O same
+          (opens-begun profile rules proto.lawful m b bytes old.earliest_start free
+          (λ header. ⊎_elim (λ good. good)
+          (λ bad. absurd (never (head-bad rules (live_bytes rules e) header bad)))
+          (cases_Bool (rules.is_good_header (take rules.header_len (live_bytes rules e))))))
+
+      pub start-open : (D ≤ 64 → n ≡ D) → step.note ≡ None
+          → (head_of rules (live_bytes_so_far rules (line ++ Byte b ∷ [])) ≡ Bad → ⊥)
+          → Codes proto code setup last mac arriving e
+          → HasTaken proto code new last setup line (Byte b) step
+      start-open until noted not_bad coded =
+          let F : Option Burst → Type 0 = λ o. length (live_bytes_in rules o)
+          ≤ rules.room (live_bytes_in rules o) in
+          let fits : F (Some e) = subst F last-is (proto.within _ _ between.cuts.bytes) in
+          let open' = opens not_bad in
+          let all : [] ++ bytes_in entered ≡ live_bytes rules e =
+          ap (λ x. [] ++ bytes_in x) open'.live_is
+          ∙ (ap (λ x. x ++ bytes_in (drop (m + 1 - e.start) (as_it_came profile rules e)))
+          open'.left_is
+          ∙ whole-bytes profile rules e (m + 1 - e.start)) in
+          let Fits : List ℕ → Type 0 = λ x. length x ≤ rules.room x in
+          let tag = code.tag_size in
+          let delay_is = between.delay_is in
+          let few = between.word_is.1 in
+          let small : D ≤ 64 = ⊎_elim (λ twelve. omega arith) (λ sixteen. omega arith) tag in
+          let whole : n ≡ D = until small in
+          let long = size in
+          let end = ends in
+          let full : D - length entered ≡ 0 = omega arith in
+          let ring : ring_ticks new.ring ≡ entered ++ silent (D - length entered) =
+          turned.ring
+          ∙ (ap (λ l. drop 1 l ++ Byte b ∷ []) empty
+          ∙ (ring-begun D b (omega arith)
+          ∙ (sym (append-nil entered) ∙ ap (λ k. entered ++ silent k) (sym full)))) in
+          let goes = open-goes proto profile time setup.floor line (Byte b) state
+          resting.emissions e begins (one b) (omega arith) (omega arith) step.tick
+          (quiet.0 ∙ sym (begun-seen profile rules proto.lawful m b bytes)) [] entered open'
+          (owed_by new.outlet) quiet.2 (λ there. subst Fits (sym all) fits) in
+          assembled proto code setup line (Byte b) (with_until n base) new (Byte b) step turned
+          between.word_is between.wide between.delay_is between.direction_is between.cuts last []
+          entered (Some e) None goes noted quiet.1 ring (omega arith) (omega arith) refl
+          (coded.text, coded.codes) coded
+
+  -- its code and its trailer
+  pub start-coded : (mac : M) (arriving : Arriving B)
+      → ((tag_of : ℕ → List ℕ) (floor : ℕ) → Arrives tag_of floor arriving [])
+      → code.stands mac setup.key (rules.label ∷ setup.direction ∷ b ∷ [])
+      → Codes proto code setup last mac arriving e
+  start-coded mac arriving begun codes =
+      let end = ends in
+      let all = after-long rules e in
+      let none : trailer_so_far rules e ≡ [] =
+      nothing-after (after_live rules e) (omega arith) in
+      let Z : List ℕ → Type 0 = λ x. Arrives (λ n. profile.tag n (live_bytes rules e)) last arriving
+      x in
+      record {
+        text = rules.label ∷ setup.direction ∷ b ∷ [];
+        codes = codes;
+        text_is = λ few. ap (λ x. rules.label ∷ setup.direction ∷ x) (sym bytes);
+        arrives = subst Z (sym none) (begun (λ n. profile.tag n (live_bytes rules e)) last);
+      }

@@ -1,0 +1,133 @@
+-- A whole step of a receiver: the value that cuts the link takes the tick, one step fewer is left
+-- until the last live byte leaves, and then all else takes it.
+use Rattle.std.proofs.Common.{◌≡◌, ◌∙◌, ◌⊎◌, ⊎_elim, ℕ, ◌+◌, ◌-◌, List, [], ◌∷◌, ◌++◌, refl}
+use Rattle.std.proofs.Common.{sym}
+use Rattle.std.proofs.Common.{subst, inl, arith, Option, Some, None, Result, Ok, Err, IfOk, OnErr}
+use Rattle.yasir_io.specs.declared.disk.SlotDisk.{Ghosts as SlotDisk}
+use Rattle.yasir_ticks.specs.declared.tick.Tick.{Tick}
+use Rattle.yasir_ticks.specs.declared.tick.Tick.TheVariants.{Silent, Byte}
+use Rattle.line_rules.specs.Rules.{Rules}
+use Rattle.line_rules.specs.declared.line_rules.LineRules.{Ghosts as LineRules}
+use Rattle.frame_ending.specs.declared.burst_cut.BurstCut.{BurstCut}
+use Rattle.frame_ending.specs.declared.cut.Cut.{Cut}
+use Rattle.frame_ending.specs.declared.cut.Cut.TheVariants.{Start, Live, Extra, Pause, Closed}
+use Rattle.frame_ending.specs.declared.cut.Cut.TheVariants.{Quiet}
+use Rattle.frame_ending.specs.Cuts.{cut_of}
+use Rattle.frame_ending.specs.Stands.{StandsFor as CutStandsFor}
+use Rattle.frame_ending.proofs.Running.{closed-tick, passing-byte}
+use Rattle.hmac_tag.specs.declared.tag.Mac.{Ghosts as Mac}
+use Rattle.link_format.specs.Profile.{profile_of}
+use Rattle.link_format.specs.Setup.{Setup}
+use Rattle.sequence_journal.specs.declared.journal.Journal.{Journal}
+use Rattle.sequence_journal.specs.declared.journal.JournalFault.{JournalFault}
+use Rattle.sequence_journal.specs.declared.numbers.TheConstants.{LIMIT}
+use Rattle.sequence_journal.specs.Journal.{Fits}
+use Rattle.link_verdicts.specs.declared.note.CheckNote.{CheckNote}
+use Rattle.link_verdicts.specs.declared.note.CheckNote.TheVariants.{Passed, Refused, Dropped}
+use Rattle.check_receiver.specs.Checkings.{PassesWith, CommitsNoted, KeepsJournal}
+use Rattle.check_receiver.specs.Stands.{StandsAt, HasTaken}
+use Rattle.check_receiver.specs.Between.{IsBetween, IsSilence, IsNoPass}
+use Rattle.check_receiver.specs.declared.checker.Checker.{Checker}
+use Rattle.check_receiver.specs.declared.step.CheckStep.{CheckStep}
+
+-- ---- what is told of silence
+
+pub silence-is : (cut : Cut) → ((n : ℕ) × (cut ≡ Pause n)) ⊎ ((cut ≡ Closed) ⊎ (cut ≡ Quiet))
+    → IsSilence cut
+silence-is cut which =
+    let P : Cut → Type 0 = λ c. IsSilence c in
+    ⊎_elim
+    (λ pause. subst P (sym pause.1) tt)
+    (λ others. ⊎_elim (λ closed. subst P (sym closed) tt) (λ quiet. subst P (sym quiet) tt) others)
+    which
+
+silence-tick : (rules : Rules) (line : List Tick) (t : Tick) (cut : Cut)
+    → cut_of rules line t ≡ cut → IsSilence cut → t ≡ Silent
+silence-tick rules line Silent cut is silence = refl
+silence-tick rules line (Byte b) (Start c) is silence = absurd silence
+silence-tick rules line (Byte b) (Live c) is silence = absurd silence
+silence-tick rules line (Byte b) (Extra c) is silence = absurd silence
+silence-tick rules line (Byte b) (Pause n) is silence =
+    let extra = passing-byte rules line b (Pause n) is tt in absurd cc
+silence-tick rules line (Byte b) Closed is silence = closed-tick rules line (Byte b) is
+silence-tick rules line (Byte b) Quiet is silence =
+    let extra = passing-byte rules line b Quiet is tt in absurd cc
+
+module _ {R M : Type 0} (proto : LineRules R) (code : Mac M) {B D : ℕ} (old : Checker R M B D)
+    (last : ℕ) (cut : BurstCut R) (fewer : ℕ) (one_less : fewer ≡ old.until - 1) (t : Tick)
+    (told : Cut)
+    (answers : (line : List Tick) → CutStandsFor proto old.cut line
+    → told ≡ cut_of proto.rules line t)
+    (takes : (line : List Tick) → CutStandsFor proto old.cut line
+    → CutStandsFor proto cut (line ++ t ∷ [])) where
+  abbrev Before : Setup → List Tick → Type 0
+  Before setup line = StandsAt proto code old last setup line
+
+  abbrev Between : Cut → Setup → List Tick → Tick → Type 0
+  Between what setup line u = IsBetween proto code (record old { cut = cut; until = fewer }) last
+      setup line u what
+
+  between : (what : Cut) → told ≡ what → (setup : Setup) (line : List Tick) → Before setup line
+      → Between what setup line t
+  between what is setup line stands = record {
+    word_is = stands.word_is;
+    wide = stands.wide;
+    delay_is = stands.delay_is;
+    direction_is = stands.direction_is;
+    cuts = takes line stands.cuts;
+    is_cut = sym (answers line stands.cuts) ∙ is;
+    before = old.until;
+    one_less = one_less;
+    walks = stands.walks;
+  }
+
+  -- what is told of the tick, and then all else has taken it
+  pub taken-then : (what : Cut) → told ≡ what → (new : Checker R M B D) (number : ℕ)
+      (step : CheckStep)
+      → ((setup : Setup) (line : List Tick) → Between what setup line t
+      → HasTaken proto code new number setup line t step)
+      → (setup : Setup) (line : List Tick) → Before setup line
+      → HasTaken proto code new number setup line t step
+  taken-then what is new number step rest setup line stands =
+      rest setup line (between what is setup line stands)
+
+  -- what is told of silence is told of a silent tick
+  pub taken-silence : IsSilence told → (new : Checker R M B D) (number : ℕ) (step : CheckStep)
+      → ((setup : Setup) (line : List Tick) → Between told setup line Silent
+      → HasTaken proto code new number setup line Silent step)
+      → (setup : Setup) (line : List Tick) → Before setup line
+      → HasTaken proto code new number setup line t step
+  taken-silence silence new number step rest setup line stands =
+      let at = between told refl setup line stands in
+      let P : Tick → Type 0 = λ u. Between told setup line u
+      → HasTaken proto code new number setup line u step in
+      subst P (sym (silence-tick proto.rules line t told at.is_cut silence)) (rest setup line) at
+
+  -- ---- a step that may fail
+
+  module _ (what : Cut) (is : told ≡ what) where
+    pub taken-ok : (new : Checker R M B D) (number : ℕ) (result : Result CheckStep JournalFault)
+        → IfOk result (λ step. (setup : Setup) (line : List Tick) (u : Tick)
+        → Between what setup line u → HasTaken proto code new number setup line u step)
+        → IfOk result (λ step. (setup : Setup) (line : List Tick) → Before setup line
+        → HasTaken proto code new number setup line t step)
+    taken-ok new number (Ok step) rest = λ setup line stands.
+        rest setup line t (between what is setup line stands)
+    taken-ok new number (Err fault) rest = tt
+
+    abbrev Passes : Setup → List Tick → Tick → ℕ → Type 0
+    Passes setup line u number = PassesWith (profile_of proto code B LIMIT setup) proto.rules
+        setup.floor line u number
+
+    pub passes-err : (Failed : ℕ → Type 0) (result : Result CheckStep JournalFault)
+        → OnErr result ((number : ℕ) × Failed number
+        × ((setup : Setup) (line : List Tick) (u : Tick) → Between what setup line u
+        → Passes setup line u number))
+        → OnErr result ((number : ℕ) × Failed number
+        × ((setup : Setup) (line : List Tick) → Before setup line → Passes setup line t number))
+    passes-err Failed (Ok step) passes = tt
+    passes-err Failed (Err fault) passes = (
+      passes.0,
+      passes.1,
+      λ setup line stands. passes.2 setup line t (between what is setup line stands),
+    )
