@@ -6,5 +6,11 @@ pub mod Resting
 pub mod Entering
 pub mod Dropping
 pub mod Starting
+pub mod Comparing
+pub mod Weighing
+pub mod Trailing
+pub mod Hearing
+pub mod Deciding
+pub mod Taking
 pub mod Journals
 pub mod WholeSteps

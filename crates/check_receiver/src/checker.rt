@@ -304,7 +304,8 @@ impl<R: LineRules, M: Mac, const B: usize, const D: usize> Checker<R, M, B, D> {
             return Ok(self.refuse(RefusedWhy::Trailer));
         }
         let place = D - PAUSE - 1 - usize::from(self.until);
-        self.arriving.take(place, byte, journal.floor(), &mut self.mac);
+        self.arriving
+            .take(place, byte, journal.floor(), &mut self.mac);
         if self.until > 1 {
             return Ok(self.pass_by());
         }
@@ -379,7 +380,10 @@ impl<R: LineRules, M: Mac, const B: usize, const D: usize> Checker<R, M, B, D> {
     fn pass(&mut self, number: u64) -> CheckStep
         requires room { ticks_cut self.old.cut ≤ MAX_TICKS }
         ensures turned { Turned R.LineRules (record self.old {
-            waits = false; passed = true; earliest_start = self.new.earliest_start; })
+          waits = false;
+          passed = true;
+          earliest_start = self.new.earliest_start;
+        })
             self.new Silent result.tick }
         ensures earliest { self.new.earliest_start ≡ ticks_cut self.old.cut + self.old.until }
         ensures note { (start : ℕ) × (len : ℕ) × (result.note ≡ Some (Passed number start len)) }
@@ -404,7 +408,9 @@ impl<R: LineRules, M: Mac, const B: usize, const D: usize> Checker<R, M, B, D> {
     fn refuse(&mut self, why: RefusedWhy) -> CheckStep
         requires room { ticks_cut self.old.cut ≤ MAX_TICKS }
         ensures turned { Turned R.LineRules (record self.old {
-            waits = false; earliest_start = self.new.earliest_start; })
+          waits = false;
+          earliest_start = self.new.earliest_start;
+        })
             self.new Silent result.tick }
         ensures earliest { (line : List Tick) → CutStandsFor R.LineRules self.old.cut line
             → self.new.earliest_start ≡ length line + self.old.until
@@ -414,8 +420,9 @@ impl<R: LineRules, M: Mac, const B: usize, const D: usize> Checker<R, M, B, D> {
             → result.note ≡ Some (Refused (start_so_far line) why) }
     {
         self.waits = false;
-        self.earliest_start =
-            self.cut.ticks() + u64::from(self.until) + u64::from(self.cut.rules().left());
+        self.earliest_start = self.cut.ticks()
+            + u64::from(self.until)
+            + u64::from(self.cut.rules().left());
         CheckStep {
             tick: self.turn(Tick::Silent),
             note: Some(CheckNote::Refused {

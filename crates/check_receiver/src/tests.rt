@@ -9,7 +9,6 @@ use line_rules::LineRules;
 use rtu_frame::Rtu;
 use sequence_journal::{Journal, slot_of};
 use std::alloc::Global;
-
 use std::process::Abort;
 use std::test::Fail;
 use yasir_io::{SlotDisk, SteadySlots};
@@ -65,7 +64,11 @@ fn compare(
                 note = Some(*noted);
             }
         }
-        assert_eq!(rt; (step.tick, step.note), (tick_of(*letter), note), "at tick {i}");
+        assert_eq!(rt;
+            (step.tick, step.note),
+            (tick_of(*letter), note),
+            "at tick {i}"
+        );
     }
     Ok(())
 }
@@ -75,18 +78,31 @@ fn compare(
 // | openssl dgst -sha1 -mac HMAC -macopt hexkey:000102030405060708090a0b0c0d0e0f | cut -c1-24
 #[test]
 fn a_packet_passes_once(rt: HostRuntime) -> Result<(), Fail> {
-    let link: &[u8] = b"\x01\x03\x00\x00\x00\x0a\xc5\xcd...\x00\x01\x01\x4c\x5b\x8d\x33\xc6\xd2\x9a\x34\x70\x13\xb0....\x01\x03\x00\x00\x00\x0a\xc5\xcd...\x00\x01\x01\x4c\x5b\x8d\x33\xc6\xd2\x9a\x34\x70\x13\xb0.......";
-    let line: &[u8] = b"..................\x01\x03\x00\x00\x00\x0a\xc5\xcd.....................\x01\x03\x00\x00\x00\x0a\xc5\xcc......";
-    let passed = CheckNote::Passed { number: 1, start: 0, len: 8 };
-    let refused = CheckNote::Refused { start: 29, why: RefusedWhy::Tag };
+    let link: &[u8] =
+        b"\x01\x03\x00\x00\x00\x0a\xc5\xcd...\x00\x01\x01\x4c\x5b\x8d\x33\xc6\xd2\x9a\x34\x70\x13\xb0....\x01\x03\x00\x00\x00\x0a\xc5\xcd...\x00\x01\x01\x4c\x5b\x8d\x33\xc6\xd2\x9a\x34\x70\x13\xb0.......";
+    let line: &[u8] =
+        b"..................\x01\x03\x00\x00\x00\x0a\xc5\xcd.....................\x01\x03\x00\x00\x00\x0a\xc5\xcc......";
+    let passed = CheckNote::Passed {
+        number: 1,
+        start: 0,
+        len: 8,
+    };
+    let refused = CheckNote::Refused {
+        start: 29,
+        why: RefusedWhy::Tag,
+    };
     compare(&rt, rt.alloc(), link, line, &[(24, passed), (53, refused)])
 }
 
 #[test]
 fn a_wrong_last_byte_of_the_tag(rt: HostRuntime) -> Result<(), Fail> {
-    let link: &[u8] = b"\x01\x03\x00\x00\x00\x0a\xc5\xcd...\x00\x01\x01\x4c\x5b\x8d\x33\xc6\xd2\x9a\x34\x70\x13\xb1..";
+    let link: &[u8] =
+        b"\x01\x03\x00\x00\x00\x0a\xc5\xcd...\x00\x01\x01\x4c\x5b\x8d\x33\xc6\xd2\x9a\x34\x70\x13\xb1..";
     let line: &[u8] = b"..................\x01\x03\x00\x00\x00\x0a\xc5\xcc.";
-    let refused = CheckNote::Refused { start: 0, why: RefusedWhy::Tag };
+    let refused = CheckNote::Refused {
+        start: 0,
+        why: RefusedWhy::Tag,
+    };
     compare(&rt, rt.alloc(), link, line, &[(24, refused)])
 }
 
@@ -94,7 +110,10 @@ fn a_wrong_last_byte_of_the_tag(rt: HostRuntime) -> Result<(), Fail> {
 fn no_trailer_follows(rt: HostRuntime) -> Result<(), Fail> {
     let link: &[u8] = b"\x01\x7e\x80....................";
     let line: &[u8] = b"..................\x01\x7e\x81..";
-    let refused = CheckNote::Refused { start: 0, why: RefusedWhy::Trailer };
+    let refused = CheckNote::Refused {
+        start: 0,
+        why: RefusedWhy::Trailer,
+    };
     compare(&rt, rt.alloc(), link, line, &[(6, refused)])
 }
 
@@ -102,10 +121,25 @@ fn no_trailer_follows(rt: HostRuntime) -> Result<(), Fail> {
 fn a_burst_that_comes_too_soon(rt: HostRuntime) -> Result<(), Fail> {
     let link: &[u8] = b"\x01\x7e\x80....\x01\x02............\x03\x04.........................";
     let line: &[u8] = b"..................\x01\x7e\x81..................\x03\x04.......";
-    let refused = CheckNote::Refused { start: 0, why: RefusedWhy::Trailer };
-    let dropped = CheckNote::Dropped { start: 7, why: DroppedWhy::Busy };
-    let last = CheckNote::Refused { start: 21, why: RefusedWhy::Trailer };
-    compare(&rt, rt.alloc(), link, line, &[(6, refused), (7, dropped), (26, last)])
+    let refused = CheckNote::Refused {
+        start: 0,
+        why: RefusedWhy::Trailer,
+    };
+    let dropped = CheckNote::Dropped {
+        start: 7,
+        why: DroppedWhy::Busy,
+    };
+    let last = CheckNote::Refused {
+        start: 21,
+        why: RefusedWhy::Trailer,
+    };
+    compare(
+        &rt,
+        rt.alloc(),
+        link,
+        line,
+        &[(6, refused), (7, dropped), (26, last)],
+    )
 }
 
 // A receiver by y18 holds at most 280 bytes beside two of its rules, its code and its ring.

@@ -1,0 +1,98 @@
+-- The verdict on the burst with a whole trailer.
+use Rattle.std.proofs.Common.{◌≡◌, ◌∙◌, ℕ, ◌+◌, List, [], ◌∷◌, ◌++◌, length, sym, ap, Some}
+use Rattle.std.proofs.Common.{Result, Ok, Err, true, false}
+use Rattle.yasir_ticks.specs.Bursts.{Burst}
+use Rattle.yasir_ticks.specs.declared.tick.Tick.{Tick}
+use Rattle.yasir_ticks.specs.declared.tick.Tick.TheVariants.{Silent}
+use Rattle.line_rules.specs.Rules.{Rules, left_of}
+use Rattle.line_rules.specs.declared.line_rules.LineRules.{Ghosts as LineRules}
+use Rattle.frame_ending.specs.LiveBytes.{live_bytes}
+use Rattle.frame_ending.specs.SoFar.{last_burst, live_bytes_so_far, start_so_far}
+use Rattle.frame_ending.specs.Stands.{StandsFor as CutStandsFor, ticks_taken as ticks_cut}
+use Rattle.burst_walk.specs.Causal.{going_on}
+use Rattle.hmac_tag.specs.declared.tag.Mac.{Ghosts as Mac}
+use Rattle.link_format.specs.Profile.{Profile, profile_of}
+use Rattle.link_format.specs.Setup.{Setup}
+use Rattle.sequence_journal.specs.declared.numbers.TheConstants.{LIMIT}
+use Rattle.link_verdicts.specs.Verdicts.{trailer_of, whole_verdict}
+use Rattle.link_verdicts.specs.Holding.{trailer_so_far}
+use Rattle.link_verdicts.specs.declared.note.CheckNote.TheVariants.{Passed, Refused}
+use Rattle.link_verdicts.specs.declared.note.RefusedWhy.{RefusedWhy}
+use Rattle.check_receiver.specs.Arrivals.{Arrives}
+use Rattle.check_receiver.specs.Between.{IsWhole, verdict_told}
+use Rattle.check_receiver.specs.Checkings.{PassesWith}
+use Rattle.check_receiver.specs.Stands.{HasTaken}
+use Rattle.check_receiver.specs.Turning.{Turned, closed_at}
+use Rattle.check_receiver.specs.declared.checker.Checker.{Checker}
+use Rattle.check_receiver.specs.declared.step.CheckStep.{CheckStep}
+use Rattle.check_receiver.proofs.Hearing.{Hears, hears-whole, next-last, whole-long, whole-trailer}
+use Rattle.check_receiver.proofs.Hearing.{refuse-taken, pass-taken, passes-with}
+
+-- A burst with a whole trailer is judged so.
+abbrev pub Judges : {R M : Type 0} → LineRules R → Mac M → {B D : ℕ} → Checker R M B D → ℕ
+    → Result ℕ RefusedWhy → Type 0
+Judges proto code {B = B} old last result = (setup : Setup) (line : List Tick) (d : Burst)
+    → CutStandsFor proto old.cut line → last_burst line ≡ Some d
+    → Arrives (λ n. (profile_of proto code B LIMIT setup).tag n (live_bytes proto.rules d)) last
+    old.arriving (trailer_so_far proto.rules d)
+    → length (trailer_so_far proto.rules d) ≡ B + code.TAG
+    → verdict_told result ≡ whole_verdict (profile_of proto code B LIMIT setup) proto.rules last
+    (live_bytes proto.rules d) (trailer_so_far proto.rules d)
+
+module _ {R M : Type 0} (proto : LineRules R) (code : Mac M) {B D : ℕ} (old : Checker R M B D)
+    (last : ℕ) (setup : Setup) (line : List Tick) (t : Tick)
+    (whole : IsWhole proto code old last setup line t) where
+  abbrev rules : Rules
+  rules = proto.rules
+
+  abbrev profile : Profile
+  profile = profile_of proto code B LIMIT setup
+
+  abbrev hears : Hears proto code old last setup line t whole.byte
+  hears = hears-whole proto code old last setup line t whole
+
+  abbrev e : Burst
+  e = going_on hears.burst (length line) whole.byte
+
+  judged : (result : Result ℕ RefusedWhy) → Judges proto code old last result
+      → whole_verdict profile rules last (live_bytes rules e) (trailer_of profile rules e)
+      ≡ verdict_told result
+  judged result judges =
+      let is = next-last proto code old last setup line t whole.byte hears in
+      ap (λ x. whole_verdict profile rules last (live_bytes rules e) x)
+      (whole-trailer proto code old last setup line t whole.byte hears whole.last_place)
+      ∙ sym (judges setup (line ++ t ∷ []) e whole.cuts is (whole.arrives e is)
+      (whole-long proto code old last setup line t whole.byte hears whole.last_place))
+
+  pub decide-refuses : (why : RefusedWhy) → Judges proto code old last (Err why)
+      → (new : Checker R M B D) (step : CheckStep)
+      → Turned proto (closed_at new.earliest_start old) new Silent step.tick
+      → new.earliest_start ≡ length (line ++ t ∷ []) + old.until
+      + left_of rules (live_bytes_so_far rules (line ++ t ∷ []))
+      → step.note ≡ Some (Refused (start_so_far (line ++ t ∷ [])) why)
+      → HasTaken proto code new last setup line t step
+  decide-refuses why judges new step turned earliest noted =
+      refuse-taken proto code old last setup line t whole.byte hears new step turned earliest why
+      noted whole.last_place (judged (Err why) judges)
+
+  pub decide-passes : (number : ℕ) → Judges proto code old last (Ok number)
+      → (new : Checker R M B D) (step : CheckStep)
+      → Turned proto (record old {
+        waits = false;
+        passed = true;
+        earliest_start = new.earliest_start;
+      }) new Silent step.tick
+      → new.earliest_start ≡ ticks_cut old.cut + old.until
+      → step.note ≡ Some (Passed number (start_so_far (line ++ t ∷ []))
+      (length (live_bytes_so_far rules (line ++ t ∷ []))))
+      → HasTaken proto code new number setup line t step
+  decide-passes number judges new step turned earliest noted =
+      pass-taken proto code old last setup line t whole.byte hears whole.last_place number
+      (judged (Ok number) judges) new step turned earliest noted
+
+  -- and where its number can't be committed, it would have passed
+  pub decide-fails : (number : ℕ) → Judges proto code old last (Ok number)
+      → PassesWith profile rules setup.floor line t number
+  decide-fails number judges =
+      passes-with proto code old last setup line t whole.byte hears whole.last_place number
+      (judged (Ok number) judges)

@@ -1,0 +1,55 @@
+use Rattle.std.proofs.Common.{ℕ, [], ◌∷◌, ◌++◌, rules, sym, subst, Option}
+use Rattle.link_verdicts.specs.declared.note.CheckNote.{CheckNote}
+use Rattle.sequence_journal.specs.Journal.{journal_floor}
+use Rattle.check_receiver.specs.Between.{IsNoPass}
+use Rattle.check_receiver.specs.Checkings.{CommitsNoted}
+use Rattle.check_receiver.specs.Stands.{HasTaken}
+use Rattle.check_receiver.proofs.Deciding.{decide-refuses, decide-passes, decide-fails}
+use Rattle.check_receiver.proofs.Journals.{journal-kept}
+use Rattle.check_receiver.proofs.checker.Checker.decide.Goals as goal
+
+pub returns-in-Err-clause-step : goal.returns-in-Err-clause-step
+returns-in-Err-clause-step g c = λ setup line t whole.
+    decide-refuses g.R.LineRules g.M.Mac c.args.self.now (journal_floor c.args.journal.now) setup
+    line t whole c.in-Err.why c.in-Err.ensures.judged c.refuse.new.self c.refuse.result
+    c.refuse.ensures.turned (c.refuse.ensures.earliest (line ++ t ∷ []) whole.cuts)
+    (c.refuse.ensures.told (line ++ t ∷ []) whole.cuts)
+
+pub returns-in-Err-clause-journal : goal.returns-in-Err-clause-journal
+returns-in-Err-clause-journal g c =
+    let P : Option CheckNote → Type 0 = λ note. IsNoPass note in
+    let noted = c.refuse.ensures.note in
+    journal-kept g.S.SlotDisk c.args.journal.now c.args.disk.now
+    (g.met.S.SlotDisk.only_now c.args.disk.now) c.requires.fits c.refuse.result
+    (subst P (sym noted.1) tt)
+
+pub returns-in_default-clause-err_passes : goal.returns-in_default-clause-err_passes
+returns-in_default-clause-err_passes g c = (
+  c.in-Ok.number,
+  c.in_default.ensures.failed,
+  λ setup line t whole. decide-fails g.R.LineRules g.M.Mac c.args.self.now
+      (journal_floor c.args.journal.now) setup line t whole c.in-Ok.number c.in-Ok.ensures.judged,
+)
+
+pub returns-clause-step : goal.returns-clause-step
+returns-clause-step g c = λ setup line t whole.
+    let S : ℕ → Type 0 = λ n. HasTaken g.R.LineRules g.M.Mac c.pass.new.self n setup line t
+    c.pass.result in
+    subst S (sym c.in-Ok-commit.ensures.committed.floor)
+    (decide-passes g.R.LineRules g.M.Mac c.args.self.now (journal_floor c.args.journal.now) setup
+    line t whole c.in-Ok.number c.in-Ok.ensures.judged c.pass.new.self c.pass.result
+    c.pass.ensures.turned c.pass.ensures.earliest
+    (c.pass.ensures.told (line ++ t ∷ []) whole.cuts))
+
+pub returns-clause-journal : goal.returns-clause-journal
+returns-clause-journal g c =
+    let P : Option CheckNote → Type 0 = λ note. CommitsNoted g.S.SlotDisk c.args.journal.now
+    c.commit.new.self c.args.disk.now c.commit.new.disk note in
+    let noted = c.pass.ensures.note in
+    record {
+      commits = subst P (sym noted.2) c.in-Ok-commit.ensures.committed;
+      fits = c.in-Ok-commit.ensures.fits;
+      crash_safe = c.commit.ensures.crash_safe;
+      any_moment = λ safe. c.commit.ensures.any_moment safe.kept;
+      cause = search rules;
+    }
