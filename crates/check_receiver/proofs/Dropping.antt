@@ -1,11 +1,11 @@
 -- A burst is dropped for its header: nothing of it leaves.
-use Rattle.std.proofs.Common.{◌≡◌, ◌∙◌, ℕ, ◌+◌, ◌-◌, ◌<◌, ◌≤◌, Bool, true, false, List, [], ◌∷◌}
+use Rattle.std.proofs.Common.{◌≡◌, ◌∙◌, ℕ, ◌+◌, ◌-◌, ◌<◌, ◌≤◌, true, false, List, [], ◌∷◌}
 use Rattle.std.proofs.Common.{◌++◌, length, length-append, take, refl, sym, ap, subst, arith}
 use Rattle.std.proofs.Common.{⊎_elim}
 use Rattle.std.proofs.Common.{Option, Some, None}
 use Rattle.std.proofs.lemmas.Bool.{cases_lt}
 use Rattle.yasir_ticks.specs.Ticks.{silent}
-use Rattle.yasir_ticks.specs.Bursts.{Burst, bursts, end_of}
+use Rattle.yasir_ticks.specs.Bursts.{Burst, bursts}
 use Rattle.yasir_ticks.specs.declared.tick.Tick.{Tick}
 use Rattle.yasir_ticks.specs.declared.tick.Tick.TheVariants.{Silent, Byte}
 use Rattle.line_rules.specs.Rules.{Rules, head_of}
@@ -15,7 +15,7 @@ use Rattle.line_rules.specs.declared.line_rules.LineRules.{Ghosts as LineRules}
 use Rattle.frame_ending.specs.declared.cut.Cut.{Cut}
 use Rattle.frame_ending.specs.declared.cut.Cut.TheVariants.{Live}
 use Rattle.frame_ending.specs.LiveBytes.{up_to_byte, live_bytes, live_end}
-use Rattle.frame_ending.specs.SoFar.{last_of, last_burst, start_in, start_so_far, live_bytes_in}
+use Rattle.frame_ending.specs.SoFar.{last_of, start_in, start_so_far, live_bytes_in}
 use Rattle.frame_ending.specs.SoFar.{live_bytes_so_far}
 use Rattle.frame_ending.specs.Stands.{StandsFor as CutStandsFor}
 use Rattle.delay_ring.specs.DelayRing.{ring_ticks}
@@ -25,7 +25,7 @@ use Rattle.burst_walk.specs.HasCome.{HasCome}
 use Rattle.burst_walk.proofs.Coming.{come-silent, come-joined, waiting-may}
 use Rattle.hmac_tag.specs.declared.tag.Mac.{Ghosts as Mac}
 use Rattle.hmac_tag.specs.Tag.{direction_number}
-use Rattle.link_format.specs.Profile.{Profile, profile_of, IsWordLen, delay, trailer_len}
+use Rattle.link_format.specs.Profile.{Profile, profile_of, IsWordLen, trailer_len}
 use Rattle.link_format.specs.Setup.{Setup}
 use Rattle.sequence_journal.specs.declared.numbers.TheConstants.{LIMIT}
 use Rattle.link_verdicts.specs.Verdicts.{CheckState, checked}

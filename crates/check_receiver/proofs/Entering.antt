@@ -1,5 +1,5 @@
 -- A live byte enters the ring.
-use Rattle.std.proofs.Common.{◌≡◌, ◌∙◌, ◌||◌, ℕ, zero, suc, ◌+◌, ◌-◌, ◌<◌, ◌≤◌, ◌==◌, Bool, true}
+use Rattle.std.proofs.Common.{◌≡◌, ◌∙◌, ℕ, ◌+◌, ◌-◌, ◌<◌, ◌≤◌, ◌==◌, Bool, true}
 use Rattle.std.proofs.Common.{false, List, [], ◌∷◌}
 use Rattle.std.proofs.Common.{◌++◌, length, length-append, take, drop, refl, sym, ap, subst, arith}
 use Rattle.std.proofs.Common.{⊎_elim, Option, Some, None}
@@ -8,7 +8,7 @@ use Rattle.std.proofs.lemmas.List.{append-nil, length-drop}
 use Rattle.yasir_ticks.specs.Ticks.{silent, bytes_in}
 use Rattle.yasir_ticks.specs.Bursts.{Burst, bursts, end_of}
 use Rattle.yasir_ticks.specs.declared.tick.Tick.{Tick}
-use Rattle.yasir_ticks.specs.declared.tick.Tick.TheVariants.{Silent, Byte}
+use Rattle.yasir_ticks.specs.declared.tick.Tick.TheVariants.{Byte}
 use Rattle.line_rules.specs.Rules.{Rules}
 use Rattle.line_rules.specs.declared.line_rules.LineRules.{Ghosts as LineRules}
 use Rattle.frame_ending.specs.Cuts.{cut_of}
@@ -22,12 +22,10 @@ use Rattle.link_verdicts.proofs.Settling.{is_over}
 use Rattle.std.proofs.Common.{IfSome}
 use Rattle.line_rules.specs.Rules.{head_of}
 use Rattle.line_rules.specs.declared.head.Head.TheVariants.{Bad}
-use Rattle.frame_ending.specs.LiveBytes.{live_bytes, live_ticks}
+use Rattle.frame_ending.specs.LiveBytes.{live_bytes}
 use Rattle.frame_ending.specs.SoFar.{live_bytes_in, live_bytes_so_far}
-use Rattle.frame_ending.proofs.Dividing.{longer-line}
 use Rattle.delay_ring.specs.DelayRing.{ring_ticks}
 use Rattle.spoiler.specs.Outlet.{owed_by}
-use Rattle.burst_walk.specs.HasCome.{HasCome}
 use Rattle.burst_walk.proofs.Coming.{come-joined, waiting-may}
 use Rattle.hmac_tag.specs.declared.tag.Mac.{Ghosts as Mac}
 use Rattle.link_format.specs.Profile.{profile_of}

@@ -1,8 +1,8 @@
 -- What a header is by what the head says.
-use Rattle.std.proofs.Common.{◌≡◌, ◌<◌, ◌≤◌, ℕ, Bool, false, List, length, take, ⊎_elim}
+use Rattle.std.proofs.Common.{◌≡◌, ◌<◌, ◌≤◌, ℕ, false, List, length, take, ⊎_elim}
 use Rattle.std.proofs.lemmas.Bool.{cases_Bool, cases_lt}
 use Rattle.line_rules.specs.Rules.{Rules, head_of}
-use Rattle.line_rules.specs.declared.head.Head.TheVariants.{Short, Good, Bad}
+use Rattle.line_rules.specs.declared.head.Head.TheVariants.{Short, Bad}
 use Rattle.link_verdicts.proofs.Judging.{head-short, head-good, head-bad}
 
 module _ (rules : Rules) (x : List ℕ) where

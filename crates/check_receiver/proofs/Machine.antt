@@ -1,38 +1,31 @@
 -- How the machine's parts stand together after a step.
-use Rattle.std.proofs.Common.{◌≡◌, ◌∙◌, ℕ, zero, suc, ◌+◌, ◌-◌, ◌<◌, ◌≤◌, ◌==◌, Bool, true, false}
+use Rattle.std.proofs.Common.{◌≡◌, ◌∙◌, ℕ, ◌+◌, ◌-◌, ◌<◌, ◌≤◌, ◌==◌, true, false}
 use Rattle.std.proofs.Common.{List, [], ◌∷◌}
-use Rattle.std.proofs.Common.{◌++◌, length, take, drop, get_or, refl, sym, ap, subst, arith, Option}
+use Rattle.std.proofs.Common.{◌++◌, length, drop, get_or, refl, sym, ap, subst, arith, Option}
 use Rattle.std.proofs.Common.{Some, None, IfSome, is_some}
 use Rattle.std.proofs.lemmas.Bool.{ne_eqb}
-use Rattle.std.proofs.lemmas.List.{get_or-drop}
 use Rattle.yasir_ticks.specs.Ticks.{silent, bytes_in}
-use Rattle.yasir_ticks.specs.Bursts.{Burst, bursts, end_of}
+use Rattle.yasir_ticks.specs.Bursts.{Burst}
 use Rattle.yasir_ticks.specs.declared.tick.Tick.{Tick}
-use Rattle.yasir_ticks.specs.declared.tick.Tick.TheVariants.{Silent, Byte}
-use Rattle.line_rules.specs.Rules.{Rules}
+use Rattle.yasir_ticks.specs.declared.tick.Tick.TheVariants.{Silent}
 use Rattle.line_rules.specs.declared.line_rules.LineRules.{Ghosts as LineRules}
-use Rattle.frame_ending.specs.LiveBytes.{live_bytes, live_end}
-use Rattle.frame_ending.specs.SoFar.{last_of, last_burst}
+use Rattle.frame_ending.specs.SoFar.{last_of}
 use Rattle.frame_ending.specs.Stands.{StandsFor as CutStandsFor}
 use Rattle.delay_ring.specs.DelayRing.{ring_ticks}
-use Rattle.spoiler.specs.declared.outlet.Outlet.{Outlet}
 use Rattle.spoiler.specs.Outlet.{StandsFor as OutletStandsFor, owed_by}
 use Rattle.burst_walk.specs.Answers.{AnswersTick}
 use Rattle.hmac_tag.specs.declared.tag.Mac.{Ghosts as Mac}
 use Rattle.hmac_tag.specs.Tag.{direction_number}
-use Rattle.link_format.specs.Profile.{Profile, profile_of, IsWordLen, delay}
+use Rattle.link_format.specs.Profile.{profile_of, IsWordLen}
 use Rattle.link_format.specs.Setup.{Setup}
 use Rattle.sequence_journal.specs.declared.numbers.TheConstants.{LIMIT}
-use Rattle.link_verdicts.specs.Verdicts.{CheckState}
 use Rattle.link_verdicts.specs.Checking.{checker, at_floor, brief_note}
 use Rattle.link_verdicts.specs.declared.note.CheckNote.{CheckNote}
-use Rattle.link_verdicts.specs.Holding.{HasWalked, Opens, as_it_came}
 use Rattle.link_verdicts.specs.Going.{Goes}
-use Rattle.link_verdicts.specs.Leaving.{is_none, leaves}
+use Rattle.link_verdicts.specs.Leaving.{is_none}
 use Rattle.link_verdicts.specs.Turns.{HasTurned}
 use Rattle.link_verdicts.proofs.Flow.{Flows, flows}
 use Rattle.link_verdicts.proofs.Rings.{ring-first, ring-silent}
-use Rattle.link_verdicts.proofs.Opening.{leaves-front}
 use Rattle.link_verdicts.proofs.Numbers.{walked-number}
 use Rattle.check_receiver.specs.Stands.{Codes, HasTaken}
 use Rattle.check_receiver.specs.Turning.{Turned}

@@ -1,5 +1,5 @@
 -- The first byte of a burst.
-use Rattle.std.proofs.Common.{◌≡◌, ◌∙◌, ℕ, ◌+◌, ◌-◌, ◌<◌, ◌≤◌, ◌==◌, Bool, true, false, List}
+use Rattle.std.proofs.Common.{◌≡◌, ◌∙◌, ℕ, ◌+◌, ◌-◌, ◌<◌, ◌≤◌, ◌==◌, true, false, List}
 use Rattle.std.proofs.Common.{[], ◌∷◌}
 use Rattle.std.proofs.Common.{◌++◌, length, take, drop, get_or, refl, sym, ap, subst, arith, ⊎_elim}
 use Rattle.std.proofs.Common.{Option, Some, None, is_some}
@@ -17,7 +17,7 @@ use Rattle.line_rules.specs.declared.head.Head.TheVariants.{Bad}
 use Rattle.line_rules.specs.declared.line_rules.LineRules.{Ghosts as LineRules}
 use Rattle.frame_ending.specs.Cuts.{cut_of}
 use Rattle.frame_ending.specs.declared.cut.Cut.TheVariants.{Start}
-use Rattle.frame_ending.specs.LiveBytes.{up_to_byte, live_bytes, live_ticks, live_end}
+use Rattle.frame_ending.specs.LiveBytes.{live_bytes, live_end}
 use Rattle.frame_ending.specs.SoFar.{last_of, last_burst, start_in, start_so_far, live_bytes_in}
 use Rattle.frame_ending.specs.SoFar.{live_bytes_so_far}
 use Rattle.frame_ending.proofs.Pauses.{up_to_byte-le}

@@ -1,12 +1,12 @@
 -- A receiver in the middle of a step: the value that cuts the link has taken the tick, one step
 -- fewer is left until the last live byte leaves, and all else is as before.
-use Rattle.std.specs.Prelude.{◌≡◌, ℕ, ◌+◌, ◌-◌, ◌≤◌, true, List, [], ◌∷◌, ◌++◌, Option, Some, None, IfSome, Result, Ok, Err}
+use Rattle.std.specs.Prelude.{◌≡◌, ℕ, ◌+◌, ◌-◌, ◌≤◌, true, List, [], ◌∷◌, ◌++◌, Option, Some, None}
+use Rattle.std.specs.Prelude.{Result, Ok, Err}
 use Rattle.yasir_ticks.specs.declared.tick.Tick.{Tick}
-use Rattle.yasir_ticks.specs.declared.tick.Tick.TheVariants.{Silent}
-use Rattle.line_rules.specs.Rules.{Rules}
 use Rattle.line_rules.specs.declared.line_rules.LineRules.{Ghosts as LineRules}
 use Rattle.frame_ending.specs.declared.cut.Cut.{Cut}
-use Rattle.frame_ending.specs.declared.cut.Cut.TheVariants.{Start, Live, Extra, Closed, Pause, Quiet}
+use Rattle.frame_ending.specs.declared.cut.Cut.TheVariants.{Start, Live, Extra, Closed, Pause}
+use Rattle.frame_ending.specs.declared.cut.Cut.TheVariants.{Quiet}
 use Rattle.frame_ending.specs.Cuts.{cut_of}
 use Rattle.frame_ending.specs.Stands.{StandsFor as CutStandsFor}
 use Rattle.hmac_tag.specs.declared.tag.Mac.{Ghosts as Mac}
@@ -21,7 +21,7 @@ use Rattle.link_verdicts.specs.declared.note.CheckNote.TheVariants.{Passed, Refu
 use Rattle.sequence_journal.specs.declared.numbers.TheConstants.{LIMIT}
 use Rattle.link_verdicts.specs.declared.note.RefusedWhy.{RefusedWhy}
 use Rattle.link_verdicts.specs.Verdicts.{Verdict}
-use Rattle.link_verdicts.specs.Verdicts.Verdict.{passed_with, refused, dropped}
+use Rattle.link_verdicts.specs.Verdicts.Verdict.{passed_with, refused}
 use Rattle.check_receiver.specs.Arrivals.{Arrives}
 use Rattle.link_verdicts.specs.Holding.{trailer_so_far}
 use Rattle.check_receiver.specs.Stands.{Walks}

@@ -1,18 +1,12 @@
 -- What a receiver stands for.
-use Rattle.std.specs.Prelude.{◌≡◌, ℕ, ◌+◌, ◌-◌, ◌<◌, ◌≤◌, nat_le, Bool, true, false, List, ◌∷◌, ◌++◌, [], length}
+use Rattle.std.specs.Prelude.{◌≡◌, ℕ, ◌+◌, ◌-◌, ◌<◌, ◌≤◌, Bool, List, ◌∷◌, ◌++◌, [], length}
 use Rattle.std.specs.Prelude.{Option, IfSome, is_some}
-use Rattle.yasir_ticks.specs.Ticks.{silent, bytes_in}
-use Rattle.yasir_ticks.specs.Bursts.{Burst, bursts, end_of}
+use Rattle.yasir_ticks.specs.Ticks.{silent}
+use Rattle.yasir_ticks.specs.Bursts.{Burst, bursts}
 use Rattle.yasir_ticks.specs.declared.tick.Tick.{Tick}
-use Rattle.yasir_ticks.specs.declared.tick.Tick.TheVariants.{Silent, Byte}
-use Rattle.line_rules.specs.Rules.{Rules, head_of}
-use Rattle.line_rules.specs.declared.head.Head.{Head}
-use Rattle.line_rules.specs.declared.head.Head.TheVariants.{Short, Good, Bad}
 use Rattle.line_rules.specs.declared.line_rules.LineRules.{Ghosts as LineRules}
-use Rattle.frame_ending.specs.LiveBytes.{live_bytes, live_ticks, live_end}
+use Rattle.frame_ending.specs.LiveBytes.{live_bytes}
 use Rattle.frame_ending.specs.Stands.{StandsFor as CutStandsFor, ticks_taken as ticks_cut}
-use Rattle.burst_walk.specs.Laid.{tick_at}
-use Rattle.burst_walk.specs.HasCome.{HasCome}
 use Rattle.delay_ring.specs.declared.delay_ring.DelayRing.{DelayRing}
 use Rattle.delay_ring.specs.DelayRing.{ring_ticks}
 use Rattle.spoiler.specs.declared.outlet.Outlet.{Outlet}
@@ -20,13 +14,12 @@ use Rattle.spoiler.specs.Outlet.{StandsFor as OutletStandsFor, owed_by}
 use Rattle.hmac_tag.specs.declared.tag.Mac.{Ghosts as Mac}
 use Rattle.hmac_tag.specs.Tag.{direction_number}
 use Rattle.link_format.specs.NumberedFrame.{last_number}
-use Rattle.link_format.specs.Profile.{Profile, profile_of, IsWordLen, delay, pause_len}
+use Rattle.link_format.specs.Profile.{profile_of, IsWordLen}
 use Rattle.link_format.specs.Setup.{Setup}
 use Rattle.sequence_journal.specs.declared.journal.Journal.{Journal}
 use Rattle.sequence_journal.specs.declared.numbers.TheConstants.{LIMIT}
 use Rattle.sequence_journal.specs.Journal.{journal_floor}
-use Rattle.link_verdicts.specs.Verdicts.{CheckState, after_live, kept_after}
-use Rattle.link_verdicts.specs.Checking.{checker, at_floor, passed}
+use Rattle.link_verdicts.specs.Checking.{passed}
 use Rattle.check_receiver.specs.Arrivals.{Arrives}
 use Rattle.check_receiver.specs.Checkings.{AnswersTick}
 use Rattle.link_verdicts.specs.Holding.{HasWalked, trailer_so_far}

@@ -1,14 +1,12 @@
 -- What the turn of the ring does: a tick enters it, and what leaves goes through the outlet.
-use Rattle.std.specs.Prelude.{◌≡◌, ℕ, ◌-◌, ◌==◌, Bool, false, List, [], ◌∷◌, ◌++◌, Option, Some, None, slice_index_or, drop}
+use Rattle.std.specs.Prelude.{◌≡◌, ℕ, ◌==◌, false, List, [], ◌∷◌, ◌++◌, slice_index_or, drop}
 use Rattle.yasir_ticks.specs.declared.tick.Tick.{Tick}
-use Rattle.yasir_ticks.specs.declared.tick.Tick.TheVariants.{Silent, Byte}
-use Rattle.line_rules.specs.Rules.{fills_room}
+use Rattle.yasir_ticks.specs.declared.tick.Tick.TheVariants.{Silent}
 use Rattle.line_rules.specs.declared.line_rules.LineRules.{Ghosts as LineRules}
 use Rattle.delay_ring.specs.declared.delay_ring.DelayRing.{DelayRing}
 use Rattle.delay_ring.specs.DelayRing.{ring_ticks}
 use Rattle.yasir_ticks.specs.Ticks.{silent}
-use Rattle.spoiler.specs.declared.outlet.Outlet.{Outlet}
-use Rattle.spoiler.specs.Outlet.{StandsFor as OutletStandsFor, owed_by, emitted, owed_after, filled, filled_bytes}
+use Rattle.spoiler.specs.Outlet.{StandsFor as OutletStandsFor}
 use Rattle.link_verdicts.specs.Turns.{HasTurned}
 use Rattle.check_receiver.specs.declared.checker.Checker.{Checker}
 

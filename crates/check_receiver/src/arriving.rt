@@ -20,7 +20,8 @@ pub struct Arriving<const B: usize> {
 }
 
 impl<const B: usize> Arriving<B> {
-    ghost use Rattle.std.specs.Prelude.{◌≡◌, ℕ, ◌^◌, ◌≤◌, ◌<◌, [], ◌∷◌, ◌++◌, List, length, true, ◌&&◌};
+    ghost use Rattle.std.specs.Prelude.{◌≡◌, ℕ, ◌^◌, ◌≤◌, ◌<◌, [], ◌∷◌, ◌++◌, List, length, true};
+    ghost use Rattle.std.specs.Prelude.{◌&&◌};
     ghost use Rattle.byteorder.specs.Endian.{big_number};
     ghost use Rattle.sequence_journal.specs.declared.numbers.TheConstants.{LIMIT};
     ghost use Rattle.sequence_journal.specs.Numbers.{full_of};
@@ -30,12 +31,13 @@ impl<const B: usize> Arriving<B> {
     /// Nothing has come.
     pub fn none() -> Arriving<B>
         requires word { IsWordLen B }
+        ensures { (tag_of : ℕ → List ℕ) (floor : ℕ) → Arrives tag_of floor result [] }
     {
         Arriving {
             word: ArrayVec::new(),
             number: None,
             tag: ArrayVec::new(),
-            same: false,
+            same: true,
         }
     }
 

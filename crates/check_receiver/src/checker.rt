@@ -38,14 +38,16 @@ pub struct Checker<R, M, const B: usize, const D: usize> {
 }
 
 impl<R: LineRules, M: Mac, const B: usize, const D: usize> Checker<R, M, B, D> {
-    ghost use Rattle.std.specs.Prelude.{◌≡◌, ℕ, ◌+◌, ◌-◌, ◌<◌, ◌≤◌, List, [], ◌∷◌, ◌++◌, Some, None};
+    ghost use Rattle.std.specs.Prelude.{◌≡◌, ℕ, ◌+◌, ◌-◌, ◌<◌, ◌≤◌, List, [], ◌∷◌, ◌++◌, Some};
+    ghost use Rattle.std.specs.Prelude.{None};
     ghost use Rattle.std.specs.Prelude.{Ok, Err, OnOk, OnErr, IfOk, IfErr, true, false};
     ghost use Rattle.yasir_ticks.specs.declared.tick.Tick.{Tick};
     ghost use Rattle.yasir_ticks.specs.declared.tick.Tick.TheVariants.{Silent, Byte};
     ghost use Rattle.frame_ending.specs.declared.cut.Cut.{Cut};
     ghost use Rattle.frame_ending.specs.declared.cut.Cut.TheVariants.{Start, Live, Extra};
     ghost use Rattle.frame_ending.specs.SoFar.{live_bytes_so_far};
-    ghost use Rattle.frame_ending.specs.Stands.{ticks_taken as ticks_cut, StandsFor as CutStandsFor};
+    ghost use Rattle.frame_ending.specs.Stands.{ticks_taken as ticks_cut};
+    ghost use Rattle.frame_ending.specs.Stands.{StandsFor as CutStandsFor};
     ghost use Rattle.delay_ring.specs.DelayRing.{ring_ticks};
     ghost use Rattle.link_format.specs.Profile.{IsWordLen, profile_of};
     ghost use Rattle.link_format.specs.Setup.{Setup, setup_of};

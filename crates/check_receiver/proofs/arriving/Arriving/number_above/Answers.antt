@@ -1,4 +1,4 @@
-use Rattle.std.proofs.Common.{◌≡◌, ◌∙◌, ◌^◌, ap}
+use Rattle.std.proofs.Common.{◌∙◌, ◌^◌, ap}
 use Rattle.byteorder.specs.Endian.{big_number}
 use Rattle.sequence_journal.specs.declared.numbers.TheConstants.{LIMIT}
 use Rattle.sequence_journal.specs.Numbers.{full_of}

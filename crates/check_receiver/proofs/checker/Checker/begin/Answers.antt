@@ -1,9 +1,8 @@
-use Rattle.std.proofs.Common.{◌≡◌, ◌∙◌, ◌<◌, ◌≤◌, ℕ, ⊎_elim, sym, ap, subst, arith, List, Option}
+use Rattle.std.proofs.Common.{◌≡◌, ◌∙◌, ℕ, ⊎_elim, sym, ap, subst, arith, Option}
 use Rattle.std.proofs.Common.{[], ◌∷◌, ◌++◌}
 use Rattle.yasir_ticks.specs.declared.tick.Tick.{Tick}
 use Rattle.yasir_ticks.specs.declared.tick.Tick.TheVariants.{Byte}
 use Rattle.frame_ending.specs.declared.cut.Cut.TheVariants.{Start}
-use Rattle.frame_ending.specs.SoFar.{start_so_far}
 use Rattle.frame_ending.proofs.Running.{start-tick}
 use Rattle.link_verdicts.specs.declared.note.CheckNote.{CheckNote}
 use Rattle.check_receiver.specs.Between.{IsNoPass, IsBetween}

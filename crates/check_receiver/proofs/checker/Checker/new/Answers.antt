@@ -1,10 +1,8 @@
-use Rattle.std.proofs.Common.{◌≡◌, ◌∙◌, ◌+◌, ◌-◌, ◌≤◌, ℕ, refl, sym, ap, subst, arith, List, []}
-use Rattle.std.proofs.Common.{◌++◌, length, false, None}
+use Rattle.std.proofs.Common.{◌≡◌, ◌∙◌, ◌-◌, ℕ, refl, sym, ap, subst, arith, []}
+use Rattle.std.proofs.Common.{length, false, None}
 use Rattle.yasir_ticks.specs.Ticks.{silent}
 use Rattle.yasir_ticks.specs.Bursts.{bursts}
 use Rattle.yasir_ticks.specs.declared.tick.Tick.{Tick}
-use Rattle.delay_ring.specs.DelayRing.{ring_ticks}
-use Rattle.spoiler.specs.Outlet.{owed_by}
 use Rattle.link_format.specs.Profile.{Profile, profile_of}
 use Rattle.link_format.specs.Setup.{Setup, setup_of}
 use Rattle.sequence_journal.specs.declared.numbers.TheConstants.{LIMIT}

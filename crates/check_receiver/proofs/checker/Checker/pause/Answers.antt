@@ -1,6 +1,5 @@
-use Rattle.std.proofs.Common.{◌≡◌, ◌∙◌, ◌+◌, ◌≤◌, ◌<◌, ◌⊎◌, ⊎_elim, ℕ, List, sym, ap, subst, arith}
-use Rattle.std.proofs.Common.{length, Option, None, Some, [], ◌∷◌, ◌++◌}
-use Rattle.yasir_ticks.specs.Bursts.{Burst}
+use Rattle.std.proofs.Common.{◌≡◌, ◌∙◌, ◌+◌, ◌<◌, ⊎_elim, sym, ap, subst, arith}
+use Rattle.std.proofs.Common.{length, Option, [], ◌∷◌, ◌++◌}
 use Rattle.yasir_ticks.specs.declared.tick.Tick.TheVariants.{Silent}
 use Rattle.line_rules.specs.Rules.{head_of}
 use Rattle.line_rules.specs.declared.head.Head.TheVariants.{Short}

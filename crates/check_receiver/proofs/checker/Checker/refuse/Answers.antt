@@ -1,4 +1,4 @@
-use Rattle.std.proofs.Common.{◌≡◌, ◌+◌, ap, sym, subst, arith, Some, length}
+use Rattle.std.proofs.Common.{◌≡◌, ap, sym, subst, arith, Some, length}
 use Rattle.line_rules.specs.Rules.{left_of}
 use Rattle.frame_ending.specs.declared.burst_cut.BurstCut.{BurstCut}
 use Rattle.frame_ending.specs.Stands.{StandsFor as CutStandsFor}

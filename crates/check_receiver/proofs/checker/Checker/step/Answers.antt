@@ -1,4 +1,3 @@
-use Rattle.std.proofs.Common.{ℕ}
 use Rattle.sequence_journal.specs.Commits.{HasFailed}
 use Rattle.sequence_journal.specs.Journal.{journal_floor}
 use Rattle.check_receiver.proofs.Journals.{journal-kept}

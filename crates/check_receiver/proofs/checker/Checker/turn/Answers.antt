@@ -1,9 +1,9 @@
-use Rattle.std.proofs.Common.{◌≡◌, ◌∙◌, ℕ, [], ◌∷◌, ◌++◌, refl, sym, ap, subst, not, true, false}
-use Rattle.std.proofs.Common.{List, ◌==◌, Option}
+use Rattle.std.proofs.Common.{◌≡◌, ◌∙◌, ℕ, ◌++◌, refl, sym, ap, subst, not}
+use Rattle.std.proofs.Common.{◌==◌, Option}
 use Rattle.yasir_ticks.specs.declared.tick.Tick.{Tick}
 use Rattle.yasir_ticks.specs.declared.tick.Tick.TheVariants.{Silent, Byte}
 use Rattle.line_rules.specs.Rules.{fills_room}
-use Rattle.spoiler.specs.Outlet.{StandsFor as OutletStandsFor, owed_by, filled, filled_bytes}
+use Rattle.spoiler.specs.Outlet.{StandsFor as OutletStandsFor, filled_bytes}
 use Rattle.link_verdicts.specs.Turns.{HasTurned, tick_or_silence}
 use Rattle.check_receiver.proofs.checker.Checker.turn.Goals as goal
 

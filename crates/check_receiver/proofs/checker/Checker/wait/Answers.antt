@@ -1,4 +1,4 @@
-use Rattle.std.proofs.Common.{◌≡◌, ◌∙◌, ◌+◌, ◌≤◌, ◌<◌, ℕ, sym, arith, length, true, Some, [], ◌∷◌}
+use Rattle.std.proofs.Common.{◌∙◌, ◌+◌, ◌≤◌, ◌<◌, sym, arith, length, [], ◌∷◌}
 use Rattle.std.proofs.Common.{◌++◌}
 use Rattle.yasir_ticks.specs.declared.tick.Tick.TheVariants.{Silent}
 use Rattle.frame_ending.specs.LiveBytes.{live_end}
