@@ -27,7 +27,7 @@ pub apart : (x : List ℕ) → 2 ≤ length x
     → x ≡ body_of x ++ (get_or x (length x - 2) 0 ∷ get_or x (length x - 1) 0 ∷ [])
 apart x long = sym (take-append-drop (length x - 2) x) ∙ ap (λ y. body_of x ++ y) (last_two x long)
 
-ending : (x : List ℕ) (body : List ℕ) (low high : ℕ) → x ≡ body ++ (low ∷ high ∷ [])
+pub ending : (x : List ℕ) (body : List ℕ) (low high : ℕ) → x ≡ body ++ (low ∷ high ∷ [])
     → (body_of x ≡ body) × (get_or x (length x - 2) 0 ≡ low) × (get_or x (length x - 1) 0 ≡ high)
 ending x body low high e =
     let two : length x ≡ length body + 2 = ap length e ∙ length-append body (low ∷ high ∷ []) in

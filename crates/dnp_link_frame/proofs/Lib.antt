@@ -5,3 +5,8 @@ pub mod Table
 pub mod HeaderLaws
 pub mod DnpLaws
 pub mod Rows
+pub mod Parts
+pub mod BlockParts
+pub mod FrameParts
+pub mod Loops
+pub mod FrameLaws

@@ -70,7 +70,7 @@ pub end_in_crcs-none : (x : List ℕ) → end_in_crcs 0 x ≡ true
 unfolding end_in_crcs
 end_in_crcs-none x = refl
 
-end_in_crcs-next : (n : ℕ) (x : List ℕ)
+pub end_in_crcs-next : (n : ℕ) (x : List ℕ)
     → end_in_crcs (suc n) x ≡ (ends_in_crc (take 18 x) && end_in_crcs n (drop 18 x))
 unfolding end_in_crcs
 end_in_crcs-next n x = refl

@@ -7,3 +7,4 @@ pub mod Rules
 pub mod RulesLaws
 pub mod Steps
 pub mod Dnp
+pub mod Beginnings

@@ -1,6 +1,7 @@
-use crate::{Dnp, dnp_crc, size_of};
+use crate::{Dnp, Header, NotAFrame, TooMuchData, build, dnp_crc, size_of, user_data};
 use line_rules::{Head, LineRules};
 use std::mem;
+use std::test::Fail;
 
 // The reset of a link, from the master 1024 to the outstation 1.
 const RESET_LINK: [u8; 10] = [0x05, 0x64, 0x05, 0xC0, 0x01, 0x00, 0x00, 0x04, 0xE9, 0x21];
@@ -171,4 +172,104 @@ fn spoiled_bytes(rt: HostRuntime) {
 #[test]
 fn small_values(rt: HostRuntime) {
     assert!(rt; mem::size_of::<Dnp>() <= 128);
+}
+
+const TO_OUTSTATION: Header = Header {
+    control: 0xC4,
+    destination: 1,
+    source: 1024,
+};
+
+// The user data of the largest frame.
+fn most_user_data() -> [u8; 250] {
+    let mut user = [0; 250];
+    let mut next = 3u8;
+    for byte in user.iter_mut() {
+        *byte = next;
+        next = next.wrapping_add(7);
+    }
+    user
+}
+
+#[test]
+fn built_frames(rt: HostRuntime) -> Result<(), Fail> {
+    let read = build(&TO_OUTSTATION, b"\xC0\xC0\x01\x3C\x02\x06")?;
+    assert_eq!(rt; read.as_slice(), READ_CLASS.as_slice());
+    let reset = Header {
+        control: 0xC0,
+        ..TO_OUTSTATION
+    };
+    assert_eq!(rt; build(&reset, b"")?.as_slice(), RESET_LINK.as_slice());
+    assert_eq!(rt;
+        build(&TO_OUTSTATION, b"\xC7\x70")?.as_slice(),
+        ENDS_IN_ZEROS.as_slice()
+    );
+    assert_eq!(rt;
+        build(&TO_OUTSTATION, &most_user_data())?.as_slice(),
+        LARGEST.as_slice()
+    );
+
+    // an address has its low byte first
+    let turned = Header {
+        destination: 0x0102,
+        ..TO_OUTSTATION
+    };
+    assert_eq!(rt;
+        &build(&turned, b"")?.as_slice()[4..8],
+        b"\x02\x01\x00\x04".as_slice()
+    );
+
+    assert!(rt;
+        matches!(
+            build(&TO_OUTSTATION, &[0; 251]),
+            Err(TooMuchData { len: 251 })
+        )
+    );
+    Ok(())
+}
+
+#[test]
+fn user_data_of_frames(rt: HostRuntime) -> Result<(), Fail> {
+    let (header, user) = user_data(&READ_CLASS)?;
+    assert_eq!(rt; header, TO_OUTSTATION);
+    assert_eq!(rt; user.as_slice(), b"\xC0\xC0\x01\x3C\x02\x06".as_slice());
+    let (header, user) = user_data(&RESET_LINK)?;
+    assert_eq!(rt; header.control, 0xC0);
+    assert_eq!(rt; user.len(), 0);
+    let (header, user) = user_data(&LARGEST)?;
+    assert_eq!(rt; header, TO_OUTSTATION);
+    assert_eq!(rt; user.as_slice(), most_user_data().as_slice());
+    Ok(())
+}
+
+// Where these bytes are refused, or `None` where they are a frame.
+fn refused_at(bytes: &[u8]) -> Option<u16> {
+    match user_data(bytes) {
+        Ok(_) => None,
+        Err(NotAFrame { place }) => Some(place),
+    }
+}
+
+#[test]
+fn refused_places(rt: HostRuntime) {
+    assert_eq!(rt; refused_at(b""), Some(0));
+    assert_eq!(rt; refused_at(b"\x05\x64"), Some(2));
+    assert_eq!(rt; refused_at(b"\x05\x64\x04"), Some(2));
+    assert_eq!(rt;
+        refused_at(b"\x05\x64\x05\xC0\x01\x00\x00\x04\xE9\x20"),
+        Some(9)
+    );
+    assert_eq!(rt;
+        refused_at(b"\x05\x64\x05\xC0\x01\x00\x00\x04\xE9\x21\x00"),
+        Some(10)
+    );
+    assert_eq!(rt; refused_at(&ENDS_IN_ZEROS[..12]), Some(12));
+    for k in 0..LARGEST.len() {
+        assert_eq!(rt; refused_at(&LARGEST[..k]).map(usize::from), Some(k));
+    }
+
+    // a wrong byte of user data shows in the first byte of its block's CRC
+    let mut wrong = LARGEST;
+    wrong[30] ^= 1;
+    assert_eq!(rt; refused_at(&wrong), Some(44));
 }

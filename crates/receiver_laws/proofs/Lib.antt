@@ -11,3 +11,5 @@ pub mod Worked
 pub mod Packing
 pub mod Delivering
 pub mod Deliveries
+pub mod Accounting
+pub mod Headline

@@ -1,3 +1,5 @@
 pub mod Reading
 pub mod Standing
 pub mod Untouched
+pub mod Accounted
+pub mod Headline

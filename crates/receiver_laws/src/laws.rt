@@ -1,6 +1,7 @@
 ghost use Rattle.std.specs.Prelude.{◌≡◌, ◌≤◌, ◌∷◌, ◌++◌, ℕ, List, Contains};
 ghost use Rattle.yasir_ticks.specs.declared.TheConstants.{T3_5_TICKS, T1_5_TICKS};
 ghost use Rattle.yasir_ticks.specs.declared.tick.Tick.{Tick};
+ghost use Rattle.seal_transmitter.specs.Sealing.{sealed};
 ghost use Rattle.yasir_ticks.specs.Bursts.{Burst, bursts};
 ghost use Rattle.burst_walk.specs.Walk.{state_after};
 ghost use Rattle.burst_walk.specs.Longer.{Begins, Extends};
@@ -10,6 +11,8 @@ ghost use Rattle.link_verdicts.specs.Packet.{IsPacket};
 ghost use Rattle.link_verdicts.specs.Timely.{IsTimely};
 ghost use Rattle.link_verdicts.specs.Verdicts.{CheckState, checked};
 ghost use Rattle.link_verdicts.specs.Verdicts.Verdict.{passed_with};
+ghost use Rattle.receiver_laws.specs.Accounted.{IsAccountedFor};
+ghost use Rattle.receiver_laws.specs.Headline.{ReadsWhatWasSealed};
 ghost use Rattle.receiver_laws.specs.Reading.{ReadsWhatPassed};
 ghost use Rattle.receiver_laws.specs.Standing.{HavePassed, numbered_frame};
 
@@ -63,4 +66,28 @@ pub fn whole_packets_pass<R: LineRules>()
         → IsPacket profile R.rules
         (state_after (checker profile R.rules) (at_floor floor) front) d number
         → Contains (passed profile R.rules floor link) (numbered_frame R.rules d number) }
+{}
+
+/// A law of the transmitter's and the receiver's definitions, for the rules of each protocol, each
+/// profile, floors, line of a device and link: however the link came about, the frames that passed
+/// are, with their numbers, a subsequence of those that were sealed, but for the forged ones; and
+/// numbers rise on both sides, so that none is sealed or passed twice. Forged is a frame that
+/// passed, so that its tag fits, with a number under which it wasn't sealed.
+pub fn passed_frames_are_accounted_for<R: LineRules>()
+    ensures { (profile : Profile) (seal_floor check_floor : ℕ) (line link : List Tick)
+        → IsAccountedFor seal_floor check_floor (sealed profile R.rules seal_floor line)
+        (passed profile R.rules check_floor link) }
+{}
+
+/// A law of the transmitter's and the receiver's definitions, for each profile, floors, line of a
+/// device and link: however the link was altered, cut, repeated or reordered, the frames that a
+/// Modbus RTU device reads behind the receiver are a subsequence of those that the transmitter
+/// sealed, unless one that passed is forged. So it is for the other devices of
+/// `device_reads_what_passed`.
+pub fn device_reads_what_was_sealed()
+    ensures rtu { (profile : Profile) (seal_floor check_floor : ℕ) (line link : List Tick)
+        → ReadsWhatWasSealed T3_5_TICKS T1_5_TICKS profile seal_floor check_floor line link }
+    ensures others { (cut pause : ℕ) (profile : Profile) (seal_floor check_floor : ℕ)
+        (line link : List Tick) → 2 ≤ cut → cut ≤ delay profile → 2 ≤ pause
+        → ReadsWhatWasSealed cut pause profile seal_floor check_floor line link }
 {}

@@ -10,6 +10,7 @@ mod laws;
 mod untouched;
 
 pub use laws::{
-    device_reads_what_passed, longer_links, passed_frames_stand_on_the_link, whole_packets_pass,
+    device_reads_what_passed, device_reads_what_was_sealed, longer_links,
+    passed_frames_are_accounted_for, passed_frames_stand_on_the_link, whole_packets_pass,
 };
 pub use untouched::untouched_link_delivers_all;

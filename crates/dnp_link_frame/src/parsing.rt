@@ -1,0 +1,177 @@
+ghost use Rattle.std.specs.Prelude.{◌≡◌, ◌+◌, ◌*◌, ◌≤◌, ◌↔◌, length, IsOk, IfOk, IfErr};
+ghost use Rattle.std.specs.Prelude.{slice_index, ◌++◌, ◌==◌, ◌&&◌};
+ghost use Rattle.arrayvec.specs.ArrayVec.{array_vec_len};
+ghost use Rattle.dnp_link_frame.specs.Blocks.{length_byte, size_by};
+ghost use Rattle.dnp_link_frame.specs.Frame.{IsFrameOf, IsFrame, IsLongestBeginning, blocks_for};
+ghost use Rattle.dnp_link_frame.specs.Beginnings.{right_in_start, right_in_part, right_in_blocks};
+ghost use Rattle.dnp_link_frame.specs.Beginnings.{right_in_frame, user_in_blocks, header_in};
+ghost use Rattle.dnp_link_frame.specs.Beginnings.{user_in};
+
+use crate::crc::dnp_crc;
+use crate::header::Header;
+use crate::size::{BLOCK_DATA_LEN, COUNTED_OF_HEADER, CRC_LEN, HEADER_LEN, size_by};
+use crate::steps::START;
+use arrayvec::ArrayVec;
+
+const FIELDS_LEN: usize = HEADER_LEN as usize - 2;
+
+const BLOCK: usize = BLOCK_DATA_LEN as usize;
+
+const BLOCK_WITH_CRC: usize = (BLOCK_DATA_LEN + CRC_LEN) as usize;
+
+/// The user data of a frame.
+pub type UserBytes = ArrayVec<u8, 250>;
+
+/// These bytes are no frame.
+#[derive(Clone, Copy, Debug, PartialEq, Eq)]
+pub struct NotAFrame {
+    /// How many of the first bytes are the longest beginning of them with which a frame begins.
+    pub place: u16,
+}
+
+fn byte_at(bytes: &[u8], place: usize) -> u8
+    ensures { result ≡ slice_index bytes.now place }
+{
+    bytes.get(place).copied().unwrap_or(0)
+}
+
+// How many of the bytes 05 64 and a LEN of at least 5 are there.
+#[tactic(auto, unfolding(crate::specs::Beginnings::right_in_start))]
+fn right_in_start(bytes: &[u8]) -> usize
+    ensures { result ≡ right_in_start bytes.now }
+{
+    if byte_at(bytes, 0) != START[0] {
+        return 0;
+    }
+    if byte_at(bytes, 1) != START[1] {
+        return 1;
+    }
+    if byte_at(bytes, 2) < COUNTED_OF_HEADER {
+        return 2;
+    }
+    3
+}
+
+// How many bytes are right of a part with so many bytes of any sort and their CRC.
+#[tactic(auto, unfolding(crate::specs::Beginnings::right_in_part))]
+fn right_in_part(bytes: &[u8], len: usize) -> usize
+    requires { len ≤ 16 }
+    ensures right { result ≡ right_in_part len bytes.now }
+    ensures within { result ≤ length bytes.now }
+    ensures most { result ≤ len + 2 }
+{
+    if bytes.len() <= len {
+        return bytes.len();
+    }
+    let [low, high] = dnp_crc(&bytes[..len]).to_le_bytes();
+    if bytes[len] != low {
+        return len;
+    }
+    if bytes.len() > len + 1 && bytes[len + 1] == high {
+        len + 2
+    } else {
+        len + 1
+    }
+}
+
+// How many bytes are right of blocks with so many bytes of user data.
+fn right_in_blocks(bytes: &[u8], user_len: usize) -> usize
+    requires { user_len ≤ 250 }
+    ensures right { result ≡ right_in_blocks (blocks_for user_len) user_len bytes.now }
+    ensures within { result ≤ length bytes.now }
+    ensures most { result ≤ user_len + 2 * blocks_for user_len }
+{
+    let blocks = user_len.div_ceil(BLOCK);
+    for n in 0..blocks {
+        let len = (user_len - n * BLOCK).min(BLOCK);
+        let right = right_in_part(&bytes[n * BLOCK_WITH_CRC..], len);
+        if right != len + 2 {
+            return n * BLOCK_WITH_CRC + right;
+        }
+    }
+    user_len + 2 * blocks
+}
+
+// How many bytes are right of a frame.
+fn right_in_frame(bytes: &[u8]) -> usize
+    ensures right { result ≡ right_in_frame bytes.now }
+    ensures within { result ≤ length bytes.now }
+    ensures most { result ≤ 292 }
+{
+    let start = right_in_start(bytes);
+    if start < 3 {
+        return start;
+    }
+    let header = right_in_part(bytes, FIELDS_LEN);
+    if header != FIELDS_LEN + 2 {
+        return header;
+    }
+    let user_len = usize::from(byte_at(bytes, 2).saturating_sub(COUNTED_OF_HEADER));
+    FIELDS_LEN + 2 + right_in_blocks(&bytes[FIELDS_LEN + 2..], user_len)
+}
+
+fn header_in(bytes: &[u8]) -> Header
+    requires { 8 ≤ length bytes.now }
+    ensures { result ≡ header_in bytes.now }
+{
+    Header {
+        control: bytes[3],
+        destination: u16::from_le_bytes([bytes[4], bytes[5]]),
+        source: u16::from_le_bytes([bytes[6], bytes[7]]),
+    }
+}
+
+fn push_bytes(user: &mut UserBytes, bytes: &[u8])
+    requires { array_vec_len user.old + length bytes.now ≤ 250 }
+    ensures { user.new.items ≡ user.old.items ++ bytes.now }
+{
+    let _ = user.try_extend_from_slice(bytes);
+}
+
+// The bytes of each block of a frame's user data without its CRC.
+fn user_in_blocks(bytes: &[u8], blocks: usize) -> UserBytes
+    requires fit { length bytes.now ≤ 250 + 2 * blocks }
+    requires blocks { 18 * blocks ≤ length bytes.now + 15 }
+    ensures { result.items ≡ user_in_blocks blocks bytes.now }
+{
+    let mut user = UserBytes::new();
+    for n in 0..blocks {
+        let from = n * BLOCK_WITH_CRC;
+        let to = bytes.len().min(from + BLOCK_WITH_CRC) - 2;
+        push_bytes(&mut user, &bytes[from..to]);
+    }
+    user
+}
+
+// The user data of a frame.
+fn user_in(frame: &[u8]) -> UserBytes
+    requires size { length frame.now ≡ size_by (length_byte frame.now) }
+    ensures { result.items ≡ user_in frame.now }
+{
+    let user_len = usize::from(byte_at(frame, 2).saturating_sub(COUNTED_OF_HEADER));
+    user_in_blocks(&frame[FIELDS_LEN + 2..], user_len.div_ceil(BLOCK))
+}
+
+// Whether so many right bytes are all, and none is lacking.
+fn is_whole(bytes: &[u8], right: usize) -> bool
+    ensures { result
+        ≡ (right == length bytes.now && length bytes.now == size_by (length_byte bytes.now)) }
+{
+    right == bytes.len() && bytes.len() == usize::from(size_by(byte_at(bytes, 2)))
+}
+
+/// The header and the user data of a frame: what `build` made it of. `NotAFrame` where these bytes
+/// are no frame.
+pub fn user_data(frame: &[u8]) -> Result<(Header, UserBytes), NotAFrame>
+    ensures read { IfOk result (λ read. IsFrameOf read.0 read.1.items frame.now) }
+    ensures cause { IsOk result ↔ IsFrame frame.now }
+    ensures place { IfErr result (λ error. IsLongestBeginning frame.now error.place) }
+{
+    let right = right_in_frame(frame);
+    if !is_whole(frame, right) {
+        return Err(NotAFrame {
+            place: right as u16,
+        });
+    }
+    Ok((header_in(frame), user_in(frame)))
+}

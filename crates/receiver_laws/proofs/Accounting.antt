@@ -1,0 +1,177 @@
+-- Frames that passed and were sealed so are a subsequence of the sealed ones, since the numbers of
+-- both rise.
+use Rattle.std.proofs.Common.{◌≡◌, ◌∙◌, ◌==◌, ◌&&◌, ◌||◌, ℕ, zero, suc, ◌+◌, ◌<◌, ◌≤◌}
+use Rattle.std.proofs.Common.{Bool, true, false, List, [], ◌∷◌, length, refl, sym, ap, subst}
+use Rattle.std.proofs.Common.{arith, ⊎_elim, if◌then◌else◌}
+use Rattle.std.specs.Prelude.{bytes_eq}
+use Rattle.std.specs.List.{range_with_len}
+use Rattle.std.proofs.lemmas.Bool.{cases_lt, cases_eq, cases_Bool, eq-eqb, ne_eqb}
+use Rattle.std.proofs.lemmas.Bool.{and_left}
+use Rattle.std.proofs.lemmas.Slice.Eq.{bytes_eq-Decides}
+use Rattle.yasir_ticks.specs.declared.tick.Tick.{Tick}
+use Rattle.line_rules.specs.Rules.{Rules}
+use Rattle.line_rules.specs.RulesLaws.{IsLawful}
+use Rattle.sequence_journal.specs.Uptimes.{RiseFrom}
+use Rattle.link_format.specs.NumberedFrame.{NumberedFrame, numbers_of}
+use Rattle.link_format.specs.Profile.{Profile}
+use Rattle.seal_transmitter.specs.Sealing.{sealed}
+use Rattle.seal_transmitter.proofs.Numbers.{sealed-numbered}
+use Rattle.link_verdicts.specs.Checking.{passed}
+use Rattle.receiver_laws.specs.Accounted.{Pair, pair_of, pairs_of, is_same_pair, is_among}
+use Rattle.receiver_laws.specs.Accounted.{rightly_passed, IsSubsequence, IsAccountedFor}
+use Rattle.receiver_laws.specs.Accounted.IsSubsequence.{none, skip, keep}
+use Rattle.receiver_laws.proofs.Rising.{have_passed}
+
+-- ---- numbers that rise
+
+rise-lower : (low high : ℕ) (numbers : List ℕ) → low ≤ high → RiseFrom high numbers
+    → RiseFrom low numbers
+rise-lower low high [] below rise = rise
+rise-lower low high (n ∷ numbers) below rise =
+    let first = rise.0 in
+    (omega arith, rise.1)
+
+range-rises : (floor n : ℕ) → RiseFrom floor (range_with_len (floor + 1) n)
+range-rises floor zero = tt
+range-rises floor (suc n) = (omega arith, range-rises (floor + 1) n)
+
+-- ---- which frames are among others
+
+other-number : (g f : NumberedFrame) → (g.number ≡ f.number → ⊥) → is_same_pair g f ≡ false
+other-number g f other = and_left (g.number == f.number) (bytes_eq g.frame f.frame)
+    (ne_eqb g.number f.number other)
+
+-- a frame isn't among frames whose numbers are all greater
+below-all : (frames : List NumberedFrame) (f : NumberedFrame) (m : ℕ) → f.number ≤ m
+    → RiseFrom m (numbers_of frames) → is_among frames f ≡ false
+below-all [] f m below rise = refl
+below-all (g ∷ frames) f m below rise =
+    let first = rise.0 in
+    let other : g.number ≡ f.number → ⊥ = λ same. absurd (omega arith) in
+    ap (λ b. b || is_among frames f) (other-number g f other)
+    ∙ below-all frames f g.number (omega arith) rise.1
+
+module _ (g : NumberedFrame) (frames : List NumberedFrame) where
+  -- of frames with greater numbers none is the first one
+  behind : (passed_ones : List NumberedFrame) (m : ℕ) → g.number ≤ m
+      → RiseFrom m (numbers_of passed_ones)
+      → rightly_passed (g ∷ frames) passed_ones ≡ rightly_passed frames passed_ones
+  behind [] m below rise = refl
+  behind (f ∷ passed_ones) m below rise =
+      let first = rise.0 in
+      let other : g.number ≡ f.number → ⊥ = λ same. absurd (omega arith) in
+      let here : is_among (g ∷ frames) f ≡ is_among frames f =
+      ap (λ b. b || is_among frames f) (other-number g f other) in
+      let rest = behind passed_ones f.number (omega arith) rise.1 in
+      ap (λ b. if b then f ∷ rightly_passed (g ∷ frames) passed_ones
+      else rightly_passed (g ∷ frames) passed_ones) here
+      ∙ ap (λ l. if is_among frames f then f ∷ l else l) rest
+
+-- ---- the frames that passed and were sealed so
+
+pub nothing-is : {X : Type 0} (y : List X) → IsSubsequence [] y
+nothing-is [] = none
+nothing-is (a ∷ y) = skip (nothing-is y)
+
+same-pair : (g f : NumberedFrame) → g.number ≡ f.number → bytes_eq g.frame f.frame ≡ true
+    → pair_of f ≡ pair_of g
+same-pair g f same is =
+    let frame = (bytes_eq-Decides g.frame f.frame).0 is in
+    let P : ℕ → List ℕ → Type 0 = λ n x. pair_of f ≡ record { number = n; frame = x } in
+    subst (λ n. P n g.frame) (sym same) (subst (λ x. P f.number x) (sym frame) refl)
+
+abbrev IsPart : List NumberedFrame → List NumberedFrame → Type 0
+IsPart frames passed_ones =
+    IsSubsequence (pairs_of (rightly_passed frames passed_ones)) (pairs_of frames)
+
+module _ (g : NumberedFrame) (frames : List NumberedFrame)
+    (rises : RiseFrom g.number (numbers_of frames))
+    (part : (passed_ones : List NumberedFrame) (m : ℕ) → RiseFrom m (numbers_of passed_ones)
+    → IsPart frames passed_ones) where
+  -- a frame that isn't among the sealed ones is left out
+  left-out : (f : NumberedFrame) (passed_ones : List NumberedFrame)
+      → is_among (g ∷ frames) f ≡ false → IsPart (g ∷ frames) passed_ones
+      → IsPart (g ∷ frames) (f ∷ passed_ones)
+  left-out f passed_ones not_there is =
+      let P : Bool → Type 0 = λ b. IsSubsequence (pairs_of (if b
+      then f ∷ rightly_passed (g ∷ frames) passed_ones
+      else rightly_passed (g ∷ frames) passed_ones)) (pairs_of (g ∷ frames)) in
+      subst P (sym not_there) is
+
+  -- the first sealed frame is the next that passed
+  taken : (f : NumberedFrame) (passed_ones : List NumberedFrame) → g.number ≡ f.number
+      → bytes_eq g.frame f.frame ≡ true → RiseFrom f.number (numbers_of passed_ones)
+      → IsPart (g ∷ frames) (f ∷ passed_ones)
+  taken f passed_ones same is rise =
+      let here : is_same_pair g f ≡ true =
+      ap (λ b. b && bytes_eq g.frame f.frame) (eq-eqb g.number f.number same) ∙ is in
+      let among : is_among (g ∷ frames) f ≡ true = ap (λ b. b || is_among frames f) here in
+      let P : Bool → Type 0 = λ b. IsSubsequence (pairs_of (if b
+      then f ∷ rightly_passed (g ∷ frames) passed_ones
+      else rightly_passed (g ∷ frames) passed_ones)) (pairs_of (g ∷ frames)) in
+      let Q : Pair → List NumberedFrame → Type 0 = λ a l.
+      IsSubsequence (a ∷ pairs_of l) (pairs_of (g ∷ frames)) in
+      let kept : Q (pair_of g) (rightly_passed frames passed_ones) =
+      keep (part passed_ones f.number rise) in
+      let moved : Q (pair_of g) (rightly_passed (g ∷ frames) passed_ones) =
+      subst (λ l. Q (pair_of g) l)
+      (sym (behind g frames passed_ones f.number (omega arith) rise)) kept in
+      subst P (sym among)
+      (subst (λ a. Q a (rightly_passed (g ∷ frames) passed_ones)) (sym (same-pair g f same is))
+      moved)
+
+  one_more : (passed_ones : List NumberedFrame) (m : ℕ) → RiseFrom m (numbers_of passed_ones)
+      → IsPart (g ∷ frames) passed_ones
+  one_more [] m rise = nothing-is (pairs_of (g ∷ frames))
+  one_more (f ∷ passed_ones) m rise =
+      let rest : IsPart (g ∷ frames) passed_ones = one_more passed_ones f.number rise.1 in
+      ⊎_elim
+      (λ before. left-out f passed_ones
+      (below-all (g ∷ frames) f f.number (omega arith) (before, rises)) rest)
+      (λ not_before. ⊎_elim
+      (λ same. ⊎_elim
+      (λ is. taken f passed_ones same is rise.1)
+      (λ isn't. left-out f passed_ones
+      (ap (λ b. b || is_among frames f)
+      (ap (λ b. b && bytes_eq g.frame f.frame) (eq-eqb g.number f.number same) ∙ isn't)
+      ∙ below-all frames f g.number (omega arith) rises) rest)
+      (cases_Bool (bytes_eq g.frame f.frame)))
+      (λ other. let later : g.number < f.number = omega arith in
+      let P : List NumberedFrame → Type 0 = λ l.
+      IsSubsequence (pairs_of l) (pairs_of (g ∷ frames)) in
+      subst P (sym (behind g frames (f ∷ passed_ones) g.number (omega arith) (later, rise.1)))
+      (skip (part (f ∷ passed_ones) m rise)))
+      (cases_eq g.number f.number))
+      (cases_lt f.number g.number)
+
+part-of : (frames : List NumberedFrame) (floor : ℕ) → RiseFrom floor (numbers_of frames)
+    → (passed_ones : List NumberedFrame) (m : ℕ) → RiseFrom m (numbers_of passed_ones)
+    → IsPart frames passed_ones
+part-of [] floor rises passed_ones m rise = nothing-sealed passed_ones
+  where
+    nothing-sealed : (passed_ones : List NumberedFrame) → IsPart [] passed_ones
+    nothing-sealed [] = none
+    nothing-sealed (f ∷ passed_ones) = nothing-sealed passed_ones
+part-of (g ∷ frames) floor rises passed_ones m rise =
+    one_more g frames rises.1 (part-of frames g.number rises.1) passed_ones m rise
+
+-- ---- the law
+
+pub accounted-for : (profile : Profile) (rules : Rules) → IsLawful rules
+    → (seal_floor check_floor : ℕ) (line link : List Tick)
+    → IsAccountedFor seal_floor check_floor (sealed profile rules seal_floor line)
+    (passed profile rules check_floor link)
+accounted-for profile rules lawful seal_floor check_floor line link =
+    let sealed_ones : List NumberedFrame = sealed profile rules seal_floor line in
+    let passed_ones : List NumberedFrame = passed profile rules check_floor link in
+    let numbered = (sealed-numbered profile rules lawful seal_floor line).numbers in
+    let sealed_rise : RiseFrom seal_floor (numbers_of sealed_ones) =
+    subst (λ l. RiseFrom seal_floor l) (sym numbered)
+    (range-rises seal_floor (length sealed_ones)) in
+    let passed_rise : RiseFrom check_floor (numbers_of passed_ones) =
+    (have_passed profile rules lawful check_floor link).rise in
+    record {
+      subsequence = part-of sealed_ones seal_floor sealed_rise passed_ones check_floor passed_rise;
+      sealed_rise = sealed_rise;
+      passed_rise = passed_rise;
+    }
