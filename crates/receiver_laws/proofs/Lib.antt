@@ -2,6 +2,9 @@ pub mod Notes
 pub mod Calm
 pub mod Settled
 pub mod Readings
+pub mod RtuReadings
+pub mod Hunters
+pub mod HunterReadings
 pub mod Words
 pub mod Standing
 pub mod Rising
