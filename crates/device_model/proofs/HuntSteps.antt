@@ -1,12 +1,13 @@
 -- The steps of a device that hunts, over the values that it has before and after.
-use Rattle.std.proofs.Common.{◌≡◌, ◌∙◌, ℕ, suc, ◌+◌, ◌<◌, ◌≤◌, true, false, ◌==◌}
+use Rattle.std.proofs.Common.{◌≡◌, ◌∙◌, ℕ, zero, suc, ◌+◌, ◌<◌, ◌≤◌, true, false, ◌==◌}
 use Rattle.std.proofs.Common.{List, [], ◌∷◌, ◌++◌, length, refl, sym, ap, subst, arith}
 use Rattle.std.proofs.Common.{length-append, append_assoc}
 use Rattle.std.proofs.lemmas.Bool.{ne_eqb, eq-eqb, and_from}
-use Rattle.std.proofs.lemmas.List.{append-nil}
+use Rattle.std.proofs.lemmas.List.{append-nil, length-replicate}
 use Rattle.line_rules.specs.Rules.{Rules, head_of, left_of}
 use Rattle.line_rules.specs.declared.head.Head.{Head}
 use Rattle.line_rules.specs.declared.line_rules.LineRules.{Ghosts as LineRules}
+use Rattle.yasir_ticks.specs.Ticks.{silent}
 use Rattle.yasir_ticks.specs.declared.tick.Tick.{Tick}
 use Rattle.yasir_ticks.specs.declared.tick.Tick.TheVariants.{Silent, Byte}
 use Rattle.device_model.specs.declared.hunting.HuntingDevice.{HuntingDevice}
@@ -47,6 +48,16 @@ pub timed-silent : (line : List Tick) → timed 0 (line ++ Silent ∷ []) ≡ ti
 timed-silent line =
     let at : 0 + length line ≡ length line = omega arith in
     timed-append 0 (length line) line (Silent ∷ []) at ∙ append-nil (timed 0 line)
+
+silent-timed : (n m : ℕ) → timed n (silent m) ≡ []
+silent-timed n zero = refl
+silent-timed n (suc m) = silent-timed (suc n) m
+
+pub timed-silences : (line : List Tick) (n : ℕ) → timed 0 (line ++ silent n) ≡ timed 0 line
+timed-silences line n =
+    let at : 0 + length line ≡ length line = omega arith in
+    timed-append 0 (length line) line (silent n) at
+    ∙ (ap (λ y. timed 0 line ++ y) (silent-timed (length line) n) ∙ append-nil (timed 0 line))
 
 module _ {R : Type 0} (proto : LineRules R) (first second : ℕ)
     (hunted : IsHunted first second proto.rules) where
@@ -439,6 +450,21 @@ module _ {R : Type 0} (proto : LineRules R) (first second : ℕ)
   silence-reads t is line =
       ap (λ u. hunts (timed 0 (line ++ u ∷ []))) is
       ∙ (ap hunts (timed-silent line) ∙ sym (append-nil (hunts (timed 0 line))))
+
+  pub silences-stand : (old : HuntingDevice R) (n : ℕ) (line : List Tick) → Stands old line
+      → Stands (record old { ticks = old.ticks + n }) (line ++ silent n)
+  silences-stand old n line heard =
+      let sum = length-append line (silent n) in
+      let long = length-replicate n Silent in
+      let was = heard.count in
+      record {
+        count = omega arith;
+        heard = subst (λ y. Heard old y) (sym (timed-silences line n)) heard.heard;
+      }
+
+  pub silences-read : (n : ℕ) (line : List Tick)
+      → hunts (timed 0 (line ++ silent n)) ≡ hunts (timed 0 line)
+  silences-read n line = ap hunts (timed-silences line n)
 
   module _ (old new : HuntingDevice R) (t : Tick) (b : ℕ) (is : t ≡ Byte b)
       (frames : List FrameRead)

@@ -8,3 +8,4 @@ pub mod Hunts
 pub mod HuntCases
 pub mod HuntSteps
 mod HuntRows
+mod DnpRows

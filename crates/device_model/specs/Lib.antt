@@ -5,3 +5,5 @@ pub mod RtuDevice
 pub mod Hunt
 pub mod HuntLaws
 pub mod HuntingDevice
+pub mod DnpReads
+pub mod DnpHunted

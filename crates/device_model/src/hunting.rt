@@ -1,4 +1,4 @@
-use crate::device::{Device, FrameAt};
+use crate::device::{Device, FrameAt, Heard};
 use crate::hunted::Hunted;
 use arrayvec::ArrayVec;
 use line_rules::Head;
@@ -184,6 +184,16 @@ impl<R: Hunted> Device for HuntingDevice<R> {
         match t {
             Tick::Byte(byte) => self.hear(at, byte),
             Tick::Silent => None,
+        }
+    }
+
+    // Silence is nothing, however long.
+    #[inline]
+    fn wait_some(&mut self, ticks: usize) -> Heard {
+        self.ticks += ticks as u64;
+        Heard {
+            taken: ticks,
+            frame: None,
         }
     }
 }

@@ -1,15 +1,15 @@
 -- A device behind the receiver that hunts for frames reads only what passed: of what leaves, the
 -- hunt takes each burst as a whole, and of a refused one it reads nothing.
-use Rattle.std.proofs.Common.{◌≡◌, ◌∙◌, ℕ, suc, ◌+◌, ◌-◌, ◌<◌, ◌≤◌, Bool, true, false, List, [], ◌∷◌}
+use Rattle.std.proofs.Common.{◌≡◌, ◌∙◌, ℕ, suc, ◌+◌, ◌-◌, ◌<◌, ◌≤◌, true, false, List, [], ◌∷◌}
 use Rattle.std.proofs.Common.{◌++◌, length, take, replicate, refl, sym, ap, subst, arith, ⊎_elim}
 use Rattle.std.proofs.Common.{length-append, zero}
 use Rattle.std.proofs.lemmas.Bool.{cases_lt, cases_Bool}
-use Rattle.std.proofs.lemmas.List.{append-nil, take_all, take-append-le, length-replicate}
-use Rattle.yasir_ticks.specs.Ticks.{bytes_in, silent}
+use Rattle.std.proofs.lemmas.List.{append-nil, take_all, length-replicate}
+use Rattle.yasir_ticks.specs.Ticks.{bytes_in}
 use Rattle.yasir_ticks.specs.Bursts.{Burst, bursts, end_of}
 use Rattle.yasir_ticks.specs.BurstsOf.{IsContiguous}
 use Rattle.yasir_ticks.specs.declared.tick.Tick.{Tick}
-use Rattle.yasir_ticks.specs.declared.tick.Tick.TheVariants.{Silent, Byte}
+use Rattle.yasir_ticks.specs.declared.tick.Tick.TheVariants.{Byte}
 use Rattle.yasir_ticks.proofs.SilenceLaws.{bytes_in-append}
 use Rattle.line_rules.specs.Rules.{Rules, head_of, left_of, left_by}
 use Rattle.line_rules.specs.RulesLaws.{IsLawful, IsHeaded, IsFramed}
@@ -17,7 +17,7 @@ use Rattle.line_rules.specs.Spoiling.{IsSpoiling}
 use Rattle.line_rules.specs.declared.head.Head.TheVariants.{Good, Bad}
 use Rattle.frame_ending.specs.LiveBytes.{live_bytes, live_ticks, spelled}
 use Rattle.frame_ending.proofs.LiveTicks.{live_ticks-bytes}
-use Rattle.frame_ending.proofs.Pauses.{ended, contiguous-ends}
+use Rattle.frame_ending.proofs.Pauses.{contiguous-ends}
 use Rattle.frame_ending.proofs.Rooms.{within_room-fit}
 use Rattle.device_model.specs.Frames.{FrameRead}
 use Rattle.device_model.specs.Hunt.{timed, header_in, begins, hunt, hunt_line}
@@ -29,7 +29,7 @@ use Rattle.device_model.proofs.HuntCases.{good-starts, good-room, good-size}
 use Rattle.device_model.proofs.HuntSteps.{timed-append}
 use Rattle.burst_walk.specs.Walk.{emitted}
 use Rattle.burst_walk.proofs.Spread.{AreSpread, bursts-spread}
-use Rattle.link_format.specs.Profile.{Profile, delay}
+use Rattle.link_format.specs.Profile.{Profile}
 use Rattle.link_verdicts.specs.declared.note.RefusedWhy.{RefusedWhy}
 use Rattle.link_verdicts.specs.declared.note.DroppedWhy.TheVariants.{Busy, Head as NoHead}
 use Rattle.link_verdicts.specs.Verdicts.{CheckState, Verdict, checked}
