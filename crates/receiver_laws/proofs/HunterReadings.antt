@@ -226,7 +226,8 @@ module _ (first second : ℕ) (rules : Rules) (headed : IsHeaded rules) (framed 
         ∙ ap (λ y. x ++ y) (fill-bytes (owed rules d))) in
         let all : h ++ a ∷ [] ≡ x ++ zeros =
         sym (bytes_in-append w (Byte a ∷ [])) ∙ (sym (ap bytes_in end.2) ∙ filled) in
-        let leaves : bytes_in (spoiled rules [] (filled_ticks rules d)) ≡ h ++ rules.spoil h a ∷ [] =
+        let leaves : bytes_in (spoiled rules [] (filled_ticks rules d))
+        ≡ h ++ rules.spoil h a ∷ [] =
         ap (λ y. bytes_in (spoiled rules [] y)) end.2
         ∙ (ap bytes_in (spoiled-ended rules [] w a)
         ∙ bytes_in-append w (Byte (rules.spoil h a) ∷ [])) in

@@ -41,7 +41,8 @@ timed-bytes n [] = refl
 timed-bytes n (Silent ∷ x) = timed-bytes (suc n) x
 timed-bytes n (Byte b ∷ x) = ap (λ y. b ∷ y) (timed-bytes (suc n) x)
 
-pub timed-silent_ticks : (n m k : ℕ) (x : List Tick) → n + k ≡ m → timed n (silent k ++ x) ≡ timed m x
+pub timed-silent_ticks : (n m k : ℕ) (x : List Tick) → n + k ≡ m
+    → timed n (silent k ++ x) ≡ timed m x
 timed-silent_ticks n m zero x at =
     let same : n ≡ m = omega arith in ap (λ i. timed i x) same
 timed-silent_ticks n m (suc k) x at =
@@ -52,7 +53,8 @@ timed-silent_ticks n m (suc k) x at =
 front-gap : (b gap j : ℕ) → j ≤ gap → gap < 2 → IsFront (Byte b ∷ silent j)
 front-gap b gap j le few = let h : j < 2 = omega arith in up_to (Byte b ∷ []) j h (one b)
 
-front-behind : (b gap : ℕ) (x : List Tick) → gap < 2 → IsFront x → IsFront (Byte b ∷ (silent gap ++ x))
+front-behind : (b gap : ℕ) (x : List Tick) → gap < 2 → IsFront x
+    → IsFront (Byte b ∷ (silent gap ++ x))
 front-behind b gap x few nothing =
     let P : List Tick → Type 0 = λ y. IsFront (Byte b ∷ y) in
     let le : gap ≤ gap = omega arith in
@@ -68,7 +70,8 @@ take-silent (suc j) zero le = absurd (omega arith)
 take-silent (suc j) (suc k) le =
     let h : j ≤ k = omega arith in ap (λ x. Silent ∷ x) (take-silent j k h)
 
-pub contiguous-front : (x : List Tick) (j : ℕ) → IsContiguous 2 x → j < length x → IsFront (take j x)
+pub contiguous-front : (x : List Tick) (j : ℕ) → IsContiguous 2 x → j < length x
+    → IsFront (take j x)
 contiguous-front x zero contiguous short = nothing
 contiguous-front x (suc j) (one b) short = absurd (omega arith)
 contiguous-front x (suc j) (more b gap rest few contiguous) short =
@@ -149,7 +152,8 @@ module _ (first second : ℕ) (rules : Rules) (headed : IsHeaded rules) (framed 
   cut-none n j d contiguous short taken =
       let last = contiguous-ends 2 d.body contiguous in
       let w : List Tick = last.0 in
-      let long : length d.body ≡ length w + 1 = ap length last.2 ∙ length-append w (Byte last.1 ∷ []) in
+      let long : length d.body ≡ length w + 1 =
+      ap length last.2 ∙ length-append w (Byte last.1 ∷ []) in
       let rest : List ℕ = bytes_in (drop j d.body) in
       let behind : rest ≡ bytes_in (drop j w) ++ last.1 ∷ [] =
       ap (λ y. bytes_in (drop j y)) last.2

@@ -254,8 +254,8 @@ module _ (profile : Profile) (rules : Rules) where
             ∙ ap (λ n. length link + n) (length-replicate rest Silent) in
             let P : List Burst → Type 0 = λ ds. EndBy (length link) ds in
             link_read longer
-            ∙ walk-all (length longer) (length link) (omega arith) (at_floor floor) 0 (bursts longer)
-            (bursts-spread longer)
+            ∙ walk-all (length longer) (length link) (omega arith) (at_floor floor) 0
+            (bursts longer) (bursts-spread longer)
             (subst P (sym (bursts_from-silent_end 4 0 rest link)) (bursts-end link))
 
         pub reads_what_passed : (link : List Tick)
