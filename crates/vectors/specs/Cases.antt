@@ -5,10 +5,13 @@ use Rattle.std.specs.Int.{w16, to_be_bytes}
 use Rattle.std.specs.Str.{bytes_eq}
 use Rattle.rtu_frame.specs.Crc.{crc_rtu}
 use Rattle.rtu_frame.specs.Frame.{is_frame}
+use Rattle.dnp_link_frame.specs.Blocks as dnp
+use Rattle.dnp_link_frame.specs.Crc.{crc_dnp}
 use Rattle.hmac_tag.specs.Tag.{hmac_sha1, hmac_sha1_96}
 use Rattle.vectors.specs.declared.case.Case.{Case}
 use Rattle.vectors.specs.declared.case.CaseKind.{CaseKind}
-use Rattle.vectors.specs.declared.case.CaseKind.TheVariants.{Crc16, HmacSha1, HmacSha196, RtuFrame}
+use Rattle.vectors.specs.declared.case.CaseKind.TheVariants.{Crc16, CrcDnp, HmacSha1, HmacSha196}
+use Rattle.vectors.specs.declared.case.CaseKind.TheVariants.{RtuFrame, DnpFrame}
 use Rattle.vectors.specs.declared.table.Miss.{Miss}
 
 -- the case of this kind with this key, text and wanted bytes
@@ -21,13 +24,19 @@ case_of kind key text want =
       want = record { items = want };
     }
 
+-- one byte: 1 for yes, 0 for no
+abbrev pub truth : Bool → List ℕ
+truth holds = (if holds then 1 else 0) ∷ []
+
 -- what the definitions give: a CRC high byte first, a code, a code cut to 12 bytes, and 1 or 0 for
 -- a frame or none
 abbrev pub value_by : CaseKind → List ℕ → List ℕ → List ℕ
 value_by Crc16 key text = to_be_bytes w16 (crc_rtu text)
+value_by CrcDnp key text = to_be_bytes w16 (crc_dnp text)
 value_by HmacSha1 key text = hmac_sha1 key text
 value_by HmacSha196 key text = hmac_sha1_96 key text
-value_by RtuFrame key text = (if is_frame text then 1 else 0) ∷ []
+value_by RtuFrame key text = truth (is_frame text)
+value_by DnpFrame key text = truth (dnp.is_frame text)
 
 abbrev pub value_of : Case → List ℕ
 value_of case = value_by case.kind case.key.items case.text.items

@@ -3,6 +3,7 @@
 #![tactic(auto)]
 
 mod case;
+mod frame;
 mod table;
 
 pub use case::{Case, CaseBytes, CaseKind};

@@ -57,6 +57,8 @@ pub fn crc_table() -> (u32, Result<(), Miss>)
     table! {
         Crc16: b"", b"123456789" => b"\x4B\x37";
         Crc16: b"", b"\x01\x03" => b"\x21\x40";
+        CrcDnp: b"", b"123456789" => b"\xEA\x82";
+        CrcDnp: b"", b"\x05\x64\x05\xC0\x01\x00\x00\x04" => b"\x21\xE9";
     }
 }
 
@@ -87,6 +89,9 @@ pub fn frames_table() -> (u32, Result<(), Miss>)
         RtuFrame: b"", b"\x11\x03\x00\x6B\x00\x03\x76\x87" => b"\x01";
         RtuFrame: b"", b"\x01\x03\x40\x21" => b"\x01";
         RtuFrame: b"", b"\x01\x03\x00\x00\x00\x0A\xC5\xCC" => b"\x00";
+        DnpFrame: b"", b"\x05\x64\x05\xC0\x01\x00\x00\x04\xE9\x21" => b"\x01";
+        DnpFrame: b"",
+            b"\x05\x64\x0B\xC4\x01\x00\x00\x04\xF4\x5C\xC0\xC0\x01\x3C\x02\x06\x54\xE0" => b"\x01";
     }
 }
 
@@ -96,9 +101,9 @@ mod tests {
 
     #[test]
     fn known_tables(rt: HostRuntime) {
-        assert_eq!(rt; crc_table(), (2, Ok(())));
+        assert_eq!(rt; crc_table(), (4, Ok(())));
         assert_eq!(rt; hmac_table(), (5, Ok(())));
-        assert_eq!(rt; frames_table(), (5, Ok(())));
+        assert_eq!(rt; frames_table(), (7, Ok(())));
         let right = Case::new(CaseKind::Crc16, b"", b"\x01\x03", b"\x21\x40");
         let wrong = Case::new(CaseKind::Crc16, b"", b"\x01\x03", b"\x21\x41");
         assert_eq!(rt; run_table(&[right, wrong]), Err(Miss { row: 2 }));
