@@ -2,7 +2,7 @@
 use Rattle.std.specs.Prelude.{List, [], ◌∷◌, codes, replicate}
 use Rattle.vectors.specs.declared.case.Case.{Case}
 use Rattle.vectors.specs.declared.case.CaseKind.TheVariants.{Crc16, CrcDnp, HmacSha1, HmacSha196}
-use Rattle.vectors.specs.declared.case.CaseKind.TheVariants.{RtuFrame, DnpFrame}
+use Rattle.vectors.specs.declared.case.CaseKind.TheVariants.{RtuFrame, DnpFrame, DnpUser}
 use Rattle.vectors.specs.Cases.{case_of}
 
 -- CRCs of Modbus RTU, of the usual check text and of the two bytes 01 03; and of DNP3, of the check
@@ -59,4 +59,15 @@ frames_cases =
     (0x05 ∷ 0x64 ∷ 0x0B ∷ 0xC4 ∷ 0x01 ∷ 0x00 ∷ 0x00 ∷ 0x04 ∷ 0xF4 ∷ 0x5C ∷ 0xC0 ∷ 0xC0 ∷ 0x01 ∷ 0x3C
     ∷ 0x02 ∷ 0x06 ∷ 0x54 ∷ 0xE0 ∷ [])
     (0x01 ∷ [])
+    ∷ []
+
+-- user data of frames of DNP3: none in a reset of a link, and a read of class data
+unfoldable pub user_cases : List Case
+user_cases =
+    case_of DnpUser [] (0x05 ∷ 0x64 ∷ 0x05 ∷ 0xC0 ∷ 0x01 ∷ 0x00 ∷ 0x00 ∷ 0x04 ∷ 0xE9 ∷ 0x21 ∷ [])
+    []
+    ∷ case_of DnpUser []
+    (0x05 ∷ 0x64 ∷ 0x0B ∷ 0xC4 ∷ 0x01 ∷ 0x00 ∷ 0x00 ∷ 0x04 ∷ 0xF4 ∷ 0x5C ∷ 0xC0 ∷ 0xC0 ∷ 0x01 ∷ 0x3C
+    ∷ 0x02 ∷ 0x06 ∷ 0x54 ∷ 0xE0 ∷ [])
+    (0xC0 ∷ 0xC0 ∷ 0x01 ∷ 0x3C ∷ 0x02 ∷ 0x06 ∷ [])
     ∷ []
