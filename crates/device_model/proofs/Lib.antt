@@ -3,3 +3,9 @@ pub mod Forwarded
 pub mod RtuLaws
 pub mod Runs
 pub mod Rows
+pub mod Heads
+pub mod Hunts
+pub mod HuntCases
+pub mod HuntSteps
+mod HuntRows
+mod DnpRows

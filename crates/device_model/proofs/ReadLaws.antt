@@ -9,7 +9,8 @@ use Rattle.std.proofs.lemmas.List.Elements.{filter-append}
 use Rattle.rtu_frame.specs.Frame.{is_frame}
 use Rattle.rtu_frame.proofs.FrameLaws.{is_frame-true}
 use Rattle.yasir_ticks.specs.Bursts.{Burst, end_of, AreClosed}
-use Rattle.device_model.specs.RtuReads.{is_frame_body, is_read, frame_in, frames_read}
+use Rattle.device_model.specs.Frames.{FrameRead}
+use Rattle.device_model.specs.RtuReads.{is_frame_body, frame_in, frames_read}
 
 -- ---- frames among bursts
 
@@ -24,27 +25,44 @@ no_test : (ended whole : Bool) (d : Burst) → ended ≡ false
 no_test false whole d e = refl
 no_test true whole d e = absurd (cc)
 
+-- the frames of those of these bursts that are whole by some test, and end so many ticks before m
+abbrev pub frames_ended : ℕ → (Burst → Bool) → ℕ → List Burst → List FrameRead
+frames_ended cut whole m ds = map frame_in (filter (λ d. nat_le (end_of d + cut) m && whole d) ds)
+
+module _ (cut : ℕ) (whole : Burst → Bool) where
+  pub frames_ended-append : (m : ℕ) (xs ys : List Burst)
+      → frames_ended cut whole m (xs ++ ys)
+      ≡ frames_ended cut whole m xs ++ frames_ended cut whole m ys
+  frames_ended-append m xs ys =
+      let test : Burst → Bool = λ d. nat_le (end_of d + cut) m && whole d in
+      ap (λ x. map frame_in x) (filter-append test xs ys)
+      ∙ map-append frame_in (filter test xs) (filter test ys)
+
+  -- a burst that is ended is read if it is whole
+  pub frames_ended-ended : (m : ℕ) (d : Burst) → end_of d + cut ≤ m
+      → frames_ended cut whole m (d ∷ []) ≡ cond (whole d) (frame_in d ∷ []) []
+  frames_ended-ended m d ended =
+      one_test (nat_le (end_of d + cut) m) (whole d) d (le-leb (end_of d + cut) m ended)
+
+  -- an open burst isn't read
+  pub frames_ended-open : (m : ℕ) (d : Burst) → m < end_of d + cut
+      → frames_ended cut whole m (d ∷ []) ≡ []
+  frames_ended-open m d here =
+      no_test (nat_le (end_of d + cut) m) (whole d) d (lt-leb (end_of d + cut) m here)
+
 module _ (cut pause : ℕ) where
   pub frames_read-append : (m : ℕ) (xs ys : List Burst)
       → frames_read cut pause m (xs ++ ys)
       ≡ frames_read cut pause m xs ++ frames_read cut pause m ys
-  frames_read-append m xs ys =
-      ap (λ x. map frame_in x) (filter-append (is_read cut pause m) xs ys)
-      ∙ map-append frame_in (filter (is_read cut pause m) xs) (filter (is_read cut pause m) ys)
+  frames_read-append = frames_ended-append cut (λ d. is_frame_body pause d.body)
 
-  -- a burst that is ended is read if it is a frame
   pub frames_read-ended : (m : ℕ) (d : Burst) → end_of d + cut ≤ m
       → frames_read cut pause m (d ∷ []) ≡ cond (is_frame_body pause d.body) (frame_in d ∷ []) []
-  frames_read-ended m d ended =
-      one_test (nat_le (end_of d + cut) m) (is_frame_body pause d.body) d
-      (le-leb (end_of d + cut) m ended)
+  frames_read-ended = frames_ended-ended cut (λ d. is_frame_body pause d.body)
 
-  -- an open burst isn't read
   pub frames_read-open : (m : ℕ) (d : Burst) → m < end_of d + cut
       → frames_read cut pause m (d ∷ []) ≡ []
-  frames_read-open m d here =
-      no_test (nat_le (end_of d + cut) m) (is_frame_body pause d.body) d
-      (lt-leb (end_of d + cut) m here)
+  frames_read-open = frames_ended-open cut (λ d. is_frame_body pause d.body)
 
   -- what is read of ended bursts doesn't change as the line goes on
   pub frames_read-later : (m n : ℕ) (ds : List Burst) → m ≤ n → AreClosed cut m ds

@@ -2,3 +2,8 @@ pub mod Frames
 pub mod RtuReads
 pub mod Forwarded
 pub mod RtuDevice
+pub mod Hunt
+pub mod HuntLaws
+pub mod HuntingDevice
+pub mod DnpReads
+pub mod DnpHunted

@@ -7,7 +7,11 @@ ghost use Rattle.yasir_ticks.specs.declared.tick.Tick.{Tick};
 ghost use Rattle.frame_ending.specs.LiveBytes.{live_bytes};
 ghost use Rattle.rtu_frame.specs.Rules.{rtu_rules};
 ghost use Rattle.device_model.specs.Forwarded.{is_forwarded, rtu_forwarded};
+ghost use Rattle.device_model.specs.Hunt.{Timed};
+ghost use Rattle.device_model.specs.HuntLaws.{HuntsByCases};
 ghost use Rattle.device_model.specs.RtuReads.{is_frame_body, rtu_reads};
+
+use crate::hunted::Hunted;
 
 /// A law of the definitions, for each line: what a transmitter takes for a frame is what a Modbus
 /// RTU device reads. Each burst passes the test of the one exactly where it passes that of the
@@ -20,4 +24,10 @@ pub fn forwarded_frames_are_read()
         → is_frame_body T1_5_TICKS d.body ≡ true
         → live_bytes rtu_rules d ≡ bytes_in d.body }
     ensures read { (line : List Tick) → rtu_reads line ≡ rtu_forwarded line }
+{}
+
+/// A law of the hunt, for each list of bytes: it is by cases as IEEE 1815 has a frame's start, and
+/// this project's profile what is taken there.
+pub fn hunts_by_cases<R: Hunted>()
+    ensures { (x : List Timed) → HuntsByCases R.FIRST R.SECOND R.rules x }
 {}

@@ -2,11 +2,17 @@
 #![tactic(auto)]
 
 mod device;
+mod dnp;
+mod hunted;
+mod hunting;
 mod laws;
 mod rtu;
 
 pub use device::{Device, FrameAt, Heard};
-pub use laws::forwarded_frames_are_read;
+pub use dnp::DnpDevice;
+pub use hunted::Hunted;
+pub use hunting::HuntingDevice;
+pub use laws::{forwarded_frames_are_read, hunts_by_cases};
 pub use rtu::RtuDevice;
 
 #[cfg(test)]

@@ -1,6 +1,7 @@
 ghost use Rattle.std.specs.Prelude.{◌<◌, length};
 
 use super::*;
+use dnp_link_frame::Dnp;
 use std::alloc::{AllocError, Global};
 use std::test::Fail;
 use yasir_ticks::Tick;
@@ -55,17 +56,26 @@ fn readings<D: Device + Drop>(
     Ok(read)
 }
 
-fn rtu_readings(alloc: Global, parts: &[Part]) -> Result<Vec<(usize, FrameAt)>, Fail> {
+fn readings_of<D: Device + Drop>(
+    alloc: Global,
+    parts: &[Part],
+) -> Result<Vec<(usize, FrameAt)>, Fail> {
     let line = line_of(alloc, parts)?;
     if line.len() >= 1000 {
         return Err("a long line".into());
     }
-    Ok(readings::<RtuDevice>(alloc, line.as_slice())?)
+    Ok(readings::<D>(alloc, line.as_slice())?)
 }
 
 const QUERY: &[u8] = b"\x01\x03\x00\x00\x00\x0A\xC5\xCD";
 
 const DAMAGED: &[u8] = b"\x01\x03\x00\x00\x00\x0A\xC5\xCC";
+
+// The reset of a link.
+const RESET_LINK: &[u8] = b"\x05\x64\x05\xC0\x01\x00\x00\x04\xE9\x21";
+
+// The header of a frame with 292 bytes.
+const LONGEST_HEADER: &[u8] = b"\x05\x64\xFF\xC4\x01\x00\x00\x04\x27\x27";
 
 #[test]
 fn exchange(rt: HostRuntime) -> Result<(), Fail> {
@@ -80,7 +90,7 @@ fn exchange(rt: HostRuntime) -> Result<(), Fail> {
         Bytes(b"\x40\x21"),
         Silence(4),
     ];
-    let read = rtu_readings(rt.alloc(), &parts)?;
+    let read = readings_of::<RtuDevice>(rt.alloc(), &parts)?;
     assert_eq!(rt; read.len(), 2);
     let (at, frame) = &read[0];
     assert_eq!(rt; (*at, frame.start), (11, 0));
@@ -97,9 +107,9 @@ fn lone_bursts(rt: HostRuntime) -> Result<(), Fail> {
 
     // the longest frame, and one byte more with a right check
     let longest = [Bytes(&[0; 254]), Bytes(b"\x55\x4E"), Silence(4)];
-    assert_eq!(rt; rtu_readings(alloc, &longest)?.len(), 1);
+    assert_eq!(rt; readings_of::<RtuDevice>(alloc, &longest)?.len(), 1);
     let longer = [Bytes(&[0; 255]), Bytes(b"\x8E\x3F"), Silence(4)];
-    assert_eq!(rt; rtu_readings(alloc, &longer)?.len(), 0);
+    assert_eq!(rt; readings_of::<RtuDevice>(alloc, &longer)?.len(), 0);
 
     // two silent ticks inside, and three after the end
     let parted = [
@@ -108,24 +118,65 @@ fn lone_bursts(rt: HostRuntime) -> Result<(), Fail> {
         Bytes(b"\x40\x21"),
         Silence(4),
     ];
-    assert_eq!(rt; rtu_readings(alloc, &parted)?.len(), 0);
-    assert_eq!(rt; rtu_readings(alloc, &[Bytes(QUERY), Silence(3)])?.len(), 0);
+    assert_eq!(rt; readings_of::<RtuDevice>(alloc, &parted)?.len(), 0);
+    assert_eq!(rt;
+        readings_of::<RtuDevice>(alloc, &[Bytes(QUERY), Silence(3)])?.len(),
+        0
+    );
     Ok(())
 }
 
-// What such a device hears of silence, the query and silence again, run by run.
-fn runs<D: Device + Drop>() -> [Heard; 3] {
+#[test]
+fn hunts(rt: HostRuntime) -> Result<(), Fail> {
+    let alloc = rt.alloc();
+
+    // a first byte without its second, and silence inside a frame
+    let behind = [
+        Bytes(b"\xFF\x05\x05\x64\x05"),
+        Silence(30),
+        Bytes(b"\xC0\x01\x00\x00\x04\xE9\x21"),
+    ];
+    let read = readings_of::<DnpDevice>(alloc, &behind)?;
+    assert_eq!(rt; read.len(), 1);
+    let (at, frame) = &read[0];
+    assert_eq!(rt; (*at, frame.start), (41, 2));
+    assert_eq!(rt; frame.bytes.as_slice(), RESET_LINK);
+
+    // a frame that was refused and filled, and one behind it
+    let filled = [
+        Silence(18),
+        Bytes(LONGEST_HEADER),
+        Bytes(&[0; 282]),
+        Silence(18),
+        Bytes(RESET_LINK),
+        Silence(4),
+    ];
+    let read = readings_of::<DnpDevice>(alloc, &filled)?;
+    assert_eq!(rt; read.len(), 1);
+    let (at, frame) = &read[0];
+    assert_eq!(rt; (*at, frame.start), (337, 328));
+
+    // one byte less, and the device waits for it
+    let cut = [Bytes(LONGEST_HEADER), Bytes(&[0; 281]), Bytes(RESET_LINK)];
+    assert_eq!(rt; readings_of::<DnpDevice>(alloc, &cut)?.len(), 0);
+    Ok(())
+}
+
+// What such a device hears of silence, a frame and silence again, run by run.
+fn runs<D: Device + Drop>(frame: &[u8]) -> [Heard; 3]
+    requires { length frame.now < 1000 }
+{
     let mut device = D::fresh();
     [
         device.wait_some(3),
-        device.hear_some(QUERY),
+        device.hear_some(frame),
         device.wait_some(6),
     ]
 }
 
 #[test]
 fn runs_of_ticks(rt: HostRuntime) {
-    let [before, query, after] = runs::<RtuDevice>();
+    let [before, query, after] = runs::<RtuDevice>(QUERY);
     assert_eq!(rt; (before.taken, before.frame.is_none()), (3, true));
     assert_eq!(rt; (query.taken, query.frame.is_none()), (8, true));
     assert_eq!(rt; after.taken, 4);
@@ -133,4 +184,13 @@ fn runs_of_ticks(rt: HostRuntime) {
     assert_eq!(rt; frame.start, 3);
     assert_eq!(rt; frame.bytes.as_slice(), QUERY);
     forwarded_frames_are_read();
+
+    let [before, reset, after] = runs::<DnpDevice>(RESET_LINK);
+    assert_eq!(rt; (before.taken, before.frame.is_none()), (3, true));
+    assert_eq!(rt; (after.taken, after.frame.is_none()), (6, true));
+    assert_eq!(rt; reset.taken, 10);
+    let frame = reset.frame.expect(&rt, "the reset");
+    assert_eq!(rt; frame.start, 3);
+    assert_eq!(rt; frame.bytes.as_slice(), RESET_LINK);
+    hunts_by_cases::<Dnp>();
 }

@@ -1,8 +1,9 @@
 -- What a value keeps of its bytes, and what one more byte does to it.
-use Rattle.std.proofs.Common.{◌≡◌, ℕ, suc, ◌+◌, ◌-◌, ◌*◌, ◌/◌, ◌%◌, ◌<◌, ◌≤◌, nat_le}
+use Rattle.std.proofs.Common.{◌≡◌, ℕ, suc, ◌+◌, ◌-◌, ◌*◌, ◌/◌, ◌%◌, ◌<◌, ◌≤◌, nat_le, nat_lt}
 use Rattle.std.proofs.Common.{◌&&◌, ◌==◌, Bool, true, false, List, [], ◌∷◌, ◌++◌, length, take}
 use Rattle.std.proofs.Common.{drop, refl, arith, sym, ◌∙◌, ap, ⊎_elim, inl, inr, ◌⊎◌}
 use Rattle.std.proofs.Common.{lit<, lit≤}
+use Rattle.std.specs.Prelude.{if◌then◌else◌}
 use Rattle.std.proofs.lemmas.List.{length_push, get_or_push}
 use Rattle.std.proofs.lemmas.List.{take_all, drop_all, length-drop}
 use Rattle.std.proofs.lemmas.List.{take-append-le, drop-append-le}
@@ -28,10 +29,10 @@ use Rattle.dnp_link_frame.specs.BlockLaws.{running_block-header, running_block-u
 use Rattle.dnp_link_frame.specs.BlockLaws.{is_good_header-begins}
 use Rattle.dnp_link_frame.specs.BlockLaws.{room_by-least}
 use Rattle.dnp_link_frame.specs.Rules.{dnp_rules}
-use Rattle.dnp_link_frame.specs.RulesLaws.{dnp_lawful, running_block-push, head_of-good}
-use Rattle.dnp_link_frame.specs.RulesLaws.{head_of-bad}
+use Rattle.dnp_link_frame.specs.RulesLaws.{dnp_lawful, running_block-push, head_of-short}
+use Rattle.dnp_link_frame.specs.RulesLaws.{head_of-whole}
 use Rattle.dnp_link_frame.specs.Steps.{residue, begins_block, register_after, fits_header}
-use Rattle.dnp_link_frame.specs.Steps.{blocks_after, len_byte_after, is_whole, ends_right}
+use Rattle.dnp_link_frame.specs.Steps.{blocks_after, len_byte_after, is_whole, ends_right, head_by}
 use Rattle.dnp_link_frame.specs.Dnp.{DnpStandsFor, header_so_far, blocks_so_far}
 use Rattle.dnp_link_frame.specs.Dnp.{is_full_dnp}
 use Rattle.dnp_link_frame.specs.declared.dnp.Dnp.{Dnp}
@@ -369,19 +370,15 @@ pub dnp_fresh-room : is_full_dnp (record {
 dnp_fresh-room = lt-leb (room_by 0) 0 (let least = room_by-least 0 in omega arith)
 
 -- what a value says of the header
-pub dnp_header : (value : Dnp) (x : List ℕ) → DnpStandsFor value x → 10 ≤ value.len
-    → is_good_header (take 10 x) ≡ value.header_right
-dnp_header value x stands whole =
-    let count = stands.count in
-    sym (stands.header ∙ header_so_far-whole x (omega arith))
-
-pub dnp_head_good : (value : Dnp) (x : List ℕ) → DnpStandsFor value x → 10 ≤ value.len
-    → value.header_right ≡ true → Good ≡ head_of dnp_rules x
-dnp_head_good value x stands whole right =
-    sym (head_of-good x (dnp_header value x stands whole ∙ right))
-
-pub dnp_head_bad : (value : Dnp) (x : List ℕ) → DnpStandsFor value x → 10 ≤ value.len
-    → value.header_right ≡ false → Bad ≡ head_of dnp_rules x
-dnp_head_bad value x stands whole wrong =
-    let count = stands.count in
-    sym (head_of-bad x (omega arith) (dnp_header value x stands whole ∙ wrong))
+pub dnp_head : (value : Dnp) (x : List ℕ) → DnpStandsFor value x
+    → head_by value.len value.header_right ≡ head_of dnp_rules x
+dnp_head value x stands =
+    ap (λ n. head_by n value.header_right) stands.count
+    ∙ ⊎_elim
+    (λ few.
+    cond-true (nat_lt (length x) 10) _ _ (lt-ltb (length x) 10 few) ∙ sym (head_of-short x few))
+    (λ whole.
+    cond-false (nat_lt (length x) 10) _ _ (le-ltb (length x) 10 whole)
+    ∙ (ap (λ t. if t then Good else Bad) (stands.header ∙ header_so_far-whole x whole)
+    ∙ sym (head_of-whole x whole)))
+    (cases_lt (length x) 10)

@@ -2,6 +2,8 @@
 -- are before it, of what was kept, and of the byte.
 use Rattle.std.specs.Prelude.{ℕ, ◌-◌, ◌%◌, ◌==◌, ◌&&◌, nat_le, nat_lt, Bool, true, if◌then◌else◌}
 use Rattle.line_rules.specs.Crc.{byte_step}
+use Rattle.line_rules.specs.declared.head.Head.{Head}
+use Rattle.line_rules.specs.declared.head.Head.TheVariants.{Short, Good, Bad}
 use Rattle.dnp_link_frame.specs.Blocks.{size_by}
 
 -- the register after bytes that end in their CRC
@@ -25,6 +27,10 @@ fits_header n register byte =
     else if n == 2 then nat_le 5 byte
     else if n == 9 then register == residue
     else true
+
+-- what a header says of which so many bytes are there
+abbrev pub head_by : ℕ → Bool → Head
+head_by n right = if nat_lt n 10 then Short else if right then Good else Bad
 
 -- whether the finished blocks of user data end in their CRC, where the register is the one before
 -- the byte

@@ -1,7 +1,7 @@
 use crate::crc::FIRST_REGISTER;
-use crate::size::{HEADER_LEN, LONGEST, room_by, size_by};
+use crate::size::{LONGEST, room_by, size_by};
 use crate::steps::{
-    blocks_after, ends_right, header_after, is_whole, len_byte_after, register_after,
+    blocks_after, ends_right, head_by, header_after, is_whole, len_byte_after, register_after,
 };
 use line_rules::{Head, LineRules};
 
@@ -109,14 +109,7 @@ impl LineRules for Dnp {
 
     #[inline]
     fn head(&self) -> Head {
-        if self.len < HEADER_LEN {
-            return Head::Short;
-        }
-        if self.header_right {
-            Head::Good
-        } else {
-            Head::Bad
-        }
+        head_by(self.len, self.header_right)
     }
 
     #[inline]

@@ -129,13 +129,13 @@ fn push_bytes(user: &mut UserBytes, bytes: &[u8])
 }
 
 // The bytes of each block of a frame's user data without its CRC.
-fn user_in_blocks(bytes: &[u8], blocks: usize) -> UserBytes
-    requires fit { length bytes.now ≤ 250 + 2 * blocks }
-    requires blocks { 18 * blocks ≤ length bytes.now + 15 }
-    ensures { result.items ≡ user_in_blocks blocks bytes.now }
+fn user_in_blocks(bytes: &[u8], count: usize) -> UserBytes
+    requires fit { length bytes.now ≤ 250 + 2 * count }
+    requires whole { 18 * count ≤ length bytes.now + 15 }
+    ensures { result.items ≡ user_in_blocks count bytes.now }
 {
     let mut user = UserBytes::new();
-    for n in 0..blocks {
+    for n in 0..count {
         let from = n * BLOCK_WITH_CRC;
         let to = bytes.len().min(from + BLOCK_WITH_CRC) - 2;
         push_bytes(&mut user, &bytes[from..to]);

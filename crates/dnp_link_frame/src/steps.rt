@@ -1,10 +1,12 @@
 //! What one more byte does to what is kept of the bytes so far.
 ghost use Rattle.std.specs.Prelude.{◌≡◌, ◌&&◌};
 ghost use Rattle.dnp_link_frame.specs.Steps.{begins_block, register_after, fits_header};
+ghost use Rattle.dnp_link_frame.specs.Steps.{head_by};
 ghost use Rattle.dnp_link_frame.specs.Steps.{blocks_after, len_byte_after, is_whole, ends_right};
 
 use crate::crc::{FIRST_REGISTER, RESIDUE, after_byte};
 use crate::size::{BLOCK_DATA_LEN, COUNTED_OF_HEADER, CRC_LEN, HEADER_LEN, size_by};
+use line_rules::Head;
 
 // The two bytes that a frame begins with.
 pub(crate) const START: [u8; 2] = [0x05, 0x64];
@@ -48,6 +50,17 @@ pub(crate) fn header_after(len: u16, header_right: bool, register: u16, byte: u8
     ensures { result ≡ (header_right && fits_header len register byte) }
 {
     header_right && fits_header(len, register, byte)
+}
+
+// What a header says of which so many bytes are there.
+#[inline]
+pub(crate) fn head_by(len: u16, header_right: bool) -> Head
+    ensures { result ≡ head_by len header_right }
+{
+    if len < HEADER_LEN {
+        return Head::Short;
+    }
+    if header_right { Head::Good } else { Head::Bad }
 }
 
 // The register is the one before the byte, so that of a block that it may end.

@@ -5,7 +5,8 @@ use Rattle.std.specs.List.{filter}
 use Rattle.std.proofs.lemmas.Bool.{cases_Bool}
 use Rattle.std.proofs.lemmas.List.{map-append}
 use Rattle.yasir_ticks.specs.declared.tick.Tick.{Tick}
-use Rattle.rtu_frame.specs.Rules.{rtu_rules, rtu_lawful}
+use Rattle.line_rules.specs.Rules.{Rules}
+use Rattle.line_rules.specs.RulesLaws.{IsLawful}
 use Rattle.link_format.specs.NumberedFrame.{NumberedFrame}
 use Rattle.link_format.specs.Profile.{Profile}
 use Rattle.device_model.specs.Frames.{FrameRead}
@@ -15,7 +16,7 @@ use Rattle.receiver_laws.specs.Accounted.{pairs_of, IsSubsequence, rightly_passe
 use Rattle.receiver_laws.specs.Accounted.{IsAccountedFor, is_among}
 use Rattle.receiver_laws.specs.Accounted.IsSubsequence.{none, skip, keep}
 use Rattle.receiver_laws.specs.Headline.{bytes_read, bytes_sealed, ReadsWhatWasSealed}
-use Rattle.receiver_laws.specs.Reading.{reads_with, delivered, ReadsWhatPassed}
+use Rattle.receiver_laws.specs.Reading.{delivered, ReadsWhatPassed}
 use Rattle.receiver_laws.proofs.Accounting.{accounted-for, nothing-is}
 
 -- ---- subsequences
@@ -62,22 +63,23 @@ bytes-paired (f ∷ frames) = ap (λ l. f.frame ∷ l) (bytes-paired frames)
 
 -- ---- the law
 
-module _ (cut pause : ℕ) (profile : Profile) (seal_floor check_floor : ℕ) (line link : List Tick)
-    (reads : ReadsWhatPassed cut pause profile check_floor link) where
+module _ (rules : Rules) (lawful : IsLawful rules) (reads : List Tick → List FrameRead) (ends : ℕ)
+    (profile : Profile) (seal_floor check_floor : ℕ) (line link : List Tick)
+    (passes : ReadsWhatPassed rules reads ends profile check_floor link) where
   abbrev sealed_ones : List NumberedFrame
-  sealed_ones = sealed profile rtu_rules seal_floor line
+  sealed_ones = sealed profile rules seal_floor line
 
   abbrev passed_ones : List NumberedFrame
-  passed_ones = passed profile rtu_rules check_floor link
+  passed_ones = passed profile rules check_floor link
 
   abbrev read_ones : List FrameRead
-  read_ones = reads_with cut pause (received_line profile rtu_rules check_floor link)
+  read_ones = reads (received_line profile rules check_floor link)
 
-  whole : bytes_sealed passed_ones ≡ bytes_read read_ones ++ bytes_read reads.prefix.rest
+  whole : bytes_sealed passed_ones ≡ bytes_read read_ones ++ bytes_read passes.prefix.rest
   whole =
       sym (bytes-delivered profile passed_ones)
-      ∙ ap (λ l. bytes_read l) reads.prefix.is
-      ∙ map-append (λ f. f.frame) read_ones reads.prefix.rest
+      ∙ ap (λ l. bytes_read l) passes.prefix.is
+      ∙ map-append (λ f. f.frame) read_ones passes.prefix.rest
 
   only-sealed : IsAccountedFor seal_floor check_floor sealed_ones passed_ones
       → forged sealed_ones passed_ones ≡ []
@@ -95,14 +97,14 @@ module _ (cut pause : ℕ) (profile : Profile) (seal_floor check_floor : ℕ) (l
       let all : S (bytes_sealed passed_ones) (bytes_sealed sealed_ones) =
       subst (λ l. S (bytes_sealed l) (bytes_sealed sealed_ones))
       (all-stay (λ f. is_among sealed_ones f) passed_ones unforged) bytes in
-      front-is (bytes_read read_ones) (bytes_read reads.prefix.rest) (bytes_sealed sealed_ones)
+      front-is (bytes_read read_ones) (bytes_read passes.prefix.rest) (bytes_sealed sealed_ones)
       (subst (λ x. S x (bytes_sealed sealed_ones)) whole all)
 
-  pub reads-sealed : ReadsWhatWasSealed cut pause profile seal_floor check_floor line link
+  pub reads-sealed : ReadsWhatWasSealed rules reads ends profile seal_floor check_floor line link
   reads-sealed =
-      let accounted = accounted-for profile rtu_rules rtu_lawful seal_floor check_floor line link in
+      let accounted = accounted-for profile rules lawful seal_floor check_floor line link in
       record {
         only_sealed = only-sealed accounted;
-        only_passed = reads;
+        only_passed = passes;
         accounted = accounted;
       }

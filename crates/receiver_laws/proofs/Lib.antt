@@ -2,12 +2,17 @@ pub mod Notes
 pub mod Calm
 pub mod Settled
 pub mod Readings
+pub mod RtuReadings
+pub mod Hunters
+pub mod HunterReadings
+pub mod DnpReadings
 pub mod Words
 pub mod Standing
 pub mod Rising
 pub mod Packets
 pub mod Longer
 pub mod Worked
+mod WorkedDnp
 pub mod Packing
 pub mod Delivering
 pub mod Deliveries

@@ -23,7 +23,7 @@ use Rattle.receiver_laws.specs.Reading.{reads_with}
 
 -- ---- emissions on a longer line
 
-laid-longer : (es : List Burst) (m k n : ℕ) → m + k ≡ n
+pub laid-longer : (es : List Burst) (m k n : ℕ) → m + k ≡ n
     → (rest : List Tick) × (laid n es ≡ laid m es ++ rest)
 laid-longer es m zero n sum =
     let same : n ≡ m = omega arith in
@@ -39,17 +39,17 @@ laid-longer es m (suc k) n sum =
     )
 
 -- some tick by which all of these bursts have ended
-abbrev last_end : List Burst → ℕ
+abbrev pub last_end : List Burst → ℕ
 last_end [] = 0
 last_end (d ∷ ds) = end_of d + last_end ds
 
-EndBy-later : (n m : ℕ) (ds : List Burst) → n ≤ m → EndBy n ds → EndBy m ds
+pub EndBy-later : (n m : ℕ) (ds : List Burst) → n ≤ m → EndBy n ds → EndBy m ds
 EndBy-later n m [] later ends = tt
 EndBy-later n m (d ∷ ds) later ends =
     let end : end_of d ≤ n = ends.0 in
     (omega arith, EndBy-later n m ds later ends.1)
 
-EndBy-last : (ds : List Burst) → EndBy (last_end ds) ds
+pub EndBy-last : (ds : List Burst) → EndBy (last_end ds) ds
 EndBy-last [] = tt
 EndBy-last (d ∷ ds) =
     let later : last_end ds ≤ end_of d + last_end ds = omega arith in

@@ -1,14 +1,14 @@
 -- The frames that a device reads are those that were sealed.
 use Rattle.std.specs.Prelude.{◌≡◌, ℕ, List, [], map}
 use Rattle.yasir_ticks.specs.declared.tick.Tick.{Tick}
-use Rattle.rtu_frame.specs.Rules.{rtu_rules}
+use Rattle.line_rules.specs.Rules.{Rules}
 use Rattle.device_model.specs.Frames.{FrameRead}
 use Rattle.link_format.specs.NumberedFrame.{NumberedFrame}
 use Rattle.link_format.specs.Profile.{Profile}
 use Rattle.seal_transmitter.specs.Sealing.{sealed}
 use Rattle.link_verdicts.specs.Checking.{passed, received_line}
 use Rattle.receiver_laws.specs.Accounted.{IsSubsequence, IsAccountedFor, forged}
-use Rattle.receiver_laws.specs.Reading.{reads_with, ReadsWhatPassed}
+use Rattle.receiver_laws.specs.Reading.{ReadsWhatPassed}
 
 -- the bytes of frames that were read, and of frames that were sealed, in their order
 abbrev pub bytes_read : List FrameRead → List (List ℕ)
@@ -17,17 +17,15 @@ bytes_read reads = map (λ f. f.frame) reads
 abbrev pub bytes_sealed : List NumberedFrame → List (List ℕ)
 bytes_sealed frames = map (λ f. f.frame) frames
 
--- Of a line of a device a transmitter has sealed frames, and whatever came of them on the link, the
--- device behind the receiver has read of it a subsequence of the sealed frames, unless one that
--- passed is forged. What it reads has passed, and numbers rise on both sides.
-pub record ReadsWhatWasSealed (cut pause : ℕ) (profile : Profile) (seal_floor check_floor : ℕ)
-    (line link : List Tick) : Type 0 where
+-- Of a line of a device a transmitter has sealed frames, and whatever came of them on the link, a
+-- device behind the receiver that reads so has read of it a subsequence of the sealed frames,
+-- unless one that passed is forged. What it reads has passed, and numbers rise on both sides.
+pub record ReadsWhatWasSealed (rules : Rules) (reads : List Tick → List FrameRead) (ends : ℕ)
+    (profile : Profile) (seal_floor check_floor : ℕ) (line link : List Tick) : Type 0 where
   pub only_sealed :
-      forged (sealed profile rtu_rules seal_floor line) (passed profile rtu_rules check_floor link)
-      ≡ []
-      → IsSubsequence
-      (bytes_read (reads_with cut pause (received_line profile rtu_rules check_floor link)))
-      (bytes_sealed (sealed profile rtu_rules seal_floor line))
-  pub only_passed : ReadsWhatPassed cut pause profile check_floor link
-  pub accounted : IsAccountedFor seal_floor check_floor (sealed profile rtu_rules seal_floor line)
-      (passed profile rtu_rules check_floor link)
+      forged (sealed profile rules seal_floor line) (passed profile rules check_floor link) ≡ []
+      → IsSubsequence (bytes_read (reads (received_line profile rules check_floor link)))
+      (bytes_sealed (sealed profile rules seal_floor line))
+  pub only_passed : ReadsWhatPassed rules reads ends profile check_floor link
+  pub accounted : IsAccountedFor seal_floor check_floor (sealed profile rules seal_floor line)
+      (passed profile rules check_floor link)

@@ -1,4 +1,5 @@
 pub mod Reading
+pub mod Hunters
 pub mod Standing
 pub mod Untouched
 pub mod Accounted

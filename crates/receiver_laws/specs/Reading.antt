@@ -4,7 +4,6 @@ use Rattle.yasir_ticks.specs.Ticks.{silent}
 use Rattle.yasir_ticks.specs.Bursts.{bursts_from}
 use Rattle.yasir_ticks.specs.declared.tick.Tick.{Tick}
 use Rattle.line_rules.specs.Rules.{Rules}
-use Rattle.rtu_frame.specs.Rules.{rtu_rules}
 use Rattle.device_model.specs.Frames.{FrameRead}
 use Rattle.device_model.specs.RtuReads.{frames_read}
 use Rattle.burst_walk.specs.Longer.{Begins}
@@ -25,13 +24,13 @@ delivered profile f = record { start = delay profile + f.start; frame = f.frame 
 abbrev pub delivered_of : Profile → Rules → ℕ → List Tick → List FrameRead
 delivered_of profile rules floor link = map (delivered profile) (passed profile rules floor link)
 
--- At this moment, whatever stands on the link, the device has read frames that have passed, in
--- their order and without a gap, and nothing else. Once silence follows for as long as the delay
--- and the end of a burst take, it has read all of them.
-pub record ReadsWhatPassed (cut pause : ℕ) (profile : Profile) (floor : ℕ) (link : List Tick) :
-    Type 0 where
-  pub prefix : Begins (reads_with cut pause (received_line profile rtu_rules floor link))
-      (delivered_of profile rtu_rules floor link)
-  pub all : (rest : ℕ) → delay profile + cut ≤ rest
-      → reads_with cut pause (received_line profile rtu_rules floor (link ++ silent rest))
-      ≡ delivered_of profile rtu_rules floor (link ++ silent rest)
+-- At this moment, whatever stands on the link, a device that reads so has read frames that have
+-- passed, in their order and without a gap, and nothing else. Once silence follows for as long as
+-- the delay and the end of a frame take, it has read all of them.
+pub record ReadsWhatPassed (rules : Rules) (reads : List Tick → List FrameRead) (ends : ℕ)
+    (profile : Profile) (floor : ℕ) (link : List Tick) : Type 0 where
+  pub prefix : Begins (reads (received_line profile rules floor link))
+      (delivered_of profile rules floor link)
+  pub all : (rest : ℕ) → delay profile + ends ≤ rest
+      → reads (received_line profile rules floor (link ++ silent rest))
+      ≡ delivered_of profile rules floor (link ++ silent rest)

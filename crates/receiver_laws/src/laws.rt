@@ -1,8 +1,12 @@
 ghost use Rattle.std.specs.Prelude.{◌≡◌, ◌≤◌, ◌∷◌, ◌++◌, ℕ, List, Contains};
-ghost use Rattle.yasir_ticks.specs.declared.TheConstants.{T3_5_TICKS, T1_5_TICKS};
+ghost use Rattle.yasir_ticks.specs.declared.TheConstants.{T3_5_TICKS};
 ghost use Rattle.yasir_ticks.specs.declared.tick.Tick.{Tick};
 ghost use Rattle.seal_transmitter.specs.Sealing.{sealed};
 ghost use Rattle.yasir_ticks.specs.Bursts.{Burst, bursts};
+ghost use Rattle.rtu_frame.specs.Rules.{rtu_rules};
+ghost use Rattle.dnp_link_frame.specs.Rules.{dnp_rules};
+ghost use Rattle.device_model.specs.DnpReads.{dnp_reads};
+ghost use Rattle.device_model.specs.RtuReads.{rtu_reads};
 ghost use Rattle.burst_walk.specs.Walk.{state_after};
 ghost use Rattle.burst_walk.specs.Longer.{Begins, Extends};
 ghost use Rattle.link_format.specs.Profile.{Profile, HasTags, delay};
@@ -13,22 +17,24 @@ ghost use Rattle.link_verdicts.specs.Verdicts.{CheckState, checked};
 ghost use Rattle.link_verdicts.specs.Verdicts.Verdict.{passed_with};
 ghost use Rattle.receiver_laws.specs.Accounted.{IsAccountedFor};
 ghost use Rattle.receiver_laws.specs.Headline.{ReadsWhatWasSealed};
-ghost use Rattle.receiver_laws.specs.Reading.{ReadsWhatPassed};
+ghost use Rattle.receiver_laws.specs.Reading.{reads_with, ReadsWhatPassed};
 ghost use Rattle.receiver_laws.specs.Standing.{HavePassed, numbered_frame};
 
 use line_rules::LineRules;
 
 /// A law of the receiver's definitions, for each profile, floor and link: a Modbus RTU device that
 /// stands on the receiver's line reads only frames that have passed, at every moment, and all of
-/// them once silence follows. So does each device that ends a burst by more silent ticks, up to the
-/// receiver's delay, or by fewer, down to two, and to which two or more silent ticks together make
-/// a burst no frame.
+/// them once silence follows, and so does a DNP3 device. So does each device for Modbus RTU that
+/// ends a burst by more silent ticks, up to the receiver's delay, or by fewer, down to two, and to
+/// which two or more silent ticks together make a burst no frame.
 pub fn device_reads_what_passed()
     ensures rtu { (profile : Profile) (floor : ℕ) (link : List Tick)
-        → ReadsWhatPassed T3_5_TICKS T1_5_TICKS profile floor link }
+        → ReadsWhatPassed rtu_rules rtu_reads T3_5_TICKS profile floor link }
+    ensures dnp { (profile : Profile) (floor : ℕ) (link : List Tick)
+        → ReadsWhatPassed dnp_rules dnp_reads 0 profile floor link }
     ensures others { (cut pause : ℕ) (profile : Profile) (floor : ℕ) (link : List Tick)
         → 2 ≤ cut → cut ≤ delay profile → 2 ≤ pause
-        → ReadsWhatPassed cut pause profile floor link }
+        → ReadsWhatPassed rtu_rules (reads_with cut pause) cut profile floor link }
 {}
 
 /// A law of the receiver's definitions, for the rules of each protocol, each profile whose delay is
@@ -81,13 +87,17 @@ pub fn passed_frames_are_accounted_for<R: LineRules>()
 
 /// A law of the transmitter's and the receiver's definitions, for each profile, floors, line of a
 /// device and link: however the link was altered, cut, repeated or reordered, the frames that a
-/// Modbus RTU device reads behind the receiver are a subsequence of those that the transmitter
-/// sealed, unless one that passed is forged. So it is for the other devices of
+/// Modbus RTU device or a DNP3 device reads behind the receiver are a subsequence of those that the
+/// transmitter sealed, unless one that passed is forged. So it is for the other devices of
 /// `device_reads_what_passed`.
 pub fn device_reads_what_was_sealed()
     ensures rtu { (profile : Profile) (seal_floor check_floor : ℕ) (line link : List Tick)
-        → ReadsWhatWasSealed T3_5_TICKS T1_5_TICKS profile seal_floor check_floor line link }
+        → ReadsWhatWasSealed rtu_rules rtu_reads T3_5_TICKS profile seal_floor check_floor line
+        link }
+    ensures dnp { (profile : Profile) (seal_floor check_floor : ℕ) (line link : List Tick)
+        → ReadsWhatWasSealed dnp_rules dnp_reads 0 profile seal_floor check_floor line link }
     ensures others { (cut pause : ℕ) (profile : Profile) (seal_floor check_floor : ℕ)
         (line link : List Tick) → 2 ≤ cut → cut ≤ delay profile → 2 ≤ pause
-        → ReadsWhatWasSealed cut pause profile seal_floor check_floor line link }
+        → ReadsWhatWasSealed rtu_rules (reads_with cut pause) cut profile seal_floor check_floor
+        line link }
 {}

@@ -6,9 +6,11 @@
 //! whole lines, and `proofs/` has how they follow from the walk over the bursts of the link.
 #![tactic(auto)]
 
+mod hunting_laws;
 mod laws;
 mod untouched;
 
+pub use hunting_laws::{hunting_device_reads_what_passed, hunting_device_reads_what_was_sealed};
 pub use laws::{
     device_reads_what_passed, device_reads_what_was_sealed, longer_links,
     passed_frames_are_accounted_for, passed_frames_stand_on_the_link, whole_packets_pass,

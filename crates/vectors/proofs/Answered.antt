@@ -1,15 +1,16 @@
 -- The answer to a table as a function is the answer as a relation.
 use Rattle.std.proofs.Common.{◌≡◌, ℕ, ◌+◌, List, [], ◌∷◌, ◌++◌, length, Bool, Decides, true, false}
 use Rattle.std.proofs.Common.{not, refl, ap, sym, ◌∙◌, subst, append_assoc}
-use Rattle.std.specs.Prelude.{Result, All}
+use Rattle.std.specs.Prelude.{Result, Option, Some, None, All}
 use Rattle.std.specs.List.{position_from}
 use Rattle.std.proofs.lemmas.Iterator.Adapters.{position_from-zero}
 use Rattle.std.proofs.lemmas.List.{append-nil, length_push}
 use Rattle.std.proofs.lemmas.List.Elements.{All-nil, All-cons, All-append}
+use Rattle.std.proofs.lemmas.Bool.{false≢true}
 use Rattle.std.proofs.lemmas.Slice.Eq.{bytes_eq-Decides}
 use Rattle.vectors.specs.declared.case.Case.{Case}
 use Rattle.vectors.specs.declared.table.Miss.{Miss}
-use Rattle.vectors.specs.Cases.{value_of, IsRight, is_right, IsAnswer, answer_at, answer}
+use Rattle.vectors.specs.Cases.{value_of, has_bytes, IsRight, is_right, IsAnswer, answer_at, answer}
 
 -- the answer to the cases from the n-th on
 abbrev answer_from : ℕ → List Case → Result (Unit {0}) Miss
@@ -20,8 +21,15 @@ AnswersOn : List Case → Type 0
 AnswersOn rest = (before : List Case) (n : ℕ) → n ≡ length before → All IsRight before
     → IsAnswer (before ++ rest) (answer_from n rest)
 
+has_bytes-Decides : (value : Option (List ℕ)) (bytes : List ℕ)
+    → Decides (has_bytes value bytes) (value ≡ Some bytes)
+has_bytes-Decides None bytes = ((λ is. absurd (false≢true is)), (λ same. cc))
+has_bytes-Decides (Some value) bytes =
+    let same = bytes_eq-Decides value bytes in
+    ((λ is. ap Some (same.0 is)), (λ is. same.1 cc))
+
 is_right-Decides : (case : Case) → Decides (is_right case) (IsRight case)
-is_right-Decides case = bytes_eq-Decides (value_of case) case.want.items
+is_right-Decides case = has_bytes-Decides (value_of case) case.want.items
 
 answers_on : (case : Case) (rest : List Case) → AnswersOn rest → (b : Bool) → is_right case ≡ b
     → AnswersOn (case ∷ rest)

@@ -2,12 +2,15 @@
 use Rattle.std.proofs.Common.{◌≡◌, Ok, length, refl}
 use Rattle.rtu_frame.specs.Crc.{bit_step, bit_steps, byte_step, crc}
 use Rattle.rtu_frame.specs.Frame.{is_frame, has_right_ending}
+use Rattle.dnp_link_frame.specs.Beginnings.{user_in_blocks}
+use Rattle.dnp_link_frame.specs.Blocks as dnp
+use Rattle.dnp_link_frame.specs.Endings.{ends_in_check}
 use Rattle.hmac_tag.proofs.StandardFacts.{hmac_of_hi_there, hmac_of_jefe, hmac_of_fifty_bytes}
 use Rattle.hmac_tag.proofs.StandardFacts.{tag_of_test_with_truncation, hmac_under_a_long_key}
 use Rattle.vectors.specs.Cases.{answer}
-use Rattle.vectors.specs.Tables.{crc_cases, hmac_cases, frames_cases}
+use Rattle.vectors.specs.Tables.{crc_cases, hmac_cases, frames_cases, user_cases}
 
-pub crc_rows : (length crc_cases ≡ 2) × (answer crc_cases ≡ Ok tt)
+pub crc_rows : (length crc_cases ≡ 4) × (answer crc_cases ≡ Ok tt)
 unfolding bit_step bit_steps byte_step crc answer crc_cases
 crc_rows = (refl, refl)
 
@@ -24,6 +27,12 @@ hmac_rows = (
   ),
 )
 
-pub frames_rows : (length frames_cases ≡ 5) × (answer frames_cases ≡ Ok tt)
-unfolding bit_step bit_steps byte_step crc is_frame has_right_ending answer frames_cases
+pub frames_rows : (length frames_cases ≡ 7) × (answer frames_cases ≡ Ok tt)
+unfolding bit_step bit_steps byte_step crc is_frame has_right_ending ends_in_check dnp.begins_right
+    dnp.is_good_header dnp.end_in_crcs dnp.is_frame answer frames_cases
 frames_rows = (refl, refl)
+
+pub user_rows : (length user_cases ≡ 2) × (answer user_cases ≡ Ok tt)
+unfolding bit_step bit_steps byte_step crc ends_in_check dnp.begins_right dnp.is_good_header
+    dnp.end_in_crcs dnp.is_frame user_in_blocks answer user_cases
+user_rows = (refl, refl)

@@ -1,2 +1,4 @@
 pub mod Answered
+pub mod FullRoom
 pub mod KnownAnswers
+pub mod UserData

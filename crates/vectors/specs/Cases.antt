@@ -1,14 +1,19 @@
 -- Known answers: what the definitions give for a case, and what a table of cases is answered.
-use Rattle.std.specs.Prelude.{◌≡◌, ℕ, ◌+◌, List, [], ◌∷◌, ◌++◌, length, Bool, not, Option, Some}
-use Rattle.std.specs.Prelude.{None, Result, Ok, Err, MatchResult, All, position, if◌then◌else◌}
+use Rattle.std.specs.Prelude.{◌≡◌, ℕ, ◌+◌, List, [], ◌∷◌, ◌++◌, length, Bool, false, not, Option}
+use Rattle.std.specs.Prelude.{Some, None, Result, Ok, Err, MatchResult, All, position}
+use Rattle.std.specs.Prelude.{if◌then◌else◌}
 use Rattle.std.specs.Int.{w16, to_be_bytes}
 use Rattle.std.specs.Str.{bytes_eq}
 use Rattle.rtu_frame.specs.Crc.{crc_rtu}
 use Rattle.rtu_frame.specs.Frame.{is_frame}
+use Rattle.dnp_link_frame.specs.Beginnings.{user_in}
+use Rattle.dnp_link_frame.specs.Blocks as dnp
+use Rattle.dnp_link_frame.specs.Crc.{crc_dnp}
 use Rattle.hmac_tag.specs.Tag.{hmac_sha1, hmac_sha1_96}
 use Rattle.vectors.specs.declared.case.Case.{Case}
 use Rattle.vectors.specs.declared.case.CaseKind.{CaseKind}
-use Rattle.vectors.specs.declared.case.CaseKind.TheVariants.{Crc16, HmacSha1, HmacSha196, RtuFrame}
+use Rattle.vectors.specs.declared.case.CaseKind.TheVariants.{Crc16, CrcDnp, HmacSha1, HmacSha196}
+use Rattle.vectors.specs.declared.case.CaseKind.TheVariants.{RtuFrame, DnpFrame, DnpUser}
 use Rattle.vectors.specs.declared.table.Miss.{Miss}
 
 -- the case of this kind with this key, text and wanted bytes
@@ -21,24 +26,40 @@ case_of kind key text want =
       want = record { items = want };
     }
 
--- what the definitions give: a CRC high byte first, a code, a code cut to 12 bytes, and 1 or 0 for
--- a frame or none
-abbrev pub value_by : CaseKind → List ℕ → List ℕ → List ℕ
-value_by Crc16 key text = to_be_bytes w16 (crc_rtu text)
-value_by HmacSha1 key text = hmac_sha1 key text
-value_by HmacSha196 key text = hmac_sha1_96 key text
-value_by RtuFrame key text = (if is_frame text then 1 else 0) ∷ []
+-- one byte: 1 for yes, 0 for no
+abbrev pub truth : Bool → List ℕ
+truth holds = (if holds then 1 else 0) ∷ []
 
-abbrev pub value_of : Case → List ℕ
+-- the user data of a frame of DNP3; other bytes have none
+abbrev pub user_of : List ℕ → Option (List ℕ)
+user_of text = if dnp.is_frame text then Some (user_in text) else None
+
+-- what the definitions give: a CRC high byte first, a code, a code cut to 12 bytes, 1 or 0 for a
+-- frame or none, and the user data of a frame
+abbrev pub value_by : CaseKind → List ℕ → List ℕ → Option (List ℕ)
+value_by Crc16 key text = Some (to_be_bytes w16 (crc_rtu text))
+value_by CrcDnp key text = Some (to_be_bytes w16 (crc_dnp text))
+value_by HmacSha1 key text = Some (hmac_sha1 key text)
+value_by HmacSha196 key text = Some (hmac_sha1_96 key text)
+value_by RtuFrame key text = Some (truth (is_frame text))
+value_by DnpFrame key text = Some (truth (dnp.is_frame text))
+value_by DnpUser key text = user_of text
+
+abbrev pub value_of : Case → Option (List ℕ)
 value_of case = value_by case.kind case.key.items case.text.items
 
 -- the definitions give what is wanted
 abbrev pub IsRight : Case → Type 0
-IsRight case = value_of case ≡ case.want.items
+IsRight case = value_of case ≡ Some case.want.items
+
+-- there is a value, and it has these bytes
+abbrev pub has_bytes : Option (List ℕ) → List ℕ → Bool
+has_bytes None bytes = false
+has_bytes (Some value) bytes = bytes_eq value bytes
 
 -- the decision of `IsRight`
 abbrev pub is_right : Case → Bool
-is_right case = bytes_eq (value_of case) case.want.items
+is_right case = has_bytes (value_of case) case.want.items
 
 -- this many cases are right, and the next one isn't
 pub record IsFirstMiss (cases : List Case) (row : ℕ) : Type 0 where

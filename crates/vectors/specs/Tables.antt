@@ -1,16 +1,22 @@
 -- The tables of known answers.
 use Rattle.std.specs.Prelude.{List, [], ◌∷◌, codes, replicate}
 use Rattle.vectors.specs.declared.case.Case.{Case}
-use Rattle.vectors.specs.declared.case.CaseKind.TheVariants.{Crc16, HmacSha1, HmacSha196, RtuFrame}
+use Rattle.vectors.specs.declared.case.CaseKind.TheVariants.{Crc16, CrcDnp, HmacSha1, HmacSha196}
+use Rattle.vectors.specs.declared.case.CaseKind.TheVariants.{RtuFrame, DnpFrame, DnpUser}
 use Rattle.vectors.specs.Cases.{case_of}
 
--- CRCs of Modbus RTU: of the usual check text, and of the two bytes 01 03
+-- CRCs of Modbus RTU, of the usual check text and of the two bytes 01 03; and of DNP3, of the check
+-- text and of the header of a reset of a link
 unfoldable pub crc_cases : List Case
 crc_cases =
     case_of Crc16 [] (codes "123456789")
     (0x4B ∷ 0x37 ∷ [])
     ∷ case_of Crc16 [] (0x01 ∷ 0x03 ∷ [])
     (0x21 ∷ 0x40 ∷ [])
+    ∷ case_of CrcDnp [] (codes "123456789")
+    (0xEA ∷ 0x82 ∷ [])
+    ∷ case_of CrcDnp [] (0x05 ∷ 0x64 ∷ 0x05 ∷ 0xC0 ∷ 0x01 ∷ 0x00 ∷ 0x00 ∷ 0x04 ∷ [])
+    (0x21 ∷ 0xE9 ∷ [])
     ∷ []
 
 -- test cases of RFC 2202, one of them cut to 12 bytes and one with a key longer than a block
@@ -33,7 +39,8 @@ hmac_cases =
     ∷ 0x3B ∷ 0x55 ∷ 0xED ∷ 0x40 ∷ 0x21 ∷ 0x12 ∷ [])
     ∷ []
 
--- frames of Modbus RTU, and one with a wrong CRC
+-- frames of Modbus RTU, and one with a wrong CRC; and frames of DNP3, a reset of a link and a read
+-- of class data
 unfoldable pub frames_cases : List Case
 frames_cases =
     case_of RtuFrame [] (0x01 ∷ 0x03 ∷ 0x00 ∷ 0x00 ∷ 0x00 ∷ 0x0A ∷ 0xC5 ∷ 0xCD ∷ [])
@@ -46,4 +53,21 @@ frames_cases =
     (0x01 ∷ [])
     ∷ case_of RtuFrame [] (0x01 ∷ 0x03 ∷ 0x00 ∷ 0x00 ∷ 0x00 ∷ 0x0A ∷ 0xC5 ∷ 0xCC ∷ [])
     (0x00 ∷ [])
+    ∷ case_of DnpFrame [] (0x05 ∷ 0x64 ∷ 0x05 ∷ 0xC0 ∷ 0x01 ∷ 0x00 ∷ 0x00 ∷ 0x04 ∷ 0xE9 ∷ 0x21 ∷ [])
+    (0x01 ∷ [])
+    ∷ case_of DnpFrame []
+    (0x05 ∷ 0x64 ∷ 0x0B ∷ 0xC4 ∷ 0x01 ∷ 0x00 ∷ 0x00 ∷ 0x04 ∷ 0xF4 ∷ 0x5C ∷ 0xC0 ∷ 0xC0 ∷ 0x01 ∷ 0x3C
+    ∷ 0x02 ∷ 0x06 ∷ 0x54 ∷ 0xE0 ∷ [])
+    (0x01 ∷ [])
+    ∷ []
+
+-- user data of frames of DNP3: none in a reset of a link, and a read of class data
+unfoldable pub user_cases : List Case
+user_cases =
+    case_of DnpUser [] (0x05 ∷ 0x64 ∷ 0x05 ∷ 0xC0 ∷ 0x01 ∷ 0x00 ∷ 0x00 ∷ 0x04 ∷ 0xE9 ∷ 0x21 ∷ [])
+    []
+    ∷ case_of DnpUser []
+    (0x05 ∷ 0x64 ∷ 0x0B ∷ 0xC4 ∷ 0x01 ∷ 0x00 ∷ 0x00 ∷ 0x04 ∷ 0xF4 ∷ 0x5C ∷ 0xC0 ∷ 0xC0 ∷ 0x01 ∷ 0x3C
+    ∷ 0x02 ∷ 0x06 ∷ 0x54 ∷ 0xE0 ∷ [])
+    (0xC0 ∷ 0xC0 ∷ 0x01 ∷ 0x3C ∷ 0x02 ∷ 0x06 ∷ [])
     ∷ []

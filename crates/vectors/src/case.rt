@@ -1,21 +1,31 @@
-ghost use Rattle.std.specs.Prelude.{◌≡◌, ◌≤◌, length};
+ghost use Rattle.std.specs.Prelude.{◌≡◌, ◌≤◌, length, option_map};
 ghost use Rattle.arrayvec.specs.ArrayVec.{array_vec_len};
+ghost use Rattle.vectors.specs.Cases.{truth, user_of};
 
+use crate::frame::is_frame;
 use arrayvec::ArrayVec;
+use dnp_link_frame::{Dnp, dnp_crc, user_data};
 use hmac_tag::{HmacSha1, Mac};
-use rtu_frame::{crc16, is_frame};
+use rtu_frame::{Rtu, crc16};
 
 /// What is computed for a case.
 #[derive(Clone, Copy, Debug, PartialEq, Eq)]
 pub enum CaseKind {
     /// The CRC-16 of Modbus RTU over the text, high byte first.
     Crc16,
+    /// The CRC of DNP3 over the text, high byte first.
+    CrcDnp,
     /// The HMAC-SHA-1 of the text under the key, 20 bytes.
     HmacSha1,
     /// Its first 12 bytes, by the stream.
     HmacSha196,
     /// One byte: 1 where the text is a frame of Modbus RTU, else 0.
     RtuFrame,
+    /// One byte: 1 where the text is a frame of the DNP3 link layer, else 0.
+    DnpFrame,
+    /// The user data of the text, where that is a frame of the DNP3 link layer. Any other text has
+    /// none, and is never right.
+    DnpUser,
 }
 
 /// The bytes of a key, a text or an answer.
@@ -39,6 +49,22 @@ fn bytes_of(list: &[u8]) -> CaseBytes
     bytes
 }
 
+fn truth(holds: bool) -> CaseBytes
+    ensures { result.items ≡ truth holds }
+{
+    bytes_of(&[u8::from(holds)])
+}
+
+fn user_of(text: &[u8]) -> Option<CaseBytes>
+    requires { length text.now ≤ 80 }
+    ensures { option_map (λ user. user.items) result ≡ user_of text.now }
+{
+    match user_data(text) {
+        Ok((_, user)) => Some(bytes_of(user.as_slice())),
+        Err(_) => None,
+    }
+}
+
 impl Case {
     ghost use Rattle.vectors.specs.Cases.{case_of, value_of, is_right};
 
@@ -57,26 +83,29 @@ impl Case {
         }
     }
 
-    #[tactic(auto, using(rtu_frame::proofs::FrameLaws::is_frame_lem))]
-    fn value(&self) -> CaseBytes
-        ensures { result.items ≡ value_of self.now }
+    fn value(&self) -> Option<CaseBytes>
+        ensures { option_map (λ value. value.items) result ≡ value_of self.now }
     {
         let (key, text) = (self.key.as_slice(), self.text.as_slice());
         match self.kind {
-            CaseKind::Crc16 => bytes_of(&crc16(text).to_be_bytes()),
-            CaseKind::HmacSha1 => bytes_of(&HmacSha1::digest(key, text)),
+            CaseKind::Crc16 => Some(bytes_of(&crc16(text).to_be_bytes())),
+            CaseKind::CrcDnp => Some(bytes_of(&dnp_crc(text).to_be_bytes())),
+            CaseKind::HmacSha1 => Some(bytes_of(&HmacSha1::digest(key, text))),
             CaseKind::HmacSha196 => {
                 let mut mac = HmacSha1::with_key(key);
                 mac.update(text);
-                bytes_of(mac.finish().as_slice())
+                Some(bytes_of(mac.finish().as_slice()))
             }
-            CaseKind::RtuFrame => bytes_of(&[u8::from(is_frame(text))]),
+            CaseKind::RtuFrame => Some(truth(is_frame::<Rtu>(text))),
+            CaseKind::DnpFrame => Some(truth(is_frame::<Dnp>(text))),
+            CaseKind::DnpUser => user_of(text),
         }
     }
 
     pub(crate) fn is_right(&self) -> bool
         ensures { result ≡ is_right self.now }
     {
-        self.value().as_slice() == self.want.as_slice()
+        self.value()
+            .is_some_and(|value| value.as_slice() == self.want.as_slice())
     }
 }

@@ -3,7 +3,9 @@
 #![tactic(auto)]
 
 mod case;
+mod frame;
+pub mod laws;
 mod table;
 
 pub use case::{Case, CaseBytes, CaseKind};
-pub use table::{Miss, crc_table, frames_table, hmac_table, run_table};
+pub use table::{Miss, crc_table, frames_table, hmac_table, run_table, user_table};

@@ -1,6 +1,6 @@
 ghost use Rattle.std.specs.Prelude.{◌≡◌, ◌<◌, ◌^◌, length, not, position, IfSome};
 ghost use Rattle.vectors.specs.Cases.{is_right, answer, IsAnswer};
-ghost use Rattle.vectors.specs.Tables.{crc_cases, hmac_cases, frames_cases};
+ghost use Rattle.vectors.specs.Tables.{crc_cases, hmac_cases, frames_cases, user_cases};
 
 use crate::{Case, CaseKind};
 
@@ -57,6 +57,8 @@ pub fn crc_table() -> (u32, Result<(), Miss>)
     table! {
         Crc16: b"", b"123456789" => b"\x4B\x37";
         Crc16: b"", b"\x01\x03" => b"\x21\x40";
+        CrcDnp: b"", b"123456789" => b"\xEA\x82";
+        CrcDnp: b"", b"\x05\x64\x05\xC0\x01\x00\x00\x04" => b"\x21\xE9";
     }
 }
 
@@ -87,6 +89,23 @@ pub fn frames_table() -> (u32, Result<(), Miss>)
         RtuFrame: b"", b"\x11\x03\x00\x6B\x00\x03\x76\x87" => b"\x01";
         RtuFrame: b"", b"\x01\x03\x40\x21" => b"\x01";
         RtuFrame: b"", b"\x01\x03\x00\x00\x00\x0A\xC5\xCC" => b"\x00";
+        DnpFrame: b"", b"\x05\x64\x05\xC0\x01\x00\x00\x04\xE9\x21" => b"\x01";
+        DnpFrame: b"",
+            b"\x05\x64\x0B\xC4\x01\x00\x00\x04\xF4\x5C\xC0\xC0\x01\x3C\x02\x06\x54\xE0" => b"\x01";
+    }
+}
+
+/// The number of rows of the table of user data, and the answer to it.
+#[tactic(auto, unfolding(crate::specs::Tables::user_cases))]
+pub fn user_table() -> (u32, Result<(), Miss>)
+    ensures rows { result.0 ≡ length user_cases }
+    ensures answer { result.1 ≡ answer user_cases }
+{
+    table! {
+        DnpUser: b"", b"\x05\x64\x05\xC0\x01\x00\x00\x04\xE9\x21" => b"";
+        DnpUser: b"",
+            b"\x05\x64\x0B\xC4\x01\x00\x00\x04\xF4\x5C\xC0\xC0\x01\x3C\x02\x06\x54\xE0" =>
+            b"\xC0\xC0\x01\x3C\x02\x06";
     }
 }
 
@@ -96,11 +115,16 @@ mod tests {
 
     #[test]
     fn known_tables(rt: HostRuntime) {
-        assert_eq!(rt; crc_table(), (2, Ok(())));
+        assert_eq!(rt; crc_table(), (4, Ok(())));
         assert_eq!(rt; hmac_table(), (5, Ok(())));
-        assert_eq!(rt; frames_table(), (5, Ok(())));
+        assert_eq!(rt; frames_table(), (7, Ok(())));
+        assert_eq!(rt; user_table(), (2, Ok(())));
         let right = Case::new(CaseKind::Crc16, b"", b"\x01\x03", b"\x21\x40");
         let wrong = Case::new(CaseKind::Crc16, b"", b"\x01\x03", b"\x21\x41");
         assert_eq!(rt; run_table(&[right, wrong]), Err(Miss { row: 2 }));
+
+        // no frame has no user data, not the empty one
+        let none = Case::new(CaseKind::DnpUser, b"", b"\x05\x64", b"");
+        assert_eq!(rt; run_table(&[none]), Err(Miss { row: 1 }));
     }
 }

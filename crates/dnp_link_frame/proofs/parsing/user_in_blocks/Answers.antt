@@ -8,8 +8,8 @@ loop-n-init c = c.new-user.ensures ∙ user_in_blocks-start c.args.bytes.now
 
 pub push_bytes-requires : goal.push_bytes-requires
 push_bytes-requires c =
-    user_in_blocks-room c.loop-n.n c.args.blocks c.min-to.result c.args.bytes.now
-    c.loop-n.user.items c.requires.fit c.requires.blocks (omega arith) c.min-to.ensures
+    user_in_blocks-room c.loop-n.n c.args.count c.min-to.result c.args.bytes.now
+    c.loop-n.user.items c.requires.fit c.requires.whole (omega arith) c.min-to.ensures
     c.loop-n.invariant
 
 pub loop-n-preserved : goal.loop-n-preserved

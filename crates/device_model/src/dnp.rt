@@ -1,0 +1,20 @@
+use crate::hunted::Hunted;
+use crate::hunting::HuntingDevice;
+use dnp_link_frame::Dnp;
+
+impl Hunted for Dnp {
+    ghost use Rattle.device_model.specs.DnpHunted.{dnp_hunted};
+
+    ghost FIRST = { 0x05 };
+
+    ghost SECOND = { 0x64 };
+
+    ghost hunted = { dnp_hunted };
+
+    const FIRST: u8 = 0x05;
+
+    const SECOND: u8 = 0x64;
+}
+
+/// A DNP3 device, which reads the frames of the link layer (IEEE 1815).
+pub type DnpDevice = HuntingDevice<Dnp>;

@@ -1,0 +1,18 @@
+use line_rules::LineRules;
+
+/// The rules of a protocol whose devices hunt for frames: two bytes mark that a header begins.
+pub trait Hunted: LineRules {
+    ghost use Rattle.std.specs.Prelude.{ℕ};
+    ghost use Rattle.device_model.specs.HuntLaws.{IsHunted};
+
+    ghost FIRST: { ℕ };
+
+    ghost SECOND: { ℕ };
+
+    ghost hunted: { IsHunted FIRST SECOND Self.rules };
+
+    /// The two bytes with which a header begins.
+    const FIRST: u8;
+
+    const SECOND: u8;
+}

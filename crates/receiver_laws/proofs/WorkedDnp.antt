@@ -1,0 +1,78 @@
+-- What a DNP3 device reads of small lines of the receiver, with a tag that stands in for HMAC.
+use Rattle.std.proofs.Common.{◌≡◌, ℕ, List, [], ◌∷◌, ◌++◌, map, take, replicate, refl}
+use Rattle.yasir_ticks.specs.Ticks.{silent}
+use Rattle.yasir_ticks.specs.Bursts.{bursts_from, with_byte}
+use Rattle.yasir_ticks.specs.declared.tick.Tick.{Tick}
+use Rattle.yasir_ticks.specs.declared.tick.Tick.TheVariants.{Byte}
+use Rattle.line_rules.specs.Crc.{crc, byte_step, bit_steps, bit_step}
+use Rattle.dnp_link_frame.specs.Blocks.{room_by, begins_right, is_good_header, end_in_crcs}
+use Rattle.dnp_link_frame.specs.Blocks.{block_start, is_frame, has_right_ending}
+use Rattle.dnp_link_frame.specs.Endings.{ends_in_check}
+use Rattle.dnp_link_frame.specs.Rules.{dnp_rules}
+use Rattle.frame_ending.specs.LiveBytes.{before_pause, up_to_byte}
+use Rattle.device_model.specs.Frames.{FrameRead}
+use Rattle.device_model.specs.Hunt.{hunt}
+use Rattle.device_model.specs.DnpReads.{dnp_reads}
+use Rattle.burst_walk.specs.Laid.{tick_at}
+use Rattle.link_format.specs.Profile.{Profile}
+use Rattle.link_verdicts.specs.Shapes.{kept}
+use Rattle.link_verdicts.specs.Verdicts.{verdict_of, checked}
+use Rattle.link_verdicts.specs.Emissions.{spoiled}
+use Rattle.link_verdicts.specs.Checking.{received_line}
+
+-- twelve bytes of the number and the frame
+abbrev stand_in : ℕ → List ℕ → List ℕ
+stand_in number frame = take 12 (number ∷ frame ++ replicate 12 0xEE)
+
+abbrev profile : Profile
+profile = record { word_len = 2; tag_len = 12; tag = stand_in; limit = 281474976710655 }
+
+abbrev on_line : List ℕ → List Tick
+on_line x = map (λ b. Byte b) x
+
+-- the reset of a link
+abbrev RESET_LINK : List ℕ
+RESET_LINK = 0x05 ∷ 0x64 ∷ 0x05 ∷ 0xC0 ∷ 0x01 ∷ 0x00 ∷ 0x00 ∷ 0x04 ∷ 0xE9 ∷ 0x21 ∷ []
+
+-- 27 ticks: the reset, with a word of 1 and this as the last byte of the tag
+abbrev packet_ending : ℕ → List Tick
+packet_ending last =
+    on_line RESET_LINK ++ silent 3
+    ++ on_line (0x00 ∷ 0x01 ∷ 0x01 ∷ 0x05 ∷ 0x64 ∷ 0x05 ∷ 0xC0 ∷ 0x01 ∷ 0x00 ∷ 0x00 ∷ 0x04 ∷ 0xE9
+    ∷ 0x21 ∷ last ∷ [])
+
+-- the header of a frame with one byte of user data, which its CRC would follow
+abbrev HEADER_ALONE : List ℕ
+HEADER_ALONE = 0x05 ∷ 0x64 ∷ 0x06 ∷ 0xC4 ∷ 0x01 ∷ 0x00 ∷ 0x00 ∷ 0x04 ∷ 0xA1 ∷ 0x3E ∷ []
+
+abbrev read_behind : List Tick → List FrameRead
+read_behind link = dnp_reads (received_line profile dnp_rules 0 link)
+
+-- the last byte of the reset leaves in tick 27, and is read there
+not_yet : read_behind (packet_ending 0xEE) ≡ []
+unfolding bursts_from with_byte before_pause up_to_byte tick_at kept spoiled verdict_of checked crc
+    byte_step bit_steps bit_step room_by begins_right is_good_header end_in_crcs block_start
+    is_frame has_right_ending ends_in_check hunt
+not_yet = refl
+
+is_read-now : read_behind (packet_ending 0xEE ++ silent 1)
+    ≡ record { start = 18; frame = RESET_LINK } ∷ []
+unfolding bursts_from with_byte before_pause up_to_byte tick_at kept spoiled verdict_of checked crc
+    byte_step bit_steps bit_step room_by begins_right is_good_header end_in_crcs block_start
+    is_frame has_right_ending ends_in_check hunt
+is_read-now = refl
+
+-- a wrong tag: it leaves with a bad header, which the device drops
+wrong-unread : read_behind (packet_ending 0xEF ++ silent 24) ≡ []
+unfolding bursts_from with_byte before_pause up_to_byte tick_at kept spoiled verdict_of checked crc
+    byte_step bit_steps bit_step room_by begins_right is_good_header end_in_crcs block_start
+    is_frame has_right_ending ends_in_check hunt
+wrong-unread = refl
+
+-- a frame that is cut is filled, so that the device doesn't take the packet behind it
+filled-behind : read_behind (on_line HEADER_ALONE ++ silent 21 ++ packet_ending 0xEE ++ silent 1)
+    ≡ record { start = 49; frame = RESET_LINK } ∷ []
+unfolding bursts_from with_byte before_pause up_to_byte tick_at kept spoiled verdict_of checked crc
+    byte_step bit_steps bit_step room_by begins_right is_good_header end_in_crcs block_start
+    is_frame has_right_ending ends_in_check hunt
+filled-behind = refl

@@ -1,0 +1,21 @@
+use Rattle.device_model.specs.Hunt.{hunt_line}
+use Rattle.receiver_laws.proofs.Headline.{reads-sealed}
+use Rattle.receiver_laws.proofs.HunterReadings.{hunt_reads_what_passed, hunter_reads_what_passed}
+use Rattle.receiver_laws.proofs.hunting_laws.hunting_device_reads_what_was_sealed.Goals as goal
+
+pub returns-clause-hunt : goal.returns-clause-hunt
+returns-clause-hunt g c = λ profile seal_floor check_floor line link.
+    reads-sealed g.R.LineRules.rules g.R.LineRules.lawful
+    (hunt_line g.R.Hunted.FIRST g.R.Hunted.SECOND g.R.LineRules.rules) 0 profile seal_floor
+    check_floor line link
+    (hunt_reads_what_passed g.R.Hunted.FIRST g.R.Hunted.SECOND g.R.LineRules.rules
+    g.R.LineRules.headed g.R.LineRules.framed g.met.R.Hunted.hunted profile g.R.LineRules.lawful
+    g.R.LineRules.spoiling check_floor link)
+
+pub returns-clause-others : goal.returns-clause-others
+returns-clause-others g c = λ read hunter profile seal_floor check_floor line link.
+    reads-sealed g.R.LineRules.rules g.R.LineRules.lawful (read 0) 0 profile seal_floor check_floor
+    line link
+    (hunter_reads_what_passed g.R.Hunted.FIRST g.R.Hunted.SECOND g.R.LineRules.rules
+    g.R.LineRules.headed g.R.LineRules.framed g.met.R.Hunted.hunted profile g.R.LineRules.lawful
+    g.R.LineRules.spoiling read hunter check_floor link)

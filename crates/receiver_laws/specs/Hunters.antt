@@ -1,0 +1,32 @@
+-- Devices that hunt for frames, whatever they make of silence between them.
+use Rattle.std.specs.Prelude.{◌≡◌, ℕ, ◌+◌, ◌<◌, List, [], ◌++◌, length}
+use Rattle.yasir_ticks.specs.Ticks.{silent}
+use Rattle.yasir_ticks.specs.BurstsOf.{IsContiguous}
+use Rattle.yasir_ticks.specs.declared.TheConstants.{T1_5_TICKS}
+use Rattle.yasir_ticks.specs.declared.tick.Tick.{Tick}
+use Rattle.line_rules.specs.Rules.{Rules}
+use Rattle.device_model.specs.Frames.{FrameRead}
+use Rattle.device_model.specs.Hunt.{Timed, timed, hunt}
+
+-- The front of such contiguous ticks as bursts of the receiver are: nothing, or contiguous ticks
+-- and then less silence than parts them.
+pub data IsFront : List Tick → Type 0 where
+  nothing : IsFront []
+  up_to : (x : List Tick) (gap : ℕ) → gap < T1_5_TICKS → IsContiguous T1_5_TICKS x
+      → IsFront (x ++ silent gap)
+
+-- A device that reads these frames of ticks, the first of which is tick n of the line, at rest
+-- before. It reads nothing of silence. Contiguous ticks of which the hunt takes all, whatever
+-- follows, it takes as the hunt does, and is at rest after them. And of ticks that are broken off
+-- it reads nothing where the hunt doesn't.
+pub record IsHunter (first second : ℕ) (rules : Rules) (read : ℕ → List Tick → List FrameRead) :
+    Type 0 where
+  pub none : (n : ℕ) → read n [] ≡ []
+  pub waits : (n k : ℕ) (x : List Tick) → read n (silent k ++ x) ≡ read (n + k) x
+  pub takes : (n m : ℕ) (x more : List Tick) (frames : List FrameRead)
+      → IsContiguous T1_5_TICKS x → n + length x ≡ m
+      → ((z : List Timed) → hunt first second rules 0 (timed n x ++ z)
+      ≡ frames ++ hunt first second rules 0 z)
+      → read n (x ++ more) ≡ frames ++ read m more
+  pub breaks_off : (n : ℕ) (x : List Tick) → IsFront x
+      → hunt first second rules 0 (timed n x) ≡ [] → read n x ≡ []
