@@ -15,12 +15,12 @@ def floor_of(path):
 
 
 class Killed:
-    """Runs of one command over the same input and journal, each killed after a random time of at most half a second."""
+    """Runs of one command over the same input and journal, each killed after a random time of at most so many seconds."""
 
-    def __init__(self, program, command, folder):
-        self.program, self.command = os.path.abspath(program), command
+    def __init__(self, program, command, folder, seconds):
+        self.program, self.command, self.seconds = os.path.abspath(program), command, seconds
         self.folder = tempfile.mkdtemp(prefix="killed_%s." % command, dir=folder)
-        self.killed, self.used, self.last = 0, set(), 0
+        self.killed, self.seen, self.used, self.last = 0, 0, set(), 0
         open(self.path("key"), "w").write(KEY)
         self.init("journal")
         random.seed(1)
@@ -42,7 +42,7 @@ class Killed:
         before = floor_of(self.path("journal"))
         with open(self.path("line")) as line, open(self.path("out"), "w") as out, open(self.path("log"), "w") as log:
             run = subprocess.Popen(self.words(self.command, "journal"), stdin=line, stdout=out, stderr=log)
-            time.sleep(random.uniform(0, 0.5))
+            time.sleep(random.uniform(0, self.seconds))
             run.send_signal(signal.SIGKILL)
             self.killed += run.wait() < 0
         return before
@@ -61,6 +61,13 @@ class Killed:
         self.used.update(numbers)
         self.last = max([self.last] + numbers)
 
+    def begin_anew(self):
+        """A new journal, and no number is used."""
+        os.remove(self.path("journal"))
+        self.init("journal")
+        self.seen += len(self.used)
+        self.used, self.last = set(), 0
+
     def summary(self, runs):
         return "%d runs, %d killed, %d numbers seen, the last one %d, floor %d: none came twice" % (
-            runs, self.killed, len(self.used), self.last, floor_of(self.path("journal")))
+            runs, self.killed, self.seen + len(self.used), self.last, floor_of(self.path("journal")))

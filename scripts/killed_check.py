@@ -4,9 +4,10 @@
     python3 scripts/killed_check.py [RUNS] [PROGRAM] [FOLDER]
 
 The link has many packets, of numbers 1, 2, .. in order. Each run checks it from its beginning and is killed (SIGKILL)
-after a random time, so that it meets again all packets that the runs before have passed. A number counts as passed where
-the last byte of its frame left unspoiled, or its note reached the log. It must be above every number that passed before,
-and the journal's floor after the kill must not be below it; and no frame may leave whole whose note isn't in the log.
+after a random time, so that it meets again all packets that the runs before have passed; once all have, a new journal
+begins. A number counts as passed where the last byte of its frame left unspoiled, or its note reached the log. It must be
+above every number that passed before, and the journal's floor after the kill must not be below it; and no frame may leave
+whole whose note isn't in the log.
 The files stand in a new folder inside FOLDER; on a tmpfs (/dev/shm) a sync is quick, and a run passes thousands of frames.
 It is no part of the gate: what a killed process leaves of a file is the system's.
 """
@@ -49,7 +50,7 @@ def seal_link(box):
 
 def main():
     runs = int(sys.argv[1]) if len(sys.argv) > 1 else 200
-    box = Killed(sys.argv[2] if len(sys.argv) > 2 else "crates/link_replay/out/link_replay", "check", sys.argv[3] if len(sys.argv) > 3 else None)
+    box = Killed(sys.argv[2] if len(sys.argv) > 2 else "crates/link_replay/out/link_replay", "check", sys.argv[3] if len(sys.argv) > 3 else None, 0.2)
     seal_link(box)
     for _ in range(runs):
         box.run()
@@ -60,8 +61,10 @@ def main():
             box.look_at(seen)
         assert set(numbers) <= set(noted), "a frame left whole without its note"
         box.keep(numbers + noted)
-    shutil.rmtree(box.folder)
+        if box.last == PACKETS:
+            box.begin_anew()
     print(box.summary(runs))
+    shutil.rmtree(box.folder)
 
 
 main()

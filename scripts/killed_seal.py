@@ -28,7 +28,7 @@ def full(floor, word):
 
 def main():
     runs = int(sys.argv[1]) if len(sys.argv) > 1 else 200
-    box = Killed(sys.argv[2] if len(sys.argv) > 2 else "crates/link_replay/out/link_replay", "seal", sys.argv[3] if len(sys.argv) > 3 else None)
+    box = Killed(sys.argv[2] if len(sys.argv) > 2 else "crates/link_replay/out/link_replay", "seal", sys.argv[3] if len(sys.argv) > 3 else None, 0.5)
     open(box.path("line"), "w").write("+%s\n-40\n" % FRAME * 200000)
     for _ in range(runs):
         before = box.run()
@@ -40,8 +40,8 @@ def main():
             box.look_at(seen)
         assert set(numbers) <= set(noted), "a trailer stands on the link without its note"
         box.keep(numbers + noted)
-    shutil.rmtree(box.folder)
     print(box.summary(runs))
+    shutil.rmtree(box.folder)
 
 
 main()
