@@ -155,15 +155,15 @@ impl<R: LineRules, M: Mac, const B: usize, const D: usize> Checker<R, M, B, D> {
         }
     }
 
-    // A step in which no live byte enters the ring.
+    // A step in which no live byte enters the ring, and with this note.
     #[inline]
-    fn pass_by(&mut self) -> CheckStep
+    fn pass_by(&mut self, note: Option<CheckNote>) -> CheckStep
         ensures turned { Turned R.LineRules self.old self.new Silent result.tick }
-        ensures note { result.note ≡ None }
+        ensures note { result.note ≡ note }
     {
         CheckStep {
             tick: self.turn(Tick::Silent),
-            note: None,
+            note,
         }
     }
 
@@ -210,7 +210,7 @@ impl<R: LineRules, M: Mac, const B: usize, const D: usize> Checker<R, M, B, D> {
             → HasTaken R.LineRules M.Mac self.new last setup line t result }
     {
         if !self.waits {
-            return self.pass_by();
+            return self.pass_by(None);
         }
         self.mac.update(&[byte]);
         match self.head() {
@@ -222,8 +222,8 @@ impl<R: LineRules, M: Mac, const B: usize, const D: usize> Checker<R, M, B, D> {
     // A live byte of the burst whose verdict is open enters the ring.
     #[inline]
     fn enter(&mut self, byte: u8) -> CheckStep
-        ensures turned { Turned R.LineRules (with_until self.new.until self.old) self.new (Byte byte)
-            result.tick }
+        ensures turned { Turned R.LineRules (with_until self.new.until self.old) self.new
+            (Byte byte) result.tick }
         ensures until { D ≤ 64 → self.new.until ≡ D }
         ensures note { result.note ≡ None }
     {
@@ -246,7 +246,7 @@ impl<R: LineRules, M: Mac, const B: usize, const D: usize> Checker<R, M, B, D> {
             → HasTaken R.LineRules M.Mac self.new last setup line Silent result }
     {
         if !self.waits {
-            return self.pass_by();
+            return self.pass_by(None);
         }
         if usize::from(self.until) + PAUSE < D {
             return self.refuse(RefusedWhy::Trailer);
@@ -255,7 +255,7 @@ impl<R: LineRules, M: Mac, const B: usize, const D: usize> Checker<R, M, B, D> {
         if usize::from(self.until) + 2 == D {
             return self.pause();
         }
-        self.pass_by()
+        self.pass_by(None)
     }
 
     // The burst has no further live byte.
@@ -271,7 +271,7 @@ impl<R: LineRules, M: Mac, const B: usize, const D: usize> Checker<R, M, B, D> {
     {
         match self.head() {
             Head::Short => self.drop_headless(),
-            Head::Bad | Head::Good => self.pass_by(),
+            Head::Bad | Head::Good => self.pass_by(None),
         }
     }
 
@@ -300,7 +300,7 @@ impl<R: LineRules, M: Mac, const B: usize, const D: usize> Checker<R, M, B, D> {
         ensures journal { KeepsJournal S.SlotDisk journal.old journal.new disk.old disk.new result }
     {
         if !self.waits {
-            return Ok(self.pass_by());
+            return Ok(self.pass_by(None));
         }
         if usize::from(self.until) + PAUSE >= D {
             return Ok(self.refuse(RefusedWhy::Trailer));
@@ -309,7 +309,7 @@ impl<R: LineRules, M: Mac, const B: usize, const D: usize> Checker<R, M, B, D> {
         self.arriving
             .take(place, byte, journal.floor(), &mut self.mac);
         if self.until > 1 {
-            return Ok(self.pass_by());
+            return Ok(self.pass_by(None));
         }
         self.decide(journal, disk)
     }
@@ -396,14 +396,9 @@ impl<R: LineRules, M: Mac, const B: usize, const D: usize> Checker<R, M, B, D> {
         self.waits = false;
         self.passed = true;
         self.earliest_start = self.cut.ticks() + u64::from(self.until);
-        CheckStep {
-            tick: self.turn(Tick::Silent),
-            note: Some(CheckNote::Passed {
-                number,
-                start: self.cut.start(),
-                len: self.cut.rules().len(),
-            }),
-        }
+        let start = self.cut.start();
+        let len = self.cut.rules().len();
+        self.pass_by(Some(CheckNote::Passed { number, start, len }))
     }
 
     // The burst is refused.
@@ -425,13 +420,8 @@ impl<R: LineRules, M: Mac, const B: usize, const D: usize> Checker<R, M, B, D> {
         self.earliest_start = self.cut.ticks()
             + u64::from(self.until)
             + u64::from(self.cut.rules().left());
-        CheckStep {
-            tick: self.turn(Tick::Silent),
-            note: Some(CheckNote::Refused {
-                start: self.cut.start(),
-                why,
-            }),
-        }
+        let start = self.cut.start();
+        self.pass_by(Some(CheckNote::Refused { start, why }))
     }
 
     // The burst is dropped, for its header: its bytes don't leave.
@@ -444,13 +434,11 @@ impl<R: LineRules, M: Mac, const B: usize, const D: usize> Checker<R, M, B, D> {
         self.waits = false;
         self.until = 0;
         self.ring.clear();
-        CheckStep {
-            tick: self.turn(Tick::Silent),
-            note: Some(CheckNote::Dropped {
-                start: self.cut.start(),
-                why: DroppedWhy::Head,
-            }),
-        }
+        let start = self.cut.start();
+        self.pass_by(Some(CheckNote::Dropped {
+            start,
+            why: DroppedWhy::Head,
+        }))
     }
 
     // The burst is dropped: others still leave.
@@ -460,12 +448,10 @@ impl<R: LineRules, M: Mac, const B: usize, const D: usize> Checker<R, M, B, D> {
         ensures told { (line : List Tick) → CutStandsFor R.LineRules self.old.cut line
             → result.note ≡ Some (Dropped (start_so_far line) Busy) }
     {
-        CheckStep {
-            tick: self.turn(Tick::Silent),
-            note: Some(CheckNote::Dropped {
-                start: self.cut.start(),
-                why: DroppedWhy::Busy,
-            }),
-        }
+        let start = self.cut.start();
+        self.pass_by(Some(CheckNote::Dropped {
+            start,
+            why: DroppedWhy::Busy,
+        }))
     }
 }

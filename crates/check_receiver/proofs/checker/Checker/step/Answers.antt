@@ -38,7 +38,8 @@ returns-in-Extra-clause-step g c =
     taken-ok g.R.LineRules g.M.Mac c.args.self.now (journal_floor c.args.journal.now)
     c.step-cut.new.self c.saturating_sub-self.result c.saturating_sub-self.ensures c.args.t
     c.step-cut.result c.step-cut.ensures.answer c.step-cut.ensures.stands _
-    c.in-Extra.is c.hear_extra.new.self (journal_floor c.hear_extra.new.journal) c.hear_extra.result c.hear_extra.ensures.step
+    c.in-Extra.is c.hear_extra.new.self (journal_floor c.hear_extra.new.journal)
+    c.hear_extra.result c.hear_extra.ensures.step
 
 pub returns-in-Extra-clause-err_passes : goal.returns-in-Extra-clause-err_passes
 returns-in-Extra-clause-err_passes g c =
