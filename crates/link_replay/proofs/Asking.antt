@@ -6,13 +6,9 @@ use Rattle.hmac_tag.specs.declared.dir.Dir.{Dir}
 use Rattle.hmac_tag.specs.declared.dir.Dir.TheVariants.{Ab, Ba}
 use Rattle.link_replay.specs.Words.{IsCommand, Asks}
 use Rattle.link_replay.specs.declared.words.Proto.{Proto}
-use Rattle.link_replay.specs.declared.words.Proto.TheVariants.{Rtu}
+use Rattle.link_replay.specs.declared.words.Proto.TheVariants.{Rtu, Dnp3}
 use Rattle.link_replay.specs.declared.words.Command.{Command}
 use Rattle.link_replay.specs.declared.words.Command.TheVariants.{Init, Read, Vectors, Seal, Check}
-
--- there is one protocol
-pub proto-is-rtu : (proto : Proto) → proto ≡ Rtu
-proto-is-rtu Rtu = refl
 
 -- A word as one number, so that two words are told apart by a test.
 abbrev number_of : List ℕ → ℕ
@@ -23,7 +19,7 @@ abbrev is_word : List ℕ → List ℕ → Bool
 is_word expected word = nat_eq (number_of word) (number_of expected)
 
 abbrev proto_by : List ℕ → Proto
-proto_by word = Rtu
+proto_by word = cond (is_word (codes "dnp3") word) Dnp3 Rtu
 
 abbrev dir_by : List ℕ → Dir
 dir_by word = cond (is_word (codes "ab") word) Ab Ba
@@ -50,11 +46,16 @@ command-in : (words : List (List ℕ)) (command : Command) → IsCommand words c
     → command_in words ≡ command
 command-in words Init h = ap command_in h.2
 command-in words (Read Rtu) h = ap command_in h
+command-in words (Read Dnp3) h = ap command_in h
 command-in words Vectors h = ap command_in h
 command-in words (Seal Rtu Ab) h = ap command_in h.4
 command-in words (Seal Rtu Ba) h = ap command_in h.4
+command-in words (Seal Dnp3 Ab) h = ap command_in h.4
+command-in words (Seal Dnp3 Ba) h = ap command_in h.4
 command-in words (Check Rtu Ab) h = ap command_in h.4
 command-in words (Check Rtu Ba) h = ap command_in h.4
+command-in words (Check Dnp3 Ab) h = ap command_in h.4
+command-in words (Check Dnp3 Ba) h = ap command_in h.4
 
 pub asks-one : (words : List (List ℕ)) (a b : Option Command) → Asks words a → Asks words b → a ≡ b
 asks-one words None None ha hb = refl

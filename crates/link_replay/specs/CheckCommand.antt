@@ -3,7 +3,6 @@ use Rattle.std.specs.Prelude.{ℕ}
 use Rattle.yasir_io.specs.declared.source.Source.{Ghosts as Source}
 use Rattle.yasir_io.specs.declared.sink.Sink.{Ghosts as Sink}
 use Rattle.yasir_io.specs.declared.disk.SlotDisk.{Ghosts as SlotDisk}
-use Rattle.rtu_frame.specs.Rules.{rtu_rules}
 use Rattle.hmac_tag.specs.declared.dir.Dir.{Dir}
 use Rattle.link_format.specs.Setup.{Setup}
 use Rattle.link_format.specs.Y18.{y18}
@@ -14,7 +13,7 @@ use Rattle.box_replay.specs.Boxes.{Boxed}
 use Rattle.box_replay.specs.ReplaysBox.{ReplaysBox}
 use Rattle.check_replay.specs.CheckBoxed.{checking}
 use Rattle.link_replay.specs.declared.words.Proto.{Proto}
-use Rattle.link_replay.specs.declared.words.Proto.TheVariants.{Rtu}
+use Rattle.link_replay.specs.Protocols.{rules_of}
 
 -- How many silent ticks stand behind a whole input: the last verdict falls in them, and all that is
 -- held back leaves.
@@ -23,7 +22,8 @@ check_rest = 320
 
 -- what the receiver of a protocol makes of a link, as it is set up
 abbrev pub check_boxed : Proto → Setup → Boxed
-check_boxed Rtu setup = checking (y18 1 LIMIT setup) rtu_rules setup.floor
+check_boxed proto setup =
+    checking (y18 (rules_of proto).label LIMIT setup) (rules_of proto) setup.floor
 
 -- What `check` does.
 abbrev pub Checks : {K S O L D : Type 0} → Source K → Source S → Sink O → Sink L → SlotDisk D

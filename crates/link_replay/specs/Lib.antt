@@ -1,4 +1,5 @@
 pub mod Words
+pub mod Protocols
 pub mod InitCommand
 pub mod ReadCommand
 pub mod VectorsCommand

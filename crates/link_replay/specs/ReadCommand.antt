@@ -4,16 +4,18 @@ use Rattle.yasir_io.specs.declared.source.Source.{Ghosts as Source}
 use Rattle.yasir_io.specs.declared.sink.Sink.{Ghosts as Sink}
 use Rattle.yasir_ticks.specs.declared.tick.Tick.{Tick}
 use Rattle.device_model.specs.Frames.{FrameRead}
+use Rattle.device_model.specs.DnpReads.{dnp_reads}
 use Rattle.device_model.specs.RtuReads.{rtu_reads}
 use Rattle.device_replay.specs.PrintsFrames.{PrintsFrames}
 use Rattle.replay_status.specs.Outside.{Outside}
 use Rattle.replay_status.specs.declared.status.Status.{Status}
 use Rattle.link_replay.specs.declared.words.Proto.{Proto}
-use Rattle.link_replay.specs.declared.words.Proto.TheVariants.{Rtu}
+use Rattle.link_replay.specs.declared.words.Proto.TheVariants.{Rtu, Dnp3}
 
 -- what the device of a protocol reads of a line
 abbrev pub device_reads : Proto → List Tick → List FrameRead
 device_reads Rtu line = rtu_reads line
+device_reads Dnp3 line = dnp_reads line
 
 -- What `read` does: neither the key nor the disk is reached.
 pub record Reads {K S O L D : Type 0} (s : Source S) (o : Sink O) (l : Sink L) (proto : Proto)

@@ -3,7 +3,6 @@ use Rattle.std.specs.Prelude.{ℕ}
 use Rattle.yasir_io.specs.declared.source.Source.{Ghosts as Source}
 use Rattle.yasir_io.specs.declared.sink.Sink.{Ghosts as Sink}
 use Rattle.yasir_io.specs.declared.disk.SlotDisk.{Ghosts as SlotDisk}
-use Rattle.rtu_frame.specs.Rules.{rtu_rules}
 use Rattle.hmac_tag.specs.declared.dir.Dir.{Dir}
 use Rattle.link_format.specs.Setup.{Setup}
 use Rattle.link_format.specs.Y18.{y18}
@@ -14,7 +13,7 @@ use Rattle.box_replay.specs.Boxes.{Boxed}
 use Rattle.box_replay.specs.ReplaysBox.{ReplaysBox}
 use Rattle.seal_replay.specs.SealBoxed.{sealing}
 use Rattle.link_replay.specs.declared.words.Proto.{Proto}
-use Rattle.link_replay.specs.declared.words.Proto.TheVariants.{Rtu}
+use Rattle.link_replay.specs.Protocols.{rules_of}
 
 -- How many silent ticks stand behind a whole input: they close its last burst and carry the
 -- trailer.
@@ -23,7 +22,8 @@ seal_rest = 24
 
 -- what the transmitter of a protocol makes of a line, as it is set up
 abbrev pub seal_boxed : Proto → Setup → Boxed
-seal_boxed Rtu setup = sealing (y18 1 LIMIT setup) rtu_rules setup.floor
+seal_boxed proto setup =
+    sealing (y18 (rules_of proto).label LIMIT setup) (rules_of proto) setup.floor
 
 -- What `seal` does.
 abbrev pub Seals : {K S O L D : Type 0} → Source K → Source S → Sink O → Sink L → SlotDisk D

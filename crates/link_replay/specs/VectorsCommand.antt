@@ -4,7 +4,7 @@ use Rattle.std.specs.Io.KnownBytes.{append_known}
 use Rattle.yasir_io.specs.declared.sink.Sink.{Ghosts as Sink}
 use Rattle.yasir_io.specs.Output.{GotPrefix}
 use Rattle.vectors.specs.Cases.{answer}
-use Rattle.vectors.specs.Tables.{crc_cases, hmac_cases, frames_cases}
+use Rattle.vectors.specs.Tables.{crc_cases, hmac_cases, frames_cases, user_cases}
 use Rattle.vectors.specs.declared.table.Miss.{Miss}
 use Rattle.replay_status.specs.Outside.{Outside}
 use Rattle.replay_status.specs.declared.status.Status.{Status}
@@ -21,6 +21,7 @@ table_lines =
     table_line (codes "crc") (length crc_cases) (answer crc_cases)
     ++ table_line (codes "hmac") (length hmac_cases) (answer hmac_cases)
     ++ table_line (codes "frames") (length frames_cases) (answer frames_cases)
+    ++ table_line (codes "user") (length user_cases) (answer user_cases)
 
 -- What each status says of `out`.
 abbrev pub PrintsTables : Option (List ℕ) → Option (List ℕ) → Status → Type 0

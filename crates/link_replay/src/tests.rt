@@ -77,7 +77,7 @@ fn refuses_words_of_no_command(rt: HostRuntime) -> Result<(), Fail> {
     let rows: [&[&str]; 21] = [
         &[],
         &["read"],
-        &["read", "dnp3"],
+        &["read", "dnp"],
         &["read", "rtu", "x"],
         &["read", "RTU"],
         &["rtu", "read"],
@@ -86,12 +86,12 @@ fn refuses_words_of_no_command(rt: HostRuntime) -> Result<(), Fail> {
         &["seal", "rtu", "ab", "", "journal"],
         &["seal", "rtu", "ab", "key", ""],
         &["seal", "rtu", "AB", "key", "journal"],
-        &["seal", "dnp3", "ab", "key", "journal"],
+        &["seal", "dnp", "ab", "key", "journal"],
         &["seal", "rtu", "ab", "key", "journal", "x"],
         &["check", "rtu", "ab", "key"],
         &["check", "rtu", "ab", "", "journal"],
         &["check", "rtu", "ab", "key", ""],
-        &["check", "dnp3", "ab", "key", "journal"],
+        &["check", "dnp33", "ab", "key", "journal"],
         &["checks", "rtu", "ab", "key", "journal"],
         &["init"],
         &["init", ""],
@@ -117,11 +117,18 @@ fn refuses_words_of_no_command(rt: HostRuntime) -> Result<(), Fail> {
 #[test]
 fn finds_the_paths_among_the_words(rt: HostRuntime) -> Result<(), Fail> {
     // words, command, place of the key's path, place of the journal's, whether the journal is made
-    let rows: [(&[&str], Command, Option<usize>, Option<usize>, bool); 6] = [
+    let rows: [(&[&str], Command, Option<usize>, Option<usize>, bool); 9] = [
         (&["init", "journal"], Command::Init, None, Some(1), true),
         (
             &["read", "rtu"],
             Command::Read(Proto::Rtu),
+            None,
+            None,
+            false,
+        ),
+        (
+            &["read", "dnp3"],
+            Command::Read(Proto::Dnp3),
             None,
             None,
             false,
@@ -137,6 +144,20 @@ fn finds_the_paths_among_the_words(rt: HostRuntime) -> Result<(), Fail> {
         (
             &["seal", "rtu", "ba", "key", "journal"],
             Command::Seal(Proto::Rtu, Dir::Ba),
+            Some(3),
+            Some(4),
+            false,
+        ),
+        (
+            &["seal", "dnp3", "ba", "key", "journal"],
+            Command::Seal(Proto::Dnp3, Dir::Ba),
+            Some(3),
+            Some(4),
+            false,
+        ),
+        (
+            &["check", "dnp3", "ab", "key", "journal"],
+            Command::Check(Proto::Dnp3, Dir::Ab),
             Some(3),
             Some(4),
             false,
@@ -190,7 +211,7 @@ const READ: Row = Row {
 
 const VECTORS: Row = Row {
     words: &["vectors"],
-    out: b"crc 2 ok\nhmac 5 ok\nframes 5 ok\n",
+    out: b"crc 4 ok\nhmac 5 ok\nframes 7 ok\nuser 2 ok\n",
     ..READ
 };
 
@@ -237,7 +258,40 @@ const CHECK: Row = Row {
     ..SEAL
 };
 
-const ROWS: [Row; 18] = [
+// A start of a frame within passed over bytes, by the hunt of a DNP3 device.
+const READ_DNP3: Row = Row {
+    words: &["read", "dnp3"],
+    text: b"+ff05056405c001000004e921\n",
+    out: b"read at 2 056405c001000004e921\n",
+    ..READ
+};
+
+// The tag by openssl:
+//   printf 0200056405c001000004e9210000000000000001 | xxd -r -p
+//     | openssl dgst -sha1 -mac HMAC -macopt hexkey:000102030405060708090a0b0c0d0e0f
+//     | cut -c1-24
+const SEALED_RESET: &[u8] = b"+056405c001000004e921\n-3\n+0001793484b9bdf858bbd82b559e\n-11\n";
+
+const SEAL_DNP3: Row = Row {
+    words: &["seal", "dnp3", "ab", "key", "journal"],
+    text: b"+056405c001000004e921\n-4\n",
+    out: SEALED_RESET,
+    log: b"sealed 1 at 0 len 10\n",
+    ..SEAL
+};
+
+const CHECK_DNP3: Row = Row {
+    words: &["check", "dnp3", "ab", "key", "journal"],
+    text: SEALED_RESET,
+    out: b"-18\n+056405c001000004e921\n-330\n",
+    log: b"passed 1 at 0 len 10\n",
+    ..CHECK
+};
+
+const ROWS: [Row; 21] = [
+    READ_DNP3,
+    SEAL_DNP3,
+    CHECK_DNP3,
     READ,
     Row {
         text: b"+01030000000ac5cd\n-4\nx",

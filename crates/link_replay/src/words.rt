@@ -11,7 +11,10 @@ use hmac_tag::Dir;
 /// The protocol of a line.
 #[derive(Clone, Copy, Debug, PartialEq, Eq)]
 pub enum Proto {
+    /// Modbus RTU.
     Rtu,
+    /// The link layer of DNP3.
+    Dnp3,
 }
 
 /// What the program is asked to do.
@@ -38,10 +41,10 @@ fn read_proto(word: &str) -> Result<Proto, Usage>
     ensures ok { IfOk result (λ proto. word.now ≡ proto_word proto) }
     ensures usage { OnErr result ((proto : Proto) → word.now ≡ proto_word proto → ⊥) }
 {
-    if word == "rtu" {
-        Ok(Proto::Rtu)
-    } else {
-        Err(Usage)
+    match word {
+        "rtu" => Ok(Proto::Rtu),
+        "dnp3" => Ok(Proto::Dnp3),
+        _ => Err(Usage),
     }
 }
 

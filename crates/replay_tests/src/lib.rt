@@ -7,6 +7,8 @@ mod box_parts;
 #[cfg(test)]
 mod checking;
 #[cfg(test)]
+mod dnp3_lines;
+#[cfg(test)]
 mod order;
 #[cfg(test)]
 mod outside;

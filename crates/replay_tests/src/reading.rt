@@ -1,5 +1,5 @@
 use crate::outside::{BYTE_BY_BYTE, Failing, STEADY, plan};
-use device_model::RtuDevice;
+use device_model::{Device, RtuDevice};
 use device_replay::read_frames;
 use replay_status::{Status, write_fault};
 use std::alloc::Global;
@@ -22,16 +22,24 @@ pub struct Ran {
     pub log: MemSink,
 }
 
-/// What a device reads of this text, with the fault line behind it.
+/// What a Modbus RTU device reads of this text, with the fault line behind it.
 pub fn read(rt: &impl Abort, alloc: Global, text: &[u8], outside: &Failing) -> Result<Ran, Fail> {
+    read_by::<RtuDevice>(rt, alloc, text, outside)
+}
+
+/// What a device reads of this text, with the fault line behind it.
+pub fn read_by<D: Device + Drop>(
+    rt: &impl Abort,
+    alloc: Global,
+    text: &[u8],
+    outside: &Failing,
+) -> Result<Ran, Fail> {
     let piece = outside.piece;
     assert!(rt; piece >= 1 && piece <= 512);
     let mut input = MemSource::new(text, piece, plan(outside.input));
     let mut out = MemSink::with_room(alloc, 20000, piece, plan(outside.out))?;
     let mut log = MemSink::with_room(alloc, 100, piece, plan(outside.log))?;
-    let status = read_frames::<RtuDevice, MemSource, MemSink, MemSink>(
-        &mut input, &mut out, &mut log,
-    );
+    let status = read_frames::<D, MemSource, MemSink, MemSink>(&mut input, &mut out, &mut log);
     write_fault(&mut log, &status);
     Ok(Ran { status, out, log })
 }

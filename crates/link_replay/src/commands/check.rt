@@ -7,6 +7,7 @@ ghost use Rattle.link_replay.specs.CheckCommand.{Checks};
 use crate::Proto;
 use box_replay::replay_box;
 use check_replay::CheckBox;
+use dnp_link_frame::Dnp;
 use hmac_tag::{Dir, HmacSha1};
 use replay_status::Status;
 use rtu_frame::Rtu;
@@ -39,6 +40,9 @@ pub fn check<K: Source, S: Source, O: Sink, L: Sink, D: SlotDisk>(
 {
     match proto {
         Proto::Rtu => replay_box::<CheckBox<Rtu, HmacSha1, 2, 18>, K, S, O, L, D>(
+            dir, REST, key, input, out, log, disk,
+        ),
+        Proto::Dnp3 => replay_box::<CheckBox<Dnp, HmacSha1, 2, 18>, K, S, O, L, D>(
             dir, REST, key, input, out, log, disk,
         ),
     }

@@ -4,7 +4,7 @@ ghost use Rattle.link_replay.specs.ReadCommand.{device_reads};
 ghost use Rattle.replay_status.specs.Causes.{InputCause, SinkCause};
 
 use crate::Proto;
-use device_model::RtuDevice;
+use device_model::{DnpDevice, RtuDevice};
 use device_replay::read_frames;
 use replay_status::Status;
 use yasir_io::{Sink, Source};
@@ -25,5 +25,6 @@ pub fn read_line<S: Source, O: Sink, L: Sink>(
 {
     match proto {
         Proto::Rtu => read_frames::<RtuDevice, S, O, L>(input, out, log),
+        Proto::Dnp3 => read_frames::<DnpDevice, S, O, L>(input, out, log),
     }
 }

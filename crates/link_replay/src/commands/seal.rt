@@ -6,6 +6,7 @@ ghost use Rattle.link_replay.specs.SealCommand.{Seals};
 
 use crate::Proto;
 use box_replay::replay_box;
+use dnp_link_frame::Dnp;
 use hmac_tag::{Dir, HmacSha1};
 use replay_status::Status;
 use rtu_frame::Rtu;
@@ -38,6 +39,9 @@ pub fn seal<K: Source, S: Source, O: Sink, L: Sink, D: SlotDisk>(
 {
     match proto {
         Proto::Rtu => replay_box::<SealBox<Rtu, HmacSha1, 2>, K, S, O, L, D>(
+            dir, REST, key, input, out, log, disk,
+        ),
+        Proto::Dnp3 => replay_box::<SealBox<Dnp, HmacSha1, 2>, K, S, O, L, D>(
             dir, REST, key, input, out, log, disk,
         ),
     }

@@ -3,7 +3,7 @@ ghost use Rattle.link_replay.specs.VectorsCommand.{table_line, table_lines, Prin
 ghost use Rattle.replay_status.specs.Causes.{SinkCause};
 
 use replay_status::{Line, Status, flush_both, push_decimal};
-use vectors::{Miss, crc_table, frames_table, hmac_table};
+use vectors::{Miss, crc_table, frames_table, hmac_table, user_table};
 use yasir_io::{Failed, Sink, write_all};
 
 // Appends the line of a table: its name, how many rows it has, and what it was answered.
@@ -39,6 +39,8 @@ fn table_lines() -> Line
     push_table(&mut lines, b"hmac", rows, answer);
     let (rows, answer) = frames_table();
     push_table(&mut lines, b"frames", rows, answer);
+    let (rows, answer) = user_table();
+    push_table(&mut lines, b"user", rows, answer);
     lines
 }
 
