@@ -5,6 +5,7 @@ pub mod Readings
 pub mod RtuReadings
 pub mod Hunters
 pub mod HunterReadings
+pub mod Anew
 pub mod DnpReadings
 pub mod Words
 pub mod Standing
