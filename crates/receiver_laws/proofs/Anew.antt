@@ -14,11 +14,17 @@ use Rattle.yasir_ticks.proofs.BurstLaws.{alone, with_byte-near, with_byte-far, b
 use Rattle.yasir_ticks.proofs.BurstLaws.{bursts_from-silent_end}
 use Rattle.yasir_ticks.proofs.BurstsOfLaws.{bursts_from-cons, bursts_from-silence}
 use Rattle.line_rules.specs.Rules.{Rules}
+use Rattle.line_rules.specs.RulesLaws.{IsLawful, IsHeaded, IsFramed}
+use Rattle.line_rules.specs.Spoiling.{IsSpoiling}
 use Rattle.device_model.specs.Frames.{FrameRead}
 use Rattle.device_model.specs.Hunt.{Timed, timed, hunt, hunt_anew}
+use Rattle.device_model.specs.HuntLaws.{IsHunted}
 use Rattle.device_model.proofs.Hunts.{hunt-none}
 use Rattle.device_model.proofs.HuntSteps.{timed-append}
+use Rattle.link_format.specs.Profile.{Profile}
+use Rattle.receiver_laws.specs.Reading.{ReadsWhatPassed}
 use Rattle.receiver_laws.specs.Hunters.{IsFront, nothing, up_to, IsHunter}
+use Rattle.receiver_laws.proofs.HunterReadings.{hunter_reads_what_passed}
 use Rattle.receiver_laws.proofs.Hunters.{timed-silent_ticks}
 
 -- Of contiguous ticks from tick n on, and others from tick m on, the first burst is these ticks
@@ -182,3 +188,10 @@ module _ (cut : ℕ) (wide : 2 ≤ cut) where
       takes = anew-takes;
       breaks_off = anew-breaks_off;
     }
+
+    pub anew_reads_what_passed : IsHeaded rules → IsFramed rules → IsHunted first second rules
+        → IsLawful rules → IsSpoiling rules → (profile : Profile) (floor : ℕ) (link : List Tick)
+        → ReadsWhatPassed rules (read 0) 0 profile floor link
+    anew_reads_what_passed headed framed hunted lawful spoiling profile floor link =
+        hunter_reads_what_passed first second rules headed framed hunted profile lawful spoiling
+        read anew-hunter floor link

@@ -34,6 +34,10 @@ pub fn hunting_device_reads_what_was_sealed<R: Hunted>()
     ensures hunt { (profile : Profile) (seal_floor check_floor : ℕ) (line link : List Tick)
         → ReadsWhatWasSealed R.rules (hunt_line R.FIRST R.SECOND R.rules) 0 profile seal_floor
         check_floor line link }
+    ensures anew { (cut : ℕ) (profile : Profile) (seal_floor check_floor : ℕ)
+        (line link : List Tick) → 2 ≤ cut
+        → ReadsWhatWasSealed R.rules (hunt_anew R.FIRST R.SECOND R.rules cut 0) 0 profile seal_floor
+        check_floor line link }
     ensures others { (read : ℕ → List Tick → List FrameRead)
         → IsHunter R.FIRST R.SECOND R.rules read
         → (profile : Profile) (seal_floor check_floor : ℕ) (line link : List Tick)

@@ -1,5 +1,4 @@
-use Rattle.device_model.specs.Hunt.{hunt_anew}
-use Rattle.receiver_laws.proofs.Anew.{anew-hunter}
+use Rattle.receiver_laws.proofs.Anew.{anew_reads_what_passed}
 use Rattle.receiver_laws.proofs.HunterReadings.{hunt_reads_what_passed, hunter_reads_what_passed}
 use Rattle.receiver_laws.proofs.hunting_laws.hunting_device_reads_what_passed.Goals as goal
 
@@ -11,11 +10,9 @@ returns-clause-hunt g c = λ profile floor link.
 
 pub returns-clause-anew : goal.returns-clause-anew
 returns-clause-anew g c = λ cut profile floor link wide.
-    hunter_reads_what_passed g.R.Hunted.FIRST g.R.Hunted.SECOND g.R.LineRules.rules
-    g.R.LineRules.headed g.R.LineRules.framed g.met.R.Hunted.hunted profile g.R.LineRules.lawful
-    g.R.LineRules.spoiling
-    (hunt_anew g.R.Hunted.FIRST g.R.Hunted.SECOND g.R.LineRules.rules cut)
-    (anew-hunter cut wide g.R.Hunted.FIRST g.R.Hunted.SECOND g.R.LineRules.rules) floor link
+    anew_reads_what_passed cut wide g.R.Hunted.FIRST g.R.Hunted.SECOND g.R.LineRules.rules
+    g.R.LineRules.headed g.R.LineRules.framed g.met.R.Hunted.hunted g.R.LineRules.lawful
+    g.R.LineRules.spoiling profile floor link
 
 pub returns-clause-others : goal.returns-clause-others
 returns-clause-others g c = λ read hunter profile floor link.
