@@ -19,3 +19,10 @@ pub mod Delivering
 pub mod Deliveries
 pub mod Accounting
 pub mod Headline
+pub mod Parting
+pub mod Sending
+pub mod Emitting
+pub mod InStep
+pub mod QuietLines
+pub mod Recovering
+pub mod WorkedRecovery
