@@ -3,6 +3,7 @@
 -- read, nor one that only three silent ticks follow.
 use Rattle.std.proofs.Common.{◌≡◌, List, [], ◌∷◌, ◌++◌, refl}
 use Rattle.rtu_frame.specs.Crc.{bit_step, bit_steps, byte_step, crc}
+use Rattle.line_rules.specs.Endings.{ends_in_check}
 use Rattle.rtu_frame.specs.Frame.{is_frame, has_right_ending}
 use Rattle.yasir_ticks.specs.Ticks.{silent}
 use Rattle.yasir_ticks.specs.Bursts.{with_byte, bursts_from}
@@ -27,16 +28,19 @@ parted = Byte 0x01 ∷ Byte 0x03 ∷ (silent 2 ++ Byte 0x40 ∷ Byte 0x21 ∷ []
 pub exchange_read : rtu_reads (query ++ silent 4 ++ damaged ++ silent 4 ++ least ++ silent 4)
     ≡ record { start = 0; frame = 0x01 ∷ 0x03 ∷ 0x00 ∷ 0x00 ∷ 0x00 ∷ 0x0A ∷ 0xC5 ∷ 0xCD ∷ [] }
     ∷ record { start = 24; frame = 0x01 ∷ 0x03 ∷ 0x40 ∷ 0x21 ∷ [] } ∷ []
-unfolding bit_step bit_steps byte_step crc is_frame has_right_ending with_byte bursts_from
+unfolding bit_step bit_steps byte_step crc is_frame has_right_ending ends_in_check with_byte
+    bursts_from
     has_silence
 exchange_read = refl
 
 pub parted_unread : rtu_reads (parted ++ silent 4) ≡ []
-unfolding bit_step bit_steps byte_step crc is_frame has_right_ending with_byte bursts_from
+unfolding bit_step bit_steps byte_step crc is_frame has_right_ending ends_in_check with_byte
+    bursts_from
     has_silence
 parted_unread = refl
 
 pub open_unread : rtu_reads (query ++ silent 3) ≡ []
-unfolding bit_step bit_steps byte_step crc is_frame has_right_ending with_byte bursts_from
+unfolding bit_step bit_steps byte_step crc is_frame has_right_ending ends_in_check with_byte
+    bursts_from
     has_silence
 open_unread = refl

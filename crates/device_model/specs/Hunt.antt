@@ -3,6 +3,8 @@
 -- once taken are never searched again is this project's profile).
 use Rattle.std.specs.Prelude.{ℕ, zero, suc, ◌-◌, nat_le, ◌==◌, ◌&&◌, Bool, false, List, [], ◌∷◌}
 use Rattle.std.specs.Prelude.{◌++◌, length, map, take, if◌then◌else◌}
+use Rattle.std.specs.List.{flat_map}
+use Rattle.yasir_ticks.specs.Bursts.{bursts_from}
 use Rattle.line_rules.specs.Rules.{Rules, head_of}
 use Rattle.line_rules.specs.declared.head.Head.{Head}
 use Rattle.line_rules.specs.declared.head.Head.TheVariants.{Short, Good, Bad}
@@ -79,3 +81,8 @@ module _ (first second : ℕ) (rules : Rules) where
   -- the frames that are read of a line
   abbrev pub hunt_line : List Tick → List FrameRead
   hunt_line line = hunt 0 (timed 0 line)
+
+  -- The frames that are read of ticks, the first of which is tick n of the line, where so many
+  -- silent ticks together end what was taken, and the hunt begins anew behind them.
+  abbrev pub hunt_anew : ℕ → ℕ → List Tick → List FrameRead
+  hunt_anew cut n line = flat_map (λ d. hunt 0 (timed d.start d.body)) (bursts_from cut n line)

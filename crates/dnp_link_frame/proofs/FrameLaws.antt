@@ -9,7 +9,7 @@ use Rattle.std.proofs.lemmas.List.Elements.{All-append, All-take, All-drop, All-
 use Rattle.std.proofs.lemmas.Bool.{cases_lt, and_parts, and_from, eqb-true, le-leb}
 use Rattle.line_rules.specs.Bytes.{AreBytes, low_first}
 use Rattle.dnp_link_frame.specs.Crc.{crc_dnp}
-use Rattle.dnp_link_frame.specs.Endings.{body_of}
+use Rattle.line_rules.specs.Endings.{body_of}
 use Rattle.dnp_link_frame.specs.Frame.{with_crc, blocks_for, in_blocks, header_fields, frame_of}
 use Rattle.dnp_link_frame.specs.Frame.{IsFrameOf, IsFrame}
 use Rattle.dnp_link_frame.specs.Blocks.{length_byte, user_len_by, size_by, ends_in_crc}
@@ -18,7 +18,7 @@ use Rattle.dnp_link_frame.specs.BlockLaws.{is_frame-true, is_frame-from, end_in_
 use Rattle.dnp_link_frame.specs.BlockLaws.{end_in_crcs-next, length_byte-good}
 use Rattle.dnp_link_frame.specs.Beginnings.{user_in_blocks, header_in, user_in}
 use Rattle.dnp_link_frame.specs.declared.header.Header.{Header}
-use Rattle.dnp_link_frame.proofs.EndingLaws.{ending, ends_in_check-true, ends_in_check-from}
+use Rattle.line_rules.proofs.EndingLaws.{ending, ends_in_check-true, ends_in_check-from}
 use Rattle.dnp_link_frame.proofs.BlockParts.{in_blocks-none, in_blocks-next, in_blocks-first}
 use Rattle.dnp_link_frame.proofs.BlockParts.{user_in_blocks-none}
 use Rattle.dnp_link_frame.proofs.BlockParts.{user_in_blocks-next}

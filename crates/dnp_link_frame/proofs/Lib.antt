@@ -1,5 +1,3 @@
-pub mod CrcLinear
-pub mod EndingLaws
 pub mod Residue
 pub mod Table
 pub mod HeaderLaws

@@ -17,9 +17,9 @@ use Rattle.line_rules.specs.Crc.{bit_step, bit_steps, byte_step}
 use Rattle.line_rules.proofs.CrcZero.{crc-zero, crc-own, crc-fits, crc-append}
 use Rattle.line_rules.proofs.CrcLaws.{crc-nil}
 use Rattle.dnp_link_frame.specs.Crc.{register_of, crc_dnp}
-use Rattle.dnp_link_frame.specs.Endings.{EndsInCheck, ends_in_check, body_of}
-use Rattle.dnp_link_frame.proofs.CrcLinear.{byte_steps-turned}
-use Rattle.dnp_link_frame.proofs.EndingLaws.{apart, ends_in_check-true, ends_in_check-from}
+use Rattle.line_rules.specs.Endings.{EndsInCheck, ends_in_check, body_of}
+use Rattle.line_rules.proofs.CrcLinear.{byte_steps-turned}
+use Rattle.line_rules.proofs.EndingLaws.{apart, ends_in_check-true, ends_in_check-from}
 
 -- the complement of a byte, and of two
 pub complement : (b : ℕ) → b < 256 → bit_xor b 0xFF ≡ 0xFF - b

@@ -5,7 +5,7 @@ use Rattle.line_rules.specs.Crc.{bit_step, bit_steps, byte_step, crc}
 use Rattle.line_rules.specs.Rules.{head_of, left_of}
 use Rattle.line_rules.specs.declared.head.Head.TheVariants.{Short, Good, Bad}
 use Rattle.dnp_link_frame.specs.Crc.{register_of, crc_dnp}
-use Rattle.dnp_link_frame.specs.Endings.{ends_in_check}
+use Rattle.line_rules.specs.Endings.{ends_in_check}
 use Rattle.dnp_link_frame.specs.Frame.{frame_of, in_blocks}
 use Rattle.dnp_link_frame.specs.Blocks.{size_by, room_by, room_of, begins_right, is_good_header}
 use Rattle.dnp_link_frame.specs.Blocks.{end_in_crcs, block_start, is_frame, has_right_ending}

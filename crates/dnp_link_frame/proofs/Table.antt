@@ -5,7 +5,7 @@ use Rattle.std.specs.Prelude.{bit_xor}
 use Rattle.std.proofs.lemmas.Nat.{xor_lt}
 use Rattle.line_rules.specs.Crc.{bit_step, bit_steps, byte_step}
 use Rattle.dnp_link_frame.specs.declared.crc.TheConstants.{EIGHT_STEPS}
-use Rattle.dnp_link_frame.proofs.CrcLinear.{byte_step-split, agree_below, agree_at}
+use Rattle.line_rules.proofs.CrcLinear.{byte_step-split, agree_below, agree_at}
 
 eight_steps : agree_below (bit_steps 0xA6BC 8) (λ n. get_or EIGHT_STEPS n 0) 256 ≡ true
 unfolding bit_steps bit_step

@@ -2,7 +2,7 @@
 use Rattle.std.specs.Prelude.{ℕ, zero, suc, ◌+◌, ◌-◌, ◌*◌, ◌/◌, ◌==◌, ◌&&◌, nat_le}
 use Rattle.std.specs.Prelude.{Bool, true, List, length, take, drop, get_or, if◌then◌else◌}
 use Rattle.dnp_link_frame.specs.Crc.{crc_dnp}
-use Rattle.dnp_link_frame.specs.Endings.{ends_in_check}
+use Rattle.line_rules.specs.Endings.{ends_in_check}
 use Rattle.dnp_link_frame.specs.Frame.{blocks_for}
 
 -- ---- sizes

@@ -1,5 +1,4 @@
 pub mod Crc
-pub mod Endings
 pub mod Frame
 pub mod Blocks
 pub mod BlockLaws

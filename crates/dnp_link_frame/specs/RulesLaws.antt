@@ -14,7 +14,7 @@ use Rattle.line_rules.specs.RulesLaws.{IsLawful, IsHeaded, IsFramed, IsFilling, 
 use Rattle.line_rules.specs.Spoiling.{IsSpoiling, spoiling_by_ending}
 use Rattle.line_rules.specs.declared.head.Head.TheVariants.{Short, Good, Bad}
 use Rattle.dnp_link_frame.specs.Crc.{crc_dnp}
-use Rattle.dnp_link_frame.specs.Endings.{ends_in_check-turned}
+use Rattle.line_rules.specs.Endings.{ends_in_check-turned}
 use Rattle.dnp_link_frame.specs.Blocks.{length_byte, size_by, room_by, room_of, ends_in_crc}
 use Rattle.dnp_link_frame.specs.Blocks.{is_good_header, block_start, running_block, is_frame}
 use Rattle.dnp_link_frame.specs.Blocks.{has_right_ending}

@@ -2,7 +2,7 @@
 ghost use Rattle.std.specs.Prelude.{◌≡◌, ◌↔◌, ℕ, List, IsTrue};
 ghost use Rattle.line_rules.specs.Bytes.{AreBytes};
 ghost use Rattle.dnp_link_frame.specs.Crc.{crc_dnp, register_of};
-ghost use Rattle.dnp_link_frame.specs.Endings.{EndsInCheck};
+ghost use Rattle.line_rules.specs.Endings.{EndsInCheck};
 ghost use Rattle.dnp_link_frame.specs.Frame.{IsFrame, IsFrameOf};
 ghost use Rattle.dnp_link_frame.specs.Rules.{dnp_rules};
 ghost use Rattle.dnp_link_frame.specs.declared.header.Header.{Header};

@@ -5,6 +5,7 @@ use Rattle.std.proofs.Common.{add-one}
 use Rattle.std.specs.Prelude.{bit_xor}
 use Rattle.std.specs.Int.Bits.{and_zero_r, xor_zero_r}
 use Rattle.std.proofs.Math.Nat.{mod-eq_of_lt}
+use Rattle.std.proofs.Math.ListN.{drop_of_length-le}
 use Rattle.std.proofs.Math.Seq.{drop-cons}
 use Rattle.std.proofs.lemmas.Nat.{and_mask}
 use Rattle.std.proofs.lemmas.Bool.{cond_both, eqb-true, eqb-false}
@@ -54,6 +55,17 @@ pub crc-drop : (p r : ℕ) (x : List ℕ) (i : ℕ) → i < length x
     → crc p r (drop i x) ≡ crc p (byte_step p r (get_or x i 0)) (drop (i + 1) x)
 crc-drop p r x i within =
     rw add-one (rw (drop-cons x i 0) (crc-cons p r (get_or x i 0) (drop (suc i) x)))
+
+-- the register that all bytes leave, where that of the bytes from place i on is the same
+pub crc-more : (p r next all i : ℕ) (x : List ℕ) → i < length x
+    → next ≡ byte_step p r (get_or x i 0) → crc p r (drop i x) ≡ all
+    → crc p next (drop (i + 1) x) ≡ all
+crc-more p r next all i x within taken so_far =
+    ap (λ s. crc p s (drop (i + 1) x)) taken ∙ (sym (crc-drop p r x i within) ∙ so_far)
+
+pub crc-all : (p r all i : ℕ) (x : List ℕ) → length x ≤ i → crc p r (drop i x) ≡ all → r ≡ all
+crc-all p r all i x end so_far =
+    sym (crc-nil p r) ∙ (ap (crc p r) (sym (drop_of_length-le x end)) ∙ so_far)
 
 -- one more of k steps is done
 pub bit_steps-next : (p k n r next : ℕ) → n < k → next ≡ bit_step p r

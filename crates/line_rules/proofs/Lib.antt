@@ -1,3 +1,5 @@
 pub mod CrcLaws
+pub mod CrcLinear
 pub mod CrcZero
+pub mod EndingLaws
 mod Taking

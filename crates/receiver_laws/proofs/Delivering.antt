@@ -67,7 +67,7 @@ module _ (profile : Profile) (tags : HasTags profile) (some : 1 ≤ profile.word
       ticks : live_ticks rules d ≡ d.body
       ticks = live_ticks-whole rules lawful d whole none
 
-      packet-bytes : live_bytes rules its ≡ live_bytes rules d
+      pub packet-bytes : live_bytes rules its ≡ live_bytes rules d
       packet-bytes =
           let last = contiguous-ends 4 d.body whole in
           let P : List Tick → Type 0 = λ x. before_pause (x ++ trailing bytes) ≡ before_pause x in
@@ -77,14 +77,14 @@ module _ (profile : Profile) (tags : HasTags profile) (some : 1 ≤ profile.word
           ap (λ x. within_room rules (bytes_in (before_pause (x ++ trailing bytes)))) ticks
           ∙ ap (λ x. within_room rules (bytes_in x)) same
 
-      packet-ticks : live_ticks rules its ≡ d.body
+      pub packet-ticks : live_ticks rules its ≡ d.body
       packet-ticks =
           ap (λ h. up_to_byte (length h) (live_ticks rules d ++ trailing bytes)) packet-bytes
           ∙ (ap (λ x. up_to_byte (length (live_bytes rules d)) (x ++ trailing bytes)) ticks
           ∙ (up_to_byte-append (length (live_bytes rules d)) d.body (trailing bytes)
           (live-le rules lawful d) ∙ ticks))
 
-      packet-after : after_live rules its ≡ trailing bytes
+      pub packet-after : after_live rules its ≡ trailing bytes
       packet-after =
           ap (λ x. drop (length x) (live_ticks rules d ++ trailing bytes))
           (packet-ticks ∙ sym ticks)

@@ -5,6 +5,7 @@ pub mod Readings
 pub mod RtuReadings
 pub mod Hunters
 pub mod HunterReadings
+pub mod Anew
 pub mod DnpReadings
 pub mod Words
 pub mod Standing
@@ -18,3 +19,10 @@ pub mod Delivering
 pub mod Deliveries
 pub mod Accounting
 pub mod Headline
+pub mod Parting
+pub mod Sending
+pub mod Emitting
+pub mod InStep
+pub mod QuietLines
+pub mod Recovering
+pub mod WorkedRecovery

@@ -40,7 +40,7 @@ packets profile rules floor (d ∷ ds) =
 
 -- ---- bytes that stand at once
 
-contiguous-bytes : (c : ℕ) (bytes : List ℕ) (x : List Tick) → 0 < c → IsContiguous c x
+pub contiguous-bytes : (c : ℕ) (bytes : List ℕ) (x : List Tick) → 0 < c → IsContiguous c x
     → IsContiguous c (x ++ map (λ b. Byte b) bytes)
 contiguous-bytes c [] x some contiguous =
     let P : List Tick → Type 0 = λ y. IsContiguous c y in
@@ -78,7 +78,7 @@ module _ (profile : Profile) (tags : HasTags profile) (some : 1 ≤ profile.word
       let all = length-append (live_ticks rules d) (trailing bytes) in
       omega arith
 
-  packet-contiguous : (number : ℕ) (d : Burst) → IsContiguous 4 d.body → has_extra rules d ≡ false
+  pub packet-contiguous : (number : ℕ) (d : Burst) → IsContiguous 4 d.body → has_extra rules d ≡ false
       → IsContiguous 4 (packet profile rules number d).body
   packet-contiguous number d whole none =
       let bytes : List ℕ = trailer profile number (live_bytes rules d) in

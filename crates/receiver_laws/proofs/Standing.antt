@@ -37,7 +37,7 @@ pub bytes_in-byte_ticks : (bytes : List ℕ) → bytes_in (byte_ticks bytes) ≡
 bytes_in-byte_ticks [] = refl
 bytes_in-byte_ticks (b ∷ bytes) = ap (λ z. b ∷ z) (bytes_in-byte_ticks bytes)
 
-ticks-behind : (x y : List Tick) → AreTicks (x ++ y) → AreTicks y
+pub ticks-behind : (x y : List Tick) → AreTicks (x ++ y) → AreTicks y
 ticks-behind [] y are = are
 ticks-behind (t ∷ x) y are = ticks-behind x y are.1
 
@@ -45,7 +45,7 @@ ticks-bytes : (bytes : List ℕ) (y : List Tick) → AreTicks (byte_ticks bytes 
 ticks-bytes [] y are = All-nil (λ b. b < 256)
 ticks-bytes (b ∷ bytes) y are = All-cons (λ c. c < 256) b bytes are.0 (ticks-bytes bytes y are.1)
 
-bytes-first : (n : ℕ) (x : List ℕ) → AreBytes x → AreBytes (take n x)
+pub bytes-first : (n : ℕ) (x : List ℕ) → AreBytes x → AreBytes (take n x)
 bytes-first zero x bytes = All-nil (λ b. b < 256)
 bytes-first (suc n) [] bytes = All-nil (λ b. b < 256)
 bytes-first (suc n) (a ∷ x) bytes =
@@ -200,7 +200,7 @@ bursts-on link (d ∷ ds) front line n is long are =
           (length-append before d.body ∙ ap (λ k. k + length d.body) begins) are.6,
     )
 
-ticks-front : (x y : List Tick) → AreTicks (x ++ y) → AreTicks x
+pub ticks-front : (x y : List Tick) → AreTicks (x ++ y) → AreTicks x
 ticks-front [] y are = tt
 ticks-front (t ∷ x) y are = (are.0, ticks-front x y are.1)
 

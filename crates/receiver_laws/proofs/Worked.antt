@@ -5,6 +5,7 @@ use Rattle.yasir_ticks.specs.Bursts.{bursts_from, with_byte}
 use Rattle.yasir_ticks.specs.declared.tick.Tick.{Tick}
 use Rattle.yasir_ticks.specs.declared.tick.Tick.TheVariants.{Byte}
 use Rattle.line_rules.specs.Crc.{crc, byte_step, bit_steps, bit_step}
+use Rattle.line_rules.specs.Endings.{ends_in_check}
 use Rattle.rtu_frame.specs.Frame.{is_frame, has_right_ending}
 use Rattle.rtu_frame.specs.Rules.{rtu_rules}
 use Rattle.frame_ending.specs.LiveBytes.{before_pause, up_to_byte}
@@ -54,54 +55,54 @@ the_request = record { start = 18; frame = READ_TEN_REGISTERS } ∷ []
 
 not_yet : rtu_reads (of_packet 4) ≡ []
 unfolding bursts_from with_byte before_pause up_to_byte tick_at kept spoiled verdict_of checked crc
-    byte_step bit_steps bit_step is_frame has_right_ending has_silence
+    byte_step bit_steps bit_step is_frame has_right_ending ends_in_check has_silence
 not_yet = refl
 
 is_read-now : rtu_reads (of_packet 5) ≡ the_request
 unfolding bursts_from with_byte before_pause up_to_byte tick_at kept spoiled verdict_of checked crc
-    byte_step bit_steps bit_step is_frame has_right_ending has_silence
+    byte_step bit_steps bit_step is_frame has_right_ending ends_in_check has_silence
 is_read-now = refl
 
 -- ---- a device that two silent ticks suffice, and two that wait for 18
 
 soon_not_yet : reads_with 2 2 (of_packet 2) ≡ []
 unfolding bursts_from with_byte before_pause up_to_byte tick_at kept spoiled verdict_of checked crc
-    byte_step bit_steps bit_step is_frame has_right_ending has_silence
+    byte_step bit_steps bit_step is_frame has_right_ending ends_in_check has_silence
 soon_not_yet = refl
 
 soon : reads_with 2 2 (of_packet 3) ≡ the_request
 unfolding bursts_from with_byte before_pause up_to_byte tick_at kept spoiled verdict_of checked crc
-    byte_step bit_steps bit_step is_frame has_right_ending has_silence
+    byte_step bit_steps bit_step is_frame has_right_ending ends_in_check has_silence
 soon = refl
 
 late_not_yet : reads_with 18 2 (of_packet 18) ≡ []
 unfolding bursts_from with_byte before_pause up_to_byte tick_at kept spoiled verdict_of checked crc
-    byte_step bit_steps bit_step is_frame has_right_ending has_silence
+    byte_step bit_steps bit_step is_frame has_right_ending ends_in_check has_silence
 late_not_yet = refl
 
 late : reads_with 18 2 (of_packet 19) ≡ the_request
 unfolding bursts_from with_byte before_pause up_to_byte tick_at kept spoiled verdict_of checked crc
-    byte_step bit_steps bit_step is_frame has_right_ending has_silence
+    byte_step bit_steps bit_step is_frame has_right_ending ends_in_check has_silence
 late = refl
 
 late_patient : reads_with 18 18 (of_packet 19) ≡ the_request
 unfolding bursts_from with_byte before_pause up_to_byte tick_at kept spoiled verdict_of checked crc
-    byte_step bit_steps bit_step is_frame has_right_ending has_silence
+    byte_step bit_steps bit_step is_frame has_right_ending ends_in_check has_silence
 late_patient = refl
 
 -- ---- a wrong tag: none of them reads anything
 
 wrong-unread : rtu_reads (of_wrong 24) ≡ []
 unfolding bursts_from with_byte before_pause up_to_byte tick_at kept spoiled verdict_of checked crc
-    byte_step bit_steps bit_step is_frame has_right_ending has_silence
+    byte_step bit_steps bit_step is_frame has_right_ending ends_in_check has_silence
 wrong-unread = refl
 
 wrong-unread_soon : reads_with 2 2 (of_wrong 24) ≡ []
 unfolding bursts_from with_byte before_pause up_to_byte tick_at kept spoiled verdict_of checked crc
-    byte_step bit_steps bit_step is_frame has_right_ending has_silence
+    byte_step bit_steps bit_step is_frame has_right_ending ends_in_check has_silence
 wrong-unread_soon = refl
 
 wrong-unread_late : reads_with 18 18 (of_wrong 24) ≡ []
 unfolding bursts_from with_byte before_pause up_to_byte tick_at kept spoiled verdict_of checked crc
-    byte_step bit_steps bit_step is_frame has_right_ending has_silence
+    byte_step bit_steps bit_step is_frame has_right_ending ends_in_check has_silence
 wrong-unread_late = refl

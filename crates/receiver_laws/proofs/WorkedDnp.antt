@@ -7,7 +7,7 @@ use Rattle.yasir_ticks.specs.declared.tick.Tick.TheVariants.{Byte}
 use Rattle.line_rules.specs.Crc.{crc, byte_step, bit_steps, bit_step}
 use Rattle.dnp_link_frame.specs.Blocks.{room_by, begins_right, is_good_header, end_in_crcs}
 use Rattle.dnp_link_frame.specs.Blocks.{block_start, is_frame, has_right_ending}
-use Rattle.dnp_link_frame.specs.Endings.{ends_in_check}
+use Rattle.line_rules.specs.Endings.{ends_in_check}
 use Rattle.dnp_link_frame.specs.Rules.{dnp_rules}
 use Rattle.frame_ending.specs.LiveBytes.{before_pause, up_to_byte}
 use Rattle.device_model.specs.Frames.{FrameRead}

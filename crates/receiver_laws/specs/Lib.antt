@@ -4,3 +4,4 @@ pub mod Standing
 pub mod Untouched
 pub mod Accounted
 pub mod Headline
+pub mod Recovery

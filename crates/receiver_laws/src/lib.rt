@@ -8,6 +8,7 @@
 
 mod hunting_laws;
 mod laws;
+mod recovery;
 mod untouched;
 
 pub use hunting_laws::{hunting_device_reads_what_passed, hunting_device_reads_what_was_sealed};
@@ -15,4 +16,5 @@ pub use laws::{
     device_reads_what_passed, device_reads_what_was_sealed, longer_links,
     passed_frames_are_accounted_for, passed_frames_stand_on_the_link, whole_packets_pass,
 };
+pub use recovery::{lacking_bytes_are_bounded, untouched_link_recovers};
 pub use untouched::untouched_link_delivers_all;

@@ -2,6 +2,7 @@
 -- the usual check text.
 use Rattle.std.proofs.Common.{◌≡◌, [], ◌∷◌, true, false, refl, codes}
 use Rattle.line_rules.specs.Crc.{bit_step, bit_steps, byte_step, crc}
+use Rattle.line_rules.specs.Endings.{ends_in_check}
 use Rattle.rtu_frame.specs.Crc.{crc_rtu}
 use Rattle.rtu_frame.specs.Frame.{is_frame, has_right_ending}
 use Rattle.rtu_frame.specs.Rules.{rtu_rules}
@@ -28,7 +29,7 @@ pub frames : (is_frame (0x01 ∷ 0x03 ∷ 0x00 ∷ 0x00 ∷ 0x00 ∷ 0x0A ∷ 0x
     × (is_frame (0x11 ∷ 0x03 ∷ 0x00 ∷ 0x6B ∷ 0x00 ∷ 0x03 ∷ 0x76 ∷ 0x87 ∷ []) ≡ true)
     × (is_frame (0x01 ∷ 0x03 ∷ 0x40 ∷ 0x21 ∷ []) ≡ true)
     × (is_frame (0x01 ∷ 0x03 ∷ 0x00 ∷ 0x00 ∷ 0x00 ∷ 0x0A ∷ 0xC5 ∷ 0xCC ∷ []) ≡ false)
-unfolding bit_step bit_steps byte_step crc is_frame has_right_ending
+unfolding bit_step bit_steps byte_step crc is_frame has_right_ending ends_in_check
 frames = (refl, refl, refl, refl, refl)
 
 -- the last byte of a right ending has its lowest bit turned; every other byte stays
@@ -37,5 +38,5 @@ pub spoiled_bytes : (rtu_rules.spoil (0x01 ∷ 0x7E ∷ []) 0x80 ≡ 0x81)
     × (rtu_rules.spoil (0x01 ∷ 0x03 ∷ 0x40 ∷ []) 0x20 ≡ 0x20)
     × (rtu_rules.spoil (0xFF ∷ []) 0xFF ≡ 0xFE)
     × (rtu_rules.spoil [] 0xFF ≡ 0xFF)
-unfolding bit_step bit_steps byte_step crc has_right_ending
+unfolding bit_step bit_steps byte_step crc has_right_ending ends_in_check
 spoiled_bytes = (refl, refl, refl, refl, refl)

@@ -13,10 +13,12 @@ use Rattle.line_rules.specs.Crc.{byte_step}
 use Rattle.line_rules.proofs.CrcLaws.{crc-nil}
 use Rattle.line_rules.proofs.CrcZero.{byte_step-zero, crc-zero, crc-own, crc-append}
 use Rattle.rtu_frame.specs.Crc.{crc_rtu}
-use Rattle.rtu_frame.specs.Frame.{HasRightEnding, is_frame, has_right_ending, body_of}
+use Rattle.line_rules.specs.Endings.{body_of}
+use Rattle.rtu_frame.specs.Frame.{HasRightEnding, is_frame, has_right_ending}
 use Rattle.rtu_frame.specs.Rtu.{RtuStandsFor}
 use Rattle.rtu_frame.specs.declared.rtu.Rtu.{Rtu}
-use Rattle.rtu_frame.proofs.FrameLaws.{last_two, IsFrame-of, IsFrame-right, is_frame-true}
+use Rattle.line_rules.proofs.EndingLaws.{apart}
+use Rattle.rtu_frame.proofs.FrameLaws.{is_frame-true}
 use Rattle.rtu_frame.proofs.FrameLaws.{is_frame-from, has_right_ending-true, has_right_ending-from}
 
 -- a byte alone, or none, never leaves the register 0
@@ -31,11 +33,6 @@ crc_rtu-long (b ∷ []) bytes none =
     absurd (omega arith)
 crc_rtu-long (b ∷ c ∷ x) bytes none = omega arith
 
--- the last two bytes apart
-apart : (x : List ℕ) → 2 ≤ length x
-    → x ≡ body_of x ++ (get_or x (length x - 2) 0 ∷ get_or x (length x - 1) 0 ∷ [])
-apart x long = sym (take-append-drop (length x - 2) x) ∙ ap (λ y. body_of x ++ y) (last_two x long)
-
 pub crc_rtu-zero : (x : List ℕ) → AreBytes x → crc_rtu x ≡ 0 → HasRightEnding x
 crc_rtu-zero x bytes none =
     let long = crc_rtu-long x bytes none in
@@ -47,7 +44,7 @@ crc_rtu-zero x bytes none =
     All-get_or (λ b. b < 256) x (length x - 1) 0 (omega arith) bytes in
     record {
       body = body_of x;
-      ends_in_crc = parted ∙ ap (λ y. body_of x ++ y)
+      ends = parted ∙ ap (λ y. body_of x ++ y)
           (crc-zero 0xA001 (lit≤ tt) (lit< tt) 0xFFFF (body_of x) _ _ (lit< tt) body first second
           (ap crc_rtu (sym parted) ∙ none));
     }
@@ -55,10 +52,10 @@ crc_rtu-zero x bytes none =
 pub crc_rtu-right : (x : List ℕ) → AreBytes x → HasRightEnding x → crc_rtu x ≡ 0
 crc_rtu-right x bytes right =
     let front : take (length right.body) x ≡ right.body =
-    ap (λ y. take (length right.body) y) right.ends_in_crc
+    ap (λ y. take (length right.body) y) right.ends
     ∙ take-append_seam right.body (low_first (crc_rtu right.body)) in
     let P : List ℕ → Type 0 = AreBytes in
-    ap crc_rtu right.ends_in_crc
+    ap crc_rtu right.ends
     ∙ crc-own 0xA001 (lit≤ tt) (lit< tt) 0xFFFF right.body (lit< tt)
     (subst P front (All-take (λ b. b < 256) (length right.body) x bytes))
 
@@ -79,9 +76,9 @@ is_frame_by_crc x bytes short =
       (λ told. let parts = and_parts _ _ told in
           let long : 4 ≤ length x = leb-true 4 (length x) parts.0 in
           let right = crc_rtu-zero x bytes (eqb-true _ _ parts.1) in
-          IsFrame-of x long short right),
+          record { at_least = long; at_most = short; ends_in_crc = right }),
       (λ frame. and_from _ _ (le-leb 4 (length x) frame.at_least)
-          (eq-eqb _ _ (crc_rtu-right x bytes (IsFrame-right x frame)))),
+          (eq-eqb _ _ (crc_rtu-right x bytes frame.ends_in_crc))),
     )
     (is_frame-true x, is_frame-from x)
 

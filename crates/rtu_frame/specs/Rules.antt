@@ -9,9 +9,10 @@ use Rattle.line_rules.specs.Rules.{Rules}
 use Rattle.line_rules.specs.RulesLaws.{IsLawful, IsHeaded, IsFramed, IsFilling, HasNumbers}
 use Rattle.line_rules.specs.Headerless.{headerless, headerless-lawful, headerless-headed}
 use Rattle.line_rules.specs.Headerless.{headerless-framed, headerless-filling}
+use Rattle.line_rules.specs.Endings.{ends_in_check-turned}
 use Rattle.line_rules.specs.Spoiling.{IsSpoiling, spoiling_by_ending}
 use Rattle.rtu_frame.specs.Crc.{crc_rtu}
-use Rattle.rtu_frame.specs.Frame.{is_frame, has_right_ending, body_of}
+use Rattle.rtu_frame.specs.Frame.{is_frame, has_right_ending}
 
 abbrev pub rtu_rules : Rules
 rtu_rules = headerless 1 256 is_frame has_right_ending
@@ -31,34 +32,11 @@ unfolding is_frame
 is_frame-wrong x wrong =
     and_right (nat_le 4 (length x) && nat_le (length x) 256) (has_right_ending x) wrong
 
--- the body and the last byte, where a byte was appended
-push-body : (h : List ℕ) (c : ℕ) → body_of (h ++ c ∷ []) ≡ take (length h - 1) h
-push-body h c =
-    let front : length (h ++ c ∷ []) - 2 ≡ length h - 1 =
-    omega (arith, length-append h (c ∷ [])) in
-    ap (λ n. take n (h ++ c ∷ [])) front ∙ take-append-le (length h - 1) h (c ∷ []) (omega arith)
-
-push-last : (h : List ℕ) (c : ℕ) → get_or (h ++ c ∷ []) (length (h ++ c ∷ []) - 1) 0 ≡ c
-push-last h c = get_or_push h c 0 _ (omega (arith, length-append h (c ∷ [])))
-
--- a byte whose lowest bit is turned is another one
-turned-other : (c : ℕ) → bit_xor c 1 ≡ c → ⊥
-turned-other c same =
-    let back : bit_xor c (bit_xor c 1) ≡ 1 =
-    sym (xor_assoc c c 1) ∙ ap (λ n. bit_xor n 1) (xor_self c) in
-    let none : bit_xor c (bit_xor c 1) ≡ 0 = ap (bit_xor c) same ∙ xor_self c in
-    omega arith
-
 -- the last byte of a right ending can't be another one
 has_right_ending-turned : (h : List ℕ) (c : ℕ) → has_right_ending (h ++ c ∷ []) ≡ true
     → has_right_ending (h ++ bit_xor c 1 ∷ []) ≡ false
 unfolding has_right_ending
-has_right_ending-turned h c right =
-    let last = eqb-true _ _ (and_parts _ _ right).1 in
-    let before : c ≡ crc_rtu (body_of (h ++ c ∷ [])) / 256 = sym (push-last h c) ∙ last in
-    and_right _ _ (ne_eqb _ _ (λ same. turned-other c
-    (sym (push-last h (bit_xor c 1)) ∙ same
-    ∙ ap (λ x. crc_rtu x / 256) (push-body h (bit_xor c 1) ∙ sym (push-body h c)) ∙ sym before)))
+has_right_ending-turned h c right = ends_in_check-turned crc_rtu h c right
 
 pub rtu_lawful : IsLawful rtu_rules
 rtu_lawful = headerless-lawful 1 256 is_frame has_right_ending (omega arith)

@@ -4,7 +4,7 @@ use Rattle.rtu_frame.specs.Crc.{bit_step, bit_steps, byte_step, crc}
 use Rattle.rtu_frame.specs.Frame.{is_frame, has_right_ending}
 use Rattle.dnp_link_frame.specs.Beginnings.{user_in_blocks}
 use Rattle.dnp_link_frame.specs.Blocks as dnp
-use Rattle.dnp_link_frame.specs.Endings.{ends_in_check}
+use Rattle.line_rules.specs.Endings.{ends_in_check}
 use Rattle.hmac_tag.proofs.StandardFacts.{hmac_of_hi_there, hmac_of_jefe, hmac_of_fifty_bytes}
 use Rattle.hmac_tag.proofs.StandardFacts.{tag_of_test_with_truncation, hmac_under_a_long_key}
 use Rattle.vectors.specs.Cases.{answer}

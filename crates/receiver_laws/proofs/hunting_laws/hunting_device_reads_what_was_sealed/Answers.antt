@@ -1,4 +1,5 @@
-use Rattle.device_model.specs.Hunt.{hunt_line}
+use Rattle.device_model.specs.Hunt.{hunt_line, hunt_anew}
+use Rattle.receiver_laws.proofs.Anew.{anew_reads_what_passed}
 use Rattle.receiver_laws.proofs.Headline.{reads-sealed}
 use Rattle.receiver_laws.proofs.HunterReadings.{hunt_reads_what_passed, hunter_reads_what_passed}
 use Rattle.receiver_laws.proofs.hunting_laws.hunting_device_reads_what_was_sealed.Goals as goal
@@ -11,6 +12,15 @@ returns-clause-hunt g c = λ profile seal_floor check_floor line link.
     (hunt_reads_what_passed g.R.Hunted.FIRST g.R.Hunted.SECOND g.R.LineRules.rules
     g.R.LineRules.headed g.R.LineRules.framed g.met.R.Hunted.hunted profile g.R.LineRules.lawful
     g.R.LineRules.spoiling check_floor link)
+
+pub returns-clause-anew : goal.returns-clause-anew
+returns-clause-anew g c = λ cut profile seal_floor check_floor line link wide.
+    reads-sealed g.R.LineRules.rules g.R.LineRules.lawful
+    (hunt_anew g.R.Hunted.FIRST g.R.Hunted.SECOND g.R.LineRules.rules cut 0) 0 profile seal_floor
+    check_floor line link
+    (anew_reads_what_passed cut wide g.R.Hunted.FIRST g.R.Hunted.SECOND g.R.LineRules.rules
+    g.R.LineRules.headed g.R.LineRules.framed g.met.R.Hunted.hunted g.R.LineRules.lawful
+    g.R.LineRules.spoiling profile check_floor link)
 
 pub returns-clause-others : goal.returns-clause-others
 returns-clause-others g c = λ read hunter profile seal_floor check_floor line link.

@@ -6,7 +6,7 @@ use Rattle.std.proofs.Math.Seq.{drop-cons, drop-length, take-append_seam, drop-a
 use Rattle.std.proofs.lemmas.List.{take-append-drop}
 use Rattle.std.proofs.lemmas.Bool.{and_parts, and_from, eqb-true, eq-eqb, leb-true, le-leb}
 use Rattle.line_rules.specs.Bytes.{low_first}
-use Rattle.dnp_link_frame.specs.Endings.{EndsInCheck, ends_in_check, body_of}
+use Rattle.line_rules.specs.Endings.{EndsInCheck, ends_in_check, body_of}
 
 -- a list of two elements or more ends in its last two
 pub last_two : (x : List ℕ) → 2 ≤ length x
@@ -42,29 +42,49 @@ ending x body low high e =
     sym (last_two x long) ∙ back in
     (front, cc, cc)
 
+-- the last two bytes are the check of those before
+pub record HasCheck (check : List ℕ → ℕ) (x : List ℕ) : Type 0 where
+  pub low : get_or x (length x - 2) 0 ≡ check (body_of x) % 256
+  pub high : get_or x (length x - 1) 0 ≡ check (body_of x) / 256
+
 module _ (check : List ℕ → ℕ) where
+  pub EndsInCheck-long : (x : List ℕ) → EndsInCheck check x → 2 ≤ length x
+  EndsInCheck-long x right =
+      omega (
+        arith,
+        ap length right.ends,
+        length-append right.body (low_first (check right.body)),
+      )
+
+  pub EndsInCheck-has : (x : List ℕ) → EndsInCheck check x → HasCheck check x
+  EndsInCheck-has x right =
+      let parts = ending x right.body _ _ right.ends in
+      record {
+        low = parts.1 ∙ ap (λ y. check y % 256) (sym parts.0);
+        high = parts.2 ∙ ap (λ y. check y / 256) (sym parts.0);
+      }
+
+  pub EndsInCheck-from : (x : List ℕ) → 2 ≤ length x → HasCheck check x → EndsInCheck check x
+  EndsInCheck-from x long has = record {
+    body = body_of x;
+    ends = apart x long
+        ∙ ap (λ y. body_of x ++ y)
+        (ap (λ b. b ∷ get_or x (length x - 1) 0 ∷ []) has.low
+        ∙ ap (λ b. check (body_of x) % 256 ∷ b ∷ []) has.high);
+  }
+
   pub ends_in_check-true : (x : List ℕ) → ends_in_check check x ≡ true → EndsInCheck check x
   unfolding ends_in_check
   ends_in_check-true x decided =
       let last = and_parts _ _ decided in
       let both = and_parts _ _ last.0 in
-      let low = eqb-true _ _ both.1 in
-      let high = eqb-true _ _ last.1 in
-      record {
-        body = body_of x;
-        ends = apart x (leb-true 2 (length x) both.0)
-            ∙ ap (λ y. body_of x ++ y)
-            (ap (λ b. b ∷ get_or x (length x - 1) 0 ∷ []) low
-            ∙ ap (λ b. check (body_of x) % 256 ∷ b ∷ []) high);
-      }
+      EndsInCheck-from x (leb-true 2 (length x) both.0)
+      (record { low = eqb-true _ _ both.1; high = eqb-true _ _ last.1 })
 
   pub ends_in_check-from : (x : List ℕ) → EndsInCheck check x → ends_in_check check x ≡ true
   unfolding ends_in_check
   ends_in_check-from x right =
-      let parts = ending x right.body _ _ right.ends in
-      let sum : length x ≡ length right.body + 2 =
-      ap length right.ends ∙ length-append right.body (low_first (check right.body)) in
+      let has = EndsInCheck-has x right in
       and_from _ _
-      (and_from _ _ (le-leb 2 (length x) (omega arith))
-      (eq-eqb _ _ (parts.1 ∙ ap (λ y. check y % 256) (sym parts.0))))
-      (eq-eqb _ _ (parts.2 ∙ ap (λ y. check y / 256) (sym parts.0)))
+      (and_from _ _ (le-leb 2 (length x) (EndsInCheck-long x right)) (eq-eqb _ _ has.low))
+      (eq-eqb _ _ has.high)

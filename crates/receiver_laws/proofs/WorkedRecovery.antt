@@ -1,0 +1,302 @@
+-- When a receiver works again, on links of DNP3 with a tag that stands in for HMAC. A burst can lack
+-- 282 bytes, so packets are due 300 ticks after the tick from which the link is left alone. For each
+-- thing that the law asks there is a line where it alone is missing, and the packet doesn't pass.
+use Rattle.std.proofs.Common.{◌≡◌, ◌≤◌, ◌<◌, ℕ, List, [], ◌∷◌, ◌++◌, map, take, drop, replicate, refl}
+use Rattle.std.proofs.Common.{sym, subst, arith, get_or}
+use Rattle.std.specs.List.{All, Contains}
+use Rattle.std.proofs.lemmas.List.Elements.{All-nil, All-cons}
+use Rattle.yasir_ticks.specs.Ticks.{silent}
+use Rattle.yasir_ticks.specs.Bursts.{Burst, bursts, bursts_from, with_byte}
+use Rattle.yasir_ticks.specs.BurstsOf.{one}
+use Rattle.yasir_ticks.specs.declared.tick.Tick.{Tick}
+use Rattle.yasir_ticks.specs.declared.tick.Tick.TheVariants.{Byte}
+use Rattle.line_rules.specs.Crc.{crc, byte_step, bit_steps, bit_step}
+use Rattle.dnp_link_frame.specs.Blocks.{room_by, begins_right, is_good_header, end_in_crcs}
+use Rattle.dnp_link_frame.specs.Blocks.{block_start, is_frame, has_right_ending}
+use Rattle.dnp_link_frame.specs.Endings.{ends_in_check}
+use Rattle.dnp_link_frame.specs.Rules.{dnp_rules}
+use Rattle.frame_ending.specs.LiveBytes.{before_pause, up_to_byte}
+use Rattle.burst_walk.specs.Laid.{tick_at}
+use Rattle.burst_walk.specs.Walk.{Noted}
+use Rattle.link_format.specs.NumberedFrame.{NumberedFrame}
+use Rattle.link_format.specs.Profile.{Profile}
+use Rattle.seal_transmitter.specs.Sealing.{judged, link_line}
+use Rattle.link_verdicts.specs.Shapes.{kept}
+use Rattle.link_verdicts.specs.Verdicts.{verdict_of, checked}
+use Rattle.link_verdicts.specs.Emissions.{spoiled}
+use Rattle.link_verdicts.specs.Checking.{FullNote, check_notes}
+use Rattle.link_verdicts.specs.Checking.FullNote.{passed_note, refused_note, dropped_note}
+use Rattle.link_verdicts.specs.declared.note.RefusedWhy.TheVariants.{Trailer, Form, Number, Tag}
+use Rattle.link_verdicts.specs.declared.note.DroppedWhy.TheVariants.{Busy}
+use Rattle.receiver_laws.specs.Recovery.{all_sealed, floor_after, BeginsPacket, IsLeftAlone, IsDue}
+use Rattle.receiver_laws.proofs.Packing.{contiguous-bytes}
+
+-- twelve bytes of the number and the frame
+abbrev stand_in : ℕ → List ℕ → List ℕ
+stand_in number frame = take 12 (number ∷ frame ++ replicate 12 0xEE)
+
+abbrev profile : Profile
+profile = record { word_len = 2; tag_len = 12; tag = stand_in; limit = 281474976710655 }
+
+abbrev on_line : List ℕ → List Tick
+on_line x = map (λ b. Byte b) x
+
+-- the reset of a link, and the header of a frame of 292 bytes
+abbrev RESET_LINK : List ℕ
+RESET_LINK = 0x05 ∷ 0x64 ∷ 0x05 ∷ 0xC0 ∷ 0x01 ∷ 0x00 ∷ 0x00 ∷ 0x04 ∷ 0xE9 ∷ 0x21 ∷ []
+
+abbrev LONG_HEADER : List ℕ
+LONG_HEADER = 0x05 ∷ 0x64 ∷ 0xFF ∷ 0xC4 ∷ 0x01 ∷ 0x00 ∷ 0x00 ∷ 0x04 ∷ 0x27 ∷ 0x27 ∷ []
+
+-- 17 ticks: a pause, and the trailer of the reset with a number below 256
+abbrev trailing : ℕ → List Tick
+trailing number =
+    silent 3 ++ on_line (0x00 ∷ number ∷ number ∷ 0x05 ∷ 0x64 ∷ 0x05 ∷ 0xC0 ∷ 0x01 ∷ 0x00 ∷ 0x00
+    ∷ 0x04 ∷ 0xE9 ∷ 0x21 ∷ 0xEE ∷ [])
+
+abbrev packet : ℕ → List Tick
+packet number = on_line RESET_LINK ++ trailing number
+
+abbrev sealed_at : ℕ → ℕ → NumberedFrame
+sealed_at number start = record { number = number; start = start; frame = RESET_LINK }
+
+abbrev noted_at : ℕ → FullNote → Noted FullNote
+noted_at tick entry = record { tick = tick; note = entry }
+
+-- what the transmitter seals and sends of a line, from this floor on
+abbrev seals : ℕ → List Tick → List NumberedFrame
+seals floor line = all_sealed profile dnp_rules floor line
+
+abbrev sends : ℕ → List Tick → List Tick
+sends floor line = link_line profile dnp_rules floor line
+
+-- the receiver's notes of a link, and of one on which a long header was cut off: it stands in the
+-- first ten ticks, in place of what was sent in them
+abbrev notes : ℕ → List Tick → List (Noted FullNote)
+notes floor link = check_notes profile dnp_rules floor link
+
+abbrev notes_behind : ℕ → List Tick → List (Noted FullNote)
+notes_behind floor link = notes floor (on_line LONG_HEADER ++ drop 10 link)
+
+abbrev cut_off : Noted FullNote
+cut_off = noted_at 13 (refused_note 0 Trailer)
+
+-- ---- the receiver is busy up to tick 309 with what the burst lacks: a packet in tick 100 is dropped
+-- for it, and the next one, in the first tick in which one is due, passes
+
+abbrev two_frames : List Tick
+two_frames = silent 100 ++ on_line RESET_LINK ++ silent 200 ++ on_line RESET_LINK ++ silent 24
+
+two_frames-sealed : seals 0 two_frames ≡ sealed_at 1 100 ∷ sealed_at 2 310 ∷ []
+unfolding bursts_from with_byte before_pause up_to_byte tick_at judged crc byte_step bit_steps
+    bit_step room_by begins_right is_good_header end_in_crcs block_start is_frame has_right_ending
+    ends_in_check
+two_frames-sealed = refl
+
+two_frames-sent : sends 0 two_frames
+    ≡ silent 100 ++ packet 1 ++ silent 183 ++ packet 2 ++ silent 7
+unfolding bursts_from with_byte before_pause up_to_byte tick_at judged crc byte_step bit_steps
+    bit_step room_by begins_right is_good_header end_in_crcs block_start is_frame has_right_ending
+    ends_in_check
+two_frames-sent = refl
+
+two_frames-notes : notes_behind 0 (sends 0 two_frames)
+    ≡ cut_off ∷ noted_at 100 (dropped_note 100 Busy)
+    ∷ noted_at 336 (passed_note 2 310 RESET_LINK) ∷ []
+unfolding bursts_from with_byte before_pause up_to_byte tick_at judged crc byte_step bit_steps
+    bit_step room_by begins_right is_good_header end_in_crcs block_start is_frame has_right_ending
+    ends_in_check kept spoiled verdict_of checked
+two_frames-notes = refl
+
+-- ---- one tick earlier none is due
+
+abbrev frame_at : ℕ → List Tick
+frame_at n = silent n ++ on_line RESET_LINK ++ silent 24
+
+too_soon-notes : notes_behind 0 (sends 0 (frame_at 309))
+    ≡ cut_off ∷ noted_at 309 (dropped_note 309 Busy) ∷ []
+unfolding bursts_from with_byte before_pause up_to_byte tick_at judged crc byte_step bit_steps
+    bit_step room_by begins_right is_good_header end_in_crcs block_start is_frame has_right_ending
+    ends_in_check kept spoiled verdict_of checked
+too_soon-notes = refl
+
+-- ---- the packet isn't whole when the link ends
+
+abbrev ends_early : List Tick
+ends_early = silent 310 ++ on_line RESET_LINK ++ silent 16
+
+ends_early-sealed : seals 0 ends_early ≡ sealed_at 1 310 ∷ []
+unfolding bursts_from with_byte before_pause up_to_byte tick_at judged crc byte_step bit_steps
+    bit_step room_by begins_right is_good_header end_in_crcs block_start is_frame has_right_ending
+    ends_in_check
+ends_early-sealed = refl
+
+ends_early-notes : notes_behind 0 (sends 0 ends_early) ≡ cut_off ∷ []
+unfolding bursts_from with_byte before_pause up_to_byte tick_at judged crc byte_step bit_steps
+    bit_step room_by begins_right is_good_header end_in_crcs block_start is_frame has_right_ending
+    ends_in_check kept spoiled verdict_of checked
+ends_early-notes = refl
+
+-- ---- the number is 65537 above the receiver's floor: its word is that of 1
+
+far-sealed : seals 65536 (frame_at 310) ≡ sealed_at 65537 310 ∷ []
+unfolding bursts_from with_byte before_pause up_to_byte tick_at judged crc byte_step bit_steps
+    bit_step room_by begins_right is_good_header end_in_crcs block_start is_frame has_right_ending
+    ends_in_check
+far-sealed = refl
+
+far-notes : notes_behind 0 (sends 65536 (frame_at 310))
+    ≡ cut_off ∷ noted_at 336 (refused_note 310 Tag) ∷ []
+unfolding bursts_from with_byte before_pause up_to_byte tick_at judged crc byte_step bit_steps
+    bit_step room_by begins_right is_good_header end_in_crcs block_start is_frame has_right_ending
+    ends_in_check kept spoiled verdict_of checked
+far-notes = refl
+
+-- ---- the transmitter's floor is above the greatest number
+
+spent-sealed : seals 281474976710656 (frame_at 310) ≡ sealed_at 281474976710657 310 ∷ []
+unfolding bursts_from with_byte before_pause up_to_byte tick_at judged crc byte_step bit_steps
+    bit_step room_by begins_right is_good_header end_in_crcs block_start is_frame has_right_ending
+    ends_in_check
+spent-sealed = refl
+
+spent-notes : notes_behind 281474976710655 (sends 281474976710656 (frame_at 310))
+    ≡ cut_off ∷ noted_at 336 (refused_note 310 Number) ∷ []
+unfolding bursts_from with_byte before_pause up_to_byte tick_at judged crc byte_step bit_steps
+    bit_step room_by begins_right is_good_header end_in_crcs block_start is_frame has_right_ending
+    ends_in_check kept spoiled verdict_of checked
+spent-notes = refl
+
+-- ---- the receiver has passed this number before
+
+used-notes : notes_behind 1 (sends 0 (frame_at 310))
+    ≡ cut_off ∷ noted_at 336 (refused_note 310 Tag) ∷ []
+unfolding bursts_from with_byte before_pause up_to_byte tick_at judged crc byte_step bit_steps
+    bit_step room_by begins_right is_good_header end_in_crcs block_start is_frame has_right_ending
+    ends_in_check kept spoiled verdict_of checked
+used-notes = refl
+
+-- ---- a byte of the packet is changed
+
+abbrev changed : List Tick
+changed =
+    silent 310 ++ on_line RESET_LINK ++ silent 3 ++ on_line (0x00 ∷ 0x01 ∷ 0x01 ∷ 0x05 ∷ 0x64 ∷ 0x05
+    ∷ 0xC0 ∷ 0x01 ∷ 0x00 ∷ 0x00 ∷ 0x04 ∷ 0xE9 ∷ 0x21 ∷ 0xEF ∷ []) ++ silent 7
+
+changed-notes : notes_behind 0 changed ≡ cut_off ∷ noted_at 336 (refused_note 310 Tag) ∷ []
+unfolding bursts_from with_byte before_pause up_to_byte tick_at judged crc byte_step bit_steps
+    bit_step room_by begins_right is_good_header end_in_crcs block_start is_frame has_right_ending
+    ends_in_check kept spoiled verdict_of checked
+changed-notes = refl
+
+-- ---- no silence where the link is left alone: a packet is sent from tick 2 on, and its last two bytes
+-- join the header, one tick later than they might. So the receiver is busy for one tick more
+
+abbrev no_silence : List Tick
+no_silence = silent 2 ++ on_line (take 8 RESET_LINK) ++ silent 1 ++ on_line (drop 8 RESET_LINK)
+    ++ silent 297 ++ on_line RESET_LINK ++ silent 24
+
+no_silence-sealed : seals 0 no_silence ≡ sealed_at 1 2 ∷ sealed_at 2 310 ∷ []
+unfolding bursts_from with_byte before_pause up_to_byte tick_at judged crc byte_step bit_steps
+    bit_step room_by begins_right is_good_header end_in_crcs block_start is_frame has_right_ending
+    ends_in_check
+no_silence-sealed = refl
+
+no_silence-notes : notes_behind 0 (sends 0 no_silence)
+    ≡ noted_at 29 (refused_note 0 Form) ∷ noted_at 310 (dropped_note 310 Busy) ∷ []
+unfolding bursts_from with_byte before_pause up_to_byte tick_at judged crc byte_step bit_steps
+    bit_step room_by begins_right is_good_header end_in_crcs block_start is_frame has_right_ending
+    ends_in_check kept spoiled verdict_of checked
+no_silence-notes = refl
+
+-- ---- a burst that isn't a packet: the device itself sends a long header and stops. Nobody has touched
+-- the link, from tick 0 on
+
+abbrev device_stops : List Tick
+device_stops = silent 296 ++ on_line LONG_HEADER ++ silent 4 ++ on_line RESET_LINK ++ silent 24
+
+device_stops-sent : sends 0 device_stops
+    ≡ silent 296 ++ on_line LONG_HEADER ++ silent 4 ++ packet 1 ++ silent 7
+unfolding bursts_from with_byte before_pause up_to_byte tick_at judged crc byte_step bit_steps
+    bit_step room_by begins_right is_good_header end_in_crcs block_start is_frame has_right_ending
+    ends_in_check
+device_stops-sent = refl
+
+device_stops-notes : notes 0 (sends 0 device_stops)
+    ≡ noted_at 309 (refused_note 296 Trailer) ∷ noted_at 310 (dropped_note 310 Busy) ∷ []
+unfolding bursts_from with_byte before_pause up_to_byte tick_at judged crc byte_step bit_steps
+    bit_step room_by begins_right is_good_header end_in_crcs block_start is_frame has_right_ending
+    ends_in_check kept spoiled verdict_of checked
+device_stops-notes = refl
+
+-- ---- what the law asks holds together of the first of these lines
+
+abbrev their_link : List Tick
+their_link = on_line LONG_HEADER ++ drop 10 (sends 0 two_frames)
+
+abbrev burst_of : ℕ → ℕ → Burst
+burst_of number start = record { start = start; body = packet number }
+
+two_frames-bursts : bursts (sends 0 two_frames) ≡ burst_of 1 100 ∷ burst_of 2 310 ∷ []
+unfolding bursts_from with_byte before_pause up_to_byte tick_at judged crc byte_step bit_steps
+    bit_step room_by begins_right is_good_header end_in_crcs block_start is_frame has_right_ending
+    ends_in_check
+two_frames-bursts = refl
+
+two_frames-quiet : take 4 (drop 10 their_link) ≡ silent 4
+unfolding bursts_from with_byte before_pause up_to_byte tick_at judged crc byte_step bit_steps
+    bit_step room_by begins_right is_good_header end_in_crcs block_start is_frame has_right_ending
+    ends_in_check
+two_frames-quiet = refl
+
+two_frames-floor : floor_after profile dnp_rules 0 (take 14 their_link) ≡ 0
+unfolding bursts_from with_byte before_pause up_to_byte tick_at judged crc byte_step bit_steps
+    bit_step room_by begins_right is_good_header end_in_crcs block_start is_frame has_right_ending
+    ends_in_check kept spoiled verdict_of checked
+two_frames-floor = refl
+
+two_frames-begins : (k number start : ℕ) → k < 2
+    → get_or (sealed_at 1 100 ∷ sealed_at 2 310 ∷ []) k (sealed_at number start)
+    ≡ sealed_at number start
+    → BeginsPacket (seals 0 two_frames) (burst_of number start)
+two_frames-begins k number start within same =
+    let P : List NumberedFrame → Type 0 = λ l. Contains l (sealed_at number start) in
+    record {
+      frame = sealed_at number start;
+      is_sealed = subst P (sym two_frames-sealed) (k, within, same);
+      starts = refl;
+    }
+
+pub two_frames-alone : IsLeftAlone profile dnp_rules 0 0 two_frames their_link 10
+two_frames-alone =
+    let P : Burst → Type 0 = λ d. 10 ≤ d.start → BeginsPacket (seals 0 two_frames) d in
+    let Q : NumberedFrame → Type 0 = λ f. 10 ≤ f.start
+    → floor_after profile dnp_rules 0 (take 14 their_link) < f.number in
+    let none = two_frames-floor in
+    record {
+      untouched = refl;
+      quiet = two_frames-quiet;
+      packets = subst (λ l. All P l) (sym two_frames-bursts)
+          (All-cons P (burst_of 1 100) (burst_of 2 310 ∷ [])
+          (λ late. two_frames-begins 0 1 100 (omega arith) refl)
+          (All-cons P (burst_of 2 310) []
+          (λ late. two_frames-begins 1 2 310 (omega arith) refl) (All-nil P)));
+      new = subst (λ l. All Q l) (sym two_frames-sealed)
+          (All-cons Q (sealed_at 1 100) (sealed_at 2 310 ∷ []) (λ late. omega arith)
+          (All-cons Q (sealed_at 2 310) [] (λ late. omega arith) (All-nil Q)));
+    }
+
+pub two_frames-due : IsDue profile dnp_rules 0 0 two_frames their_link 10 282 (sealed_at 2 310)
+two_frames-due = record {
+  late = omega arith;
+  whole = record {
+    front = silent 100 ++ packet 1 ++ silent 183;
+    body = on_line RESET_LINK;
+    back = silent 7;
+    is = two_frames-sent;
+    begins = refl;
+    spells = refl;
+    contiguous = contiguous-bytes 2 (drop 1 RESET_LINK) (Byte 0x05 ∷ []) (omega arith) (one 0x05);
+  };
+  near = omega arith;
+}

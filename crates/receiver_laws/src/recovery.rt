@@ -1,0 +1,30 @@
+ghost use Rattle.std.specs.Prelude.{◌≤◌, ◌-◌, ℕ, List};
+ghost use Rattle.yasir_ticks.specs.Ticks.{AreTicks};
+ghost use Rattle.yasir_ticks.specs.declared.tick.Tick.{Tick};
+ghost use Rattle.link_format.specs.Profile.{Profile, HasTags};
+ghost use Rattle.dnp_link_frame.specs.Rules.{dnp_rules};
+ghost use Rattle.rtu_frame.specs.Rules.{rtu_rules};
+ghost use Rattle.receiver_laws.specs.Recovery.{IsLeftAlone, LackAtMost, Recovers};
+
+use line_rules::LineRules;
+
+/// A law of the transmitter's and the receiver's definitions, for the rules of each protocol and
+/// each profile: a link that is left alone from a tick on works again by itself, whatever stood on
+/// it before. Each packet passes that starts a stated number of ticks later: the receiver's delay,
+/// and a tick for each byte that a burst of the protocol can lack.
+pub fn untouched_link_recovers<R: LineRules>()
+    ensures recovers { (profile : Profile) → HasTags profile → 1 ≤ profile.word_len
+        → (most : ℕ) → LackAtMost R.rules most
+        → (seal_floor check_floor : ℕ) → seal_floor ≤ profile.limit
+        → (line link : List Tick) → AreTicks link → (from : ℕ)
+        → IsLeftAlone profile R.rules seal_floor check_floor line link from
+        → Recovers profile R.rules seal_floor check_floor line link from most }
+    ensures lacks { LackAtMost R.rules (R.rules.longest - R.rules.header_len) }
+{}
+
+/// A law of the rules of both protocols: in Modbus RTU, where no header says a size, a burst lacks
+/// no byte, and in DNP3 at most 282, those behind the header of the longest frame.
+pub fn lacking_bytes_are_bounded()
+    ensures rtu { LackAtMost rtu_rules 0 }
+    ensures dnp { LackAtMost dnp_rules 282 }
+{}
