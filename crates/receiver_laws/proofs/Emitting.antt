@@ -81,7 +81,8 @@ behind-same a b x y same long =
 front-more : (a b c d : List Tick) → (a ++ (b ++ c)) ++ d ≡ a ++ (b ++ (c ++ d))
 front-more a b c d = append_assoc a (b ++ c) d ∙ ap (λ l. a ++ l) (append_assoc b c d)
 
-body-parts : (body live t more : List Tick) → live ≡ body → (live ++ t) ++ more ≡ body ++ (t ++ more)
+body-parts : (body live t more : List Tick) → live ≡ body
+    → (live ++ t) ++ more ≡ body ++ (t ++ more)
 body-parts body live t more same = ap (λ x. (x ++ t) ++ more) same ∙ append_assoc body t more
 
 module _ (profile : Profile) (tags : HasTags profile) (some : 1 ≤ profile.word_len)

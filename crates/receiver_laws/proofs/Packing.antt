@@ -78,8 +78,8 @@ module _ (profile : Profile) (tags : HasTags profile) (some : 1 ≤ profile.word
       let all = length-append (live_ticks rules d) (trailing bytes) in
       omega arith
 
-  pub packet-contiguous : (number : ℕ) (d : Burst) → IsContiguous 4 d.body → has_extra rules d ≡ false
-      → IsContiguous 4 (packet profile rules number d).body
+  pub packet-contiguous : (number : ℕ) (d : Burst) → IsContiguous 4 d.body
+      → has_extra rules d ≡ false → IsContiguous 4 (packet profile rules number d).body
   packet-contiguous number d whole none =
       let bytes : List ℕ = trailer profile number (live_bytes rules d) in
       let P : List Tick → Type 0 = λ x. IsContiguous 4 (x ++ trailing bytes) in

@@ -1,8 +1,9 @@
--- When a receiver works again, on links of DNP3 with a tag that stands in for HMAC. A burst can lack
--- 282 bytes, so packets are due 300 ticks after the tick from which the link is left alone. For each
--- thing that the law asks there is a line where it alone is missing, and the packet doesn't pass.
-use Rattle.std.proofs.Common.{◌≡◌, ◌≤◌, ◌<◌, ℕ, List, [], ◌∷◌, ◌++◌, map, take, drop, replicate, refl}
-use Rattle.std.proofs.Common.{sym, subst, arith, get_or}
+-- When a receiver works again, on links of DNP3 with a tag that stands in for HMAC. A burst can
+-- lack 282 bytes, so packets are due 300 ticks after the tick from which the link is left alone.
+-- For each thing that the law asks there is a line where it alone is missing, and the packet
+-- doesn't pass.
+use Rattle.std.proofs.Common.{◌≡◌, ◌≤◌, ◌<◌, ℕ, List, [], ◌∷◌, ◌++◌, map, take, drop, replicate}
+use Rattle.std.proofs.Common.{refl, sym, subst, arith, get_or}
 use Rattle.std.specs.List.{All, Contains}
 use Rattle.std.proofs.lemmas.List.Elements.{All-nil, All-cons}
 use Rattle.yasir_ticks.specs.Ticks.{silent}
@@ -13,9 +14,11 @@ use Rattle.yasir_ticks.specs.declared.tick.Tick.TheVariants.{Byte}
 use Rattle.line_rules.specs.Crc.{crc, byte_step, bit_steps, bit_step}
 use Rattle.dnp_link_frame.specs.Blocks.{room_by, begins_right, is_good_header, end_in_crcs}
 use Rattle.dnp_link_frame.specs.Blocks.{block_start, is_frame, has_right_ending}
-use Rattle.dnp_link_frame.specs.Endings.{ends_in_check}
+use Rattle.line_rules.specs.Endings.{ends_in_check}
 use Rattle.dnp_link_frame.specs.Rules.{dnp_rules}
 use Rattle.frame_ending.specs.LiveBytes.{before_pause, up_to_byte}
+use Rattle.device_model.specs.Hunt.{hunt}
+use Rattle.device_model.specs.DnpReads.{dnp_reads}
 use Rattle.burst_walk.specs.Laid.{tick_at}
 use Rattle.burst_walk.specs.Walk.{Noted}
 use Rattle.link_format.specs.NumberedFrame.{NumberedFrame}
@@ -24,7 +27,7 @@ use Rattle.seal_transmitter.specs.Sealing.{judged, link_line}
 use Rattle.link_verdicts.specs.Shapes.{kept}
 use Rattle.link_verdicts.specs.Verdicts.{verdict_of, checked}
 use Rattle.link_verdicts.specs.Emissions.{spoiled}
-use Rattle.link_verdicts.specs.Checking.{FullNote, check_notes}
+use Rattle.link_verdicts.specs.Checking.{FullNote, check_notes, received_line}
 use Rattle.link_verdicts.specs.Checking.FullNote.{passed_note, refused_note, dropped_note}
 use Rattle.link_verdicts.specs.declared.note.RefusedWhy.TheVariants.{Trailer, Form, Number, Tag}
 use Rattle.link_verdicts.specs.declared.note.DroppedWhy.TheVariants.{Busy}
@@ -70,22 +73,27 @@ seals floor line = all_sealed profile dnp_rules floor line
 abbrev sends : ℕ → List Tick → List Tick
 sends floor line = link_line profile dnp_rules floor line
 
--- the receiver's notes of a link, and of one on which a long header was cut off: it stands in the
--- first ten ticks, in place of what was sent in them
+-- a long header in the first ten ticks, in place of what was sent in them, and nothing behind it:
+-- the link is left alone from tick 10 on
+abbrev behind_header : List Tick → List Tick
+behind_header link = on_line LONG_HEADER ++ drop 10 link
+
+-- the receiver's notes of a link, and of one with such a header
 abbrev notes : ℕ → List Tick → List (Noted FullNote)
 notes floor link = check_notes profile dnp_rules floor link
 
 abbrev notes_behind : ℕ → List Tick → List (Noted FullNote)
-notes_behind floor link = notes floor (on_line LONG_HEADER ++ drop 10 link)
+notes_behind floor link = notes floor (behind_header link)
 
 abbrev cut_off : Noted FullNote
 cut_off = noted_at 13 (refused_note 0 Trailer)
 
--- ---- the receiver is busy up to tick 309 with what the burst lacks: a packet in tick 100 is dropped
--- for it, and the next one, in the first tick in which one is due, passes
+-- ---- the receiver is busy up to tick 309 with what the burst lacks: a packet in tick 100 is
+-- dropped for it, and the next one, in the first tick in which one is due, passes
 
 abbrev two_frames : List Tick
-two_frames = silent 100 ++ on_line RESET_LINK ++ silent 200 ++ on_line RESET_LINK ++ silent 24
+two_frames =
+    silent 100 ++ on_line RESET_LINK ++ silent 200 ++ on_line RESET_LINK ++ silent 24
 
 two_frames-sealed : seals 0 two_frames ≡ sealed_at 1 100 ∷ sealed_at 2 310 ∷ []
 unfolding bursts_from with_byte before_pause up_to_byte tick_at judged crc byte_step bit_steps
@@ -107,6 +115,30 @@ unfolding bursts_from with_byte before_pause up_to_byte tick_at judged crc byte_
     bit_step room_by begins_right is_good_header end_in_crcs block_start is_frame has_right_ending
     ends_in_check kept spoiled verdict_of checked
 two_frames-notes = refl
+
+-- ---- so does one that comes 200 ticks later
+
+abbrev long_wait : List Tick
+long_wait =
+    silent 100 ++ on_line RESET_LINK ++ silent 400 ++ on_line RESET_LINK ++ silent 24
+
+long_wait-notes : notes_behind 0 (sends 0 long_wait)
+    ≡ cut_off ∷ noted_at 100 (dropped_note 100 Busy)
+    ∷ noted_at 536 (passed_note 2 510 RESET_LINK) ∷ []
+unfolding bursts_from with_byte before_pause up_to_byte tick_at judged crc byte_step bit_steps
+    bit_step room_by begins_right is_good_header end_in_crcs block_start is_frame has_right_ending
+    ends_in_check kept spoiled verdict_of checked
+long_wait-notes = refl
+
+-- ---- a device reads the packet that passes, 18 ticks later, and nothing else
+
+two_frames-read : dnp_reads
+    (received_line profile dnp_rules 0 (behind_header (sends 0 two_frames)))
+    ≡ record { start = 328; frame = RESET_LINK } ∷ []
+unfolding bursts_from with_byte before_pause up_to_byte tick_at judged crc byte_step bit_steps
+    bit_step room_by begins_right is_good_header end_in_crcs block_start is_frame has_right_ending
+    ends_in_check kept spoiled verdict_of checked hunt
+two_frames-read = refl
 
 -- ---- one tick earlier none is due
 
@@ -189,11 +221,12 @@ unfolding bursts_from with_byte before_pause up_to_byte tick_at judged crc byte_
     ends_in_check kept spoiled verdict_of checked
 changed-notes = refl
 
--- ---- no silence where the link is left alone: a packet is sent from tick 2 on, and its last two bytes
--- join the header, one tick later than they might. So the receiver is busy for one tick more
+-- ---- no silence where the link is left alone: a packet is sent from tick 2 on, and its last two
+-- bytes join the header, one tick later than they might. So the receiver is busy for a tick more
 
 abbrev no_silence : List Tick
-no_silence = silent 2 ++ on_line (take 8 RESET_LINK) ++ silent 1 ++ on_line (drop 8 RESET_LINK)
+no_silence =
+    silent 2 ++ on_line (take 8 RESET_LINK) ++ silent 1 ++ on_line (drop 8 RESET_LINK)
     ++ silent 297 ++ on_line RESET_LINK ++ silent 24
 
 no_silence-sealed : seals 0 no_silence ≡ sealed_at 1 2 ∷ sealed_at 2 310 ∷ []
@@ -209,11 +242,12 @@ unfolding bursts_from with_byte before_pause up_to_byte tick_at judged crc byte_
     ends_in_check kept spoiled verdict_of checked
 no_silence-notes = refl
 
--- ---- a burst that isn't a packet: the device itself sends a long header and stops. Nobody has touched
--- the link, from tick 0 on
+-- ---- a burst that isn't a packet: the device itself sends a long header and stops. Nobody has
+-- touched the link, from tick 0 on
 
 abbrev device_stops : List Tick
-device_stops = silent 296 ++ on_line LONG_HEADER ++ silent 4 ++ on_line RESET_LINK ++ silent 24
+device_stops =
+    silent 296 ++ on_line LONG_HEADER ++ silent 4 ++ on_line RESET_LINK ++ silent 24
 
 device_stops-sent : sends 0 device_stops
     ≡ silent 296 ++ on_line LONG_HEADER ++ silent 4 ++ packet 1 ++ silent 7
@@ -232,7 +266,7 @@ device_stops-notes = refl
 -- ---- what the law asks holds together of the first of these lines
 
 abbrev their_link : List Tick
-their_link = on_line LONG_HEADER ++ drop 10 (sends 0 two_frames)
+their_link = behind_header (sends 0 two_frames)
 
 abbrev burst_of : ℕ → ℕ → Burst
 burst_of number start = record { start = start; body = packet number }
