@@ -1,12 +1,12 @@
 -- `is_frame` decides `IsFrame`, and a frame has one header and one user data.
-use Rattle.std.proofs.Common.{◌≡◌, ℕ, zero, suc, ◌+◌, ◌-◌, ◌*◌, ◌<◌, ◌≤◌, ◌&&◌, ◌==◌, true}
+use Rattle.std.proofs.Common.{◌≡◌, ℕ, zero, suc, ◌+◌, ◌-◌, ◌*◌, ◌/◌, ◌<◌, ◌≤◌, ◌&&◌, ◌==◌, true}
 use Rattle.std.proofs.Common.{List, [], ◌++◌, length, take, drop, get_or, min, refl, arith, sym}
 use Rattle.std.proofs.Common.{◌∙◌, ap, subst, ⊎_elim, length-append, append-nil}
 use Rattle.std.proofs.lemmas.List.{take_all, take_at, drop_at, length-take, length-drop}
 use Rattle.std.proofs.lemmas.List.{nil_from_length, take-append-drop, take-take}
 use Rattle.std.proofs.lemmas.List.{length-take-le, get_or-take, get_or_default}
 use Rattle.std.proofs.lemmas.List.Elements.{All-append, All-take, All-drop, All-nil}
-use Rattle.std.proofs.lemmas.Bool.{cases_lt, and_parts, and_from, eqb-true, le-leb}
+use Rattle.std.proofs.lemmas.Bool.{cases_lt, and_parts, and_from, eqb-true, eq-eqb, le-leb}
 use Rattle.line_rules.specs.Bytes.{AreBytes, low_first}
 use Rattle.dnp_link_frame.specs.Crc.{crc_dnp}
 use Rattle.line_rules.specs.Endings.{body_of}
@@ -17,6 +17,11 @@ use Rattle.dnp_link_frame.specs.Blocks.{begins_right, is_good_header, end_in_crc
 use Rattle.dnp_link_frame.specs.BlockLaws.{is_frame-true, is_frame-from, end_in_crcs-none}
 use Rattle.dnp_link_frame.specs.BlockLaws.{end_in_crcs-next, length_byte-good}
 use Rattle.dnp_link_frame.specs.Beginnings.{user_in_blocks, header_in, user_in}
+use Rattle.dnp_link_frame.specs.Blocks.{running_block, has_right_ending}
+use Rattle.dnp_link_frame.specs.BlockLaws.{is_good_header-begins, blocks_for-last}
+use Rattle.dnp_link_frame.specs.BlockLaws.{block_start-user, running_block-header}
+use Rattle.dnp_link_frame.specs.RulesLaws.{has_right_ending-true}
+use Rattle.dnp_link_frame.specs.Endings.{IsGoodHeader, HasRightEnding, last_part}
 use Rattle.dnp_link_frame.specs.declared.header.Header.{Header}
 use Rattle.line_rules.proofs.EndingLaws.{ending, ends_in_check-true, ends_in_check-from}
 use Rattle.dnp_link_frame.proofs.BlockParts.{in_blocks-none, in_blocks-next, in_blocks-first}
@@ -247,3 +252,56 @@ frame-is_frame x framed =
           (drop_at (with_crc fields) blocks 10 refl)
           ∙ blocks_end (blocks_for (length framed.user)) framed.user refl);
     })
+
+-- ---- good headers and right endings
+
+pub good_header-true : (x : List ℕ) → AreBytes x → is_good_header x ≡ true → IsGoodHeader x
+good_header-true x bytes good =
+    let ten = (is_good_header-begins x good).0 in
+    let whole : take 10 x ≡ x = take_all 10 x (omega arith) in
+    let fit = user_fits x bytes in
+    record {
+      header = header_in (take 8 x);
+      header_fits = header_in-fits (take 8 x) (omega (arith, length-take 8 x))
+          (All-take (λ b. b < 256) 8 x bytes);
+      user_len = user_len_by (length_byte x);
+      user_fits = omega arith;
+      is = sym whole ∙ header_is x bytes (ap is_good_header whole ∙ good);
+    }
+
+pub good_header-from : (x : List ℕ) → IsGoodHeader x → is_good_header x ≡ true
+good_header-from x good =
+    ap is_good_header good.is ∙ fields_are_good good.header good.user_len
+
+last_part-running : (x : List ℕ) → length x ≡ size_by (length_byte x)
+    → last_part (blocks_for (user_len_by (length_byte x))) x ≡ running_block x
+last_part-running x size =
+    ⊎_elim
+    (λ user.
+    let blocks : blocks_for (user_len_by (length_byte x)) ≡ suc ((length x - 11) / 18) =
+    blocks_for-last (length_byte x) (omega arith)
+    ∙ ap (λ n. suc ((n - 11) / 18)) (sym size) in
+    ap (λ n. last_part n x) blocks
+    ∙ ap (λ n. drop n x) (sym (block_start-user (length x) user)))
+    (λ header.
+    let none : blocks_for (user_len_by (length_byte x)) ≡ 0 = omega arith in
+    ap (λ n. last_part n x) none ∙ sym (running_block-header x header))
+    (cases_lt 10 (length x))
+
+pub right_ending-true : (x : List ℕ) → has_right_ending x ≡ true → HasRightEnding x
+right_ending-true x decided =
+    let right = has_right_ending-true x decided in
+    record {
+      len_is_right = right.len_is_right;
+      size_is = right.size_is;
+      ends_in_crc = ends_in_check-true crc_dnp _
+          (ap ends_in_crc (last_part-running x right.size_is) ∙ right.block_ends);
+    }
+
+pub right_ending-from : (x : List ℕ) → HasRightEnding x → has_right_ending x ≡ true
+unfolding has_right_ending
+right_ending-from x right =
+    and_from _ _
+    (and_from _ _ (le-leb 5 (length_byte x) right.len_is_right) (eq-eqb _ _ right.size_is))
+    (ap ends_in_crc (sym (last_part-running x right.size_is))
+    ∙ ends_in_check-from crc_dnp _ right.ends_in_crc)

@@ -1,6 +1,7 @@
 pub mod Crc
 pub mod Frame
 pub mod Blocks
+pub mod Endings
 pub mod BlockLaws
 pub mod Rules
 pub mod RulesLaws

@@ -4,12 +4,18 @@ ghost use Rattle.line_rules.specs.Bytes.{AreBytes};
 ghost use Rattle.dnp_link_frame.specs.Crc.{crc_dnp, register_of};
 ghost use Rattle.line_rules.specs.Endings.{EndsInCheck};
 ghost use Rattle.dnp_link_frame.specs.Frame.{IsFrame, IsFrameOf};
+ghost use Rattle.dnp_link_frame.specs.Endings.{IsGoodHeader, HasRightEnding};
 ghost use Rattle.dnp_link_frame.specs.Rules.{dnp_rules};
 ghost use Rattle.dnp_link_frame.specs.declared.header.Header.{Header};
 
-/// What the rules of a line call a frame is one of the DNP3 link layer.
+/// What the rules of a line call a frame, a good header and a right ending are those of the DNP3
+/// link layer.
 pub fn frames_of_the_standard()
-    ensures { (x : List ℕ) → AreBytes x → IsTrue (dnp_rules.is_frame x) ↔ IsFrame x }
+    ensures frames { (x : List ℕ) → AreBytes x → IsTrue (dnp_rules.is_frame x) ↔ IsFrame x }
+    ensures headers { (x : List ℕ) → AreBytes x
+        → IsTrue (dnp_rules.is_good_header x) ↔ IsGoodHeader x }
+    ensures right_endings { (x : List ℕ)
+        → IsTrue (dnp_rules.has_right_ending x) ↔ HasRightEnding x }
 {}
 
 /// A frame has one header and one user data, so that `build` and `user_data` undo each other: what
