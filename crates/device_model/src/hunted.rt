@@ -11,8 +11,9 @@ pub trait Hunted: LineRules {
 
     ghost hunted: { IsHunted FIRST SECOND Self.rules };
 
-    /// The two bytes with which a header begins.
+    /// The byte with which a header begins.
     const FIRST: u8;
 
+    /// The byte after it.
     const SECOND: u8;
 }

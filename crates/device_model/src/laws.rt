@@ -26,8 +26,8 @@ pub fn forwarded_frames_are_read()
     ensures read { (line : List Tick) → rtu_reads line ≡ rtu_forwarded line }
 {}
 
-/// A law of the hunt, for each list of bytes: it is by cases as IEEE 1815 has a frame's start, and
-/// this project's profile what is taken there.
+/// A law of the hunt, for the rules of each protocol whose devices hunt for frames, and each list of
+/// bytes: what is read of them, case by case.
 pub fn hunts_by_cases<R: Hunted>()
     ensures { (x : List Timed) → HuntsByCases R.FIRST R.SECOND R.rules x }
 {}
