@@ -13,11 +13,13 @@ use crate::size::{BLOCK_DATA_LEN, COUNTED_OF_HEADER, CRC_LEN, HEADER_LEN, size_b
 use crate::steps::START;
 use arrayvec::ArrayVec;
 
-const FIELDS_LEN: usize = HEADER_LEN as usize - 2;
+const CRC: usize = CRC_LEN as usize;
+
+const HEADER: usize = HEADER_LEN as usize;
 
 const BLOCK: usize = BLOCK_DATA_LEN as usize;
 
-const BLOCK_WITH_CRC: usize = (BLOCK_DATA_LEN + CRC_LEN) as usize;
+const BLOCK_WITH_CRC: usize = BLOCK + CRC;
 
 /// The user data of a frame.
 pub type UserBytes = ArrayVec<u8, 250>;
@@ -68,7 +70,7 @@ fn right_in_part(bytes: &[u8], len: usize) -> usize
         return len;
     }
     if bytes.len() > len + 1 && bytes[len + 1] == high {
-        len + 2
+        len + CRC
     } else {
         len + 1
     }
@@ -85,11 +87,11 @@ fn right_in_blocks(bytes: &[u8], user_len: usize) -> usize
     for n in 0..blocks {
         let len = (user_len - n * BLOCK).min(BLOCK);
         let right = right_in_part(&bytes[n * BLOCK_WITH_CRC..], len);
-        if right != len + 2 {
+        if right != len + CRC {
             return n * BLOCK_WITH_CRC + right;
         }
     }
-    user_len + 2 * blocks
+    user_len + CRC * blocks
 }
 
 // How many bytes are right of a frame.
@@ -102,12 +104,12 @@ fn right_in_frame(bytes: &[u8]) -> usize
     if start < 3 {
         return start;
     }
-    let header = right_in_part(bytes, FIELDS_LEN);
-    if header != FIELDS_LEN + 2 {
+    let header = right_in_part(bytes, HEADER - CRC);
+    if header != HEADER {
         return header;
     }
     let user_len = usize::from(byte_at(bytes, 2).saturating_sub(COUNTED_OF_HEADER));
-    FIELDS_LEN + 2 + right_in_blocks(&bytes[FIELDS_LEN + 2..], user_len)
+    HEADER + right_in_blocks(&bytes[HEADER..], user_len)
 }
 
 fn header_in(bytes: &[u8]) -> Header
@@ -137,7 +139,7 @@ fn user_in_blocks(bytes: &[u8], count: usize) -> UserBytes
     let mut user = UserBytes::new();
     for n in 0..count {
         let from = n * BLOCK_WITH_CRC;
-        let to = bytes.len().min(from + BLOCK_WITH_CRC) - 2;
+        let to = bytes.len().min(from + BLOCK_WITH_CRC) - CRC;
         push_bytes(&mut user, &bytes[from..to]);
     }
     user
@@ -149,7 +151,7 @@ fn user_in(frame: &[u8]) -> UserBytes
     ensures { result.items ≡ user_in frame.now }
 {
     let user_len = usize::from(byte_at(frame, 2).saturating_sub(COUNTED_OF_HEADER));
-    user_in_blocks(&frame[FIELDS_LEN + 2..], user_len.div_ceil(BLOCK))
+    user_in_blocks(&frame[HEADER..], user_len.div_ceil(BLOCK))
 }
 
 // Whether so many right bytes are all, and none is lacking.

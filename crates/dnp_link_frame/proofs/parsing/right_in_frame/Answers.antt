@@ -14,13 +14,13 @@ returns-then-start-lt3-clause-within c =
     let within = right_in_start-within c.args.bytes.now early in
     omega arith
 
-pub returns-then-header-clause-right : goal.returns-then-header-clause-right
-returns-then-header-clause-right c =
+pub returns-then-header-ne-HEADER-clause-right : goal.returns-then-header-ne-HEADER-clause-right
+returns-then-header-ne-HEADER-clause-right c =
     header_refused c.args.bytes.now c.right_in_part-header.result (omega arith)
-    c.right_in_part-header.ensures.right c.if-header.true
+    c.right_in_part-header.ensures.right c.if-header-ne-HEADER.true
 
 pub returns-clause-right : goal.returns-clause-right
 returns-clause-right c =
     blocks_judged c.args.bytes.now c.from-user_len.result c.right_in_blocks.result (omega arith)
-    (sym c.right_in_part-header.ensures.right ∙ c.if-header.false) (omega arith)
+    (sym c.right_in_part-header.ensures.right ∙ c.if-header-ne-HEADER.false) (omega arith)
     c.right_in_blocks.ensures.right
