@@ -5,7 +5,6 @@ use Rattle.std.proofs.Common.{◌∷◌, ◌++◌, length, take, get_or, arith, 
 use Rattle.std.proofs.Common.{lit<, lit≤, length-append}
 use Rattle.std.proofs.lemmas.Bool.{and_parts, and_from, eqb-true, eq-eqb, leb-true, le-leb}
 use Rattle.std.proofs.lemmas.Bool.Decides.{same_from_decides}
-use Rattle.std.proofs.lemmas.List.{take-append-drop}
 use Rattle.std.proofs.lemmas.List.Elements.{All-nil, All-push, All-take, All-get_or, All-head}
 use Rattle.std.proofs.Math.Seq.{take-append_seam}
 use Rattle.line_rules.specs.Bytes.{AreBytes, low_first}

@@ -1,10 +1,8 @@
 -- Modbus RTU as the rules of a line: any burst has room for 256 bytes, and there is no header.
-use Rattle.std.specs.Prelude.{◌≡◌, ℕ, ◌-◌, ◌/◌, ◌≤◌, ◌&&◌, nat_le, true, false, List, [], ◌∷◌, ◌++◌}
-use Rattle.std.specs.Prelude.{length, take, get_or, bit_xor, refl}
-use Rattle.std.specs.Int.Bits.{xor_assoc, xor_self}
-use Rattle.std.proofs.Common.{arith, ◌∙◌, sym, ap, length-append}
-use Rattle.std.proofs.lemmas.List.{get_or_push, take-append-le}
-use Rattle.std.proofs.lemmas.Bool.{and_parts, and_right, leb-true, eqb-true, ne_eqb}
+use Rattle.std.specs.Prelude.{◌≡◌, ℕ, ◌≤◌, ◌&&◌, nat_le, true, false, List, [], ◌∷◌, ◌++◌}
+use Rattle.std.specs.Prelude.{length, bit_xor, refl}
+use Rattle.std.proofs.Common.{arith}
+use Rattle.std.proofs.lemmas.Bool.{and_parts, and_right, leb-true}
 use Rattle.line_rules.specs.Rules.{Rules}
 use Rattle.line_rules.specs.RulesLaws.{IsLawful, IsHeaded, IsFramed, IsFilling, HasNumbers}
 use Rattle.line_rules.specs.Headerless.{headerless, headerless-lawful, headerless-headed}
