@@ -11,7 +11,8 @@ use Rattle.yasir_ticks.specs.Ticks.{silent, bytes_in}
 use Rattle.yasir_ticks.specs.Bursts.{Burst, bursts, end_of}
 use Rattle.yasir_ticks.specs.BurstsOf.{AreBursts, IsContiguous}
 use Rattle.yasir_ticks.specs.declared.tick.Tick.{Tick}
-use Rattle.yasir_ticks.specs.declared.tick.Tick.TheVariants.{Silent, Byte}
+use Rattle.yasir_ticks.specs.declared.tick.Tick.TheVariants.{Byte}
+use Rattle.yasir_ticks.proofs.SilenceLaws.{bytes_in-append}
 use Rattle.yasir_ticks.proofs.BurstsOfLaws.{bursts_from-are, bursts_from-only}
 use Rattle.line_rules.specs.Rules.{Rules}
 use Rattle.line_rules.specs.RulesLaws.{IsLawful}
@@ -37,17 +38,12 @@ use Rattle.receiver_laws.proofs.Sending.{sealed-is, form-from, spent-from}
 use Rattle.receiver_laws.proofs.Settled.{laid-longer}
 use Rattle.receiver_laws.proofs.Standing.{AreOn, bursts-on, byte_ticks}
 
-bytes-append : (x y : List Tick) → bytes_in (x ++ y) ≡ bytes_in x ++ bytes_in y
-bytes-append [] y = refl
-bytes-append (Silent ∷ x) y = bytes-append x y
-bytes-append (Byte b ∷ x) y = ap (λ l. b ∷ l) (bytes-append x y)
-
 ends-late : (w : List Tick) (a : ℕ) (body v : List Tick) → w ++ Byte a ∷ [] ≡ body ++ v
     → length body ≤ length w → 0 < length (bytes_in v)
 ends-late w a body v same short =
     let parts = same-front w (Byte a ∷ []) body v same short in
     let all = ap (λ x. length (bytes_in x)) parts.2
-    ∙ ap length (bytes-append parts.0 (Byte a ∷ [])) in
+    ∙ ap length (bytes_in-append parts.0 (Byte a ∷ [])) in
     let long = length-append (bytes_in parts.0) (a ∷ []) in
     omega arith
 
@@ -65,7 +61,7 @@ long-enough x u body y h contiguous same spells few =
     let more = ends-late last.0 last.1 body v.0 (sym last.2 ∙ v.1) short in
     let bytes : length (bytes_in x) ≡ length (bytes_in (body ++ v.0)) =
     ap (λ z. length (bytes_in z)) v.1 in
-    let parts = ap length (bytes-append body v.0) in
+    let parts = ap length (bytes_in-append body v.0) in
     let split = length-append (bytes_in body) (bytes_in v.0) in
     let spelled = ap length spells in
     absurd (omega arith))

@@ -52,7 +52,7 @@ module _ (profile : Profile) (tags : HasTags profile) (rules : Rules) (s : Check
 
 -- ---- on a link
 
-ends-in : (m : ℕ) (front : List Burst) (d : Burst) (back : List Burst)
+pub ends-in : (m : ℕ) (front : List Burst) (d : Burst) (back : List Burst)
     → EndBy m (front ++ d ∷ back) → end_of d ≤ m
 ends-in m [] d back ends = ends.0
 ends-in m (e ∷ front) d back ends = ends-in m front d back ends.1

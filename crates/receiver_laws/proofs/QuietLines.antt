@@ -1,9 +1,10 @@
--- A line in which four silent ticks stand together, and which of its bursts stand where.
-use Rattle.std.proofs.Common.{◌≡◌, ◌∙◌, ℕ, ◌+◌, ◌≤◌, List, [], ◌∷◌, ◌++◌}
-use Rattle.std.proofs.Common.{length, take, drop, sym, ap, arith}
+-- A line in which silent ticks part two bursts, and which of its bursts stand where.
+use Rattle.std.proofs.Common.{◌≡◌, ◌∙◌, ℕ, zero, suc, ◌+◌, ◌-◌, ◌<◌, ◌≤◌, List, [], ◌∷◌, ◌++◌}
+use Rattle.std.proofs.Common.{length, take, drop, refl, sym, ap, arith, get_or, ⊎_elim}
 use Rattle.std.proofs.Common.{length-append}
+use Rattle.std.proofs.lemmas.Bool.{cases_lt}
 use Rattle.std.specs.List.{All, Contains}
-use Rattle.std.proofs.lemmas.List.{length-take, length-drop}
+use Rattle.std.proofs.lemmas.List.{length-take, length-drop, length-replicate, get_or-drop}
 use Rattle.std.proofs.lemmas.List.{take-append-drop}
 use Rattle.std.proofs.lemmas.List.Elements.{All-contains, All-nil, All-cons}
 use Rattle.std.proofs.Math.Seq.{take-append_seam}
@@ -11,51 +12,119 @@ use Rattle.yasir_ticks.specs.Ticks.{silent}
 use Rattle.yasir_ticks.specs.Bursts.{Burst, bursts, bursts_from, end_of, AreClosed}
 use Rattle.yasir_ticks.specs.BurstsOf.{IsContiguous}
 use Rattle.yasir_ticks.specs.declared.tick.Tick.{Tick}
+use Rattle.yasir_ticks.specs.declared.tick.Tick.TheVariants.{Silent}
 use Rattle.yasir_ticks.proofs.BurstLaws.{bursts_from-silent_end}
+use Rattle.yasir_ticks.proofs.BurstsOfLaws.{bursts_from-silence}
 use Rattle.burst_walk.proofs.Spread.{AreSpread, EndBy}
 use Rattle.link_verdicts.proofs.Spoiled.{contiguous-some}
+use Rattle.receiver_laws.specs.Recovery.{first_quiet}
 use Rattle.receiver_laws.proofs.Parting.{bursts-parted, StartBefore}
 use Rattle.receiver_laws.proofs.Parting.{take-append-add}
 
--- four silent ticks stand in a line from a tick on, and these ticks behind them
-module _ (l y : List Tick) (from : ℕ) (quiet : drop from l ≡ silent 4 ++ y) where
-  abbrev front : List Tick
-  front = take from l
+-- ---- silent ticks by their numbers
 
-  pub whole-line : l ≡ front ++ (silent 4 ++ y)
-  whole-line = sym (take-append-drop from l) ∙ ap (λ x. front ++ x) quiet
+silent-first : (j : ℕ) (l : List Tick) → j ≤ length l
+    → ((i : ℕ) → i < j → get_or l i Silent ≡ Silent) → l ≡ silent j ++ drop j l
+silent-first zero l long dark = refl
+silent-first (suc j) [] long dark = absurd (omega arith)
+silent-first (suc j) (t ∷ l) long dark =
+    let here : 0 < suc j = omega arith in
+    let first : t ≡ Silent = dark 0 here in
+    let rest = silent-first j l (omega arith)
+    (λ i below. let h : suc i < suc j = omega arith in dark (suc i) h) in
+    ap (λ u. u ∷ l) first ∙ ap (λ x. Silent ∷ x) rest
 
-  pub front-long : length front ≡ from
-  front-long =
+no-bursts : bursts [] ≡ []
+unfolding bursts_from
+no-bursts = refl
+
+module _ (tick : ℕ) where
+  abbrev from : ℕ
+  from = first_quiet tick
+
+  -- how many ticks from the first quiet one up to this one
+  abbrev pub count : ℕ
+  count = tick + 1 - first_quiet tick
+
+  pub quiet-part : (l : List Tick) → tick < length l
+      → ((i : ℕ) → from ≤ i → i ≤ tick → get_or l i Silent ≡ Silent)
+      → drop from l ≡ silent count ++ drop count (drop from l)
+  quiet-part l long dark =
       let rest = length-drop from l in
-      let some = ap length quiet ∙ length-append (silent 4) y in
-      let first = length-take from l in
-      omega arith
+      silent-first count (drop from l) (omega arith)
+      (λ i below. get_or-drop from l i Silent ∙ dark (from + i) (omega arith) (omega arith))
 
-  pub line-bursts : bursts l ≡ bursts front ++ bursts_from 4 (from + 4) y
-  line-bursts =
-      let long = front-long in
-      ap bursts whole-line ∙ bursts-parted 4 0 (from + 4) front y (omega arith)
+  -- silent ticks stand in a line up to this one, and these ticks behind them
+  module _ (l y : List Tick) (quiet : drop from l ≡ silent count ++ y) where
+    abbrev front : List Tick
+    front = take from l
 
-  pub front-bursts : bursts (take (from + 4) l) ≡ bursts front
-  front-bursts =
-      let long = front-long in
-      let place : from + 4 ≡ length front + 4 = omega arith in
-      ap (λ k. bursts (take k l)) place
-      ∙ (ap (λ x. bursts (take (length front + 4) x)) whole-line
-      ∙ (ap bursts (take-append-add front (silent 4 ++ y) 4)
-      ∙ (ap (λ x. bursts (front ++ x)) (take-append_seam (silent 4) y)
-      ∙ bursts_from-silent_end 4 0 4 front)))
+    pub whole-line : l ≡ front ++ (silent count ++ y)
+    whole-line = sym (take-append-drop from l) ∙ ap (λ x. front ++ x) quiet
 
-  pub some-length : from + 4 ≤ length l
-  some-length =
-      let rest = length-drop from l in
-      let some = ap length quiet ∙ length-append (silent 4) y in
-      omega arith
+    quiet-long : length (silent count ++ y) ≡ count + length y
+    quiet-long = length-append (silent count) y
+        ∙ ap (λ k. k + length y) (length-replicate count Silent)
 
-pub closed-by : (m : ℕ) (ds : List Burst) → EndBy m ds → AreClosed 4 (m + 4) ds
-closed-by m [] ends = tt
-closed-by m (d ∷ ds) ends = let end = ends.0 in (omega arith, closed-by m ds ends.1)
+    pub front-long : length front ≡ from
+    front-long =
+        let rest = length-drop from l in
+        let some = ap length quiet ∙ quiet-long in
+        let first = length-take from l in
+        omega arith
+
+    pub some-length : tick + 1 ≤ length l
+    some-length =
+        let rest = length-drop from l in
+        let some = ap length quiet ∙ quiet-long in
+        omega arith
+
+    -- at the start of a line
+    line-first : from ≡ 0 → bursts l ≡ bursts front ++ bursts_from 4 (tick + 1) y
+    line-first start =
+        let all : 0 + count ≡ tick + 1 = omega arith in
+        let none : front ≡ [] = ap (λ k. take k l) start in
+        let rest : bursts (silent count ++ y) ≡ bursts_from 4 (tick + 1) y =
+        bursts_from-silence 4 0 count y ∙ ap (λ k. bursts_from 4 k y) all in
+        ap bursts (whole-line ∙ ap (λ x. x ++ (silent count ++ y)) none)
+        ∙ (rest
+        ∙ sym (ap (λ x. bursts x ++ bursts_from 4 (tick + 1) y) none
+        ∙ ap (λ ds. ds ++ bursts_from 4 (tick + 1) y) no-bursts))
+
+    -- and behind four silent ticks
+    line-later : count ≡ 4 → bursts l ≡ bursts front ++ bursts_from 4 (tick + 1) y
+    line-later four =
+        let long = front-long in
+        ap bursts (whole-line ∙ ap (λ k. front ++ (silent k ++ y)) four)
+        ∙ bursts-parted 4 0 (tick + 1) front y (omega arith)
+
+    pub line-bursts : bursts l ≡ bursts front ++ bursts_from 4 (tick + 1) y
+    line-bursts =
+        ⊎_elim
+        (λ early. let none : from ≡ 0 = omega arith in line-first none)
+        (λ late. let four : count ≡ 4 = omega arith in line-later four)
+        (cases_lt tick 3)
+
+    pub front-bursts : bursts (take (tick + 1) l) ≡ bursts front
+    front-bursts =
+        let long = front-long in
+        let place : tick + 1 ≡ length front + count = omega arith in
+        let all : count ≡ length (silent count) = sym (length-replicate count Silent) in
+        ap (λ k. bursts (take k l)) place
+        ∙ (ap (λ x. bursts (take (length front + count) x)) whole-line
+        ∙ (ap bursts (take-append-add front (silent count ++ y) count)
+        ∙ (ap (λ k. bursts (front ++ take k (silent count ++ y))) all
+        ∙ (ap (λ x. bursts (front ++ x)) (take-append_seam (silent count) y)
+        ∙ bursts_from-silent_end 4 0 count front))))
+
+  -- what ended before them is closed after them
+  pub closed-by : (n : ℕ) (ds : List Burst) → AreSpread 4 n ds → EndBy from ds
+      → AreClosed 4 (tick + 1) ds
+  closed-by n [] spread ends = tt
+  closed-by n (d ∷ ds) spread ends =
+      let end = ends.0 in
+      let some = contiguous-some 4 d.body spread.1 in
+      (omega arith, closed-by (end_of d + 4) ds spread.2 ends.1)
 
 pub start-before : (n m : ℕ) (ds : List Burst) → AreSpread 4 n ds → EndBy m ds → StartBefore m ds
 start-before n m [] spread ends = tt
@@ -89,8 +158,3 @@ spread-in n (p ∷ P) Q spread = spread-in (end_of p + 4) P Q spread.2
 pub spread-front : (n : ℕ) (P Q : List Burst) → AreSpread 4 n (P ++ Q) → AreSpread 4 n P
 spread-front n [] Q spread = tt
 spread-front n (p ∷ P) Q spread = (spread.0, spread.1, spread-front (end_of p + 4) P Q spread.2)
-
-pub ends-at : (m : ℕ) (P : List Burst) (e : Burst) (Q : List Burst) → EndBy m (P ++ e ∷ Q)
-    → end_of e ≤ m
-ends-at m [] e Q ends = ends.0
-ends-at m (p ∷ P) e Q ends = ends-at m P e Q ends.1

@@ -4,12 +4,11 @@ use Rattle.std.proofs.Common.{length, take, drop, refl, sym, ap, subst, arith, �
 use Rattle.std.proofs.Common.{append_assoc, inl, inr}
 use Rattle.std.specs.List.{All, Contains}
 use Rattle.std.proofs.lemmas.Bool.{eqb-false}
-use Rattle.std.proofs.lemmas.List.{length-take, take_all}
-use Rattle.std.proofs.lemmas.List.{take-append-drop}
+use Rattle.std.proofs.lemmas.List.{length-take, take_all, length-drop}
 use Rattle.std.proofs.lemmas.List.Elements.{All-contains, All-nil, All-cons, Contains-append_left}
 use Rattle.std.proofs.lemmas.List.Elements.{Contains-append_right}
 use Rattle.yasir_ticks.specs.Ticks.{silent, bytes_in, AreTicks}
-use Rattle.yasir_ticks.specs.Bursts.{Burst, bursts, bursts_from, AreClosed}
+use Rattle.yasir_ticks.specs.Bursts.{Burst, bursts, bursts_from, end_of, AreClosed}
 use Rattle.yasir_ticks.specs.BurstsOf.{IsContiguous, AreBursts}
 use Rattle.yasir_ticks.specs.declared.tick.Tick.{Tick}
 use Rattle.yasir_ticks.specs.declared.tick.Tick.TheVariants.{Silent, Byte}
@@ -37,7 +36,8 @@ use Rattle.seal_transmitter.specs.declared.note.UnsealedWhy.TheVariants.{Early, 
 use Rattle.link_verdicts.specs.Checking.{checker, at_floor as check_floor_at, passed}
 use Rattle.link_verdicts.specs.Packet.{IsPacket}
 use Rattle.link_verdicts.specs.Verdicts.{CheckState}
-use Rattle.receiver_laws.specs.Recovery.{all_sealed, floor_after, BeginsPacket, IsLeftAlone}
+use Rattle.receiver_laws.specs.Recovery.{all_sealed, floor_after, BeginsPacket, first_quiet}
+use Rattle.receiver_laws.specs.Recovery.{IsLeftAlone}
 use Rattle.receiver_laws.specs.Recovery.{LackAtMost, IsDue, Recovers}
 use Rattle.receiver_laws.specs.Standing.{StandsOn, numbered_frame}
 use Rattle.receiver_laws.proofs.Delivering.{packet-bytes, packet-after}
@@ -45,7 +45,7 @@ use Rattle.receiver_laws.proofs.Emitting.{link-bursts, stands-within}
 use Rattle.receiver_laws.proofs.InStep.{InStep, stay-in_step, floor-so-far, HaveLeft, free-by}
 use Rattle.receiver_laws.proofs.InStep.{floor-within, IsSealedAbove, AreSealedAbove, first-above}
 use Rattle.receiver_laws.proofs.Notes.{frames_in}
-use Rattle.receiver_laws.proofs.Packets.{packet-contained}
+use Rattle.receiver_laws.proofs.Packets.{ends-in, packet-contained}
 use Rattle.receiver_laws.proofs.Packing.{packet, length-trailing}
 use Rattle.receiver_laws.proofs.Parting.{are-before, closed-before}
 use Rattle.receiver_laws.proofs.Parting.{parted-by, same-burst}
@@ -54,7 +54,7 @@ use Rattle.receiver_laws.proofs.Sending.{emits-parted}
 use Rattle.receiver_laws.proofs.Standing.{AreOn, bursts-on, ticks-behind, ticks-front, bytes-first}
 use Rattle.receiver_laws.proofs.QuietLines.{whole-line, front-long, line-bursts, front-bursts}
 use Rattle.receiver_laws.proofs.QuietLines.{some-length, closed-by, start-before, contained-from}
-use Rattle.receiver_laws.proofs.QuietLines.{spread-at, spread-in, spread-front, ends-at}
+use Rattle.receiver_laws.proofs.QuietLines.{spread-at, spread-in, spread-front, quiet-part, count}
 
 -- ---- bytes of a burst
 
@@ -101,32 +101,30 @@ module _ (profile : Profile) (tags : HasTags profile) (some : 1 ≤ profile.word
     (rules : Rules) (lawful : IsLawful rules) (framing : IsFramed rules) (most : ℕ)
     (lack : LackAtMost rules most) (seal_floor check_floor : ℕ)
     (within : seal_floor ≤ profile.limit) (line link : List Tick) (ticks : AreTicks link)
-    (from : ℕ) (alone : IsLeftAlone profile rules seal_floor check_floor line link from) where
+    (tick : ℕ) (alone : IsLeftAlone profile rules seal_floor check_floor line link tick) where
   abbrev sent : List Tick
   sent = link_line profile rules seal_floor line
 
   abbrev frames : List NumberedFrame
   frames = all_sealed profile rules seal_floor line
 
-  -- what stands on the link from the silent ticks on
+  -- the first silent tick
+  abbrev from : ℕ
+  from = first_quiet tick
+
+  -- what stands on the link behind the silent ticks
   abbrev back : List Tick
-  back = drop 4 (drop from link)
+  back = drop (count tick) (drop from link)
 
   abbrev begun : SealState
   begun = seal_floor_at seal_floor
 
   -- the receiver's floor where the link is left alone
   abbrev low : ℕ
-  low = floor_after profile rules check_floor (take (from + 4) link)
-
-  quiet-link : drop from link ≡ silent 4 ++ back
-  quiet-link = sym (take-append-drop 4 (drop from link)) ∙ ap (λ x. x ++ back) alone.quiet
-
-  quiet-sent : drop from sent ≡ silent 4 ++ back
-  quiet-sent = sym alone.untouched ∙ quiet-link
+  low = floor_after profile rules check_floor (take (tick + 1) link)
 
   abbrev late-bursts : List Burst
-  late-bursts = bursts_from 4 (from + 4) back
+  late-bursts = bursts_from 4 (tick + 1) back
 
   -- each sealed frame is of a burst of the line
   of-line : (f : NumberedFrame) → Contains frames f → IsOf profile rules begun (bursts line) f
@@ -139,7 +137,7 @@ module _ (profile : Profile) (tags : HasTags profile) (some : 1 ≤ profile.word
   -- ---- what is sent late is sealed, with numbers above the receiver's floor
 
   abbrev IsNew : Burst → Type 0
-  IsNew e = (from ≤ e.start) × BeginsPacket frames e
+  IsNew e = (tick < e.start) × BeginsPacket frames e
 
   -- a burst of the line that sends a packet is the one that is sealed
   sealed-here : (G : List Burst) (x : Burst) (Q : List Burst) (e : Burst)
@@ -162,7 +160,7 @@ module _ (profile : Profile) (tags : HasTags profile) (some : 1 ≤ profile.word
             ∙ (ap (λ d. judged profile rules
             (state_after (sealer profile rules) begun at.front) d) both.1
             ∙ at.sealed),
-        All-contains (λ (g : NumberedFrame). from ≤ g.start → low < g.number) frames f alone.new
+        All-contains (λ (g : NumberedFrame). tick < g.start → low < g.number) frames f alone.new
             p.is_sealed (omega arith),
       )
 
@@ -210,7 +208,7 @@ module _ (profile : Profile) (tags : HasTags profile) (some : 1 ≤ profile.word
   -- ---- one packet that is due
 
   module _ (f : NumberedFrame) (there : Contains frames f)
-      (due : IsDue profile rules seal_floor check_floor line link from most f)
+      (due : IsDue profile rules seal_floor check_floor line link tick most f)
     where
       of-burst : IsOf profile rules begun (bursts line) f
       of-burst = of-line f there
@@ -243,23 +241,49 @@ module _ (profile : Profile) (tags : HasTags profile) (some : 1 ≤ profile.word
       abbrev sent-before : List Burst
       sent-before = emitted (sealer profile rules) begun of-burst.front
 
-      -- its packet is a burst of what is sent
-      sent-bursts : (X : List Burst) × (bursts sent ≡ sent-before ++ e ∷ X)
-      sent-bursts =
+      -- what the line sends after it
+      abbrev sent-after : List Burst
+      sent-after = emitted (sealer profile rules)
+          (seal_by profile rules before d (sealed_with n)) of-burst.back
+
+      sends : emitted (sealer profile rules) begun (bursts line) ≡ sent-before ++ e ∷ sent-after
+      sends =
           let more : Judgement → List Burst = λ j. sent_by profile rules d j
           ++ emitted (sealer profile rules) (seal_by profile rules before d j) of-burst.back in
-          let all : emitted (sealer profile rules) begun (bursts line)
-          ≡ sent-before ++ e ∷ emitted (sealer profile rules)
-          (seal_by profile rules before d (sealed_with n)) of-burst.back =
           ap (λ ds. emitted (sealer profile rules) begun ds) of-burst.is
           ∙ (emitted-append (sealer profile rules) begun of-burst.front (d ∷ of-burst.back)
-          ∙ ap (λ j. sent-before ++ more j) of-burst.sealed) in
-          let rest : List Burst = emitted (sealer profile rules)
-          (seal_by profile rules before d (sealed_with n)) of-burst.back in
+          ∙ ap (λ j. sent-before ++ more j) of-burst.sealed)
+
+      ends : end_of e ≤ length sent
+      ends =
           let P : NumberedFrame → Type 0 = λ g. StandsOn profile sent g in
-          link-bursts profile tags some rules lawful seal_floor line sent-before e rest all
-          (stands-within profile tags some rules lawful seal_floor line sent-before rest d n all
-          whole its.no_extra (subst P of-burst.frame due.whole))
+          stands-within profile tags some rules lawful seal_floor line sent-before sent-after d n
+          sends whole its.no_extra (subst P of-burst.frame due.whole)
+
+      -- its packet is a burst of what is sent
+      sent-bursts : (X : List Burst) × (bursts sent ≡ sent-before ++ e ∷ X)
+      sent-bursts = link-bursts profile tags some rules lawful seal_floor line sent-before e
+          sent-after sends ends
+
+      -- so the link is longer than up to the silent ticks
+      late-enough : tick < f.start
+      late-enough = let late = due.late in omega arith
+
+      link-long : tick < length link
+      link-long =
+          let same = ap length alone.untouched in
+          let there = length-drop from link in
+          let here = length-drop from sent in
+          let end = ends in
+          let late = late-enough in
+          let start = starts in
+          omega arith
+
+      quiet-link : drop from link ≡ silent (count tick) ++ back
+      quiet-link = quiet-part tick link link-long alone.quiet
+
+      quiet-sent : drop from sent ≡ silent (count tick) ++ back
+      quiet-sent = sym alone.untouched ∙ quiet-link
 
       -- the part of it that comes late
       parted : (M : List Burst) × (sent-before ≡ bursts (take from sent) ++ M)
@@ -267,10 +291,10 @@ module _ (profile : Profile) (tags : HasTags profile) (some : 1 ≤ profile.word
       parted =
           let late = due.late in
           let start = starts in
-          let long = front-long sent back from quiet-sent in
+          let long = front-long tick sent back quiet-sent in
           let P : ℕ → Type 0 = λ k. EndBy k (bursts (take from sent)) in
           parted-by from sent-before e sent-bursts.0 (bursts (take from sent)) late-bursts
-          (sym sent-bursts.1 ∙ line-bursts sent back from quiet-sent)
+          (sym sent-bursts.1 ∙ line-bursts tick sent back quiet-sent)
           (start-before 0 from (bursts (take from sent)) (bursts-spread (take from sent))
           (subst P long (bursts-end (take from sent))))
           (omega arith)
@@ -297,13 +321,13 @@ module _ (profile : Profile) (tags : HasTags profile) (some : 1 ≤ profile.word
           let late : Contains late-bursts x =
           subst S (sym parted.2) (Contains-append_left between (e ∷ sent-bursts.0) x here) in
           let all : Contains (bursts sent) x =
-          subst S (sym (line-bursts sent back from quiet-sent))
+          subst S (sym (line-bursts tick sent back quiet-sent))
           (Contains-append_right (bursts (take from sent)) late-bursts x late) in
-          let start = contained-from (from + 4) late-bursts x
-          (bursts_from-spread 4 (from + 4) back) late in
-          let soon : from ≤ x.start = omega arith in (
+          let start = contained-from (tick + 1) late-bursts x
+          (bursts_from-spread 4 (tick + 1) back) late in
+          let soon : tick < x.start = omega arith in (
             soon,
-            All-contains (λ (y : Burst). from ≤ y.start → BeginsPacket frames y)
+            All-contains (λ (y : Burst). tick < y.start → BeginsPacket frames y)
                 (bursts sent) x alone.packets all soon,
           )
 
@@ -336,23 +360,24 @@ module _ (profile : Profile) (tags : HasTags profile) (some : 1 ≤ profile.word
 
       low-is : low ≡ met.floor
       low-is =
-          let m : ℕ = length (take (from + 4) link) in
-          let long = front-long link back from quiet-link in
-          let room = some-length link back from quiet-link in
-          let count : from + 4 ≡ m = omega (arith, length-take (from + 4) link) in
+          let m : ℕ = length (take (tick + 1) link) in
+          let long = front-long tick link back quiet-link in
+          let room = some-length tick link back quiet-link in
+          let place : tick + 1 ≡ m = omega (arith, length-take (tick + 1) link) in
           let P : ℕ → Type 0 = λ k. EndBy k first in
           let Q : ℕ → Type 0 = λ k. AreClosed 4 k first in
           ap (λ ds. last_number check_floor (frames_in (notes_before m
           (walked (checker profile rules) begin ds))))
-          (front-bursts link back from quiet-link)
+          (front-bursts tick link back quiet-link)
           ∙ floor-so-far profile rules m begin first
-          (subst Q count
-          (closed-by from first (subst P long (bursts-end (take from link)))))
+          (subst Q place
+          (closed-by tick 0 first (bursts-spread (take from link))
+          (subst P long (bursts-end (take from link)))))
 
       new-number : low < n
       new-number =
           let late = due.late in
-          All-contains (λ (g : NumberedFrame). from ≤ g.start → low < g.number) frames f alone.new
+          All-contains (λ (g : NumberedFrame). tick < g.start → low < g.number) frames f alone.new
           there (omega arith)
 
       abbrev bound : ℕ
@@ -368,11 +393,11 @@ module _ (profile : Profile) (tags : HasTags profile) (some : 1 ≤ profile.word
           in
           let P : List Tick → Type 0 = λ x. AreTicks x in
           let bytes : AreTicks (take from link) =
-          ticks-front (take from link) (silent 4 ++ back)
-          (subst P (whole-line link back from quiet-link) ticks) in
+          ticks-front (take from link) (silent (count tick) ++ back)
+          (subst P (whole-line tick link back quiet-link) ticks) in
           let free = free-by profile rules bound begin first (omega arith)
           (left-by profile rules lawful most lack (take from link) bytes from
-          (front-long link back from quiet-link)) in
+          (front-long tick link back quiet-link)) in
           record { below = omega arith; free = λ x late after. omega arith }
 
       -- the bursts of the link before it, and the receiver then
@@ -381,7 +406,7 @@ module _ (profile : Profile) (tags : HasTags profile) (some : 1 ≤ profile.word
 
       link-is : bursts link ≡ bursts-before ++ e ∷ sent-bursts.0
       link-is =
-          line-bursts link back from quiet-link
+          line-bursts tick link back quiet-link
           ∙ (ap (λ l. first ++ l) parted.2
           ∙ sym (append_assoc first between (e ∷ sent-bursts.0)))
 
@@ -409,7 +434,7 @@ module _ (profile : Profile) (tags : HasTags profile) (some : 1 ≤ profile.word
           let S : List Burst → Type 0 = λ ds. AreSpread 4 0 ds in
           let C : ℕ → Type 0 = λ k. AreClosed 4 k bursts-before in
           let E : List Burst → Type 0 = λ ds. EndBy (length link) ds in
-          let ends = ends-at (length link) bursts-before e sent-bursts.0
+          let ends = ends-in (length link) bursts-before e sent-bursts.0
           (subst E link-is (bursts-end link)) in
           let start = starts in
           let count : e.start ≡ m = omega (arith, length-take f.start link) in
@@ -465,7 +490,7 @@ module _ (profile : Profile) (tags : HasTags profile) (some : 1 ≤ profile.word
           sent-bursts.0 n link-is is-packet)
 
   abbrev Passes : NumberedFrame → Type 0
-  Passes f = IsDue profile rules seal_floor check_floor line link from most f
+  Passes f = IsDue profile rules seal_floor check_floor line link tick most f
       → Contains (passed profile rules check_floor link) f
 
   each-passes : (l : List NumberedFrame) → ((f : NumberedFrame) → Contains l f → Contains frames f)
@@ -476,5 +501,5 @@ module _ (profile : Profile) (tags : HasTags profile) (some : 1 ≤ profile.word
       (λ due. due-passes f (there f (0, omega arith, refl)) due)
       (each-passes l (λ g h. there g (Contains-append_right (f ∷ []) l g h)))
 
-  pub recovers : Recovers profile rules seal_floor check_floor line link from most
+  pub recovers : Recovers profile rules seal_floor check_floor line link tick most
   recovers = record { passes = each-passes frames (λ f there. there) }

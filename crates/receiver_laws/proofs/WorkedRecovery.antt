@@ -1,16 +1,18 @@
 -- When a receiver works again, on links of DNP3 with a tag that stands in for HMAC. A burst can
--- lack 282 bytes, so packets are due 300 ticks after the tick from which the link is left alone.
--- For each thing that the law asks there is a line where it alone is missing, and the packet
--- doesn't pass.
+-- lack 282 bytes, so packets are due 300 ticks after the first of the silent ticks where the link
+-- is left alone. For each thing that the law asks there is a line where it alone is missing, and
+-- the packet doesn't pass.
 use Rattle.std.proofs.Common.{◌≡◌, ◌≤◌, ◌<◌, ℕ, List, [], ◌∷◌, ◌++◌, map, take, drop, replicate}
-use Rattle.std.proofs.Common.{refl, sym, subst, arith, get_or}
+use Rattle.std.proofs.Common.{refl, sym, ap, subst, arith, get_or, ◌∙◌}
+use Rattle.std.proofs.lemmas.List.{get_or_past}
 use Rattle.std.specs.List.{All, Contains}
 use Rattle.std.proofs.lemmas.List.Elements.{All-nil, All-cons}
 use Rattle.yasir_ticks.specs.Ticks.{silent}
 use Rattle.yasir_ticks.specs.Bursts.{Burst, bursts, bursts_from, with_byte}
 use Rattle.yasir_ticks.specs.BurstsOf.{one}
 use Rattle.yasir_ticks.specs.declared.tick.Tick.{Tick}
-use Rattle.yasir_ticks.specs.declared.tick.Tick.TheVariants.{Byte}
+use Rattle.yasir_ticks.proofs.SilenceLaws.{get_or-silence}
+use Rattle.yasir_ticks.specs.declared.tick.Tick.TheVariants.{Silent, Byte}
 use Rattle.line_rules.specs.Crc.{crc, byte_step, bit_steps, bit_step}
 use Rattle.dnp_link_frame.specs.Blocks.{room_by, begins_right, is_good_header, end_in_crcs}
 use Rattle.dnp_link_frame.specs.Blocks.{block_start, is_frame, has_right_ending}
@@ -73,8 +75,8 @@ seals floor line = all_sealed profile dnp_rules floor line
 abbrev sends : ℕ → List Tick → List Tick
 sends floor line = link_line profile dnp_rules floor line
 
--- a long header in the first ten ticks, in place of what was sent in them, and nothing behind it:
--- the link is left alone from tick 10 on
+-- A long header in the first ten ticks, in place of what was sent in them, and nothing behind it:
+-- the link is left alone then, and where ticks 10 to 13 are silent, packets are due from 310 on.
 abbrev behind_header : List Tick → List Tick
 behind_header link = on_line LONG_HEADER ++ drop 10 link
 
@@ -277,11 +279,20 @@ unfolding bursts_from with_byte before_pause up_to_byte tick_at judged crc byte_
     ends_in_check
 two_frames-bursts = refl
 
-two_frames-quiet : take 4 (drop 10 their_link) ≡ silent 4
+abbrev behind_silence : List Tick
+behind_silence = packet 1 ++ silent 183 ++ packet 2 ++ silent 7
+
+two_frames-link : their_link ≡ on_line LONG_HEADER ++ (silent 90 ++ behind_silence)
 unfolding bursts_from with_byte before_pause up_to_byte tick_at judged crc byte_step bit_steps
     bit_step room_by begins_right is_good_header end_in_crcs block_start is_frame has_right_ending
     ends_in_check
-two_frames-quiet = refl
+two_frames-link = refl
+
+two_frames-quiet : (i : ℕ) → 10 ≤ i → i ≤ 13 → get_or their_link i Silent ≡ Silent
+two_frames-quiet i after before =
+    ap (λ l. get_or l i Silent) two_frames-link
+    ∙ (get_or-silence (on_line LONG_HEADER) 90 i behind_silence (omega arith)
+    ∙ get_or_past (on_line LONG_HEADER) i Silent (omega arith))
 
 two_frames-floor : floor_after profile dnp_rules 0 (take 14 their_link) ≡ 0
 unfolding bursts_from with_byte before_pause up_to_byte tick_at judged crc byte_step bit_steps
@@ -301,10 +312,10 @@ two_frames-begins k number start within same =
       starts = refl;
     }
 
-pub two_frames-alone : IsLeftAlone profile dnp_rules 0 0 two_frames their_link 10
+pub two_frames-alone : IsLeftAlone profile dnp_rules 0 0 two_frames their_link 13
 two_frames-alone =
-    let P : Burst → Type 0 = λ d. 10 ≤ d.start → BeginsPacket (seals 0 two_frames) d in
-    let Q : NumberedFrame → Type 0 = λ f. 10 ≤ f.start
+    let P : Burst → Type 0 = λ d. 13 < d.start → BeginsPacket (seals 0 two_frames) d in
+    let Q : NumberedFrame → Type 0 = λ f. 13 < f.start
     → floor_after profile dnp_rules 0 (take 14 their_link) < f.number in
     let none = two_frames-floor in
     record {
@@ -320,7 +331,7 @@ two_frames-alone =
           (All-cons Q (sealed_at 2 310) [] (λ late. omega arith) (All-nil Q)));
     }
 
-pub two_frames-due : IsDue profile dnp_rules 0 0 two_frames their_link 10 282 (sealed_at 2 310)
+pub two_frames-due : IsDue profile dnp_rules 0 0 two_frames their_link 13 282 (sealed_at 2 310)
 two_frames-due = record {
   late = omega arith;
   whole = record {

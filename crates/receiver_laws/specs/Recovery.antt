@@ -1,10 +1,12 @@
 -- When a receiver works again by itself: an attacker has had the link and lets go of it, and from
 -- then on it carries what the transmitter sends.
-use Rattle.std.specs.Prelude.{◌≡◌, ℕ, ◌+◌, ◌≤◌, ◌<◌, List, ◌++◌, length, take, drop, All, Contains}
+use Rattle.std.specs.Prelude.{◌≡◌, ℕ, ◌+◌, ◌-◌, ◌≤◌, ◌<◌, List, ◌++◌, length, take, drop}
+use Rattle.std.specs.Prelude.{slice_index_or, All, Contains}
 use Rattle.yasir_ticks.specs.Ticks.{silent}
 use Rattle.yasir_ticks.specs.Bursts.{Burst, bursts}
 use Rattle.yasir_ticks.specs.declared.TheConstants.{T3_5_TICKS}
 use Rattle.yasir_ticks.specs.declared.tick.Tick.{Tick}
+use Rattle.yasir_ticks.specs.declared.tick.Tick.TheVariants.{Silent}
 use Rattle.line_rules.specs.Bytes.{AreBytes}
 use Rattle.line_rules.specs.Rules.{Rules, left_of}
 use Rattle.link_format.specs.NumberedFrame.{NumberedFrame, last_number}
@@ -27,36 +29,44 @@ pub record BeginsPacket (frames : List NumberedFrame) (d : Burst) : Type 0 where
   pub is_sealed : Contains frames frame
   pub starts : frame.start ≡ d.start
 
--- The link is left alone from a tick on: from there it carries what the transmitter makes of the
--- device's line. First come the silent ticks that part two bursts, and then packets alone. Their
--- numbers are above the receiver's floor.
+-- the first of the four silent ticks up to this one. The start of a line counts as quiet, so that
+-- before tick 3 it is tick 0.
+abbrev pub first_quiet : ℕ → ℕ
+first_quiet tick = tick + 1 - T3_5_TICKS
+
+-- The link is left alone from a tick on: four silent ticks end with this one, such as part two
+-- bursts, and from the first of them on the link carries what the transmitter makes of the device's
+-- line. What the transmitter sends behind them is packets alone, and their numbers are above the
+-- floor that the receiver then has.
 pub record IsLeftAlone (profile : Profile) (rules : Rules) (seal_floor check_floor : ℕ)
-    (line link : List Tick) (from : ℕ) : Type 0 where
-  pub untouched : drop from link ≡ drop from (link_line profile rules seal_floor line)
-  pub quiet : take T3_5_TICKS (drop from link) ≡ silent T3_5_TICKS
-  pub packets : All (λ (d : Burst). from ≤ d.start
+    (line link : List Tick) (tick : ℕ) : Type 0 where
+  pub untouched : drop (first_quiet tick) link
+      ≡ drop (first_quiet tick) (link_line profile rules seal_floor line)
+  pub quiet : (i : ℕ) → first_quiet tick ≤ i → i ≤ tick → slice_index_or link i Silent ≡ Silent
+  pub packets : All (λ (d : Burst). tick < d.start
       → BeginsPacket (all_sealed profile rules seal_floor line) d)
       (bursts (link_line profile rules seal_floor line))
-  pub new : All (λ (f : NumberedFrame). from ≤ f.start
-      → floor_after profile rules check_floor (take (from + T3_5_TICKS) link) < f.number)
+  pub new : All (λ (f : NumberedFrame). tick < f.start
+      → floor_after profile rules check_floor (take (tick + 1) link) < f.number)
       (all_sealed profile rules seal_floor line)
 
 -- No bytes for which there is room lack more than so many that their header says.
 pub record LackAtMost (rules : Rules) (most : ℕ) : Type 0 where
   pub lack : (x : List ℕ) → AreBytes x → length x ≤ rules.room x → left_of rules x ≤ most
 
--- A packet is due: it comes when all has left of a burst that may have been cut off, it stands on
--- the link whole, and its number is near enough to the receiver's floor before it.
+-- A packet is due: it starts when all has left of a burst that was cut off before the first of the
+-- silent ticks, it stands on the link whole, and its number is near enough to the receiver's floor
+-- before it.
 pub record IsDue (profile : Profile) (rules : Rules) (seal_floor check_floor : ℕ)
-    (line link : List Tick) (from most : ℕ) (f : NumberedFrame) : Type 0 where
-  pub late : from + delay profile + most ≤ f.start
+    (line link : List Tick) (tick most : ℕ) (f : NumberedFrame) : Type 0 where
+  pub late : first_quiet tick + delay profile + most ≤ f.start
   pub whole : StandsOn profile (link_line profile rules seal_floor line) f
   pub near : f.number ≤ floor_after profile rules check_floor (take f.start link) + words profile
 
 -- Each packet that is due passes.
 pub record Recovers (profile : Profile) (rules : Rules) (seal_floor check_floor : ℕ)
-    (line link : List Tick) (from most : ℕ) : Type 0 where
+    (line link : List Tick) (tick most : ℕ) : Type 0 where
   pub passes : All (λ (f : NumberedFrame).
-      IsDue profile rules seal_floor check_floor line link from most f
+      IsDue profile rules seal_floor check_floor line link tick most f
       → Contains (passed profile rules check_floor link) f)
       (all_sealed profile rules seal_floor line)

@@ -16,9 +16,9 @@ pub fn untouched_link_recovers<R: LineRules>()
     ensures recovers { (profile : Profile) → HasTags profile → 1 ≤ profile.word_len
         → (most : ℕ) → LackAtMost R.rules most
         → (seal_floor check_floor : ℕ) → seal_floor ≤ profile.limit
-        → (line link : List Tick) → AreTicks link → (from : ℕ)
-        → IsLeftAlone profile R.rules seal_floor check_floor line link from
-        → Recovers profile R.rules seal_floor check_floor line link from most }
+        → (line link : List Tick) → AreTicks link → (tick : ℕ)
+        → IsLeftAlone profile R.rules seal_floor check_floor line link tick
+        → Recovers profile R.rules seal_floor check_floor line link tick most }
     ensures lacks { LackAtMost R.rules (R.rules.longest - R.rules.header_len) }
 {}
 
