@@ -48,9 +48,8 @@ use Rattle.check_receiver.specs.Stands.{Codes, HasTaken}
 use Rattle.check_receiver.specs.Turning.{Turned, with_until}
 use Rattle.check_receiver.specs.declared.checker.Checker.{Checker}
 use Rattle.check_receiver.specs.declared.step.CheckStep.{CheckStep}
-use Rattle.check_receiver.proofs.Machine.{last_of-more, flow, assembled}
+use Rattle.check_receiver.proofs.Machine.{last_of-more, flow, assembled, some-left}
 use Rattle.check_receiver.proofs.Silences.{timely}
-use Rattle.link_verdicts.specs.Leaving.{is_none}
 use Rattle.link_verdicts.specs.Holding.{Opens}
 use Rattle.link_verdicts.proofs.Growing.{over-end, open-end_is}
 use Rattle.link_verdicts.proofs.Settling.{open-bytes}
@@ -79,11 +78,6 @@ live-open proto profile some line earliest d left live b may opens last is =
     absurd (omega arith))
     (λ none. none)
     (cases_Bool (is_over profile proto.rules proto.lawful proto.headed d (length line) b may))
-
-some-left : (live : List Tick) → 1 < length live → is_none (drop 1 live) ≡ false
-some-left [] more = absurd (omega arith)
-some-left (t ∷ []) more = absurd (omega arith)
-some-left (t ∷ u ∷ live) more = refl
 
 module _ {R M : Type 0} (proto : LineRules R) (code : Mac M) {B D : ℕ} (old : Checker R M B D)
     (last : ℕ) (setup : Setup) (line : List Tick) (b : ℕ)

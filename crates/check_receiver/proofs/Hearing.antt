@@ -46,7 +46,6 @@ use Rattle.link_verdicts.specs.declared.note.RefusedWhy.TheVariants.{Trailer}
 use Rattle.link_verdicts.specs.Timely.{IsTimely}
 use Rattle.link_verdicts.specs.Holding.{HasWalked, Opens, trailer_so_far}
 use Rattle.link_verdicts.specs.Going.{Goes}
-use Rattle.link_verdicts.specs.Leaving.{is_none}
 use Rattle.link_verdicts.specs.Turns.{HasTurned}
 use Rattle.link_verdicts.proofs.Extras.{trailer-goes, break-goes, whole-refuses, whole-passes}
 use Rattle.link_verdicts.proofs.Flow.{Flows, flows}
@@ -66,7 +65,7 @@ use Rattle.check_receiver.specs.Turning.{Turned, closed_at}
 use Rattle.check_receiver.specs.declared.arriving.Arriving.{Arriving}
 use Rattle.check_receiver.specs.declared.checker.Checker.{Checker}
 use Rattle.check_receiver.specs.declared.step.CheckStep.{CheckStep}
-use Rattle.check_receiver.proofs.Machine.{last_of-more, waiting-some, ring-waits, assembled}
+use Rattle.check_receiver.proofs.Machine.{last_of-more, waiting-some, ring-waits, assembled, some-left}
 use Rattle.check_receiver.proofs.Silences.{timely}
 use Rattle.check_receiver.proofs.Trailing.{trailer-bytes, bytes-more}
 
@@ -78,11 +77,6 @@ turned-any : {R : Type 0} (proto : LineRules R) (old new : Outlet R) (p q : Bool
     → HasTurned proto old new false q x answer u
 turned-any proto old new p q x answer Silent turned = turned
 turned-any proto old new p q x answer (Byte b) turned = turned
-
-some-left : (live : List Tick) → 1 < length live → is_none (drop 1 live) ≡ false
-some-left [] more = absurd (omega arith)
-some-left (t ∷ []) more = absurd (omega arith)
-some-left (t ∷ u ∷ live) more = refl
 
 flow-open : {R M : Type 0} (proto : LineRules R) {B D : ℕ} (base new : Checker R M B D)
     (entering answer : Tick) → Turned proto base new entering answer

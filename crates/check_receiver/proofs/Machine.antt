@@ -53,6 +53,12 @@ until-last [] n is some = absurd (omega arith)
 until-last (t ∷ []) n is some = let none : n ≡ 0 = omega arith in ap (λ k. k == 0) none
 until-last (t ∷ u ∷ live) n is some = ne_eqb n 0 (λ e. omega arith)
 
+-- more are left where there were two
+pub some-left : (live : List Tick) → 1 < length live → is_none (drop 1 live) ≡ false
+some-left [] more = absurd (omega arith)
+some-left (t ∷ []) more = absurd (omega arith)
+some-left (t ∷ u ∷ live) more = refl
+
 module _ {R M : Type 0} (proto : LineRules R) (code : Mac M) {B D : ℕ} where
   -- ---- a turn, by what is to leave
 

@@ -14,8 +14,10 @@ use yasir_ticks::{MAX_TICKS, Tick};
 const PAUSE: usize = 3;
 
 /// The receiver, by the rules `R` of a protocol, with words of `B` bytes and tags by `M`. Each live
-/// byte of a burst that isn't dropped leaves `D` ticks after it came, before the verdict on its
-/// burst is known; the last one of a burst that is refused leaves spoiled.
+/// byte of a burst that isn't dropped leaves `D` ticks after it came. So a burst may begin to leave
+/// before the verdict on it is known, but its last byte leaves just behind the verdict: spoiled,
+/// where the burst is refused. For that `D` is as long as the pause, the word and the tag, and one
+/// tick more.
 ///
 /// It keeps no frame: each live byte goes into the text of the tag as it comes, and each byte of a
 /// trailer is weighed as it comes.
@@ -38,9 +40,8 @@ pub struct Checker<R, M, const B: usize, const D: usize> {
 }
 
 impl<R: LineRules, M: Mac, const B: usize, const D: usize> Checker<R, M, B, D> {
-    ghost use Rattle.std.specs.Prelude.{◌≡◌, ℕ, ◌+◌, ◌-◌, ◌<◌, ◌≤◌, List, [], ◌∷◌, ◌++◌, Some};
-    ghost use Rattle.std.specs.Prelude.{None};
-    ghost use Rattle.std.specs.Prelude.{Ok, Err, OnOk, OnErr, IfOk, IfErr, true, false};
+    ghost use Rattle.std.specs.Prelude.{◌≡◌, ℕ, ◌+◌, ◌-◌, ◌<◌, ◌≤◌, List, [], ◌∷◌, ◌++◌, length};
+    ghost use Rattle.std.specs.Prelude.{Some, None, OnOk, OnErr, IfOk, true, false};
     ghost use Rattle.yasir_ticks.specs.declared.tick.Tick.{Tick};
     ghost use Rattle.yasir_ticks.specs.declared.tick.Tick.TheVariants.{Silent, Byte};
     ghost use Rattle.frame_ending.specs.declared.cut.Cut.{Cut};
@@ -59,7 +60,6 @@ impl<R: LineRules, M: Mac, const B: usize, const D: usize> Checker<R, M, B, D> {
     ghost use Rattle.link_verdicts.specs.declared.note.CheckNote.TheVariants.{Dropped};
     ghost use Rattle.check_receiver.specs.Checkings.{PassesWith, KeepsJournal};
     ghost use Rattle.check_receiver.specs.Stands.{StandsFor, HasTaken, ticks_taken};
-    ghost use Rattle.std.specs.Prelude.{length};
     ghost use Rattle.yasir_ticks.specs.Bursts.{Burst};
     ghost use Rattle.line_rules.specs.Rules.{head_of, left_of};
     ghost use Rattle.frame_ending.specs.SoFar.{last_burst, start_so_far};
@@ -73,7 +73,8 @@ impl<R: LineRules, M: Mac, const B: usize, const D: usize> Checker<R, M, B, D> {
     ghost use Rattle.check_receiver.specs.Between.{IsBetween, IsWhole, IsSilence, IsNoPass};
     ghost use Rattle.check_receiver.specs.Between.{verdict_told};
 
-    /// A receiver that has taken no tick, for a key of any length and a direction.
+    /// A receiver that has taken no tick, for a key of any length and a direction. A word has two
+    /// bytes at least, so that each header is judged before its first byte leaves.
     pub fn new(key: &[u8], dir: Dir) -> Checker<R, M, B, D>
         requires word { IsWordLen B }
         requires wide { 2 ≤ B }
