@@ -147,6 +147,18 @@ two_frames-read = refl
 abbrev frame_at : ℕ → List Tick
 frame_at n = silent n ++ on_line RESET_LINK ++ silent 24
 
+frame_at-sealed : seals 0 (frame_at 310) ≡ sealed_at 1 310 ∷ []
+unfolding bursts_from with_byte before_pause up_to_byte tick_at judged crc byte_step bit_steps
+    bit_step room_by begins_right is_good_header end_in_crcs block_start is_frame has_right_ending
+    ends_in_check
+frame_at-sealed = refl
+
+frame_at-sent : sends 0 (frame_at 310) ≡ silent 310 ++ packet 1 ++ silent 7
+unfolding bursts_from with_byte before_pause up_to_byte tick_at judged crc byte_step bit_steps
+    bit_step room_by begins_right is_good_header end_in_crcs block_start is_frame has_right_ending
+    ends_in_check
+frame_at-sent = refl
+
 too_soon-notes : notes_behind 0 (sends 0 (frame_at 309))
     ≡ cut_off ∷ noted_at 309 (dropped_note 309 Busy) ∷ []
 unfolding bursts_from with_byte before_pause up_to_byte tick_at judged crc byte_step bit_steps
