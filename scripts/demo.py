@@ -95,47 +95,47 @@ def show_journal(journal):
     show("the journal's two slots, in hex", "%s\n%s\n" % (slots[:16].hex(), slots[16:].hex()))
 
 
-def show_received(name, direction, reader, link, folder):
+def show_received(name, protocol, direction, reader, link, folder):
     """Shows the receiver, with a new journal, over a link: the line that it sends on, its notes, what is read, and the journal."""
     journal = os.path.join(folder, name + ".received.journal")
     run(["init", journal])
-    line, notes = run(["check", "rtu", direction, os.path.join(EXAMPLES, "key.txt"), journal], link)
-    same = show("check rtu %s: the line that the receiver sends on" % direction, line, name + ".received.ticks")
+    line, notes = run(["check", protocol, direction, os.path.join(EXAMPLES, "key.txt"), journal], link)
+    same = show("check %s %s: the line that the receiver sends on" % (protocol, direction), line, name + ".received.ticks")
     same &= show("its notes, on standard error", notes, name + ".verdicts.txt")
     received = os.path.join(folder, name + ".received.ticks")
     with open(received, "w") as written:
         written.write(line)
-    same &= show("read rtu: the frames that the %s reads from it, 18 ticks late" % reader,
-                 run(["read", "rtu"], received)[0], name + ".acts.txt")
+    same &= show("read %s: the frames that the %s reads from it, 18 ticks late" % (protocol, reader),
+                 run(["read", protocol], received)[0], name + ".acts.txt")
     show_journal(journal)
     return same
 
 
-def show_side(side, direction, what, reader, folder):
+def show_side(side, protocol, direction, what, reader, folder):
     """Shows one direction of the exchange, from the line to what is read behind the receiver."""
     line = os.path.join(EXAMPLES, side + ".ticks")
     journal = os.path.join(folder, side + ".journal")
     print("== %s (examples/%s.ticks)\n" % (what, side))
     show("the line, without its comments", without_comments(line))
-    same = show("read rtu: the frames that the %s would read from it without the boxes" % reader,
-                run(["read", "rtu"], line)[0], side + ".read.txt")
+    same = show("read %s: the frames that the %s would read from it without the boxes" % (protocol, reader),
+                run(["read", protocol], line)[0], side + ".read.txt")
     run(["init", journal])
-    link, notes = run(["seal", "rtu", direction, os.path.join(EXAMPLES, "key.txt"), journal], line)
-    same &= show("seal rtu %s: the line of the link" % direction, link, side + ".link.ticks")
+    link, notes = run(["seal", protocol, direction, os.path.join(EXAMPLES, "key.txt"), journal], line)
+    same &= show("seal %s %s: the line of the link" % (protocol, direction), link, side + ".link.ticks")
     same &= show("the transmitter's notes, on standard error", notes, side + ".notes.txt")
     show_journal(journal)
     sealed = os.path.join(folder, side + ".link.ticks")
     with open(sealed, "w") as written:
         written.write(link)
-    return same & show_received(side, direction, reader, sealed, folder)
+    return same & show_received(side, protocol, direction, reader, sealed, folder)
 
 
-def show_altered(folder):
+def show_altered(name, protocol, what, reader, folder):
     """Shows the receiver over a link that an attacker has altered."""
-    link = os.path.join(EXAMPLES, "altered.ticks")
-    print("== The first link again, as an attacker left it (examples/altered.ticks)\n")
+    link = os.path.join(EXAMPLES, name + ".ticks")
+    print("== %s, as an attacker left it (examples/%s.ticks)\n" % (what, name))
     show("the link", "".join(open(link)))
-    return show_received("altered", "ab", "device", link, folder)
+    return show_received(name, protocol, "ab", reader, link, folder)
 
 
 def main():
@@ -144,9 +144,11 @@ def main():
     open(LOG, "w").close()
     prove_all(jobs)
     with tempfile.TemporaryDirectory(prefix="demo.") as folder:
-        same = show_side("requests", "ab", "From the control centre to the device", "device", folder)
-        same &= show_side("replies", "ba", "From the device to the control centre", "master", folder)
-        same &= show_altered(folder)
+        same = show_side("requests", "rtu", "ab", "From the control centre to a Modbus RTU device", "device", folder)
+        same &= show_side("replies", "rtu", "ba", "From the device to the control centre", "master", folder)
+        same &= show_altered("altered", "rtu", "The first of these links again", "device", folder)
+        same &= show_side("outstation", "dnp3", "ab", "From the control centre to a DNP3 outstation", "outstation", folder)
+        same &= show_altered("outstation_altered", "dnp3", "This link again", "outstation", folder)
     print("All of it is what examples/expected/ has." if same else "Something differs from examples/expected/.")
     return 0 if same else 1
 

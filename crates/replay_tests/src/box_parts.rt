@@ -1,5 +1,6 @@
 use check_receiver::Checker;
 use delay_ring::DelayRing;
+use dnp_link_frame::Dnp;
 use hmac_tag::HmacSha1;
 use rtu_frame::Rtu;
 use seal_transmitter::Sealer;
@@ -19,6 +20,21 @@ const _: () = prove!(
 const _: () = prove!(
     size_of::<Checker<Rtu, HmacSha1, 2, 18>>()
         <= 2 * size_of::<Rtu>()
+            + size_of::<HmacSha1>()
+            + size_of::<DelayRing<18>>()
+            + BESIDE_THE_PARTS
+);
+
+const _: () = prove!(size_of::<Dnp>() <= 128);
+
+const _: () = prove!(
+    size_of::<Sealer<Dnp, HmacSha1, 2>>()
+        <= size_of::<Dnp>() + size_of::<HmacSha1>() + BESIDE_THE_PARTS
+);
+
+const _: () = prove!(
+    size_of::<Checker<Dnp, HmacSha1, 2, 18>>()
+        <= 2 * size_of::<Dnp>()
             + size_of::<HmacSha1>()
             + size_of::<DelayRing<18>>()
             + BESIDE_THE_PARTS
