@@ -56,7 +56,7 @@ const REFUSED: Row = Row {
 
 // Ticks and notes here were computed from the rules of `docs/LINK.md` by a program in another
 // language, over whole lines; each tag by openssl, as those of the sealed lines.
-const CHECKED: [Row; 17] = [
+const CHECKED: [Row; 9] = [
     WHOLE,
     // The last byte of the tag is wrong, so the last byte of the frame leaves spoiled.
     Row {
@@ -109,6 +109,10 @@ const CHECKED: [Row; 17] = [
         out: b"-18\n+01\n-1\n+03\n-1\n+00\n-1\n+00\n-1\n+00\n-1\n+0a\n-1\n+c5\n-1\n+cd\n-359\n",
         ..WHOLE
     },
+];
+
+/// What is refused for the key, the direction or the number, and at the edges.
+const EDGES: [Row; 8] = [
     // A pause of two ticks inside a frame: what comes behind it isn't live.
     Row {
         text: b"+010300\n-2\n+00000ac5cd\n-3\n+0001014c5b8d33c6d29a347013b0\n-40\n",
@@ -164,6 +168,14 @@ const CHECKED: [Row; 17] = [
 #[test]
 fn checks_the_packets_of_a_link(rt: HostRuntime) -> Result<(), Fail> {
     for row in CHECKED {
+        compare::<HostRuntime, RtuCheckBox>(&rt, rt.alloc(), REST, &row)?;
+    }
+    Ok(())
+}
+
+#[test]
+fn checks_links_at_the_edges(rt: HostRuntime) -> Result<(), Fail> {
+    for row in EDGES {
         compare::<HostRuntime, RtuCheckBox>(&rt, rt.alloc(), REST, &row)?;
     }
     Ok(())
