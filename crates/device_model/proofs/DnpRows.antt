@@ -4,7 +4,7 @@ use Rattle.std.proofs.Common.{◌≡◌, ℕ, List, [], ◌∷◌, ◌++◌, map
 use Rattle.line_rules.specs.Crc.{bit_step, bit_steps, byte_step, crc}
 use Rattle.yasir_ticks.specs.Ticks.{silent}
 use Rattle.yasir_ticks.specs.declared.tick.Tick.{Tick}
-use Rattle.yasir_ticks.specs.declared.tick.Tick.TheVariants.{Silent, Byte}
+use Rattle.yasir_ticks.specs.declared.tick.Tick.TheVariants.{Byte}
 use Rattle.line_rules.specs.Endings.{ends_in_check}
 use Rattle.dnp_link_frame.specs.Blocks.{begins_right, is_good_header, end_in_crcs, is_frame}
 use Rattle.dnp_link_frame.proofs.Rows.{reset_link, wrong_reset, read_class, cut_before_zeros}

@@ -9,3 +9,7 @@ pub mod HuntCases
 pub mod HuntSteps
 mod HuntRows
 mod DnpRows
+pub mod Parting
+pub mod Broken
+pub mod RtuFamilyLaws
+pub mod HuntFamilyLaws

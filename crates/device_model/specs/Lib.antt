@@ -7,3 +7,6 @@ pub mod HuntLaws
 pub mod HuntingDevice
 pub mod DnpReads
 pub mod DnpHunted
+pub mod Parted
+pub mod RtuFamily
+pub mod HuntFamily

@@ -1,5 +1,6 @@
 use crate::hunted::Hunted;
 use crate::hunting::HuntingDevice;
+use crate::hunting_family::HuntingFamily;
 use dnp_link_frame::Dnp;
 
 impl Hunted for Dnp {
@@ -18,3 +19,6 @@ impl Hunted for Dnp {
 
 /// A DNP3 device, which reads the frames of the link layer (IEEE 1815).
 pub type DnpDevice = HuntingDevice<Dnp>;
+
+/// A DNP3 device to which so many silent ticks together end what it has taken.
+pub type DnpFamily = HuntingFamily<Dnp>;

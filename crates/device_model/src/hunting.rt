@@ -20,7 +20,7 @@ enum Next {
 /// it takes as many bytes as that says, and reads them if they are a frame.
 #[derive(Drop)]
 pub struct HuntingDevice<R> {
-    ticks: u64,
+    pub(crate) ticks: u64,
     // the bytes of which nothing is decided yet, what they are by the rules, and the tick of the
     // first of them
     bytes: ArrayVec<u8, 292>,
@@ -67,7 +67,7 @@ impl<R: Hunted> HuntingDevice<R> {
 
     // Holds no bytes any more.
     #[inline]
-    fn lose(&mut self)
+    pub(crate) fn lose(&mut self)
         ensures ticks { self.new.ticks ≡ self.old.ticks }
         ensures start { self.new.start ≡ self.old.start }
         ensures bytes { self.new.bytes.items ≡ [] }
@@ -146,7 +146,7 @@ impl<R: Hunted> HuntingDevice<R> {
 
     // The next byte of the line.
     #[inline]
-    fn hear(&mut self, at: u64, byte: u8) -> Option<FrameAt>
+    pub(crate) fn hear(&mut self, at: u64, byte: u8) -> Option<FrameAt>
         ensures { TakesByte R.LineRules R.FIRST R.SECOND self.old self.new
             (record { tick = at; byte = byte }) (frames_of result) }
     {

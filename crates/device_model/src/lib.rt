@@ -5,15 +5,22 @@ mod device;
 mod dnp;
 mod hunted;
 mod hunting;
+mod hunting_family;
 mod laws;
 mod rtu;
+mod rtu_family;
+mod silence;
 
 pub use device::{Device, FrameAt, Heard};
-pub use dnp::DnpDevice;
+pub use dnp::{DnpDevice, DnpFamily};
 pub use hunted::Hunted;
 pub use hunting::HuntingDevice;
-pub use laws::{forwarded_frames_are_read, hunts_by_cases};
+pub use hunting_family::HuntingFamily;
+pub use laws::{forwarded_frames_are_read, hunts_by_cases, stated_devices_are_members};
 pub use rtu::RtuDevice;
+pub use rtu_family::RtuFamily;
 
+#[cfg(test)]
+mod family_tests;
 #[cfg(test)]
 mod tests;

@@ -8,7 +8,7 @@ use yasir_ticks::Tick;
 
 // A part of a line.
 #[derive(Drop)]
-enum Part {
+pub enum Part {
     Bytes(&'static [u8]),
     Silence(usize),
 }
@@ -31,7 +31,7 @@ fn add_part(line: &mut Vec<Tick>, part: &Part) -> Result<(), AllocError> {
     Ok(())
 }
 
-fn line_of(alloc: Global, parts: &[Part]) -> Result<Vec<Tick>, AllocError> {
+pub fn line_of(alloc: Global, parts: &[Part]) -> Result<Vec<Tick>, AllocError> {
     let mut line = Vec::new(alloc);
     for part in parts {
         add_part(&mut line, part)?;
@@ -67,15 +67,15 @@ fn readings_of<D: Device + Drop>(
     Ok(readings::<D>(alloc, line.as_slice())?)
 }
 
-const QUERY: &[u8] = b"\x01\x03\x00\x00\x00\x0A\xC5\xCD";
+pub const QUERY: &[u8] = b"\x01\x03\x00\x00\x00\x0A\xC5\xCD";
 
-const DAMAGED: &[u8] = b"\x01\x03\x00\x00\x00\x0A\xC5\xCC";
+pub const DAMAGED: &[u8] = b"\x01\x03\x00\x00\x00\x0A\xC5\xCC";
 
 // The reset of a link.
-const RESET_LINK: &[u8] = b"\x05\x64\x05\xC0\x01\x00\x00\x04\xE9\x21";
+pub const RESET_LINK: &[u8] = b"\x05\x64\x05\xC0\x01\x00\x00\x04\xE9\x21";
 
 // The header of a frame with 292 bytes.
-const LONGEST_HEADER: &[u8] = b"\x05\x64\xFF\xC4\x01\x00\x00\x04\x27\x27";
+pub const LONGEST_HEADER: &[u8] = b"\x05\x64\xFF\xC4\x01\x00\x00\x04\x27\x27";
 
 #[test]
 fn exchange(rt: HostRuntime) -> Result<(), Fail> {
@@ -193,4 +193,5 @@ fn runs_of_ticks(rt: HostRuntime) {
     assert_eq!(rt; frame.start, 3);
     assert_eq!(rt; frame.bytes.as_slice(), RESET_LINK);
     hunts_by_cases::<Dnp>();
+    stated_devices_are_members();
 }

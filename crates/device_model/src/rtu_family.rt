@@ -1,0 +1,197 @@
+use crate::device::FrameAt;
+use crate::silence::Silence;
+use arrayvec::ArrayVec;
+use rtu_frame::is_frame;
+use yasir_ticks::{MAX_TICKS, Tick};
+
+// How many bytes a frame has at most.
+const LONGEST: usize = 256;
+
+/// A Modbus RTU device with silences of its own: it takes `cut` silent ticks together for the end
+/// of a burst, and reads the burst if at most `gap` silent ticks stand together in it and its bytes
+/// are a frame. The standard asks for 3.5 and 1.5 character times (Modbus over Serial Line V1.02),
+/// which are a cut of 4 and a gap of 1.
+#[derive(Drop)]
+pub struct RtuFamily {
+    ticks: u64,
+    silence: Silence,
+    gap: u8,
+    // of the burst that is running or was the last: the tick of its first byte, whether it can be
+    // no frame any more, and its bytes if it can
+    start: u64,
+    broken: bool,
+    bytes: ArrayVec<u8, 292>,
+}
+
+impl RtuFamily {
+    ghost use Rattle.std.specs.Prelude.{◌≡◌, ℕ, ◌+◌, ◌<◌, ◌≤◌, ◌||◌, nat_lt, nat_le, false, List};
+    ghost use Rattle.std.specs.Prelude.{[], ◌∷◌, ◌++◌, length};
+    ghost use Rattle.yasir_ticks.specs.declared.tick.Tick.{Tick};
+    ghost use Rattle.yasir_ticks.specs.declared.tick.Tick.TheVariants.{Silent, Byte};
+    ghost use Rattle.device_model.specs.Frames.{frames_of};
+    ghost use Rattle.device_model.specs.RtuFamily.{RtuFamilyStandsFor, rtu_family_reads};
+    ghost use Rattle.device_model.specs.RtuFamily.{ticks_heard, frame_at_end};
+
+    /// A device that has heard nothing. `cut` is 2 to 18 silent ticks, `gap` at least 1 and fewer
+    /// than `cut`.
+    pub fn new(cut: u8, gap: u8) -> RtuFamily
+        requires shortest { 2 ≤ cut }
+        requires longest { cut ≤ 18 }
+        requires some { 1 ≤ gap }
+        requires within { gap < cut }
+        ensures taken { ticks_heard result ≡ 0 }
+        ensures stands { RtuFamilyStandsFor cut gap result [] }
+        ensures nothing { rtu_family_reads cut gap [] ≡ [] }
+    {
+        RtuFamily {
+            ticks: 0,
+            silence: Silence::new(cut),
+            gap,
+            start: 0,
+            broken: false,
+            bytes: ArrayVec::new(),
+        }
+    }
+
+    // The first byte of a burst.
+    #[inline]
+    fn begin(&mut self, byte: u8)
+        requires { self.old.ticks < MAX_TICKS }
+        ensures ticks { self.new.ticks ≡ self.old.ticks + 1 }
+        ensures cut { self.new.silence.cut ≡ self.old.silence.cut }
+        ensures quiet { self.new.silence.quiet ≡ 0 }
+        ensures gap { self.new.gap ≡ self.old.gap }
+        ensures start { self.new.start ≡ self.old.ticks }
+        ensures broken { self.new.broken ≡ false }
+        ensures bytes { self.new.bytes.items ≡ byte ∷ [] }
+    {
+        self.start = self.ticks;
+        self.broken = false;
+        self.bytes.clear();
+        self.bytes.push(byte);
+        self.silence.end();
+        self.ticks += 1;
+    }
+
+    // Keeps a further byte of a burst, if it can still be a frame.
+    #[inline]
+    fn keep(&mut self, byte: u8)
+        ensures ticks { self.new.ticks ≡ self.old.ticks }
+        ensures silence { self.new.silence ≡ self.old.silence }
+        ensures gap { self.new.gap ≡ self.old.gap }
+        ensures start { self.new.start ≡ self.old.start }
+        ensures broken { self.new.broken ≡ (self.old.broken
+            || (nat_lt self.old.gap self.old.silence.quiet
+            || nat_le 256 (length self.old.bytes.items))) }
+        ensures bytes { self.new.broken ≡ false
+            → self.new.bytes.items ≡ self.old.bytes.items ++ byte ∷ [] }
+    {
+        if self.silence.ticks() > self.gap || self.bytes.len() >= LONGEST {
+            self.broken = true;
+            return;
+        }
+        self.bytes.push(byte);
+    }
+
+    // A further byte of a burst.
+    #[inline]
+    fn go_on(&mut self, byte: u8)
+        requires { self.old.ticks < MAX_TICKS }
+        ensures ticks { self.new.ticks ≡ self.old.ticks + 1 }
+        ensures cut { self.new.silence.cut ≡ self.old.silence.cut }
+        ensures quiet { self.new.silence.quiet ≡ 0 }
+        ensures gap { self.new.gap ≡ self.old.gap }
+        ensures start { self.new.start ≡ self.old.start }
+        ensures broken { self.new.broken ≡ (self.old.broken
+            || (nat_lt self.old.gap self.old.silence.quiet
+            || nat_le 256 (length self.old.bytes.items))) }
+        ensures bytes { self.new.broken ≡ false
+            → self.new.bytes.items ≡ self.old.bytes.items ++ byte ∷ [] }
+    {
+        self.keep(byte);
+        self.silence.end();
+        self.ticks += 1;
+    }
+
+    // The end of a burst.
+    #[inline]
+    fn close(&mut self) -> Option<FrameAt>
+        ensures ticks { self.new.ticks ≡ self.old.ticks }
+        ensures silence { self.new.silence ≡ self.old.silence }
+        ensures gap { self.new.gap ≡ self.old.gap }
+        ensures frame { frames_of result
+            ≡ frame_at_end self.old.broken self.old.start self.old.bytes.items }
+    {
+        if self.broken {
+            return None;
+        }
+        if !is_frame(self.bytes.as_slice()) {
+            return None;
+        }
+        Some(FrameAt {
+            start: self.start,
+            bytes: self.bytes.take(),
+        })
+    }
+
+    #[inline]
+    fn hear(&mut self, byte: u8)
+        requires { ticks_heard self.old < MAX_TICKS }
+        ensures taken { ticks_heard self.new ≡ ticks_heard self.old + 1 }
+        ensures stands { (cut gap : ℕ) (line : List Tick)
+            → RtuFamilyStandsFor cut gap self.old line
+            → RtuFamilyStandsFor cut gap self.new (line ++ Byte byte ∷ []) }
+        ensures answer { (cut gap : ℕ) (line : List Tick)
+            → RtuFamilyStandsFor cut gap self.old line
+            → rtu_family_reads cut gap (line ++ Byte byte ∷ [])
+            ≡ rtu_family_reads cut gap line ++ [] }
+    {
+        if self.silence.has_parted() {
+            self.begin(byte);
+            return;
+        }
+        self.go_on(byte);
+    }
+
+    #[inline]
+    fn wait(&mut self) -> Option<FrameAt>
+        requires { ticks_heard self.old < MAX_TICKS }
+        ensures taken { ticks_heard self.new ≡ ticks_heard self.old + 1 }
+        ensures stands { (cut gap : ℕ) (line : List Tick)
+            → RtuFamilyStandsFor cut gap self.old line
+            → RtuFamilyStandsFor cut gap self.new (line ++ Silent ∷ []) }
+        ensures answer { (cut gap : ℕ) (line : List Tick)
+            → RtuFamilyStandsFor cut gap self.old line
+            → rtu_family_reads cut gap (line ++ Silent ∷ [])
+            ≡ rtu_family_reads cut gap line ++ frames_of result }
+    {
+        self.ticks += 1;
+        if self.silence.wait() {
+            return self.close();
+        }
+        None
+    }
+
+    /// Takes the next tick of the line. Answers the frame that is read in this very tick, and
+    /// `None` where none is. Fewer than `MAX_TICKS` ticks were taken before.
+    #[inline]
+    pub fn step(&mut self, t: Tick) -> Option<FrameAt>
+        requires { ticks_heard self.old < MAX_TICKS }
+        ensures taken { ticks_heard self.new ≡ ticks_heard self.old + 1 }
+        ensures stands { (cut gap : ℕ) (line : List Tick)
+            → RtuFamilyStandsFor cut gap self.old line
+            → RtuFamilyStandsFor cut gap self.new (line ++ t ∷ []) }
+        ensures answer { (cut gap : ℕ) (line : List Tick)
+            → RtuFamilyStandsFor cut gap self.old line
+            → rtu_family_reads cut gap (line ++ t ∷ [])
+            ≡ rtu_family_reads cut gap line ++ frames_of result }
+    {
+        match t {
+            Tick::Byte(byte) => {
+                self.hear(byte);
+                None
+            }
+            Tick::Silent => self.wait(),
+        }
+    }
+}

@@ -1,0 +1,60 @@
+/// How long a line has been silent, as a device counts it: up to the silence that parts the line.
+#[derive(Clone, Copy)]
+pub(crate) struct Silence {
+    // so many silent ticks together part the line; with 0 no silence does
+    cut: u8,
+    // the silent ticks since the last byte, counted up to `cut`
+    quiet: u8,
+}
+
+impl Silence {
+    ghost use Rattle.std.specs.Prelude.{◌≡◌, ◌+◌, ◌==◌, nat_le, nat_lt, if◌then◌else◌};
+
+    // The start of a line counts as silence.
+    pub(crate) fn new(cut: u8) -> Silence
+        ensures cut { result.cut ≡ cut }
+        ensures quiet { result.quiet ≡ cut }
+    {
+        Silence { cut, quiet: cut }
+    }
+
+    // The silent ticks since the last byte.
+    #[inline]
+    pub(crate) fn ticks(&self) -> u8
+        ensures { result ≡ self.now.quiet }
+    {
+        self.quiet
+    }
+
+    // Whether the silence has parted the line.
+    #[inline]
+    pub(crate) fn has_parted(&self) -> bool
+        ensures { result ≡ nat_le self.now.cut self.now.quiet }
+    {
+        self.quiet >= self.cut
+    }
+
+    // One more silent tick; whether the silence parts the line in this very tick.
+    #[inline]
+    pub(crate) fn wait(&mut self) -> bool
+        ensures cut { self.new.cut ≡ self.old.cut }
+        ensures quiet { self.new.quiet
+            ≡ (if nat_lt self.old.quiet self.old.cut then self.old.quiet + 1 else self.old.quiet) }
+        ensures parts { result ≡ self.old.quiet + 1 == self.old.cut }
+    {
+        if self.quiet >= self.cut {
+            return false;
+        }
+        self.quiet += 1;
+        self.quiet == self.cut
+    }
+
+    // A byte ends the silence.
+    #[inline]
+    pub(crate) fn end(&mut self)
+        ensures cut { self.new.cut ≡ self.old.cut }
+        ensures quiet { self.new.quiet ≡ 0 }
+    {
+        self.quiet = 0;
+    }
+}
