@@ -22,10 +22,10 @@ use Rattle.link_verdicts.proofs.Spoiled.{spoiled-contiguous, spoiled-no_frame}
 use Rattle.link_verdicts.proofs.Spoiled.{filled-contiguous}
 use Rattle.link_verdicts.proofs.Passing.{passed-passing}
 use Rattle.link_verdicts.proofs.Apart.{emissions-spread}
-use Rattle.receiver_laws.specs.Reading.{reads_with, ReadsWhatPassed}
+use Rattle.receiver_laws.specs.Reading.{ReadsWhatPassed}
 use Rattle.receiver_laws.proofs.Calm.{contiguous-calm}
 use Rattle.receiver_laws.proofs.Readings.{whole, wrong, reads_what_passed}
-use Rattle.receiver_laws.proofs.Settled.{reads-laid}
+use Rattle.receiver_laws.proofs.Settled.{reads_with, reads-laid}
 
 module _ (profile : Profile) (cut pause : ℕ) (wide : 2 ≤ cut) (near : cut ≤ delay profile)
     (long : 2 ≤ pause) where

@@ -17,9 +17,14 @@ use Rattle.burst_walk.specs.Laid.{tick_at, laid}
 use Rattle.burst_walk.proofs.Emissions.{laid-more}
 use Rattle.burst_walk.proofs.LaidBursts.{bursts-laid}
 use Rattle.burst_walk.proofs.Spread.{AreSpread, EndBy, bursts_from-end}
+use Rattle.device_model.specs.Frames.{FrameRead}
 use Rattle.device_model.specs.RtuReads.{frames_read}
 use Rattle.device_model.proofs.ReadLaws.{frames_read-append, frames_read-open}
-use Rattle.receiver_laws.specs.Reading.{reads_with}
+
+-- What a device reads of a line, for which `cut` silent ticks end a burst, and `pause` silent ticks
+-- together make that it is no frame. The RTU device has 4 and 2.
+abbrev pub reads_with : ℕ → ℕ → List Tick → List FrameRead
+reads_with cut pause line = frames_read cut pause (length line) (bursts_from cut 0 line)
 
 -- ---- emissions on a longer line
 

@@ -17,7 +17,7 @@ use Rattle.link_verdicts.specs.Shapes.{kept}
 use Rattle.link_verdicts.specs.Verdicts.{verdict_of, checked}
 use Rattle.link_verdicts.specs.Emissions.{spoiled}
 use Rattle.link_verdicts.specs.Checking.{received_line}
-use Rattle.receiver_laws.specs.Reading.{reads_with}
+use Rattle.receiver_laws.proofs.Settled.{reads_with}
 
 -- twelve bytes of the number and the frame
 abbrev stand_in : ℕ → List ℕ → List ℕ

@@ -1,20 +1,13 @@
 -- What a device behind the receiver reads.
-use Rattle.std.specs.Prelude.{◌≡◌, ℕ, ◌+◌, ◌≤◌, List, ◌++◌, length, map}
+use Rattle.std.specs.Prelude.{◌≡◌, ℕ, ◌+◌, ◌≤◌, List, ◌++◌, map}
 use Rattle.yasir_ticks.specs.Ticks.{silent}
-use Rattle.yasir_ticks.specs.Bursts.{bursts_from}
 use Rattle.yasir_ticks.specs.declared.tick.Tick.{Tick}
 use Rattle.line_rules.specs.Rules.{Rules}
 use Rattle.device_model.specs.Frames.{FrameRead}
-use Rattle.device_model.specs.RtuReads.{frames_read}
 use Rattle.burst_walk.specs.Longer.{Begins}
 use Rattle.link_format.specs.Profile.{Profile, delay}
 use Rattle.link_format.specs.NumberedFrame.{NumberedFrame}
 use Rattle.link_verdicts.specs.Checking.{passed, received_line}
-
--- What a device reads of a line, for which `cut` silent ticks end a burst, and `pause` silent ticks
--- together make that it is no frame. The RTU device has 4 and 2.
-abbrev pub reads_with : ℕ → ℕ → List Tick → List FrameRead
-reads_with cut pause line = frames_read cut pause (length line) (bursts_from cut 0 line)
 
 -- a passed frame as the device reads it, the receiver's delay later
 abbrev pub delivered : Profile → NumberedFrame → FrameRead

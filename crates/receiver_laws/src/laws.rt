@@ -1,4 +1,4 @@
-ghost use Rattle.std.specs.Prelude.{◌≡◌, ◌≤◌, ◌∷◌, ◌++◌, ℕ, List, Contains};
+ghost use Rattle.std.specs.Prelude.{◌≡◌, ◌≤◌, ◌⊎◌, ◌∷◌, ◌++◌, ℕ, List, Contains};
 ghost use Rattle.yasir_ticks.specs.declared.TheConstants.{T3_5_TICKS};
 ghost use Rattle.yasir_ticks.specs.declared.tick.Tick.{Tick};
 ghost use Rattle.seal_transmitter.specs.Sealing.{sealed};
@@ -6,6 +6,8 @@ ghost use Rattle.yasir_ticks.specs.Bursts.{Burst, bursts};
 ghost use Rattle.rtu_frame.specs.Rules.{rtu_rules};
 ghost use Rattle.dnp_link_frame.specs.Rules.{dnp_rules};
 ghost use Rattle.device_model.specs.DnpReads.{dnp_reads};
+ghost use Rattle.device_model.specs.HuntFamily.{dnp_family_reads};
+ghost use Rattle.device_model.specs.RtuFamily.{rtu_family_reads};
 ghost use Rattle.device_model.specs.RtuReads.{rtu_reads};
 ghost use Rattle.burst_walk.specs.Walk.{state_after};
 ghost use Rattle.burst_walk.specs.Longer.{Begins, Extends};
@@ -17,24 +19,29 @@ ghost use Rattle.link_verdicts.specs.Verdicts.{CheckState, checked};
 ghost use Rattle.link_verdicts.specs.Verdicts.Verdict.{passed_with};
 ghost use Rattle.receiver_laws.specs.Accounted.{IsAccountedFor};
 ghost use Rattle.receiver_laws.specs.Headline.{ReadsWhatWasSealed};
-ghost use Rattle.receiver_laws.specs.Reading.{reads_with, ReadsWhatPassed};
+ghost use Rattle.receiver_laws.specs.Reading.{ReadsWhatPassed};
 ghost use Rattle.receiver_laws.specs.Standing.{HavePassed, numbered_frame};
 
 use line_rules::LineRules;
 
 /// A law of the receiver's definitions, for each profile, floor and link: a Modbus RTU device that
 /// stands on the receiver's line reads only frames that have passed, at every moment, and all of
-/// them once silence follows, and so does a DNP3 device. So does each device for Modbus RTU that
-/// ends a burst by more silent ticks, up to the receiver's delay, or by fewer, down to two, and to
-/// which two or more silent ticks together make a burst no frame.
+/// them once silence follows, and so does a DNP3 device. So does each member of their families: a
+/// Modbus RTU device for which a burst ends by some other number of silent ticks together, two up
+/// to the receiver's delay, and which lets some number of them, one or more, stand inside a frame;
+/// and a DNP3 device to which two or more silent ticks together, as many as it has for a limit, end
+/// what was taken.
 pub fn device_reads_what_passed()
     ensures rtu { (profile : Profile) (floor : ℕ) (link : List Tick)
         → ReadsWhatPassed rtu_rules rtu_reads T3_5_TICKS profile floor link }
     ensures dnp { (profile : Profile) (floor : ℕ) (link : List Tick)
         → ReadsWhatPassed dnp_rules dnp_reads 0 profile floor link }
-    ensures others { (cut pause : ℕ) (profile : Profile) (floor : ℕ) (link : List Tick)
-        → 2 ≤ cut → cut ≤ delay profile → 2 ≤ pause
-        → ReadsWhatPassed rtu_rules (reads_with cut pause) cut profile floor link }
+    ensures rtu_family { (cut gap : ℕ) (profile : Profile) (floor : ℕ) (link : List Tick)
+        → 2 ≤ cut → cut ≤ delay profile → 1 ≤ gap
+        → ReadsWhatPassed rtu_rules (rtu_family_reads cut gap) cut profile floor link }
+    ensures dnp_family { (cut : ℕ) (profile : Profile) (floor : ℕ) (link : List Tick)
+        → (cut ≡ 0) ⊎ (2 ≤ cut)
+        → ReadsWhatPassed dnp_rules (dnp_family_reads cut) 0 profile floor link }
 {}
 
 /// A law of the receiver's definitions, for the rules of each protocol, each profile whose delay is
@@ -96,8 +103,12 @@ pub fn device_reads_what_was_sealed()
         link }
     ensures dnp { (profile : Profile) (seal_floor check_floor : ℕ) (line link : List Tick)
         → ReadsWhatWasSealed dnp_rules dnp_reads 0 profile seal_floor check_floor line link }
-    ensures others { (cut pause : ℕ) (profile : Profile) (seal_floor check_floor : ℕ)
-        (line link : List Tick) → 2 ≤ cut → cut ≤ delay profile → 2 ≤ pause
-        → ReadsWhatWasSealed rtu_rules (reads_with cut pause) cut profile seal_floor check_floor
+    ensures rtu_family { (cut gap : ℕ) (profile : Profile) (seal_floor check_floor : ℕ)
+        (line link : List Tick) → 2 ≤ cut → cut ≤ delay profile → 1 ≤ gap
+        → ReadsWhatWasSealed rtu_rules (rtu_family_reads cut gap) cut profile seal_floor check_floor
         line link }
+    ensures dnp_family { (cut : ℕ) (profile : Profile) (seal_floor check_floor : ℕ)
+        (line link : List Tick) → (cut ≡ 0) ⊎ (2 ≤ cut)
+        → ReadsWhatWasSealed dnp_rules (dnp_family_reads cut) 0 profile seal_floor check_floor line
+        link }
 {}

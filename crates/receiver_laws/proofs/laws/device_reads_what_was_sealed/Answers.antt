@@ -1,11 +1,13 @@
-use Rattle.std.proofs.Common.{arith}
+use Rattle.std.proofs.Common.{suc, arith}
 use Rattle.dnp_link_frame.specs.Rules.{dnp_rules}
 use Rattle.dnp_link_frame.specs.RulesLaws.{dnp_lawful}
 use Rattle.device_model.specs.DnpReads.{dnp_reads}
 use Rattle.rtu_frame.specs.Rules.{rtu_rules, rtu_lawful}
-use Rattle.receiver_laws.specs.Reading.{reads_with}
+use Rattle.device_model.specs.HuntFamily.{dnp_family_reads}
+use Rattle.device_model.specs.RtuFamily.{rtu_family_reads}
+use Rattle.receiver_laws.proofs.Settled.{reads_with}
 use Rattle.receiver_laws.proofs.Headline.{reads-sealed}
-use Rattle.receiver_laws.proofs.DnpReadings.{dnp_reads_what_passed}
+use Rattle.receiver_laws.proofs.DnpReadings.{dnp_reads_what_passed, dnp_family_reads_what_passed}
 use Rattle.receiver_laws.proofs.RtuReadings.{rtu_reads_what_passed}
 use Rattle.receiver_laws.proofs.laws.device_reads_what_was_sealed.Goals as goal
 
@@ -19,7 +21,14 @@ returns-clause-dnp c = λ profile seal_floor check_floor line link.
     reads-sealed dnp_rules dnp_lawful dnp_reads 0 profile seal_floor check_floor line link
     (dnp_reads_what_passed profile check_floor link)
 
-pub returns-clause-others : goal.returns-clause-others
-returns-clause-others c = λ cut pause profile seal_floor check_floor line link wide near long.
-    reads-sealed rtu_rules rtu_lawful (reads_with cut pause) cut profile seal_floor check_floor line
-    link (rtu_reads_what_passed profile cut pause wide near long check_floor link)
+pub returns-clause-rtu_family : goal.returns-clause-rtu_family
+returns-clause-rtu_family c =
+    λ cut gap profile seal_floor check_floor line link wide near some.
+    reads-sealed rtu_rules rtu_lawful (rtu_family_reads cut gap) cut profile seal_floor check_floor
+    line link
+    (rtu_reads_what_passed profile cut (suc gap) wide near (omega arith) check_floor link)
+
+pub returns-clause-dnp_family : goal.returns-clause-dnp_family
+returns-clause-dnp_family c = λ cut profile seal_floor check_floor line link member.
+    reads-sealed dnp_rules dnp_lawful (dnp_family_reads cut) 0 profile seal_floor check_floor line
+    link (dnp_family_reads_what_passed cut member profile check_floor link)
