@@ -1,0 +1,260 @@
+"""A model of transmitter, receiver and devices, over whole lines: the rules of docs/LINK.md, written anew in Python.
+
+It shares nothing with the program, so that the two can be compared (random_lines.py). A line is a list of ticks: a byte,
+or None for silence. The tags are by hashlib.
+"""
+import hashlib, hmac
+
+LIMIT = (1 << 48) - 1
+
+# Silent ticks that end a burst, and that stand between a frame and its trailer; bytes of a word and of a tag; the delay.
+CUT, PAUSE, WORD, TAG = 4, 3, 2, 12
+DELAY = PAUSE + WORD + TAG + 1
+
+# Silent ticks that the program takes to follow a line.
+REST = {"seal": 24, "check": 320}
+
+
+def crc(poly, register, data):
+    for byte in data:
+        register ^= byte
+        for _ in range(8):
+            register = register >> 1 ^ (poly if register & 1 else 0)
+    return register
+
+
+class Rtu:
+    """Modbus RTU: frames of 4 to 256 bytes, the last two of which are the CRC. No header says a size."""
+
+    word, label, header = "rtu", 1, 0
+
+    @staticmethod
+    def room(data):
+        return 256
+
+    @staticmethod
+    def end(data):
+        return crc(0xA001, 0xFFFF, data).to_bytes(2, "little")
+
+    @classmethod
+    def has_right_ending(cls, data):
+        return len(data) >= 2 and bytes(data[-2:]) == cls.end(data[:-2])
+
+    @classmethod
+    def is_frame(cls, data):
+        return 4 <= len(data) <= 256 and cls.has_right_ending(data)
+
+    @staticmethod
+    def is_good_header(data):
+        return True
+
+    @staticmethod
+    def size(data):
+        return len(data)
+
+    @classmethod
+    def reads(cls, line):
+        """Frames that a device reads, with the tick of their first byte; four silent ticks follow the line."""
+        line = line + [None] * CUT
+        for start, end in bursts(line):
+            body = line[start:end + 1]
+            frame = [byte for byte in body if byte is not None]
+            if end + CUT < len(line) and first_pause(body) is None and cls.is_frame(frame):
+                yield start, frame
+
+
+class Dnp3:
+    """The DNP3 link layer: a header of ten bytes, which says the size, and blocks of up to 16 bytes of user data."""
+
+    word, label, header = "dnp3", 2, 10
+
+    @staticmethod
+    def end(data):
+        return (crc(0xA6BC, 0, data) ^ 0xFFFF).to_bytes(2, "little")
+
+    @staticmethod
+    def size_by(length):
+        user = length - 5
+        return 10 + user + 2 * ((user + 15) // 16)
+
+    @classmethod
+    def room(cls, data):
+        return cls.size_by(data[2]) if len(data) >= 3 and data[2] >= 5 else 292
+
+    @classmethod
+    def ends_in_crc(cls, data):
+        return len(data) >= 2 and bytes(data[-2:]) == cls.end(data[:-2])
+
+    @classmethod
+    def is_good_header(cls, data):
+        return len(data) >= 10 and data[0] == 0x05 and data[1] == 0x64 and data[2] >= 5 and cls.ends_in_crc(data[:10])
+
+    @classmethod
+    def size(cls, data):
+        return cls.size_by(data[2])
+
+    @classmethod
+    def is_frame(cls, data):
+        blocks = [data[place:place + 18] for place in range(10, len(data), 18)]
+        return cls.is_good_header(data) and len(data) == cls.size(data) and all(cls.ends_in_crc(block) for block in blocks)
+
+    @classmethod
+    def has_right_ending(cls, data):
+        if len(data) < 3 or data[2] < 5 or len(data) != cls.size(data):
+            return False
+        last = 0 if len(data) == 10 else 10 + 18 * ((len(data) - 11) // 18)
+        return cls.ends_in_crc(data[last:])
+
+    @classmethod
+    def reads(cls, line):
+        """Frames that a device reads, with the tick of their first byte: it hunts for 05 64, and silence is nothing to it."""
+        found = [(tick, byte) for tick, byte in enumerate(line) if byte is not None]
+        data, place = [byte for _, byte in found], 0
+        while place < len(data):
+            if data[place] != 0x05 or data[place + 1:place + 2] not in ([0x64], []):
+                place += 1
+                continue
+            if len(data) - place < 10:
+                return
+            if not cls.is_good_header(data[place:place + 10]):
+                place += 10
+                continue
+            size = cls.size(data[place:])
+            if len(data) - place < size:
+                return
+            if cls.is_frame(data[place:place + size]):
+                yield found[place][0], data[place:place + size]
+            place += size
+
+
+def bursts(line):
+    """The first and the last tick of each burst."""
+    found, quiet = [], CUT
+    for tick, byte in enumerate(line):
+        if byte is None:
+            quiet += 1
+            continue
+        if quiet >= CUT:
+            found.append([tick, tick])
+        found[-1][1], quiet = tick, 0
+    return found
+
+
+def first_pause(body):
+    """Where two silent ticks stand together."""
+    return next((place for place in range(len(body) - 1) if body[place] is None and body[place + 1] is None), None)
+
+
+def live(proto, line, start, end):
+    """The live bytes of a burst with their ticks, and whether it has further bytes."""
+    body = line[start:end + 1]
+    before = [(start + place, byte) for place, byte in enumerate(body[:first_pause(body)]) if byte is not None]
+    kept = before[:proto.room([byte for _, byte in before])]
+    return kept, len(kept) < sum(byte is not None for byte in body)
+
+
+def tag(proto, key, direction, frame, number):
+    text = bytes([proto.label, direction]) + bytes(frame) + number.to_bytes(8, "big")
+    return hmac.new(key, text, hashlib.sha1).digest()[:TAG]
+
+
+def trailer(proto, key, direction, frame, number):
+    return list(number.to_bytes(8, "big")[-WORD:] + tag(proto, key, direction, frame, number))
+
+
+def seal(proto, key, direction, floor, line):
+    """The line of the link, the notes, and the journal's floor after them."""
+    line = line + [None] * REST["seal"]
+    link, notes, free = [None] * len(line), [], 0
+    for start, end in bursts(line):
+        kept, has_extra = live(proto, line, start, end)
+        frame, last = [byte for _, byte in kept], kept[-1][0]
+        early = start < free
+        if not early:
+            for tick, byte in kept:
+                link[tick] = byte
+        if end + CUT >= len(line):
+            continue
+        if early:
+            notes.append("unsealed at %d early" % start)
+        elif has_extra or not proto.is_frame(frame):
+            notes.append("unsealed at %d form" % start)
+        elif floor == LIMIT:
+            notes.append("unsealed at %d spent" % start)
+        else:
+            floor += 1
+            for place, byte in enumerate(trailer(proto, key, direction, frame, floor)):
+                if last + PAUSE + 1 + place < len(link):
+                    link[last + PAUSE + 1 + place] = byte
+            free = last + DELAY + CUT
+            notes.append("sealed %d at %d len %d" % (floor, start, len(frame)))
+    return link, notes, floor
+
+
+def spoil(proto, before, byte):
+    return byte ^ 1 if proto.has_right_ending(before + [byte]) else byte
+
+
+def verdict(proto, key, direction, floor, frame, after):
+    """What is found of live bytes and the ticks after them: a number or a reason, and how many ticks it took."""
+    for place, byte in enumerate(after, 1):
+        if (byte is not None) != (place > PAUSE):
+            return None, "trailer", place
+    if not proto.is_frame(frame):
+        return None, "form", len(after)
+    word = int.from_bytes(bytes(after[PAUSE:PAUSE + WORD]), "big")
+    number = floor + 1 + (word - floor - 1) % (1 << 8 * WORD)
+    if number > LIMIT:
+        return None, "number", len(after)
+    if bytes(after[PAUSE + WORD:]) != tag(proto, key, direction, frame, number):
+        return None, "tag", len(after)
+    return number, None, len(after)
+
+
+def check(proto, key, direction, floor, link):
+    """The receiver's line, the notes, and the journal's floor after them."""
+    link = link + [None] * REST["check"]
+    behind = link + [None] * DELAY
+    sent, notes, free = {}, [], 0
+    for start, end in bursts(link):
+        kept, _ = live(proto, link, start, end)
+        frame, last = [byte for _, byte in kept], kept[-1][0]
+        if start < free:
+            notes.append((start, "dropped at %d busy" % start))
+        elif len(frame) < proto.header:
+            notes.append((last + 2, "dropped at %d head" % start))
+        elif not proto.is_good_header(frame):
+            notes.append((kept[proto.header - 1][0], "dropped at %d head" % start))
+        else:
+            number, why, took = verdict(proto, key, direction, floor, frame, behind[last + 1:last + DELAY])
+            sent.update((tick + DELAY, byte) for tick, byte in kept)
+            free = last + DELAY + 1
+            if why is None:
+                notes.append((last + took, "passed %d at %d len %d" % (number, start, len(frame))))
+                floor = number if last + took < len(link) else floor
+                continue
+            notes.append((last + took, "refused at %d %s" % (start, why)))
+            owed = proto.size(frame) - len(frame)
+            whole = frame + [0] * owed
+            sent.update((last + DELAY + place, 0) for place in range(1, owed + 1))
+            sent[last + DELAY + owed] = spoil(proto, whole[:-1], whole[-1])
+            free += owed
+    told = [note for tick, note in sorted(notes, key=lambda noted: noted[0]) if tick < len(link)]
+    return [sent.get(tick) for tick in range(len(link))], told, floor
+
+
+def canonical(line):
+    """The tick text of a line, as the program writes it."""
+    text, place = "", 0
+    while place < len(line):
+        end = place
+        if line[place] is None:
+            while end < len(line) and line[end] is None and end - place < 1000000:
+                end += 1
+            text += "-%d\n" % (end - place)
+        else:
+            while end < len(line) and line[end] is not None and end - place < 32:
+                end += 1
+            text += "+%s\n" % bytes(line[place:end]).hex()
+        place = end
+    return text

@@ -1,0 +1,112 @@
+#!/usr/bin/env python3
+"""Runs `link_replay` over random lines of both protocols, and compares what it writes with the model in model.py.
+
+    python3 scripts/random_lines.py [LINES] [PROGRAM] [SEED]
+
+A line has frames, packets (altered, cut, repeated or whole), noise and silence, with the lengths at which rules change.
+Compared are `read`, `seal` and `check`: standard output, the notes, and the floor of the journal after the run.
+It is no part of the gate.
+"""
+import os, random, subprocess, sys, tempfile
+
+import model
+from killed import KEY, floor_of
+from model import LIMIT, PAUSE, Dnp3, Rtu
+
+
+def some_frame(proto, chance):
+    if proto is Rtu:
+        body = [chance.randrange(256) for _ in range(chance.choice([2, 2, 3, 4, 7, 22, 254]))]
+        return body + list(Rtu.end(body))
+    user = [chance.choice([0x00, 0x05, 0x64, chance.randrange(256)]) for _ in range(chance.choice([0, 1, 6, 15, 16, 17, 32, 250]))]
+    header = [0x05, 0x64, 5 + len(user)] + [chance.randrange(256) for _ in range(5)]
+    frame = header + list(Dnp3.end(header))
+    for place in range(0, len(user), 16):
+        block = user[place:place + 16]
+        frame += block + list(Dnp3.end(block))
+    return frame
+
+
+def altered(ticks, chance):
+    """The ticks with one of them changed, taken out, or the last ones cut off."""
+    place, deed = chance.randrange(len(ticks)), chance.randrange(4)
+    if deed == 0:
+        return ticks[:place] + ticks[place + 1:]
+    if deed == 1:
+        return ticks[:place + 1]
+    return ticks[:place] + [None if deed == 2 else chance.randrange(256)] + ticks[place + 1:]
+
+
+def with_gaps(frame, chance):
+    """The frame with single silent ticks inside."""
+    ticks = frame[:1]
+    for byte in frame[1:]:
+        ticks += [None] * (chance.random() < 0.3) + [byte]
+    return ticks
+
+
+def some_line(proto, key, direction, floor, packets, chance):
+    line, number, sent = [], floor, [some_frame(proto, chance)]
+    for _ in range(chance.randrange(1, 8)):
+        kind, frame = chance.randrange(10), some_frame(proto, chance)
+        if kind < 5:
+            number = min(number + chance.choice([1, 1, 1, 2, 100]), LIMIT)
+            behind = [None] * PAUSE + model.trailer(proto, key, direction, frame, number) if packets else []
+            sent.append((frame if kind else with_gaps(frame, chance)) + behind)
+            line += sent[-1]
+        elif kind == 5:
+            line += chance.choice(sent)
+        elif kind < 8:
+            line += altered(sent[-1], chance)
+        elif kind == 8:
+            line += [chance.choice([0x05, 0x64, None, None, chance.randrange(256)]) for _ in range(chance.randrange(60))]
+        else:
+            line += [chance.randrange(256) for _ in range(chance.choice([255, 256, 257, 292, 293, 300]))]
+        line += [None] * chance.choice([0, 1, 2, 3, 4, 5, 9, 17, 18, 19, 20, 21, 22, 40, 100, 300])
+    return line
+
+
+def slot_of(number):
+    return number.to_bytes(8, "big") + (number ^ (1 << 64) - 1).to_bytes(8, "big")
+
+
+def run(program, words, line, journal, floor):
+    """What the program writes, and the journal's floor after it, from a journal at this floor on."""
+    with open(journal, "wb") as file:
+        file.write(slot_of(floor) + bytes(16))
+    ran = subprocess.run([program] + words, input=model.canonical(line), capture_output=True, text=True)
+    return ran.returncode, ran.stdout, ran.stderr.splitlines(), floor_of(journal)
+
+
+def expected(proto, command, key, direction, line, floor):
+    if command == "read":
+        return 0, "".join("read at %d %s\n" % (start, bytes(frame).hex()) for start, frame in proto.reads(line)), [], floor
+    box = model.seal if command == "seal" else model.check
+    other, notes, floor = box(proto, key, direction, floor, line)
+    return 0, model.canonical(other), notes, floor
+
+
+def main():
+    lines = int(sys.argv[1]) if len(sys.argv) > 1 else 1000
+    program = os.path.abspath(sys.argv[2] if len(sys.argv) > 2 else "crates/link_replay/out/link_replay")
+    chance, key, seen = random.Random(int(sys.argv[3]) if len(sys.argv) > 3 else 1), bytes.fromhex(KEY.strip()), {}
+    with tempfile.TemporaryDirectory(prefix="random_lines.") as folder:
+        key_file, journal = os.path.join(folder, "key"), os.path.join(folder, "journal")
+        open(key_file, "w").write(KEY)
+        for _ in range(lines):
+            proto, command, direction = chance.choice([Rtu, Dnp3]), chance.choice(["read", "seal", "check", "check"]), chance.randrange(2)
+            floor = chance.choice([0, 0, 5, 65530, 70000, LIMIT - 3, LIMIT])
+            line = some_line(proto, key, direction, floor, command != "seal", chance)
+            words = [command, proto.word] + ([] if command == "read" else [["ab", "ba"][direction], key_file, journal])
+            wrote, wanted = run(program, words, line, journal, floor), expected(proto, command, key, direction, line, floor)
+            if wrote != wanted:
+                sys.exit("`%s` from floor %d writes\n%s\nand the model\n%s\nof the line\n%s"
+                         % (" ".join(words), floor, wrote, wanted, model.canonical(line)))
+            for note in wrote[2] + wrote[1].splitlines() * (command == "read"):
+                kind = " ".join([proto.word] + [word for word in note.split() if word.isalpha() and word not in ("at", "len")][:2])
+                seen[kind] = seen.get(kind, 0) + 1
+    print("%d lines, and all is what the model writes. Seen were:" % lines)
+    print("\n".join("%7d %s" % (count, kind) for kind, count in sorted(seen.items())))
+
+
+main()
