@@ -192,6 +192,27 @@ fn rtu_members_at_their_gap(rt: HostRuntime) -> Result<(), Fail> {
 }
 
 #[test]
+fn rtu_members_behind_noise(rt: HostRuntime) -> Result<(), Fail> {
+    // a byte of noise, and so much silence before the query that it ends a burst, or too little
+    let alloc = rt.alloc();
+    let short = [Bytes(b"\x00"), Silence(17), Bytes(QUERY), Silence(18)];
+    let members = [
+        Rtu(2, 1, &[(27, 18, QUERY)]),
+        Rtu(17, 16, &[(42, 18, QUERY)]),
+        Rtu(18, 1, &[]),
+        Rtu(18, 17, &[]),
+    ];
+    assert_eq!(rt; rtu_miss(alloc, &short, &members)?, None);
+    let long = [Bytes(b"\x00"), Silence(18), Bytes(QUERY), Silence(18)];
+    let members = [
+        Rtu(18, 1, &[(44, 19, QUERY)]),
+        Rtu(18, 17, &[(44, 19, QUERY)]),
+    ];
+    assert_eq!(rt; rtu_miss(alloc, &long, &members)?, None);
+    Ok(())
+}
+
+#[test]
 fn longest_frame_for_a_member(rt: HostRuntime) -> Result<(), Fail> {
     let alloc = rt.alloc();
     let longest = [Bytes(&[0; 254]), Bytes(b"\x55\x4E"), Silence(18)];
@@ -247,5 +268,10 @@ fn dnp_members(rt: HostRuntime) -> Result<(), Fail> {
     let broken = [Bytes(LONGEST_HEADER), Silence(2), Bytes(RESET_LINK)];
     let members = [Dnp3(0, &[]), Dnp3(2, &[(21, 12, RESET_LINK)]), Dnp3(3, &[])];
     assert_eq!(rt; dnp_miss(alloc, &broken, &members)?, None);
+
+    // one that begins inside bytes that are taken for a header
+    let inside = [Bytes(b"\x05\x64\x05"), Bytes(RESET_LINK)];
+    let members = [Dnp3(0, &[]), Dnp3(2, &[])];
+    assert_eq!(rt; dnp_miss(alloc, &inside, &members)?, None);
     Ok(())
 }

@@ -26,3 +26,4 @@ pub mod InStep
 pub mod QuietLines
 pub mod Recovering
 pub mod WorkedRecovery
+mod WorkedMembers
