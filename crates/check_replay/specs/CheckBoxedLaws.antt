@@ -27,7 +27,8 @@ use Rattle.check_replay.specs.NoteLines.{check_line}
 use Rattle.check_replay.specs.CheckBoxed.{HaveWidths, checking, checking_by}
 
 module _ (profile : Profile) (rules : Rules) (lawful : IsLawful rules) (floor : ℕ) where
-  pub passed-rise : (link : List Tick) → RiseFrom floor (numbers_of (passed profile rules floor link))
+  pub passed-rise : (link : List Tick)
+      → RiseFrom floor (numbers_of (passed profile rules floor link))
   passed-rise link = (have_passed profile rules lawful floor link).rise
 
   checking-boxed : IsHeaded rules → IsTimely profile rules

@@ -39,7 +39,8 @@ rise-counted floor (f ∷ frames) are =
     (above, rise-counted f.number frames rest)
 
 module _ (profile : Profile) (rules : Rules) (lawful : IsLawful rules) (floor : ℕ) where
-  pub sealed-rise : (line : List Tick) → RiseFrom floor (numbers_of (sealed profile rules floor line))
+  pub sealed-rise : (line : List Tick)
+      → RiseFrom floor (numbers_of (sealed profile rules floor line))
   sealed-rise line = rise-counted floor (sealed profile rules floor line)
       (sealed-numbered profile rules lawful floor line).numbers
 
