@@ -120,8 +120,8 @@ texts_after_note result out0 out2 log0 log1 log2 ticks_wait notes_wait text note
     record {
       text_goes = then.text_goes;
       text_stops = then.text_stops;
-      notes_go = on_ok_weaker result (λ goes. buffered_then log0 log1 log2 notes mid notes_wait first
-          goes) then.notes_go;
+      notes_go = on_ok_weaker result
+          (λ goes. buffered_then log0 log1 log2 notes mid notes_wait first goes) then.notes_go;
       notes_stop = on_err_weaker result (λ stops. part_then log0 log1 log2 notes mid first stops)
           then.notes_stop;
       notes_first = elim then.notes_first [

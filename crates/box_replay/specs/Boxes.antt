@@ -44,7 +44,8 @@ pub record FailsBox (box : Boxed) (line : List Tick) (t : Tick) (told : Option S
   pub uses : box.number line < box.number (line ++ t ∷ [])
   pub floor_told : IfSome told (IsEitherFloor (box.number line) (box.number (line ++ t ∷ [])))
 
--- A run of ticks of a line goes on as it is: the box answers each with itself, notes nothing and uses no number.
+-- A run of ticks of a line goes on as it is: the box answers each with itself, notes nothing and
+-- uses no number.
 pub record Forwards (box : Boxed) (line run : List Tick) : Type 0 where
   pub ticks : box.other_line (line ++ run) ≡ box.other_line line ++ run
   pub notes : box.note_lines (line ++ run) ≡ box.note_lines line

@@ -95,8 +95,9 @@ pub trait LineBox: Drop {
             (HasFloorAtLeast (journal_floor journal.old)) }
         ensures cause { HasCause (D.faults disk.old) (D.faults disk.new) result };
 
-    /// Takes the first of these bytes, one a tick, as far as the box answers each with itself, without
-    /// a note and without a number, and answers how many. With 0 the caller goes on by `step`.
+    /// Takes the first of these bytes, one a tick, as far as the box answers each with itself,
+    /// without a note and without a number, and answers how many. With 0 the caller goes on by
+    /// `step`.
     fn forward_bytes(&mut self, _bytes: &[u8]) -> usize
         requires { taken self.old + length _bytes.now ≤ MAX_TICKS }
         ensures within { result ≤ length _bytes.now }

@@ -65,7 +65,8 @@ use Rattle.check_receiver.specs.Turning.{Turned, closed_at}
 use Rattle.check_receiver.specs.declared.arriving.Arriving.{Arriving}
 use Rattle.check_receiver.specs.declared.checker.Checker.{Checker}
 use Rattle.check_receiver.specs.declared.step.CheckStep.{CheckStep}
-use Rattle.check_receiver.proofs.Machine.{last_of-more, waiting-some, ring-waits, assembled, some-left}
+use Rattle.check_receiver.proofs.Machine.{last_of-more, waiting-some, ring-waits, assembled}
+use Rattle.check_receiver.proofs.Machine.{some-left}
 use Rattle.check_receiver.proofs.Silences.{timely}
 use Rattle.check_receiver.proofs.Trailing.{trailer-bytes, bytes-more}
 

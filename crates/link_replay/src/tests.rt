@@ -366,7 +366,8 @@ const BOXES: [Row; 7] = [
         },
         code: 8,
         out: b"",
-        log: b"fault: bad journal 11111111111111111111111111111111 11111111111111111111111111111111\n",
+        log: b"fault: bad journal 11111111111111111111111111111111 111111111111111111111111\
+            11111111\n",
         slots_now: (NO_NUMBER, NO_NUMBER),
         ..SEAL
     },

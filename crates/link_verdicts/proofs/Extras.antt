@@ -32,7 +32,8 @@ use Rattle.link_verdicts.proofs.Flow.{Flows}
 use Rattle.link_verdicts.proofs.Opening.{open-goes, refuse-goes, pass-goes}
 use Rattle.link_verdicts.proofs.Growing.{live-long, opens-over, over-end, over-whole, over-left}
 use Rattle.link_verdicts.proofs.Growing.{over-live}
-use Rattle.link_verdicts.proofs.Growing.{over-breaks, over-keeps, over-good, over-long-header, breaks}
+use Rattle.link_verdicts.proofs.Growing.{over-breaks, over-keeps, over-good, over-long-header}
+use Rattle.link_verdicts.proofs.Growing.{breaks}
 use Rattle.link_verdicts.proofs.Lives.{seen}
 use Rattle.link_verdicts.proofs.Resting.{causal, room-more}
 

@@ -41,7 +41,8 @@ use Rattle.link_verdicts.proofs.Leavings.{leaves-none, fill_out-zero, leaves-sil
 use Rattle.link_verdicts.proofs.Leavings.{leaves-passed}
 use Rattle.link_verdicts.proofs.Leavings.{leaves-spoiled, leaves-drop, leaves-behind}
 use Rattle.link_verdicts.proofs.Past.{past, judged-late, length-spoiled}
-use Rattle.link_verdicts.proofs.Resting.{goes-at, noted-come, noted-answers, still-come, still-answers}
+use Rattle.link_verdicts.proofs.Resting.{goes-at, noted-come, noted-answers, still-come}
+use Rattle.link_verdicts.proofs.Resting.{still-answers}
 
 -- ---- silence in front
 

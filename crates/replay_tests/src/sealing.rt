@@ -58,7 +58,8 @@ const SEALED: [Row; 10] = [
     },
     Row {
         text: b"+01030000000ac5cd\n-21\n+010300000001840a\n",
-        out: b"+01030000000ac5cd\n-3\n+0001014c5b8d33c6d29a347013b0\n-4\n+010300000001840a\n-3\n+0002ee5b1d1d6fc159af2411aeb5\n-7\n",
+        out: b"+01030000000ac5cd\n-3\n+0001014c5b8d33c6d29a347013b0\n-4\n+010300000001840a\n-3\n\
+            +0002ee5b1d1d6fc159af2411aeb5\n-7\n",
         log: b"sealed 1 at 0 len 8\nsealed 2 at 29 len 8\n",
         slots_now: (AT_2, AT_1),
         ..WHOLE
@@ -66,7 +67,8 @@ const SEALED: [Row; 10] = [
     // Single silent ticks inside a frame.
     Row {
         text: b"+01\n-1\n+03\n-1\n+00\n-1\n+00\n-1\n+00\n-1\n+0a\n-1\n+c5\n-1\n+cd\n",
-        out: b"+01\n-1\n+03\n-1\n+00\n-1\n+00\n-1\n+00\n-1\n+0a\n-1\n+c5\n-1\n+cd\n-3\n+0001014c5b8d33c6d29a347013b0\n-7\n",
+        out: b"+01\n-1\n+03\n-1\n+00\n-1\n+00\n-1\n+00\n-1\n+0a\n-1\n+c5\n-1\n+cd\n-3\n\
+            +0001014c5b8d33c6d29a347013b0\n-7\n",
         ..WHOLE
     },
     // A pause of two ticks inside a frame: what comes behind it isn't live.
@@ -162,10 +164,13 @@ const TWO_CLOSED: &[u8] =
     b"+01030000000ac5cd\n-3\n+0001014c5b8d33c6d29a347013b0\n-4\n+010300000001840a\n-3\n";
 
 const THREE_CLOSED: &[u8] =
-    b"+01030000000ac5cd\n-3\n+0001014c5b8d33c6d29a347013b0\n-4\n+010300000001840a\n-3\n+0002ee5b1d1d6fc159af2411aeb5\n-4\n+1103006b00037687\n-3\n";
+    b"+01030000000ac5cd\n-3\n+0001014c5b8d33c6d29a347013b0\n-4\n+010300000001840a\n-3\n\
+        +0002ee5b1d1d6fc159af2411aeb5\n-4\n+1103006b00037687\n-3\n";
 
 const THREE_SEALED: &[u8] =
-    b"+01030000000ac5cd\n-3\n+0001014c5b8d33c6d29a347013b0\n-4\n+010300000001840a\n-3\n+0002ee5b1d1d6fc159af2411aeb5\n-4\n+1103006b00037687\n-3\n+00037f89dbbfa5b4b19474035c96\n-7\n";
+    b"+01030000000ac5cd\n-3\n+0001014c5b8d33c6d29a347013b0\n-4\n+010300000001840a\n-3\n\
+        +0002ee5b1d1d6fc159af2411aeb5\n-4\n+1103006b00037687\n-3\n+00037f89dbbfa5b4b19474035c96\n\
+        -7\n";
 
 const DISK_FAULTS: [DiskFault; 9] = [
     (&[1], b"", 0, 0),
@@ -247,7 +252,8 @@ const NOT_DONE: [Row; 9] = [
             b: [0x11; 16],
         },
         code: 8,
-        log: b"fault: bad journal 11111111111111111111111111111111 11111111111111111111111111111111\n",
+        log: b"fault: bad journal 11111111111111111111111111111111 111111111111111111111111\
+            11111111\n",
         slots_now: (NO_NUMBER, NO_NUMBER),
         ..REFUSED
     },

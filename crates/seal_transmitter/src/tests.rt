@@ -53,7 +53,8 @@ fn a_frame_is_sealed_and_another_burst_is_not(rt: HostRuntime) -> Result<(), Fai
     //     | openssl dgst -sha1 -mac HMAC -macopt hexkey:000102030405060708090a0b0c0d0e0f
     //     | cut -c1-24
     let link: &[u8] =
-        b"\x01\x02\x03\x00...\x02\x03\xbb\x3b\x20\xfe\x5a\x05\xb7\x81\xaa\x48\x00\x13....\x05\x06....";
+        b"\x01\x02\x03\x00...\x02\x03\xbb\x3b\x20\xfe\x5a\x05\xb7\x81\xaa\x48\x00\x13.\
+            ...\x05\x06....";
     assert_eq!(rt; steps.len(), link.len());
     for (i, (step, letter)) in steps.iter().zip(link).enumerate() {
         let note = match i {
@@ -88,8 +89,8 @@ fn a_word_may_have_four_bytes(rt: HostRuntime) -> Result<(), Fail> {
     let steps = steps(rt.alloc(), &mut sealer, &mut journal, &mut disk, line)?;
 
     // The tag is the same, and the burst behind it starts a tick too early.
-    let link: &[u8] =
-        b"\x01\x02\x03\x00...\x00\x01\x02\x03\xbb\x3b\x20\xfe\x5a\x05\xb7\x81\xaa\x48\x00\x13...........";
+    let link: &[u8] = b"\x01\x02\x03\x00...\x00\x01\x02\x03\xbb\x3b\x20\xfe\x5a\x05\xb7\x81\xaa\x48\
+            \x00\x13...........";
     assert_eq!(rt; steps.len(), link.len());
     for (step, letter) in steps.iter().zip(link) {
         assert_eq!(rt; step.tick, tick_of(*letter));

@@ -14,7 +14,8 @@ const ACCEPTED: [(&[u8], &[u8], u32); 10] = [
     (b"-1000000", b"", 1000000),
     (b"-4\n+7e\n-20\r\n", b"~", 24),
     (
-        b"#cccccccccccccccccccccccccccccccccccccccccccccccccccccccccccccccccccccccccccccccccccccccccccccccccccccccccccccccccccccccc\n",
+        b"#ccccccccccccccccccccccccccccccccccccccccccccccccccccccccccccccccccccccccccc\
+            ccccccccccccccccccccccccccccccccccccccccccccc\n",
         b"",
         0,
     ),
@@ -56,7 +57,8 @@ const REFUSED: [(&[u8], u32, TickFault); 21] = [
         TickFault::Char,
     ),
     (
-        b"\n#ccccccccccccccccccccccccccccccccccccccccccccccccccccccccccccccccccccccccccccccccccccccccccccccccccccccccccccccccccccccccc",
+        b"\n#ccccccccccccccccccccccccccccccccccccccccccccccccccccccccccccccccccccccccccc\
+            cccccccccccccccccccccccccccccccccccccccccccccc",
         2,
         TickFault::Long,
     ),
