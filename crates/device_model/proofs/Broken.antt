@@ -152,14 +152,14 @@ whole-grown gap c body q b contiguous whole =
     grown-broken gap c body q b contiguous
     ∙ both-whole (has_silence (suc gap) body) (nat_lt 256 n) (nat_lt gap q) (nat_le 256 n) whole
 
--- so a device knows it, which keeps all bytes of ticks that aren't broken
-pub grown-is : (gap c : ℕ) (body : List Tick) (q b : ℕ) (broken : Bool) (bytes : List ℕ)
+-- so a device knows it, which knows of ticks that aren't broken whether there is room
+pub grown-is : (gap c : ℕ) (body : List Tick) (q b : ℕ) (broken full : Bool)
     → IsContiguous c body → broken ≡ is_broken gap body
-    → (broken ≡ false → bytes ≡ bytes_in body)
-    → (broken || (nat_lt gap q || nat_le 256 (length bytes)))
+    → (broken ≡ false → full ≡ nat_le 256 (length (bytes_in body)))
+    → (broken || (nat_lt gap q || full))
     ≡ is_broken gap (body ++ (silent q ++ Byte b ∷ []))
-grown-is gap c body q b true bytes contiguous is are =
+grown-is gap c body q b true full contiguous is known =
     sym (broken-stays gap c body q b contiguous (sym is))
-grown-is gap c body q b false bytes contiguous is are =
-    ap (λ x. nat_lt gap q || nat_le 256 (length x)) (are refl)
+grown-is gap c body q b false full contiguous is known =
+    ap (λ v. nat_lt gap q || v) (known refl)
     ∙ sym (whole-grown gap c body q b contiguous (sym is))

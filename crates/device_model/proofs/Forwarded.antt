@@ -150,10 +150,6 @@ module _ (d : Burst) (contiguous : IsContiguous 4 d.body) where
       (sym (calm-body none) ∙ framed)).at_most)
       (cases_Bool (has_pause d.body))
 
--- there is room for the live bytes
-pub live-short : (d : Burst) → length (live_bytes rtu_rules d) ≤ 256
-live-short d = let room = length-take 256 (spelled d) in omega arith
-
 -- ---- a line
 
 -- a burst that both tests or neither take, in front of others of which the same is taken

@@ -1,6 +1,5 @@
 pub mod ReadLaws
 pub mod Forwarded
-pub mod RtuLaws
 pub mod Runs
 pub mod Rows
 pub mod Heads

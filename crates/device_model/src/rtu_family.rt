@@ -1,11 +1,9 @@
 use crate::device::FrameAt;
 use crate::silence::Silence;
 use arrayvec::ArrayVec;
-use rtu_frame::is_frame;
+use line_rules::LineRules;
+use rtu_frame::Rtu;
 use yasir_ticks::{MAX_TICKS, Tick};
-
-// How many bytes a frame has at most.
-const LONGEST: usize = 256;
 
 /// A Modbus RTU device with silences of its own: it takes `cut` silent ticks together for the end
 /// of a burst, and reads the burst if at most `gap` silent ticks stand together in it and its bytes
@@ -17,17 +15,19 @@ pub struct RtuFamily {
     silence: Silence,
     gap: u8,
     // of the burst that is running or was the last: the tick of its first byte, whether it can be
-    // no frame any more, and its bytes if it can
+    // no frame any more, and if it can, its bytes, and what they are by the rules
     start: u64,
     broken: bool,
     bytes: ArrayVec<u8, 292>,
+    rules: Rtu,
 }
 
 impl RtuFamily {
-    ghost use Rattle.std.specs.Prelude.{◌≡◌, ℕ, ◌+◌, ◌<◌, ◌≤◌, ◌||◌, nat_lt, nat_le, false, List};
+    ghost use Rattle.std.specs.Prelude.{◌≡◌, ℕ, ◌+◌, ◌<◌, ◌≤◌, ◌||◌, nat_lt, false, List};
     ghost use Rattle.std.specs.Prelude.{[], ◌∷◌, ◌++◌, length};
     ghost use Rattle.yasir_ticks.specs.declared.tick.Tick.{Tick};
     ghost use Rattle.yasir_ticks.specs.declared.tick.Tick.TheVariants.{Silent, Byte};
+    ghost use Rattle.rtu_frame.specs.Rtu.{RtuStandsFor, is_full_rtu};
     ghost use Rattle.device_model.specs.Frames.{frames_of};
     ghost use Rattle.device_model.specs.RtuFamily.{RtuFamilyStandsFor, rtu_family_reads};
     ghost use Rattle.device_model.specs.RtuFamily.{ticks_heard, frame_at_end};
@@ -50,6 +50,7 @@ impl RtuFamily {
             start: 0,
             broken: false,
             bytes: ArrayVec::new(),
+            rules: Rtu::fresh(),
         }
     }
 
@@ -64,11 +65,14 @@ impl RtuFamily {
         ensures start { self.new.start ≡ self.old.ticks }
         ensures broken { self.new.broken ≡ false }
         ensures bytes { self.new.bytes.items ≡ byte ∷ [] }
+        ensures rules { RtuStandsFor self.new.rules (byte ∷ []) }
     {
         self.start = self.ticks;
         self.broken = false;
         self.bytes.clear();
         self.bytes.push(byte);
+        self.rules.restart();
+        self.rules.take(byte);
         self.silence.end();
         self.ticks += 1;
     }
@@ -81,16 +85,20 @@ impl RtuFamily {
         ensures gap { self.new.gap ≡ self.old.gap }
         ensures start { self.new.start ≡ self.old.start }
         ensures broken { self.new.broken ≡ (self.old.broken
-            || (nat_lt self.old.gap self.old.silence.quiet
-            || nat_le 256 (length self.old.bytes.items))) }
-        ensures bytes { self.new.broken ≡ false
+            || (nat_lt self.old.gap self.old.silence.quiet || is_full_rtu self.old.rules)) }
+        ensures bytes { self.new.broken ≡ false → length self.old.bytes.items < 292
             → self.new.bytes.items ≡ self.old.bytes.items ++ byte ∷ [] }
+        ensures rules { self.new.broken ≡ false → (x : List ℕ) → RtuStandsFor self.old.rules x
+            → RtuStandsFor self.new.rules (x ++ byte ∷ []) }
     {
-        if self.silence.ticks() > self.gap || self.bytes.len() >= LONGEST {
+        if self.silence.ticks() > self.gap || self.rules.full() {
             self.broken = true;
             return;
         }
-        self.bytes.push(byte);
+        self.rules.take(byte);
+        if !self.bytes.is_full() {
+            self.bytes.push(byte);
+        }
     }
 
     // A further byte of a burst.
@@ -103,10 +111,11 @@ impl RtuFamily {
         ensures gap { self.new.gap ≡ self.old.gap }
         ensures start { self.new.start ≡ self.old.start }
         ensures broken { self.new.broken ≡ (self.old.broken
-            || (nat_lt self.old.gap self.old.silence.quiet
-            || nat_le 256 (length self.old.bytes.items))) }
-        ensures bytes { self.new.broken ≡ false
+            || (nat_lt self.old.gap self.old.silence.quiet || is_full_rtu self.old.rules)) }
+        ensures bytes { self.new.broken ≡ false → length self.old.bytes.items < 292
             → self.new.bytes.items ≡ self.old.bytes.items ++ byte ∷ [] }
+        ensures rules { self.new.broken ≡ false → (x : List ℕ) → RtuStandsFor self.old.rules x
+            → RtuStandsFor self.new.rules (x ++ byte ∷ []) }
     {
         self.keep(byte);
         self.silence.end();
@@ -119,13 +128,14 @@ impl RtuFamily {
         ensures ticks { self.new.ticks ≡ self.old.ticks }
         ensures silence { self.new.silence ≡ self.old.silence }
         ensures gap { self.new.gap ≡ self.old.gap }
-        ensures frame { frames_of result
+        ensures frame { (self.old.broken ≡ false
+            → RtuStandsFor self.old.rules self.old.bytes.items) → frames_of result
             ≡ frame_at_end self.old.broken self.old.start self.old.bytes.items }
     {
         if self.broken {
             return None;
         }
-        if !is_frame(self.bytes.as_slice()) {
+        if !self.rules.good() {
             return None;
         }
         Some(FrameAt {

@@ -1,5 +1,5 @@
-use Rattle.std.proofs.Common.{◌∙◌, ◌+◌, sym, ap, refl, ◌++◌}
-use Rattle.device_model.specs.RtuFamily.{rtu_family_reads}
+use Rattle.std.proofs.Common.{◌∙◌, ◌+◌, sym, ap, refl}
+use Rattle.device_model.specs.Frames.{frames_of}
 use Rattle.device_model.proofs.RtuFamilyLaws.{waits_on, ends}
 use Rattle.device_model.proofs.rtu_family.RtuFamily.wait.Goals as goal
 
@@ -8,24 +8,25 @@ returns-then-wait-clause-stands c = λ cut gap line heard.
     (ends cut gap c.args.self.now c.close.new.self line heard
     (ap (λ s. s.cut) c.close.ensures.silence ∙ c.wait.ensures.cut) c.close.ensures.gap
     c.close.ensures.ticks (ap (λ s. s.quiet) c.close.ensures.silence ∙ c.wait.ensures.quiet)
-    (sym c.wait.ensures.parts ∙ c.if-wait.true)).stands
+    (sym c.wait.ensures.parts ∙ c.if-wait.true) (frames_of c.close.result)
+    c.close.ensures.frame).stands
 
 pub returns-then-wait-clause-answer : goal.returns-then-wait-clause-answer
 returns-then-wait-clause-answer c = λ cut gap line heard.
     (ends cut gap c.args.self.now c.close.new.self line heard
     (ap (λ s. s.cut) c.close.ensures.silence ∙ c.wait.ensures.cut) c.close.ensures.gap
     c.close.ensures.ticks (ap (λ s. s.quiet) c.close.ensures.silence ∙ c.wait.ensures.quiet)
-    (sym c.wait.ensures.parts ∙ c.if-wait.true)).is
-    ∙ ap (λ x. rtu_family_reads cut gap line ++ x) (sym c.close.ensures.frame)
+    (sym c.wait.ensures.parts ∙ c.if-wait.true) (frames_of c.close.result)
+    c.close.ensures.frame).is
 
 pub returns-clause-stands : goal.returns-clause-stands
 returns-clause-stands c = λ cut gap line heard.
     (waits_on cut gap c.args.self.now _ line heard c.wait.ensures.cut refl refl
-    c.wait.ensures.quiet (sym c.wait.ensures.parts ∙ c.if-wait.false) refl refl refl).stands
+    c.wait.ensures.quiet (sym c.wait.ensures.parts ∙ c.if-wait.false) refl refl refl refl).stands
 
 pub returns-clause-answer : goal.returns-clause-answer
 returns-clause-answer c = λ cut gap line heard.
     (waits_on cut gap c.args.self.now
     (record c.args.self.now { silence = c.wait.new.self; ticks = c.args.self.now.ticks + 1 }) line
     heard c.wait.ensures.cut refl refl c.wait.ensures.quiet
-    (sym c.wait.ensures.parts ∙ c.if-wait.false) refl refl refl).is
+    (sym c.wait.ensures.parts ∙ c.if-wait.false) refl refl refl refl).is
