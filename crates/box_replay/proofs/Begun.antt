@@ -4,17 +4,21 @@ use Rattle.std.proofs.Common.{ap, subst, arith}
 use Rattle.std.specs.Prelude.{IsSomeAnd}
 use Rattle.yasir_io.specs.Disks.{Slots}
 use Rattle.yasir_ticks.specs.Ticks.{Item, ticks_in, AreTicks}
-use Rattle.yasir_ticks.specs.Ticks.Item.{tick}
+use Rattle.yasir_ticks.specs.Ticks.Item.{tick, mark}
 use Rattle.yasir_ticks.specs.CanonicalText.{canonical_text}
 use Rattle.yasir_ticks.specs.Writer.{HasWritten}
 use Rattle.yasir_ticks.specs.declared.tick.Tick.{Tick}
 use Rattle.yasir_ticks.specs.declared.writer.TickWriter.{TickWriter}
 use Rattle.sequence_journal.specs.Journal.{HasFloorAtLeast}
 use Rattle.sequence_journal.specs.Slots.{floor_of}
-use Rattle.tick_drive.proofs.ItemLaws.{ticks_in-append}
+use Rattle.tick_drive.specs.Consumers.{Outputs}
+use Rattle.tick_drive.proofs.ItemLaws.{ticks_in-append, ticks_in-mark}
 use Rattle.replay_status.proofs.Printing.{append_known-nil}
 use Rattle.box_replay.specs.Boxes.{Boxed, IsBoxed}
 use Rattle.box_replay.specs.Sending.{SinkTexts, Waiting, waiting, SendsBoxed}
+use Rattle.box_replay.specs.BoxLines.{BoxOrigin, DrivesBox}
+use Rattle.box_replay.specs.declared.line_box.LineBox.{Ghosts as LineBox}
+use Rattle.box_replay.specs.declared.box_lines.BoxLines.{BoxLines}
 
 from_less : (m n : ℕ) (floor : Option ℕ) → m ≤ n → IsSomeAnd floor (λ f. n ≤ f)
     → IsSomeAnd floor (λ f. m ≤ f)
@@ -28,6 +32,16 @@ floor_from_less m n le c has = from_less m n (floor_of c) le has
 pub one_more : (items : List Item) (t : Tick)
     → ticks_in (items ++ tick t ∷ []) ≡ ticks_in items ++ t ∷ []
 one_more items t = ticks_in-append items (tick t ∷ [])
+
+-- a mark is no tick of the line
+pub drives_at_mark : {B N : Type 0} (b : LineBox B N) (lines : BoxLines B) (origin : BoxOrigin)
+    (outputs : Outputs) (items : List Item) → DrivesBox b lines origin outputs items
+    → DrivesBox b lines origin outputs (items ++ mark ∷ [])
+drives_at_mark b lines origin outputs items before = record {
+  steps = rw (ticks_in-mark items) before.steps;
+  sends = rw (ticks_in-mark items) before.sends;
+  floor_told = before.floor_told;
+}
 
 -- nothing is on its way yet
 pub begins : (box : Boxed) (floor : ℕ) (writer : TickWriter) (ticks notes : List ℕ)

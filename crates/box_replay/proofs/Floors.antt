@@ -98,3 +98,4 @@ disk_cause_of_end before now (TooLong what count) h = h.same refl
 disk_cause_of_end before now ReadFault h = h.same refl
 disk_cause_of_end before now (Stopped stops.WriteFault) h = h.never_falls
 disk_cause_of_end before now (Stopped stops.JournalFault) h = h.failed refl
+disk_cause_of_end before now (Stopped stops.NoMemory) h = h.same refl

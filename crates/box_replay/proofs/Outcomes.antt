@@ -323,6 +323,7 @@ module _ {B N S O L D : Type 0} (b : LineBox B N) (s : Source S) (o : Sink O) (l
     write_stops (TooLong what count) write driven still = cc
     write_stops ReadFault write driven still = cc
     write_stops (Stopped stops.JournalFault) write driven still = cc
+    write_stops (Stopped stops.NoMemory) write driven still = cc
     write_stops (Stopped stops.WriteFault) write driven still =
         let stop = driven.gives.stopped in
         fronts_of_stopped driven.items (stop.place + 1) driven.takes
@@ -348,6 +349,8 @@ module _ {B N S O L D : Type 0} (b : LineBox B N) (s : Source S) (o : Sink O) (l
         let stop = driven.gives.stopped in
         fronts_of_failed driven.items (stop.place + 1) driven.takes
         (stop.at origin [] (begun origin.texts)) finish
+    finish_fails (Stopped stops.NoMemory) other driven finish =
+        absurd (driven.gives.stopped.at origin [] (begun origin.texts))
     finish_fails (Stopped stops.WriteFault) other driven finish = cc
 
     -- it was written, and the input was no whole one
@@ -368,6 +371,8 @@ module _ {B N S O L D : Type 0} (b : LineBox B N) (s : Source S) (o : Sink O) (l
         let stop = driven.gives.stopped in
         inl (fails_at_number driven.items (stop.place + 1) driven.takes
         (stop.at origin [] (begun origin.texts)) finish)
+    refusal_runs (Stopped stops.NoMemory) other partial driven finish =
+        absurd (driven.gives.stopped.at origin [] (begun origin.texts))
     refusal_runs (Stopped stops.WriteFault) other partial driven finish = cc
 
     -- it was written, and the sinks flushed or not

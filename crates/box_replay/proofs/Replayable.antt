@@ -16,7 +16,7 @@ use Rattle.replay_status.specs.declared.status.Status.{Status}
 use Rattle.replay_status.specs.declared.status.Status.TheVariants.{Done, Usage, BadTicks, ReadFault}
 use Rattle.replay_status.specs.declared.status.Status.TheVariants.{WriteFault, JournalFault}
 use Rattle.replay_status.specs.declared.status.Status.TheVariants.{TooLong, HasJournal, BadKey}
-use Rattle.replay_status.specs.declared.status.Status.TheVariants.{BadJournal}
+use Rattle.replay_status.specs.declared.status.Status.TheVariants.{BadJournal, NoMemory}
 use Rattle.replay_status.proofs.Readable.{met_of_told, all_of_told, not_refused, not_too_long}
 use Rattle.box_replay.specs.Boxes.{Boxed}
 use Rattle.box_replay.specs.ReplaysBox.{ReplaysBox, HasNoNumber, BoxDiskCause, IsReplayable}
@@ -76,6 +76,7 @@ module _ {K S O L D : Type 0} (k : Source K) (s : Source S) (o : Sink O) (l : Si
   replayable_done Done h reads disk sinks = refl
   replayable_done Usage h reads disk sinks = absurd h.runs
   replayable_done (HasJournal floor) h reads disk sinks = absurd h.runs
+  replayable_done NoMemory h reads disk sinks = absurd h.runs
   replayable_done (BadTicks bad) h reads disk sinks =
       absurd (not_refused rest (s.left before.input) (s.left after.input) h.runs.items right.input
       bad h.runs.takes)

@@ -1,6 +1,7 @@
 -- How what a box makes of its line goes on to the two sinks, by one tick, and how it ends.
 use Rattle.std.proofs.Common.{◌≡◌, ◌∙◌, ℕ, ◌⊎◌, inl, inr, List, [], ◌∷◌, ◌++◌, Option, Some, None}
-use Rattle.std.proofs.Common.{Result, Ok, Err, refl, sym, ap, subst, append_assoc, append-nil}
+use Rattle.std.proofs.Common.{Result, Ok, Err, true, false, refl, sym}
+use Rattle.std.proofs.Common.{ap, subst, append_assoc, append-nil}
 use Rattle.std.specs.Io.KnownBytes.{append_known}
 use Rattle.yasir_io.specs.Output.{Buffered, GotPrefix}
 use Rattle.std.specs.Prelude.{OnOk, OnErr}
@@ -8,9 +9,10 @@ use Rattle.std.proofs.lemmas.Result.{on_ok_weaker, on_err_weaker}
 use Rattle.yasir_io.proofs.OutputLemmas.{append_known-twice, always_on_err}
 use Rattle.yasir_ticks.specs.Ticks.{AreTicks}
 use Rattle.yasir_ticks.specs.CanonicalText.{byte_line, silence_line, canonical_text}
+use Rattle.yasir_ticks.specs.Line.{is_unfilled}
 use Rattle.yasir_ticks.specs.Writer.{HasWritten}
 use Rattle.yasir_ticks.specs.declared.run.Run.{Run}
-use Rattle.yasir_ticks.specs.declared.run.Run.TheVariants.{Nothing, Bytes, Silence}
+use Rattle.yasir_ticks.specs.declared.run.Run.TheVariants.{Nothing, Bytes, Silence, Mark}
 use Rattle.yasir_ticks.specs.declared.tick.Tick.{Tick}
 use Rattle.yasir_ticks.specs.declared.writer.TickWriter.{TickWriter}
 use Rattle.yasir_ticks.proofs.Writers.{finished_bytes, finished_silence, finished_nothing}
@@ -152,6 +154,7 @@ answered-begins writer ticks answered has = by_line writer.unfilled refl
       silence_line n,
       finished_silence writer n _ is writer.room refl ticks answered has,
     )
+    by_line Mark is = let both : false ≡ true = sym (ap is_unfilled is) ∙ writer.room in cc
 
 -- ---- the notes go first
 

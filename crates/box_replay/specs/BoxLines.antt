@@ -13,6 +13,7 @@ use Rattle.link_format.specs.Setup.{Setup}
 use Rattle.tick_drive.specs.Consumers.{Consuming, Outputs}
 use Rattle.tick_drive.specs.declared.consumer.Stop.{Stop}
 use Rattle.tick_drive.specs.declared.consumer.Stop.TheVariants.{WriteFault, JournalFault}
+use Rattle.tick_drive.specs.declared.consumer.Stop.TheVariants.{NoMemory}
 use Rattle.box_replay.specs.Boxes.{Boxed, FailsBox}
 use Rattle.box_replay.specs.Sending.{SinkTexts, sink_texts, Waiting, waiting, SendsBoxed}
 use Rattle.box_replay.specs.Sending.{HasSentFronts}
@@ -62,10 +63,11 @@ module _ {B N : Type 0} (b : LineBox B N) where
     pub floor : journal_floor lines.journal ≡ (b.boxed origin.setup).number (ticks_in items)
     pub floor_told : ToldFloor (journal_floor lines.journal) outputs.slots
 
-  -- why a box was stopped at the last of these items
+  -- why a box was stopped at the last of these items; it takes no memory
   abbrev pub StopsBox : BoxLines B → Stop → BoxOrigin → Outputs → List Item → Type 0
   StopsBox lines JournalFault origin outputs items = StopsAtNumber lines origin outputs items
   StopsBox lines WriteFault origin outputs items = StopsAtWrite lines origin outputs items
+  StopsBox lines NoMemory origin outputs items = ⊥
 
   abbrev pub driving : {D : Type 0} → SlotDisk D → Consuming (BoxLines B) D
   driving d = record {

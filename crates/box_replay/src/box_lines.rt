@@ -222,5 +222,10 @@ impl<B: LineBox, O: Sink, L: Sink, D: SlotDisk> Consumer<O, L, D> for BoxLines<B
         }
     }
 
+    // A mark is no tick of the line.
+    fn take_mark(&mut self, _out: &mut O, _log: &mut L, _disk: &mut D) -> Result<(), Stop> {
+        Ok(())
+    }
+
     ghost safe_now = { λ consumer disk image kept left. kept.floors image left };
 }

@@ -21,7 +21,7 @@ fn is_write_stop(end: &End) -> bool
 {
     match end {
         End::Stopped(Stop::WriteFault) => true,
-        End::Stopped(Stop::JournalFault) => false,
+        End::Stopped(Stop::JournalFault | Stop::NoMemory) => false,
         End::Whole | End::Refused(_) | End::TooLong { .. } | End::ReadFault => false,
     }
 }

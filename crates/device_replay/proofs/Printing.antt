@@ -5,16 +5,26 @@ use Rattle.yasir_io.specs.Output.{Buffered, GotPrefix}
 use Rattle.yasir_io.specs.TextBuffer.{waiting_bytes}
 use Rattle.yasir_io.specs.declared.text_buffer.TextBuffer.{TextBuffer}
 use Rattle.yasir_ticks.specs.Ticks.{Item, ticks_in}
-use Rattle.yasir_ticks.specs.Ticks.Item.{tick}
+use Rattle.yasir_ticks.specs.Ticks.Item.{tick, mark}
 use Rattle.yasir_ticks.specs.declared.tick.Tick.{Tick}
 use Rattle.device_model.specs.Frames.{FrameRead}
 use Rattle.device_model.specs.declared.device.Device.{Ghosts as Device}
 use Rattle.tick_drive.specs.Consumers.{Outputs}
 use Rattle.tick_drive.specs.declared.consumer.Stop.TheVariants.{WriteFault}
-use Rattle.tick_drive.proofs.ItemLaws.{ticks_in-append}
+use Rattle.tick_drive.proofs.ItemLaws.{ticks_in-append, ticks_in-mark}
 use Rattle.device_replay.specs.Lines.{frame_line, frame_lines}
 use Rattle.device_replay.specs.FrameLines.{Began, PrintsReads, StopsPrinting}
 use Rattle.device_replay.specs.declared.frame_lines.FrameLines.{FrameLines}
+
+-- a mark is no tick of the line
+pub prints_at_mark : {V : Type 0} (device : Device V) (printer : FrameLines V) (began : Began)
+    (outputs : Outputs) (items : List Item) → PrintsReads device printer began outputs items
+    → PrintsReads device printer began outputs (items ++ mark ∷ [])
+prints_at_mark device printer began outputs items before = record {
+  hears = rw (ticks_in-mark items) before.hears;
+  lines = rw (ticks_in-mark items) before.lines;
+  quiet = before.quiet;
+}
 
 abbrev printer_of : {V : Type 0} → V → TextBuffer → FrameLines V
 printer_of device lines = record { device = device; lines = lines }

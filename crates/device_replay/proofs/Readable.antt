@@ -8,7 +8,7 @@ use Rattle.replay_status.specs.declared.status.Status.{Status}
 use Rattle.replay_status.specs.declared.status.Status.TheVariants.{Done, Usage, BadTicks, ReadFault}
 use Rattle.replay_status.specs.declared.status.Status.TheVariants.{WriteFault, JournalFault}
 use Rattle.replay_status.specs.declared.status.Status.TheVariants.{TooLong, HasJournal, BadKey}
-use Rattle.replay_status.specs.declared.status.Status.TheVariants.{BadJournal}
+use Rattle.replay_status.specs.declared.status.Status.TheVariants.{BadJournal, NoMemory}
 use Rattle.replay_status.proofs.Readable.{not_refused, not_too_long}
 use Rattle.device_replay.specs.PrintsFrames.{PrintsFrames, read_rest}
 
@@ -28,6 +28,7 @@ module _ (reads : List Tick → List FrameRead) (before now out_before out_now :
       elim sinks [ inl out ↦ absurd (calm.out out) | inr log ↦ absurd (calm.log log) ]
   readable_done Usage h input sinks = absurd h
   readable_done JournalFault h input sinks = absurd h
+  readable_done NoMemory h input sinks = absurd h
   readable_done (HasJournal floor) h input sinks = absurd h
   readable_done (BadKey place) h input sinks = absurd h
   readable_done (BadJournal a b) h input sinks = absurd h

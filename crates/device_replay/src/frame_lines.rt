@@ -83,5 +83,10 @@ impl<V: Device + Drop, O: Sink, L: Sink, D: SlotDisk> Consumer<O, L, D> for Fram
         }
     }
 
+    // A mark is no tick of the line.
+    fn take_mark(&mut self, _out: &mut O, _log: &mut L, _disk: &mut D) -> Result<(), Stop> {
+        Ok(())
+    }
+
     ghost safe_now = { λ consumer disk image kept left. tt };
 }

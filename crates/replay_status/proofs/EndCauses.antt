@@ -20,6 +20,7 @@ input_cause before now (TooLong what count) h = h.same refl
 input_cause before now ReadFault h = (h.failed refl, h.never_falls)
 input_cause before now (Stopped stops.WriteFault) h = h.never_falls
 input_cause before now (Stopped stops.JournalFault) h = h.same refl
+input_cause before now (Stopped stops.NoMemory) h = h.same refl
 
 pub input_cause_of_whole : (before now : ℕ) (status : Status)
     → (status ≡ Done) ⊎ (status ≡ WriteFault) → now ≡ before
@@ -45,6 +46,9 @@ sink_cause_of_end out_before out_now log_before log_now ReadFault other partial 
 sink_cause_of_end out_before out_now log_before log_now (Stopped stops.JournalFault) other partial
     out log =
     (out, omega (arith, log))
+sink_cause_of_end out_before out_now log_before log_now (Stopped stops.NoMemory) other partial
+    out log =
+    (out, omega (arith, log))
 sink_cause_of_end out_before out_now log_before log_now (Stopped stops.WriteFault) other partial out
     log = cc
 
@@ -64,3 +68,4 @@ no_bad_journal (TooLong what count) a b is = cc
 no_bad_journal ReadFault a b is = cc
 no_bad_journal (Stopped stops.WriteFault) a b is = cc
 no_bad_journal (Stopped stops.JournalFault) a b is = cc
+no_bad_journal (Stopped stops.NoMemory) a b is = cc

@@ -6,7 +6,7 @@ use Rattle.tick_drive.specs.declared.end.End.TheVariants as ends
 use Rattle.replay_status.specs.declared.status.Status.{Status}
 use Rattle.replay_status.specs.declared.status.Status.TheVariants.{Done, BadTicks, ReadFault}
 use Rattle.replay_status.specs.declared.status.Status.TheVariants.{WriteFault, JournalFault}
-use Rattle.replay_status.specs.declared.status.Status.TheVariants.{TooLong}
+use Rattle.replay_status.specs.declared.status.Status.TheVariants.{TooLong, NoMemory}
 
 abbrev pub status_of : End → Status
 status_of Whole = Done
@@ -15,3 +15,4 @@ status_of (ends.TooLong what count) = TooLong what count
 status_of ends.ReadFault = ReadFault
 status_of (Stopped stops.WriteFault) = WriteFault
 status_of (Stopped stops.JournalFault) = JournalFault
+status_of (Stopped stops.NoMemory) = NoMemory

@@ -34,5 +34,6 @@ pub fn status_of(end: End) -> Status
         End::ReadFault => Status::ReadFault,
         End::Stopped(Stop::WriteFault) => Status::WriteFault,
         End::Stopped(Stop::JournalFault) => Status::JournalFault,
+        End::Stopped(Stop::NoMemory) => Status::NoMemory,
     }
 }

@@ -107,6 +107,7 @@ fn fault_line(status: &Status) -> Line
         Status::Usage => fixed_line(b"fault: usage\n"),
         Status::ReadFault => fixed_line(b"fault: read\n"),
         Status::JournalFault => fixed_line(b"fault: journal\n"),
+        Status::NoMemory => fixed_line(b"fault: memory\n"),
         Status::BadTicks(bad) => bad_ticks_line(bad),
         Status::TooLong { what, count } => too_long_line(*what, *count),
         Status::HasJournal { floor } => has_journal_line(*floor),

@@ -29,6 +29,8 @@ pub enum Status {
     BadKey { place: u32 },
     /// The disk holds no journal; these are its slots as they were read.
     BadJournal { a: SlotBytes, b: SlotBytes },
+    /// There was no memory for what is kept of the input.
+    NoMemory,
 }
 
 impl Status {
@@ -49,6 +51,7 @@ impl Status {
             Status::HasJournal { .. } => 11,
             Status::BadKey { .. } => 3,
             Status::BadJournal { .. } => 8,
+            Status::NoMemory => 9,
         }
     }
 }

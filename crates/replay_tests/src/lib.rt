@@ -18,3 +18,5 @@ mod over_boxes;
 mod reading;
 #[cfg(test)]
 mod sealing;
+#[cfg(test)]
+mod two_recordings;

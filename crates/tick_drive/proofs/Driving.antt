@@ -1,5 +1,5 @@
 -- How a drive over an input goes on by a byte and by a line, and how it ends.
-use Rattle.std.proofs.Common.{◌≡◌, ◌≢◌, ℕ, ◌+◌, ◌≤◌, inl, inr, List, [], ◌∷◌, ◌++◌, length}
+use Rattle.std.proofs.Common.{◌≡◌, ◌≢◌, ℕ, ◌≤◌, inl, inr, List, [], ◌∷◌, ◌++◌, length}
 use Rattle.std.proofs.Common.{Option, Ok, Err, Bool, true, false, subst, sym, ap, refl, ◌∙◌, arith}
 use Rattle.std.proofs.Common.{append-nil, length-append}
 use Rattle.std.specs.Prelude.{unwrap_or}
@@ -21,7 +21,7 @@ use Rattle.tick_drive.specs.Input.{IsMetOf, EndsLine, IsWhole, IsReadCause, max_
 use Rattle.tick_drive.specs.Input.{is_read_fault}
 use Rattle.tick_drive.specs.Intake.{HasMet, MeetsRun, MeetsEnd, StepAnswer, FinishAnswer}
 use Rattle.tick_drive.specs.Drive.{Drives, HandsOver, HandAnswer}
-use Rattle.tick_drive.proofs.ItemLaws.{ticks_in-append, length-items}
+use Rattle.tick_drive.proofs.ItemLaws.{ticks_with}
 use Rattle.tick_drive.proofs.Moving.{gives_then, gives_front, gives_items}
 use Rattle.tick_drive.specs.declared.consumer.Stop.{Stop}
 use Rattle.tick_drive.specs.declared.intake.Intake.{Intake}
@@ -48,12 +48,6 @@ ends_by_line_feed text byte line ended some = elim (cases_eq byte line_feed) [
     same : byte ≢ 10 → ended_items (text ++ byte ∷ []) ≡ ended_items text
     same other = ap (λ lines. flat_map (λ l. unwrap_or (line_items l) []) lines.ended)
         (lines_of-more text byte other)
-
--- how many ticks there are with a line more
-ticks_with : (items line : List Item) → length (ticks_in (items ++ line))
-    ≡ length (ticks_in items) + length (ticks_in line)
-ticks_with items line = ap length (ticks_in-append items line)
-    ∙ length-append (ticks_in items) (ticks_in line)
 
 -- the LF ends a line behind these bytes, in which no line with ticks ended
 ends_line : (intake : Intake) (marks : ℕ) (before now : Option (List ℕ)) (text : List ℕ) (run : Run)
@@ -86,12 +80,12 @@ rested marks rest before now items h = record {
   are = ap (λ items. items ++ silent_items rest) (h.are ∙ append-nil h.told);
 }
 
--- a whole input has no mark, and few ticks: so many items
-pub length-whole : (marks : ℕ) (before now : Option (List ℕ)) (items : List Item) → marks ≡ 0
-    → IsWhole marks 0 before now items → length items ≤ max_ticks
-length-whole marks before now items none h =
-    let long : length items ≡ length h.told = ap length (h.are ∙ append-nil h.told) in
-    omega (arith, long, none, h.few, h.right.marked, length-items h.told)
+-- a whole input has few ticks
+pub few-whole : (marks : ℕ) (before now : Option (List ℕ)) (items : List Item)
+    → IsWhole marks 0 before now items → length (ticks_in items) ≤ max_ticks
+few-whole marks before now items h =
+    let same : length (ticks_in items) ≡ length (ticks_in h.told) =
+    ap (λ l. length (ticks_in l)) (h.are ∙ append-nil h.told) in omega (arith, same, h.few)
 
 -- nothing was read
 pub read_same : (in0 in1 : ℕ) (is_cause : Bool) → in1 ≡ in0 → is_cause ≡ false

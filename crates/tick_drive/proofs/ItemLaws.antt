@@ -1,11 +1,12 @@
 -- Ticks among items, and how many a run has.
 use Rattle.std.proofs.Common.{◌≡◌, ℕ, suc, zero, ◌+◌, ◌-◌, ◌<◌, ◌≤◌, List, [], ◌∷◌, ◌++◌, length}
-use Rattle.std.proofs.Common.{get_or, take, drop, map, replicate, refl, ap, sym, ◌∙◌, arith}
+use Rattle.std.proofs.Common.{get_or, take, drop, map, replicate, length-append, append-nil, refl}
+use Rattle.std.proofs.Common.{ap, sym, ◌∙◌, arith}
 use Rattle.std.proofs.lemmas.List.{map-append, take_more, take-append-drop}
-use Rattle.std.proofs.lemmas.List.{replicate-append-replicate, length-map, length-replicate}
+use Rattle.std.proofs.lemmas.List.{replicate-append-replicate}
 use Rattle.std.proofs.lemmas.List.{length-take}
 use Rattle.tick_drive.specs.Items.{byte_items, silent_items}
-use Rattle.yasir_ticks.specs.Ticks.{Item, ticks_in, marks_in}
+use Rattle.yasir_ticks.specs.Ticks.{Item, ticks_in}
 use Rattle.yasir_ticks.specs.Ticks.Item.{tick, mark}
 use Rattle.yasir_ticks.specs.declared.tick.Tick.TheVariants.{Silent, Byte}
 
@@ -14,11 +15,15 @@ ticks_in-append [] b = refl
 ticks_in-append (tick t ∷ a) b = ap (λ l. t ∷ l) (ticks_in-append a b)
 ticks_in-append (mark ∷ a) b = ticks_in-append a b
 
--- each item is a tick or a mark
-pub length-items : (items : List Item) → length items ≡ length (ticks_in items) + marks_in items
-length-items [] = refl
-length-items (tick t ∷ items) = let rest = length-items items in omega (arith, rest)
-length-items (mark ∷ items) = let rest = length-items items in omega (arith, rest)
+-- how many ticks there are with some items more
+pub ticks_with : (items more : List Item) → length (ticks_in (items ++ more))
+    ≡ length (ticks_in items) + length (ticks_in more)
+ticks_with items more = ap length (ticks_in-append items more)
+    ∙ length-append (ticks_in items) (ticks_in more)
+
+-- a mark is no tick
+pub ticks_in-mark : (items : List Item) → ticks_in (items ++ mark ∷ []) ≡ ticks_in items
+ticks_in-mark items = ticks_in-append items (mark ∷ []) ∙ append-nil (ticks_in items)
 
 pub length-ticks_in-bytes : (bytes : List ℕ)
     → length (ticks_in (map (λ b. tick (Byte b)) bytes)) ≡ length bytes
@@ -53,21 +58,15 @@ byte_items-more bytes i within =
     sym (ap byte_items (take_more bytes i 0 within)
     ∙ map-append (λ b. tick (Byte b)) (take i bytes) (get_or bytes i 0 ∷ []))
 
-pub length-byte_items : (bytes : List ℕ) → length (byte_items bytes) ≡ length bytes
-length-byte_items bytes = length-map bytes (λ b. tick (Byte b))
-
-pub length-byte_items-take : (bytes : List ℕ) (i : ℕ) → i ≤ length bytes
-    → length (byte_items (take i bytes)) ≡ i
-length-byte_items-take bytes i within =
-    length-byte_items (take i bytes) ∙ let long : length (take i bytes) ≡ i =
+pub length-ticks_in-take : (bytes : List ℕ) (i : ℕ) → i ≤ length bytes
+    → length (ticks_in (byte_items (take i bytes))) ≡ i
+length-ticks_in-take bytes i within =
+    length-ticks_in-bytes (take i bytes) ∙ let long : length (take i bytes) ≡ i =
     omega (arith, length-take i bytes, within) in long
 
 -- one silent tick more
 pub silent_items-more : (n : ℕ) → silent_items n ++ tick Silent ∷ [] ≡ silent_items (n + 1)
 silent_items-more n = replicate-append-replicate n 1 (tick Silent)
-
-pub length-silent_items : (n : ℕ) → length (silent_items n) ≡ n
-length-silent_items n = length-replicate n (tick Silent)
 
 -- one silent tick between those before it and those after it
 pub silent_items-at : (n i : ℕ) → i < n

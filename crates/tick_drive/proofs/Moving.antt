@@ -1,5 +1,5 @@
 -- What calls do to a consumer, one after the other.
-use Rattle.std.proofs.Common.{◌≡◌, ℕ, ◌+◌, inl, inr, List, [], ◌++◌, length}
+use Rattle.std.proofs.Common.{◌≡◌, ℕ, ◌+◌, inl, inr, List, [], ◌∷◌, ◌++◌, length}
 use Rattle.std.proofs.Common.{length-append, take, append-nil, Result, Ok, Err, Bool, false}
 use Rattle.std.proofs.Common.{subst, sym, ap, refl, append_assoc, arith, ◌∙◌}
 use Rattle.std.proofs.Math.Seq.{take-append-add}
@@ -8,6 +8,8 @@ use Rattle.yasir_io.specs.Disks.{Slots, LeavesOnly}
 use Rattle.yasir_io.specs.declared.sink.Sink.{Ghosts as Sink}
 use Rattle.yasir_io.specs.declared.disk.SlotDisk.{Ghosts as SlotDisk}
 use Rattle.yasir_ticks.specs.Ticks.{Item}
+use Rattle.yasir_ticks.specs.Ticks.Item.{mark}
+use Rattle.tick_drive.proofs.ItemLaws.{ticks_with}
 use Rattle.tick_drive.specs.Consumers.{Consuming, State, outputs_of, Moves, Stops, KeepsImages}
 use Rattle.tick_drive.specs.Consumers.{Gives, IsDiskCause, IsSinkCause}
 use Rattle.tick_drive.specs.declared.consumer.Stop.{Stop}
@@ -129,6 +131,25 @@ module _ {C O L D : Type 0} (meaning : Consuming C D) (o : Sink O) (l : Sink L)
     sinks = sinks_still _ _;
   }
 
+  -- a mark, to which a consumer does nothing
+  pub gives_mark : (s : State C O L D)
+      → ((origin : meaning.Origin) (items : List Item)
+      → meaning.stands s.consumer origin (outputs_of meaning o l d s) items
+      → meaning.stands s.consumer origin (outputs_of meaning o l d s) (items ++ mark ∷ []))
+      → meaning.able s.consumer s.disk
+      → (meaning.kept s.consumer s.disk → (image : Slots)
+      → d.left_since s.disk (d.moment s.disk) image → meaning.safe s.consumer image)
+      → Gives meaning o l d {T = Unit {0}} s s (mark ∷ []) (Ok tt)
+  gives_mark s passes able now = record {
+    moved = passes;
+    stopped = tt;
+    counted = omega arith;
+    is_able = able;
+    images = images_still s now;
+    disk = disk_still _;
+    sinks = sinks_still _ _;
+  }
+
   -- one call more
   pub gives_then : {T : Type 0} (s0 s1 s2 : State C O L D) (a b : List Item)
       (result : Result T Stop)
@@ -137,7 +158,7 @@ module _ {C O L D : Type 0} (meaning : Consuming C D) (o : Sink O) (l : Sink L)
   gives_then s0 s1 s2 a b (Ok x) first second = record {
     moved = moves_then s0 s1 s2 a b first.moved second.moved;
     stopped = tt;
-    counted = omega (arith, first.counted, second.counted, length-append a b);
+    counted = omega (arith, first.counted, second.counted, ticks_with a b);
     is_able = second.is_able;
     images = images_then s0 s1 s2 first.images second.images;
     disk = disk_from _ _ _ _ first.disk second.disk;

@@ -6,10 +6,11 @@ use Rattle.yasir_io.specs.Causes.{Rose}
 use Rattle.yasir_io.specs.Disks.{Slots, LeavesOnly}
 use Rattle.yasir_io.specs.declared.sink.Sink.{Ghosts as Sink}
 use Rattle.yasir_io.specs.declared.disk.SlotDisk.{Ghosts as SlotDisk}
-use Rattle.yasir_ticks.specs.Ticks.{Item}
+use Rattle.yasir_ticks.specs.Ticks.{Item, ticks_in}
 use Rattle.yasir_ticks.specs.declared.TheConstants.{MAX_TICKS}
 use Rattle.tick_drive.specs.declared.consumer.Stop.{Stop}
 use Rattle.tick_drive.specs.declared.consumer.Stop.TheVariants.{WriteFault, JournalFault}
+use Rattle.tick_drive.specs.declared.consumer.Stop.TheVariants.{NoMemory}
 
 -- what the sinks hold and the slots read as, each where it is told
 pub record Outputs : Type 0 where
@@ -25,7 +26,7 @@ pub record Consuming (C D : Type 0) : Type 1 where
   pub stands : C → Origin → Outputs → List Item → Type 0
   -- it stopped at the last of these items
   pub stopped : C → Stop → Origin → Outputs → List Item → Type 0
-  -- how many items it has taken
+  -- how many ticks it has taken
   pub taken : C → ℕ
   -- it may be used with this disk
   pub able : C → D → Type 0
@@ -47,11 +48,13 @@ state_of consumer out log disk = record { consumer = consumer; out = out; log = 
 abbrev pub is_write_fault : {T : Type 0} → Result T Stop → Bool
 is_write_fault (Err WriteFault) = true
 is_write_fault (Err JournalFault) = false
+is_write_fault (Err NoMemory) = false
 is_write_fault (Ok x) = false
 
 abbrev pub is_journal_fault : {T : Type 0} → Result T Stop → Bool
 is_journal_fault (Err JournalFault) = true
 is_journal_fault (Err WriteFault) = false
+is_journal_fault (Err NoMemory) = false
 is_journal_fault (Ok x) = false
 
 -- the disk's count rose where it is the cause of the answer, and is as it was in any other case
@@ -69,10 +72,10 @@ pub record IsSinkCause (out_before out_now log_before log_now : ℕ) (is_cause :
   pub out_same : is_cause ≡ false → out_now ≡ out_before
   pub log_same : is_cause ≡ false → log_now ≡ log_before
 
--- A consumer may be given these items: it is able to, and counts no more than may be counted.
+-- A consumer may be given these items: it is able to, and counts no more ticks than may be counted.
 pub record MayTake {C D : Type 0} (meaning : Consuming C D) (consumer : C) (disk : D)
     (items : List Item) : Type 0 where
-  pub room : meaning.taken consumer + length items ≤ MAX_TICKS
+  pub room : meaning.taken consumer + length (ticks_in items) ≤ MAX_TICKS
   pub able : meaning.able consumer disk
 
 module _ {C O L D : Type 0} (meaning : Consuming C D) (o : Sink O) (l : Sink L)
@@ -113,7 +116,7 @@ module _ {C O L D : Type 0} (meaning : Consuming C D) (o : Sink O) (l : Sink L)
     pub moved : OnOk result (Moves old new items)
     pub stopped : IfErr result (Stops old new items)
     pub counted : OnOk result (meaning.taken new.consumer
-        ≡ meaning.taken old.consumer + length items)
+        ≡ meaning.taken old.consumer + length (ticks_in items))
     pub is_able : OnOk result (meaning.able new.consumer new.disk)
     pub images : KeepsImages old new
     pub disk : IsDiskCause (d.faults old.disk) (d.faults new.disk) (is_journal_fault result)

@@ -129,8 +129,8 @@ pub record FailsToRead (marks : ℕ) (before now : Option (List ℕ)) (items : L
   pub few : AreFew items
   pub are : items ≡ ended_items text
 
--- The last byte that was met ended a line with ticks, and these are the items of all lines up to
--- it.
+-- The last byte that was met ended a line with ticks or a mark, and these are the items of all
+-- lines up to it.
 pub record StopsInLine (marks : ℕ) (before : Option (List ℕ)) (items : List Item) : Type 0 where
   pub text : List ℕ
   pub line : List Item

@@ -32,8 +32,8 @@ pub record HasMet (intake : Intake) (marks : ℕ) (before now : Option (List ℕ
   pub within : length text ≤ max_bytes
 
 -- Bytes were met after a text, at least one and none refused, and this run is that of the lines
--- that ended. Where it has ticks, the last of these bytes ended its line, and no line with ticks
--- ended before.
+-- that ended. Where there is one, the last of these bytes ended its line, and no line with ticks or
+-- a mark ended before.
 pub record MeetsRun (intake : Intake) (marks : ℕ) (before now : Option (List ℕ)) (text : List ℕ)
     (run : Run) : Type 0 where
   pub front : List ℕ
@@ -42,7 +42,8 @@ pub record MeetsRun (intake : Intake) (marks : ℕ) (before now : Option (List �
   pub ended : ended_items ((text ++ front) ++ byte ∷ []) ≡ ended_items text ++ items_of_run run
   pub quiet : run ≢ Nothing → ended_items (text ++ front) ≡ ended_items text
 
--- Bytes were met after a text, in which no line with ticks ended, and then one that is refused.
+-- Bytes were met after a text, in which no line with ticks or a mark ended, and then one that is
+-- refused.
 pub record MeetsRefused (marks : ℕ) (before : Option (List ℕ)) (text : List ℕ) (bad : BadTicks) :
     Type 0 where
   pub front : List ℕ

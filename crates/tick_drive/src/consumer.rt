@@ -1,6 +1,7 @@
 ghost use Rattle.std.specs.Prelude.{ℕ, List, [], ◌∷◌};
 ghost use Rattle.yasir_io.specs.Disks.{Slots};
 ghost use Rattle.yasir_ticks.specs.Ticks.{items_of_run};
+ghost use Rattle.yasir_ticks.specs.Ticks.Item.{mark};
 ghost use Rattle.tick_drive.specs.Items.{tick_item, byte_items, silent_items};
 
 use yasir_io::{Sink, SlotDisk};
@@ -13,10 +14,12 @@ pub enum Stop {
     WriteFault,
     /// The disk of the journal failed.
     JournalFault,
+    /// There was no memory for what the consumer keeps.
+    NoMemory,
 }
 
-/// Takes the ticks of an input, a run at a time, and writes to two sinks and a disk. After a stop
-/// it is not used again.
+/// Takes the ticks of an input, a run at a time, and its marks, and writes to two sinks and a disk.
+/// After a stop it is not used again.
 pub trait Consumer<O: Sink, L: Sink, D: SlotDisk> {
     ghost use Rattle.tick_drive.specs.Consumers.{Consuming, MayTake, Gives, state_of};
 
@@ -30,6 +33,13 @@ pub trait Consumer<O: Sink, L: Sink, D: SlotDisk> {
         ensures { Gives meaning O.Sink L.Sink D.SlotDisk
             (state_of self.old out.old log.old disk.old)
             (state_of self.new out.new log.new disk.new) (tick_item tick ∷ []) result };
+
+    /// Takes a mark, which is no tick.
+    fn take_mark(&mut self, out: &mut O, log: &mut L, disk: &mut D) -> Result<(), Stop>
+        requires { MayTake meaning self.old disk.old (mark ∷ []) }
+        ensures { Gives meaning O.Sink L.Sink D.SlotDisk
+            (state_of self.old out.old log.old disk.old)
+            (state_of self.new out.new log.new disk.new) (mark ∷ []) result };
 
     /// Takes these bytes, one a tick.
     fn take_bytes(
@@ -73,7 +83,7 @@ pub trait Consumer<O: Sink, L: Sink, D: SlotDisk> {
         Ok(())
     }
 
-    /// Takes the ticks of a run in order.
+    /// Takes the ticks of a run in order, or a mark.
     fn take(&mut self, out: &mut O, log: &mut L, disk: &mut D, run: &Run) -> Result<(), Stop>
         requires { MayTake meaning self.old disk.old (items_of_run run.now) }
         ensures { Gives meaning O.Sink L.Sink D.SlotDisk
@@ -84,6 +94,7 @@ pub trait Consumer<O: Sink, L: Sink, D: SlotDisk> {
             Run::Nothing => Ok(()),
             Run::Bytes(bytes) => self.take_bytes(out, log, disk, bytes),
             Run::Silence(ticks) => self.take_silence(out, log, disk, *ticks),
+            Run::Mark => self.take_mark(out, log, disk),
         }
     }
 

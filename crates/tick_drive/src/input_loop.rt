@@ -14,11 +14,10 @@ pub const MAX_INPUT_TICKS: u32 = 16_777_216;
 
 // How many ticks a run has.
 fn ticks_of(run: &Run) -> u32
-    ensures ticks { result ≡ length (ticks_in (items_of_run run.now)) }
-    ensures items { result ≡ length (items_of_run run.now) }
+    ensures { result ≡ length (ticks_in (items_of_run run.now)) }
 {
     match run {
-        Run::Nothing => 0,
+        Run::Nothing | Run::Mark => 0,
         Run::Bytes(bytes) => bytes.len() as u32,
         Run::Silence(n) => *n,
     }
@@ -55,8 +54,8 @@ fn hand_over<O: Sink, L: Sink, D: SlotDisk, C: Consumer<O, L, D>>(
     }
 }
 
-/// Drives an input, as tick text, into a consumer that has taken nothing yet, until one of the two
-/// stops.
+/// Drives an input, as tick text with exactly so many marks, into a consumer that has taken nothing
+/// yet, until one of the two stops.
 pub fn drive<S: Source, O: Sink, L: Sink, D: SlotDisk, C: Consumer<O, L, D>>(
     marks: u8,
     input: &mut S,
@@ -65,7 +64,6 @@ pub fn drive<S: Source, O: Sink, L: Sink, D: SlotDisk, C: Consumer<O, L, D>>(
     log: &mut L,
     disk: &mut D,
 ) -> End
-    requires no_mark { marks ≡ 0 }
     requires fresh { IsFresh C.meaning consumer.old disk.old }
     ensures driven { Drives C.meaning O.Sink L.Sink D.SlotDisk marks 0 (S.left input.old)
         (S.left input.new)
@@ -110,7 +108,6 @@ pub fn drive_to_rest<S: Source, O: Sink, L: Sink, D: SlotDisk, C: Consumer<O, L,
     log: &mut L,
     disk: &mut D,
 ) -> End
-    requires no_mark { marks ≡ 0 }
     requires fresh { IsFresh C.meaning consumer.old disk.old }
     ensures driven { Drives C.meaning O.Sink L.Sink D.SlotDisk marks rest (S.left input.old)
         (S.left input.new)

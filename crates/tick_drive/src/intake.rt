@@ -26,7 +26,6 @@ impl Intake {
 
     /// Nothing met yet of a text with exactly so many marks.
     pub fn new(marks: u8) -> Intake
-        requires no_mark { marks ≡ 0 }
         ensures { (before : Option (List ℕ)) → HasMet result marks before before [] }
     {
         Intake {
@@ -36,8 +35,8 @@ impl Intake {
         }
     }
 
-    /// Meets bytes up to the end of the first line with ticks, and answers its run, or `Nothing`;
-    /// none at the input's end.
+    /// Meets bytes up to the end of the first line with ticks or a mark, and answers its run, or
+    /// `Nothing`; none at the input's end.
     #[inline]
     pub fn step<S: Source>(&mut self, source: &mut S) -> Result<Option<Run>, End>
         ensures answer { (marks : ℕ) (before : Option (List ℕ)) (text : List ℕ)

@@ -59,12 +59,19 @@ line_items-return x h =
     append_nil_lem [] = refl
     append_nil_lem (c ∷ x) = ap (λ l. c ∷ l) (append_nil_lem x)
 
+-- a mark and then any byte
+pub mark_items-bad : (x : List ℕ) (b : ℕ) (l : List ℕ)
+    → cond (length (x ++ b ∷ l) == 0) (Some (mark ∷ [])) None ≡ None
+mark_items-bad [] b l = rw (test_of (suc (length l)) 0 (λ e. absurd (omega arith))) refl
+mark_items-bad (d ∷ x) b l =
+    rw (test_of (suc (length (x ++ b ∷ l))) 0 (λ e. absurd (omega arith))) refl
+
 -- a CR within a content
 pub content_items-return : (x l : List ℕ) → content_items (x ++ 13 ∷ l) ≡ None
 content_items-return [] l = refl
 content_items-return (c ∷ x) l =
     by_sign (c == 43) (c == 45) (c == 37) (byte_items-bad x 13 l refl)
-    (silence_items-bad x 13 l refl) (empty_test x)
+    (silence_items-bad x 13 l refl) (mark_items-bad x 13 l)
   where
     by_sign : (plus minus percent : Bool) → {A B C : Option (List Item)} → A ≡ None → B ≡ None
         → C ≡ None
@@ -73,11 +80,6 @@ content_items-return (c ∷ x) l =
     by_sign false true p a b c = b
     by_sign false false true a b c = c
     by_sign false false false a b c = refl
-
-    empty_test : (x : List ℕ) → cond (length (x ++ 13 ∷ l) == 0) (Some (mark ∷ [])) None ≡ None
-    empty_test [] = rw (test_of (suc (length l)) 0 (λ e. absurd (omega arith))) refl
-    empty_test (d ∷ x) = rw (test_of (suc (length (x ++ 13 ∷ l))) 0 (λ e. absurd (omega arith)))
-        refl
 
 -- a CR that more follows in a line that is no comment
 pub line_items-return_inside : (x : List ℕ) (b : ℕ) (l : List ℕ) → starts_comment x ≡ false

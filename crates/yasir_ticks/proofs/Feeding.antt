@@ -1,5 +1,5 @@
 -- One byte more at a place of a text, and its end.
-use Rattle.std.proofs.Common.{◌≡◌, ◌≢◌, inl, inr, ◌∙◌, ◌==◌, ℕ, ◌+◌, List, [], ◌∷◌, ◌++◌, Some}
+use Rattle.std.proofs.Common.{◌≡◌, ◌≢◌, ◌≤◌, inl, inr, ◌∙◌, ◌==◌, ℕ, ◌+◌, List, [], ◌∷◌, ◌++◌, Some}
 use Rattle.std.proofs.Common.{None, Result, Ok, Err, refl, ap, sym, arith, append_assoc, append-nil}
 use Rattle.std.proofs.Common.{unwrap_or, length-append}
 use Rattle.std.specs.Prelude.{OnOk, OnErr, IfOk, IfErr}
@@ -10,8 +10,8 @@ use Rattle.yasir_ticks.specs.Ticks.{Item, items_of_run, marks_in}
 use Rattle.yasir_ticks.specs.TickText.{Lines, lines_of, line_items, all_items, ended_items}
 use Rattle.yasir_ticks.specs.TickText.{line_after, fault_after, fault_at_end, IsTickText}
 use Rattle.yasir_ticks.specs.TickText.{BeginsTickText, IsRefusedAfter}
-use Rattle.yasir_ticks.specs.Reader.{IsAt, StandsFor}
-use Rattle.yasir_ticks.specs.ReaderStep.{Accepts, Refuses, Steps, Stops}
+use Rattle.yasir_ticks.specs.Reader.{items_of_content, marks_at, IsAt, StandsFor}
+use Rattle.yasir_ticks.specs.ReaderStep.{Accepts, Refuses, LacksMark, Steps, Stops}
 use Rattle.yasir_ticks.specs.declared.fault.BadTicks.{BadTicks}
 use Rattle.yasir_ticks.specs.declared.fault.TickFault.{TickFault}
 use Rattle.yasir_ticks.specs.declared.run.Run.{Run}
@@ -21,10 +21,11 @@ use Rattle.yasir_ticks.specs.declared.reader.TickReader.{TickReader}
 use Rattle.yasir_ticks.proofs.Lines.{all_lines, joined, lines_of-lf, lines_of-more}
 use Rattle.yasir_ticks.proofs.Lines.{all_lines-append, all_lines-lf, all_lines-byte}
 use Rattle.yasir_ticks.proofs.Lines.{all_lines-first}
-use Rattle.yasir_ticks.proofs.Items.{marks_in-append, all_items_parts, line_items_parts}
+use Rattle.yasir_ticks.proofs.Items.{marks_in-append, marks_in-content}
+use Rattle.yasir_ticks.proofs.Items.{all_items_parts, line_items_parts}
 use Rattle.yasir_ticks.proofs.Items.{all_items_both, all_items_cons}
 use Rattle.yasir_ticks.proofs.Contents.{test_of}
-use Rattle.yasir_ticks.proofs.Completions.{marks_in-run, begins_at}
+use Rattle.yasir_ticks.proofs.Completions.{begins_at}
 
 module _ (text : List ℕ) where
   -- the last line goes on, or ends
@@ -53,22 +54,27 @@ module _ (text : List ℕ) where
       (all_items_cons (lines_of text).last [] (items_of_run run) [] stands refl)
       ∙ ap (λ x. Some (ended_items text ++ x)) (append-nil (items_of_run run))
 
-module _ (place new_place : Place) (bytes new_bytes : List ℕ) (line left marks : ℕ) (text : List ℕ)
-    (at : IsAt place bytes line left marks text) where
+module _ (place new_place : Place) (bytes new_bytes : List ℕ) (line left new_left marks : ℕ)
+    (text : List ℕ) (at : IsAt place bytes line left marks text) where
   -- a byte within a line
   pub at_more : (b : ℕ) (run : Run) → b ≢ 10
-      → Accepts place bytes b (items_of_run run) new_place new_bytes
-      → IsAt new_place new_bytes line left marks (text ++ b ∷ [])
+      → Accepts place bytes left b (items_of_run run) new_place new_bytes new_left
+      → IsAt new_place new_bytes line new_left marks (text ++ b ∷ [])
   at_more b run n a = record {
     ended = rw (lines_of-more text b n) at.ended;
-    marked = rw (lines_of-more text b n) at.marked;
+    marked = rw (lines_of-more text b n) (omega (
+      arith,
+      at.marked,
+      a.marked,
+      ap marks_in (a.nothing n),
+    ));
     counted = rw (lines_of-more text b n) at.counted;
     last = rw (lines_of-more text b n) (a.reads n (lines_of text).last at.last);
   }
 
   -- the LF of a line
-  at_lf : (run : Run) → Accepts place bytes 10 (items_of_run run) new_place new_bytes
-      → IsAt new_place new_bytes (line + 1) left marks (text ++ 10 ∷ [])
+  at_lf : (run : Run) → Accepts place bytes left 10 (items_of_run run) new_place new_bytes new_left
+      → IsAt new_place new_bytes (line + 1) new_left marks (text ++ 10 ∷ [])
   at_lf run a =
       let stands = a.stands refl (lines_of text).last at.last in
       let same = items_lf text run stands in
@@ -78,7 +84,7 @@ module _ (place new_place : Place) (bytes new_bytes : List ℕ) (line left marks
         marked = rw same (omega (
           arith,
           marks_in-append (ended_items text) (items_of_run run),
-          marks_in-run run,
+          a.marked,
           at.marked,
         ));
         counted = rw (lines_of-lf text)
@@ -117,13 +123,13 @@ split_byte text b more n =
       },
     )
 
--- the items of the line in the middle
-middle : (text : List ℕ) (b : ℕ) (more line : List ℕ) (marks : ℕ) (items : List Item)
+-- the items of the line in the middle, which has no more marks than are left
+middle : (text : List ℕ) (b : ℕ) (more line : List ℕ) (left marks : ℕ) (items : List Item)
     → Split text b more line
     → all_items (lines_of text).ended ≡ Some (ended_items text)
-    → marks_in (ended_items text) + 0 ≡ marks → IsTickText marks (text ++ b ∷ more) items
-    → (own : List Item) × (line_items line ≡ Some own) × (marks_in own ≡ 0)
-middle text b more line marks items s ended marked it =
+    → marks_in (ended_items text) + left ≡ marks → IsTickText marks (text ++ b ∷ more) items
+    → (own : List Item) × (line_items line ≡ Some own) × (marks_in own ≤ left)
+middle text b more line left marks items s ended marked it =
     let front = all_items_parts (lines_of text).ended (line ∷ s.others) items
     (sym (ap all_items s.lines) ∙ it.lines) in
     let back = line_items_parts line s.others front.back front.more_is in
@@ -141,23 +147,23 @@ middle text b more line marks items s ended marked it =
       ),
     )
 
-module _ (place : Place) (bytes : List ℕ) (line marks : ℕ) (text : List ℕ)
-    (at : IsAt place bytes line 0 marks text) where
+module _ (place : Place) (bytes : List ℕ) (line left marks : ℕ) (text : List ℕ)
+    (at : IsAt place bytes line left marks text) where
   -- no text goes on so
-  refused_at : (b : ℕ) (why : TickFault) → Refuses place bytes b why
+  refused_at : (b : ℕ) (why : TickFault) → Refuses place bytes left b why
       → ¬ BeginsTickText marks (text ++ b ∷ [])
   refused_at b why r (more, items, it) =
       let whole : IsTickText marks (text ++ b ∷ more) items =
       rw (← append_assoc text (b ∷ []) more) it in
       elim (cases_eq b 10) [
         | inl e ↦
-            let own = middle text b more (lines_of text).last marks items
+            let own = middle text b more (lines_of text).last (marks_at place + left) marks items
             (rw e (split_lf text more)) at.ended at.marked whole in
             cc (own.1, r.ended e (lines_of text).last at.last)
         | inr n ↦
             let s = split_byte text b more n in
-            let own = middle text b more ((lines_of text).last ++ b ∷ s.0) marks items s.1 at.ended
-            at.marked whole in
+            let own = middle text b more ((lines_of text).last ++ b ∷ s.0) (marks_at place + left)
+            marks items s.1 at.ended at.marked whole in
             omega (arith, r.wrong n (lines_of text).last at.last s.0 own.0 own.1, own.2)
       ]
 
@@ -166,17 +172,17 @@ module _ (place : Place) (bytes : List ℕ) (line marks : ℕ) (text : List ℕ)
 module _ (old new : TickReader) (b marks : ℕ) (text : List ℕ)
     (stood : StandsFor old marks text) where
   fed_at : (run : Run) → Steps old b (Ok run) new
-      → IsAt new.place new.bytes.items new.line 0 marks (text ++ b ∷ [])
+      → IsAt new.place new.bytes.items new.line new.left marks (text ++ b ∷ [])
   fed_at run s =
       elim (cases_eq b 10) [
         | inl e ↦
             let counted : new.line ≡ old.line + 1 = s.case.1 ∙ rw (ap (λ x. x == 10) e) refl in
-            rw (counted, e) (at_lf old.place new.place old.bytes.items new.bytes.items old.line 0
-            marks text stood.at run (rw e at s.case.0))
+            rw (counted, e) (at_lf old.place new.place old.bytes.items new.bytes.items old.line
+            old.left new.left marks text stood.at run (rw e at s.case.0))
         | inr n ↦
             let counted : new.line ≡ old.line = s.case.1 ∙ rw (test_of b 10 n) refl in
-            rw counted (at_more old.place new.place old.bytes.items new.bytes.items old.line 0 marks
-            text stood.at b run n s.case.0)
+            rw counted (at_more old.place new.place old.bytes.items new.bytes.items old.line
+            old.left new.left marks text stood.at b run n s.case.0)
       ]
 
   pub fed_stands : (result : Result Run BadTicks) → Steps old b result new
@@ -205,8 +211,8 @@ module _ (old new : TickReader) (b marks : ℕ) (text : List ℕ)
   fed_refused (Err bad) s = (
     record {
       begins = begins_at stood.at;
-      refused = refused_at old.place old.bytes.items old.line marks text stood.at b bad.why
-          s.case.0;
+      refused = refused_at old.place old.bytes.items old.line old.left marks text stood.at b
+          bad.why s.case.0;
     },
     s.case.1 ∙ stood.at.counted,
     sym (s.case.0.cause (lines_of text).last stood.at.last),
@@ -227,7 +233,8 @@ module _ (reader : TickReader) (marks : ℕ) (text : List ℕ)
     marked = omega (
       arith,
       marks_in-append (ended_items text) (items_of_run run),
-      marks_in-run run,
+      s.case.2,
+      s.case.3,
       stood.at.marked,
     );
   }
@@ -241,19 +248,54 @@ module _ (reader : TickReader) (marks : ℕ) (text : List ℕ)
       let own = line_items_parts (lines_of text).last [] whole.back whole.more_is in
       cc (own.first_is, none)
 
+  lacking : {why : TickFault} → LacksMark reader.place reader.bytes.items reader.left why
+      → ¬ ((items : List Item) × IsTickText marks text items)
+  lacking lacks (items, it) =
+      let whole = all_items_parts (lines_of text).ended ((lines_of text).last ∷ []) items
+      it.lines in
+      let own = line_items_parts (lines_of text).last [] whole.back whole.more_is in
+      let stands = lacks.closes.stands (lines_of text).last stood.at.last in
+      let front : whole.front ≡ ended_items text = cc (whole.first_is, stood.at.ended) in
+      let line : own.front ≡ items_of_content lacks.content reader.bytes.items =
+      cc (own.first_is, stands) in
+      let back : own.back ≡ [] = cc (own.more_is) in
+      omega (
+        arith,
+        it.marked,
+        ap marks_in whole.whole,
+        marks_in-append whole.front whole.back,
+        ap marks_in own.whole,
+        marks_in-append own.front own.back,
+        ap marks_in front,
+        ap marks_in line,
+        ap marks_in back,
+        marks_in-content lacks.content reader.bytes.items,
+        lacks.closes.marked,
+        lacks.some,
+        stood.at.marked,
+      )
+
   pub ended_refused : (result : Result Run BadTicks) → Stops reader result
       → IfErr result (λ bad. (¬ ((items : List Item) × IsTickText marks text items))
       × (bad.line ≡ line_after text) × (bad.why ≡ fault_at_end text))
   ended_refused (Ok run) s = tt
-  ended_refused (Err bad) s =
-      let none = s.case.0.wrong (lines_of text).last stood.at.last in (
-        wrong_end none,
-        s.case.1 ∙ stood.at.counted,
-        rw none (sym (s.case.0.cause (lines_of text).last None refl stood.at.last)),
-      )
+  ended_refused (Err bad) s = elim s.case.0 [
+    | inl wrong ↦
+        let none = wrong.wrong (lines_of text).last stood.at.last in (
+          wrong_end none,
+          s.case.1 ∙ stood.at.counted,
+          rw none (sym (wrong.cause (lines_of text).last None refl stood.at.last)),
+        )
+    | inr lacks ↦
+        let some = lacks.closes.stands (lines_of text).last stood.at.last in (
+          lacking lacks,
+          s.case.1 ∙ stood.at.counted,
+          lacks.is ∙ rw some refl,
+        )
+  ]
 
 -- ---- the empty text
 
-pub at_first : (bytes : List ℕ) (marks : ℕ) → marks ≡ 0 → IsAt Start bytes 1 0 marks []
+pub at_first : (bytes : List ℕ) (marks : ℕ) → IsAt Start bytes 1 marks marks []
 unfolding lines_of
-at_first bytes marks e = record { ended = refl; marked = sym e; counted = refl; last = refl }
+at_first bytes marks = record { ended = refl; marked = omega arith; counted = refl; last = refl }

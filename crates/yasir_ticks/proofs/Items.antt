@@ -5,6 +5,10 @@ use Rattle.std.specs.Option.{option_and_then}
 use Rattle.yasir_ticks.specs.Ticks.{Item, marks_in}
 use Rattle.yasir_ticks.specs.Ticks.Item.{tick, mark}
 use Rattle.yasir_ticks.specs.TickText.{line_items, all_items}
+use Rattle.yasir_ticks.specs.Reader.{items_of_content, marks_of_content}
+use Rattle.yasir_ticks.specs.declared.place.Content.{Content}
+use Rattle.yasir_ticks.specs.declared.place.Content.TheVariants.{NoTick, KeptBytes, SilentTicks}
+use Rattle.yasir_ticks.specs.declared.place.Content.TheVariants.{OneMark}
 use Rattle.yasir_ticks.specs.declared.tick.Tick.TheVariants.{Silent, Byte}
 
 pub marks_in-append : (a b : List Item) → marks_in (a ++ b) ≡ marks_in a + marks_in b
@@ -19,6 +23,13 @@ marks_in-bytes (b ∷ bytes) = marks_in-bytes bytes
 pub marks_in-silent : (n : ℕ) → marks_in (replicate n (tick Silent)) ≡ 0
 marks_in-silent zero = refl
 marks_in-silent (suc n) = marks_in-silent n
+
+pub marks_in-content : (content : Content) (bytes : List ℕ)
+    → marks_in (items_of_content content bytes) ≡ marks_of_content content
+marks_in-content NoTick bytes = refl
+marks_in-content KeptBytes bytes = marks_in-bytes bytes
+marks_in-content (SilentTicks n) bytes = marks_in-silent n
+marks_in-content OneMark bytes = refl
 
 -- the items of some lines are those of the first ones, and then those of the others
 abbrev both : Option (List Item) → Option (List Item) → Option (List Item)

@@ -43,20 +43,20 @@ quiet_byte text b n = rw (lines_of-more text b n) refl
 
 -- the two digits of a byte
 pub goes_on_pair : (old new : TickReader) (h l high low : ℕ) → old.place ≡ Pairs → new.place ≡ Pairs
-    → new.line ≡ old.line
+    → new.line ≡ old.line → new.left ≡ old.left
     → Some high ≡ hex_digit_value h → Some low ≡ hex_digit_value l → length old.bytes.items < 32
     → new.bytes.items ≡ old.bytes.items ++ (high * 16 + low) ∷ [] → GoesOn old (h ∷ l ∷ []) new
-goes_on_pair old new h l high low p q e first second room kept = record {
+goes_on_pair old new h l high low p q e m first second room kept = record {
   stands = λ marks text s.
-      let at : IsAt Pairs old.bytes.items old.line 0 marks text = rw p at s.at in
-      let half = at_more Pairs (HalfPair high) old.bytes.items old.bytes.items old.line 0 marks text
-      at h Nothing not_first
-      (accepts_high old.bytes.items h high (sym first) room) in
+      let at : IsAt Pairs old.bytes.items old.line old.left marks text = rw p at s.at in
+      let half = at_more Pairs (HalfPair high) old.bytes.items old.bytes.items old.line
+      old.left old.left marks text at h Nothing not_first
+      (accepts_high old.bytes.items old.left h high (sym first) room) in
       let whole = at_more (HalfPair high) Pairs old.bytes.items
-      (old.bytes.items ++ (high * 16 + low) ∷ []) old.line 0 marks (text ++ h ∷ []) half l
-      Nothing not_second
-      (accepts_low old.bytes.items l high low (sym second)) in
-      record { at = rw (q, e, kept, ← append_assoc text (h ∷ []) (l ∷ [])) whole };
+      (old.bytes.items ++ (high * 16 + low) ∷ []) old.line old.left old.left marks
+      (text ++ h ∷ []) half l Nothing not_second
+      (accepts_low old.bytes.items old.left l high low (sym second)) in
+      record { at = rw (q, e, m, kept, ← append_assoc text (h ∷ []) (l ∷ [])) whole };
   quiet = λ marks text s. rw (← append_assoc text (h ∷ []) (l ∷ []))
       (quiet_byte (text ++ h ∷ []) l not_second ∙ quiet_byte text h not_first);
   lines = omega arith;
@@ -69,9 +69,9 @@ goes_on_pair old new h l high low p q e first second room kept = record {
     not_second = hex_not_lf l (ap is_some (sym second))
 
 -- one byte more of a comment
-accepts_comment : (n : ℕ) (bytes : List ℕ) (b : ℕ) → b ≢ 10 → n < 120
-    → Accepts (Comment n) bytes b [] (Comment (n + 1)) bytes
-accepts_comment n bytes b l h = record {
+accepts_comment : (n : ℕ) (bytes : List ℕ) (left b : ℕ) → b ≢ 10 → n < 120
+    → Accepts (Comment n) bytes left b [] (Comment (n + 1)) bytes left
+accepts_comment n bytes left b l h = record {
   nothing = λ _. refl;
   reads = λ _ line r. record {
     after = r.after ++ b ∷ [];
@@ -81,20 +81,21 @@ accepts_comment n bytes b l h = record {
   };
   start = λ e. absurd (l e);
   stands = λ e. absurd (l e);
+  marked = omega arith;
 }
 
-comment_at : (more : List ℕ) (n m : ℕ) (bytes : List ℕ) (line marks : ℕ) (text : List ℕ)
-    → IsAt (Comment n) bytes line 0 marks text
+comment_at : (more : List ℕ) (n m : ℕ) (bytes : List ℕ) (line left marks : ℕ) (text : List ℕ)
+    → IsAt (Comment n) bytes line left marks text
     → ((k : ℕ) → k < length more → get_or more k 0 ≢ 10) → n + length more ≡ m → m ≤ 120
-    → IsAt (Comment m) bytes line 0 marks (text ++ more)
-comment_at [] n m bytes line marks text at free sum within =
+    → IsAt (Comment m) bytes line left marks (text ++ more)
+comment_at [] n m bytes line left marks text at free sum within =
     let same : n ≡ m = omega arith in rw (← same, append-nil text) at
-comment_at (b ∷ more) n m bytes line marks text at free sum within =
-    let step = at_more (Comment n) (Comment (n + 1)) bytes bytes line 0 marks text
+comment_at (b ∷ more) n m bytes line left marks text at free sum within =
+    let step = at_more (Comment n) (Comment (n + 1)) bytes bytes line left left marks text
     at b Nothing (free 0 (omega arith))
-    (accepts_comment n bytes b (free 0 (omega arith)) (omega arith)) in
+    (accepts_comment n bytes left b (free 0 (omega arith)) (omega arith)) in
     rw (← append_assoc text (b ∷ []) more)
-    (comment_at more (n + 1) m bytes line marks (text ++ b ∷ []) step
+    (comment_at more (n + 1) m bytes line left marks (text ++ b ∷ []) step
     (λ k h. free (suc k) (omega arith)) (omega arith) within)
 
 quiet_bytes : (more text : List ℕ) → ((k : ℕ) → k < length more → get_or more k 0 ≢ 10)
@@ -107,15 +108,15 @@ quiet_bytes (b ∷ more) text free =
 
 -- bytes of a comment
 pub goes_on_comment : (old new : TickReader) (n m : ℕ) (more : List ℕ) → old.place ≡ Comment n
-    → new.place ≡ Comment m → new.line ≡ old.line
+    → new.place ≡ Comment m → new.line ≡ old.line → new.left ≡ old.left
     → new.bytes.items ≡ old.bytes.items → ((k : ℕ) → k < length more → get_or more k 0 ≢ 10)
     → n + length more ≡ m → m ≤ 120 → GoesOn old more new
-goes_on_comment old new n m more p q e kept free sum within = record {
+goes_on_comment old new n m more p q e k kept free sum within = record {
   stands = λ marks text s.
-      let at : IsAt (Comment n) old.bytes.items old.line 0 marks text = rw p at s.at in
+      let at : IsAt (Comment n) old.bytes.items old.line old.left marks text = rw p at s.at in
       record {
-        at = rw (q, e, kept) (comment_at more n m old.bytes.items old.line marks text at free
-            sum within);
+        at = rw (q, e, k, kept) (comment_at more n m old.bytes.items old.line old.left marks text
+            at free sum within);
       };
   quiet = λ marks text s. quiet_bytes more text free;
   lines = omega arith;

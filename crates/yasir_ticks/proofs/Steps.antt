@@ -14,17 +14,21 @@ use Rattle.yasir_ticks.specs.TickText.{byte_items, is_plain_decimal, is_decimal_
 use Rattle.yasir_ticks.specs.TickText.{fault_in_line, ends_content}
 use Rattle.yasir_ticks.specs.Place.{is_foreign}
 use Rattle.yasir_ticks.specs.Reader.{Reads, starts_comment, items_of_content}
+use Rattle.yasir_ticks.specs.Reader.{marks_at}
 use Rattle.yasir_ticks.specs.ReaderStep.{Accepts, Refuses, Closes, IsOpen}
 use Rattle.yasir_ticks.specs.declared.fault.TickFault.{TickFault}
 use Rattle.yasir_ticks.specs.declared.fault.TickFault.TheVariants.{Char, Odd, Long, Count, Empty}
 use Rattle.yasir_ticks.specs.declared.place.Content.{Content}
 use Rattle.yasir_ticks.specs.declared.place.Content.TheVariants.{NoTick, KeptBytes, SilentTicks}
+use Rattle.yasir_ticks.specs.declared.place.Content.TheVariants.{OneMark}
 use Rattle.yasir_ticks.specs.declared.place.Place.{Place}
 use Rattle.yasir_ticks.specs.declared.place.Place.TheVariants.{Start, Comment, Pairs, HalfPair}
-use Rattle.yasir_ticks.specs.declared.place.Place.TheVariants.{Minus, Number, Returned, Refused}
+use Rattle.yasir_ticks.specs.declared.place.Place.TheVariants.{Minus, Number, Percent, Returned}
+use Rattle.yasir_ticks.specs.declared.place.Place.TheVariants.{Refused}
 use Rattle.yasir_ticks.proofs.Contents.{test_of, line_items-plain, without_return-same}
 use Rattle.yasir_ticks.proofs.Contents.{line_items-byte, line_items-return, line_items-return_open}
-use Rattle.yasir_ticks.proofs.Contents.{line_items-return_inside}
+use Rattle.yasir_ticks.proofs.Contents.{line_items-return_inside, mark_items-bad}
+use Rattle.yasir_ticks.proofs.Items.{marks_in-content}
 use Rattle.yasir_ticks.proofs.Digits.{hex_digits, hex_length, byte_items-bad, byte_items-odd}
 use Rattle.yasir_ticks.proofs.Digits.{byte_items-long, byte_items-right, decode_of-more}
 use Rattle.yasir_ticks.proofs.Digits.{silence_items-bad, silence_items-right, silence_items-big}
@@ -98,6 +102,7 @@ foreign_plain (HalfPair high) b bytes line h r =
     rw r.is (plain_half_pair bytes r.digits r.digit high r.decoded r.value)
 foreign_plain Minus b bytes line h r = rw r (record { apart = refl; whole = refl })
 foreign_plain (Number n) b bytes line h r = rw r.is (plain_number r.digits r.plain)
+foreign_plain Percent b bytes line h r = rw r (record { apart = refl; whole = refl })
 foreign_plain (Returned content) b bytes line h r = cc
 foreign_plain (Refused why) b bytes line h r = absurd r
 
@@ -110,7 +115,7 @@ plain_items line p = line_items-plain line p.apart
 
 pub closes_start : (bytes : List ℕ) → Closes Start bytes NoTick
 unfolding line_items
-closes_start bytes = record { stands = λ line r. rw r refl }
+closes_start bytes = record { stands = λ line r. rw r refl; marked = refl }
 
 comment_items : (after : List ℕ) → length after ≤ 120 → line_items (35 ∷ after) ≡ Some []
 unfolding line_items
@@ -127,24 +132,33 @@ comment_long after h = rw (beyond (length after) h) refl
     beyond n h = grind arith
 
 pub closes_comment : (n : ℕ) (bytes : List ℕ) → Closes (Comment n) bytes NoTick
-closes_comment n bytes =
-    record { stands = λ line r. rw r.is (comment_items r.after (rw r.long r.fits)) }
+closes_comment n bytes = record {
+  stands = λ line r. rw r.is (comment_items r.after (rw r.long r.fits));
+  marked = refl;
+}
 
 pub closes_pairs : (bytes : List ℕ) → 0 < length bytes → Closes Pairs bytes KeptBytes
 closes_pairs bytes h = record {
   stands = λ line r. rw r.is (plain_items (43 ∷ r.digits) (plain_pairs bytes r.digits r.decoded)
       ∙ byte_items-right r.digits bytes r.decoded (omega arith) r.fits);
+  marked = refl;
 }
 
 pub closes_number : (n : ℕ) (bytes : List ℕ) → Closes (Number n) bytes (SilentTicks n)
 closes_number n bytes = record {
   stands = λ line r. rw r.is (plain_items (45 ∷ r.digits) (plain_number r.digits r.plain)
       ∙ silence_items-right r.digits n r.plain r.number r.fits);
+  marked = refl;
 }
+
+pub closes_percent : (bytes : List ℕ) → Closes Percent bytes OneMark
+unfolding line_items
+closes_percent bytes = record { stands = λ line r. rw r refl; marked = refl }
 
 pub closes_returned : (content : Content) (bytes : List ℕ) → Closes (Returned content) bytes content
 closes_returned content bytes = record {
   stands = λ line r. rw r.is (line_items-return r.before r.apart ∙ r.stands);
+  marked = refl;
 }
 
 -- ---- where a line may not end
@@ -217,26 +231,35 @@ open_refused why bytes = record {
 -- ---- a byte that goes on with the line
 
 -- the form of such a step
-accepts : {place new_place : Place} {bytes new_bytes : List ℕ} {b : ℕ} → b ≢ 10
+accepts : {place new_place : Place} {bytes new_bytes : List ℕ} {left b new_left : ℕ} → b ≢ 10
+    → marks_at new_place + new_left ≡ marks_at place + left
     → ((line : List ℕ) → Reads place bytes line → Reads new_place new_bytes (line ++ b ∷ []))
-    → Accepts place bytes b [] new_place new_bytes
-accepts n f = record {
+    → Accepts place bytes left b [] new_place new_bytes new_left
+accepts n m f = record {
   nothing = λ _. refl;
   reads = λ _. f;
   start = λ e. absurd (n e);
   stands = λ e. absurd (n e);
+  marked = omega (arith, m);
 }
 
-pub accepts_plus : (bytes : List ℕ) → Accepts Start bytes 43 [] Pairs []
+pub accepts_plus : (bytes : List ℕ) (left : ℕ) → Accepts Start bytes left 43 [] Pairs [] left
 unfolding decode_pairs
-accepts_plus bytes =
-    accepts (λ e. absurd (omega arith))
+accepts_plus bytes left =
+    accepts (λ e. absurd (omega arith)) (omega arith)
     (λ line r. rw r (record { digits = []; is = refl; decoded = refl; fits = omega arith }))
 
-pub accepts_high : (bytes : List ℕ) (b high : ℕ) → hex_digit_value b ≡ Some high → length bytes < 32
-    → Accepts Pairs bytes b [] (HalfPair high) bytes
-accepts_high bytes b high v h =
-    accepts (hex_not_lf b (ap is_some v)) (λ line r. record {
+-- the mark of a line, one of those that are left
+pub accepts_percent : (bytes : List ℕ) (left new_left : ℕ) → new_left + 1 ≡ left
+    → Accepts Start bytes left 37 [] Percent bytes new_left
+accepts_percent bytes left new_left e =
+    accepts (λ e. absurd (omega arith)) (omega arith) (λ line r. rw r refl)
+
+pub accepts_high : (bytes : List ℕ) (left b high : ℕ) → hex_digit_value b ≡ Some high
+    → length bytes < 32
+    → Accepts Pairs bytes left b [] (HalfPair high) bytes left
+accepts_high bytes left b high v h =
+    accepts (hex_not_lf b (ap is_some v)) (omega arith) (λ line r. record {
       digits = r.digits;
       digit = b;
       is = rw r.is refl;
@@ -245,21 +268,21 @@ accepts_high bytes b high v h =
       fits = h;
     })
 
-pub accepts_low : (bytes : List ℕ) (b high low : ℕ) → hex_digit_value b ≡ Some low
-    → Accepts (HalfPair high) bytes b [] Pairs (bytes ++ (high * 16 + low) ∷ [])
-accepts_low bytes b high low v =
-    accepts (hex_not_lf b (ap is_some v)) (λ line r. record {
+pub accepts_low : (bytes : List ℕ) (left b high low : ℕ) → hex_digit_value b ≡ Some low
+    → Accepts (HalfPair high) bytes left b [] Pairs (bytes ++ (high * 16 + low) ∷ []) left
+accepts_low bytes left b high low v =
+    accepts (hex_not_lf b (ap is_some v)) (omega arith) (λ line r. record {
       digits = r.digits ++ r.digit ∷ b ∷ [];
       is = rw r.is (ap (λ x. 43 ∷ x) (append_assoc r.digits (r.digit ∷ []) (b ∷ [])));
       decoded = decode_of-more r.digits bytes r.digit b high low r.decoded r.value v;
       fits = omega (arith, length-append bytes ((high * 16 + low) ∷ []), r.fits);
     })
 
-pub accepts_digit : (n : ℕ) (bytes : List ℕ) (b : ℕ) → is_decimal_digit b ≡ true
+pub accepts_digit : (n : ℕ) (bytes : List ℕ) (left b : ℕ) → is_decimal_digit b ≡ true
     → n * 10 + (b - 48) ≤ 1000000
-    → Accepts (Number n) bytes b [] (Number (n * 10 + (b - 48))) bytes
-accepts_digit n bytes b d h =
-    accepts (digit_not_lf b d) (λ line r. record {
+    → Accepts (Number n) bytes left b [] (Number (n * 10 + (b - 48))) bytes left
+accepts_digit n bytes left b d h =
+    accepts (digit_not_lf b d) (omega arith) (λ line r. record {
       digits = r.digits ++ b ∷ [];
       is = rw r.is refl;
       plain = is_plain_decimal-more r.digits b r.plain d;
@@ -268,11 +291,11 @@ accepts_digit n bytes b d h =
     })
 
 -- the CR behind a content
-pub accepts_return : (place : Place) (bytes : List ℕ) (content : Content)
+pub accepts_return : (place : Place) (bytes : List ℕ) (left : ℕ) (content : Content)
     → is_foreign place 13 ≡ true → Closes place bytes content
-    → Accepts place bytes 13 [] (Returned content) bytes
-accepts_return place bytes content f c =
-    accepts (λ e. absurd (omega arith)) (λ line r. record {
+    → Accepts place bytes left 13 [] (Returned content) bytes left
+accepts_return place bytes left content f c =
+    accepts (λ e. absurd (omega arith)) (ap (λ n. n + left) c.marked) (λ line r. record {
       before = line;
       is = refl;
       apart = (foreign_plain place 13 bytes line f r).apart;
@@ -280,60 +303,61 @@ accepts_return place bytes content f c =
     })
 
 -- the LF of a line
-pub accepts_lf : (place : Place) (bytes new_bytes : List ℕ) (content : Content)
+pub accepts_lf : (place : Place) (bytes new_bytes : List ℕ) (left : ℕ) (content : Content)
     → Closes place bytes content
-    → Accepts place bytes 10 (items_of_content content bytes) Start new_bytes
-accepts_lf place bytes new_bytes content c = record {
+    → Accepts place bytes left 10 (items_of_content content bytes) Start new_bytes left
+accepts_lf place bytes new_bytes left content c = record {
   nothing = λ n. absurd (n refl);
   reads = λ n. absurd (n refl);
   start = λ _. refl;
   stands = λ _ line r. c.stands line r;
+  marked = omega (arith, marks_in-content content bytes, c.marked);
 }
 
 -- ---- a byte that may not stand where it stands
 
-refuses : {place : Place} {bytes : List ℕ} {b : ℕ} {why : TickFault} → b ≢ 10
+refuses : {place : Place} {bytes : List ℕ} {left b : ℕ} {why : TickFault} → b ≢ 10
     → ((line : List ℕ) → Reads place bytes line → (more : List ℕ)
     → line_items (line ++ b ∷ more) ≡ None)
     → ((line : List ℕ) → Reads place bytes line → fault_in_line line (Some b) ≡ why)
-    → Refuses place bytes b why
+    → Refuses place bytes left b why
 refuses n f c = record {
   wrong = λ _ line r more items e. cc (f line r more, e);
   ended = λ e. absurd (n e);
   cause = c;
 }
 
-pub refuses_open_return : (place : Place) (bytes : List ℕ) (why : TickFault)
-    → is_foreign place 13 ≡ true → IsOpen place bytes why → Refuses place bytes 13 why
-refuses_open_return place bytes why f o =
+pub refuses_open_return : (place : Place) (bytes : List ℕ) (left : ℕ) (why : TickFault)
+    → is_foreign place 13 ≡ true → IsOpen place bytes why → Refuses place bytes left 13 why
+refuses_open_return place bytes left why f o =
     refuses (λ e. absurd (omega arith))
     (λ line r more. let p = foreign_plain place 13 bytes line f r in
     line_items-return_open line more p.apart (sym (plain_items line p) ∙ o.wrong line r))
     (λ line r. o.cause line (Some 13) refl r)
 
-pub refuses_comment : (n : ℕ) (bytes : List ℕ) (b : ℕ) → 120 ≤ n → b ≢ 10
-    → Refuses (Comment n) bytes b Long
-refuses_comment n bytes b h l =
+pub refuses_comment : (n : ℕ) (bytes : List ℕ) (left b : ℕ) → 120 ≤ n → b ≢ 10
+    → Refuses (Comment n) bytes left b Long
+refuses_comment n bytes left b h l =
     refuses l
     (λ line r more. rw r.is (comment_long (r.after ++ b ∷ more)
     (omega (arith, length-append r.after (b ∷ more), r.long))))
     (λ line r. rw r.is refl)
 
 -- a byte behind a content: if no content goes on with it, no line does
-refuses_inside : {place : Place} {bytes : List ℕ} {b : ℕ} {why : TickFault} → b ≢ 10 → b ≢ 13
+refuses_inside : {place : Place} {bytes : List ℕ} {left b : ℕ} {why : TickFault} → b ≢ 10 → b ≢ 13
     → ((line : List ℕ) → Reads place bytes line → (more : List ℕ)
     → starts_comment (line ++ b ∷ more) ≡ false)
     → ((line : List ℕ) → Reads place bytes line → (more : List ℕ)
     → content_items (line ++ b ∷ more) ≡ None)
     → ((line : List ℕ) → Reads place bytes line → fault_in_line line (Some b) ≡ why)
-    → Refuses place bytes b why
+    → Refuses place bytes left b why
 refuses_inside {b = b} l c apart f cause =
     refuses l (λ line r more. line_items-byte line b more (apart line r more) c
     ∙ f line r (without_return more)) cause
 
-pub refuses_long : (bytes : List ℕ) (b : ℕ) → is_hex_digit b ≡ true → 32 ≤ length bytes
-    → Refuses Pairs bytes b Long
-refuses_long bytes b d h =
+pub refuses_long : (bytes : List ℕ) (left b : ℕ) → is_hex_digit b ≡ true → 32 ≤ length bytes
+    → Refuses Pairs bytes left b Long
+refuses_long bytes left b d h =
     refuses_inside (hex_not_lf b d) (hex_not_cr b d) (λ line r more. rw r.is refl)
     (λ line r more. rw r.is (byte_items-long (r.digits ++ b ∷ more)
     (omega (arith, length-append r.digits (b ∷ more), hex_length r.digits bytes r.decoded))))
@@ -350,16 +374,16 @@ refuses_long bytes b d h =
       e,
     ) refl
 
-pub refuses_zero : (bytes : List ℕ) → Refuses Minus bytes 48 Count
-refuses_zero bytes =
+pub refuses_zero : (bytes : List ℕ) (left : ℕ) → Refuses Minus bytes left 48 Count
+refuses_zero bytes left =
     refuses_inside (λ e. absurd (omega arith)) (λ e. absurd (omega arith))
     (λ line r more. rw r refl)
     (λ line r more. rw r (silence_items-zero more))
     (λ line r. rw r refl)
 
-pub refuses_count : (n : ℕ) (bytes : List ℕ) (b : ℕ) → is_decimal_digit b ≡ true
-    → 1000000 < n * 10 + (b - 48) → Refuses (Number n) bytes b Count
-refuses_count n bytes b d h =
+pub refuses_count : (n : ℕ) (bytes : List ℕ) (left b : ℕ) → is_decimal_digit b ≡ true
+    → 1000000 < n * 10 + (b - 48) → Refuses (Number n) bytes left b Count
+refuses_count n bytes left b d h =
     refuses_inside (digit_not_lf b d) (digit_not_cr b d) (λ line r more. rw r.is refl)
     (λ line r more. rw r.is (silence_items-big (r.digits ++ b ∷ more)
     (omega (
@@ -379,9 +403,9 @@ refuses_count n bytes b d h =
       d,
     ) refl
 
-pub refuses_after_return : (content : Content) (bytes : List ℕ) (b : ℕ) → b ≢ 10
-    → Refuses (Returned content) bytes b Char
-refuses_after_return content bytes b l =
+pub refuses_after_return : (content : Content) (bytes : List ℕ) (left b : ℕ) → b ≢ 10
+    → Refuses (Returned content) bytes left b Char
+refuses_after_return content bytes left b l =
     refuses l
     (λ line r more. rw (r.is, append_assoc r.before (13 ∷ []) (b ∷ more))
     (line_items-return_inside r.before b more r.apart))
@@ -404,87 +428,87 @@ or_false : (p q : Bool) → (p || q) ≡ false → (p ≡ false) × (q ≡ false
 or_false true q h = cc
 or_false false q h = (refl, h)
 
--- a first byte of a line that is none of the signs: no line begins so, but a mark
-pub refuses_start : (bytes : List ℕ) (b : ℕ) → is_foreign Start b ≡ true → b ≢ 10 → b ≢ 13
-    → Refuses Start bytes b Char
-refuses_start bytes b f l c = record {
-  wrong = λ _ line r more items e. only_mark (without_return more) items
-      (sym (line_of line r more) ∙ e);
-  ended = λ e. absurd (l e);
+-- a first byte of a line that is none of the signs: no line begins so
+pub refuses_start : (bytes : List ℕ) (left b : ℕ) → is_foreign Start b ≡ true → b ≢ 10 → b ≢ 13
+    → Refuses Start bytes left b Char
+refuses_start bytes left b f l c =
+    refuses_inside l c (λ line r more. rw r signs.0)
+    (λ line r more. rw r (none more)) (λ line r. rw r refl)
+  where
+    signs : ((b == 35) ≡ false) × ((b == 43) ≡ false) × ((b == 45) ≡ false) × ((b == 37) ≡ false)
+    signs =
+        let all = or_false (b == 35 || b == 43 || b == 45) (b == 37)
+        (not_true (b == 35 || b == 43 || b == 45 || b == 37) f) in
+        let one = or_false (b == 35 || b == 43) (b == 45) all.0 in
+        let two = or_false (b == 35) (b == 43) one.0 in
+        (two.0, two.1, one.1, all.1)
+
+    none : (more : List ℕ) → content_items (b ∷ more) ≡ None
+    none more = rw (signs.1, signs.2, signs.3) refl
+
+-- a mark where none is left: no line begins so, but with one mark more
+pub refuses_percent : (bytes : List ℕ) (left : ℕ) → left ≡ 0 → Refuses Start bytes left 37 Char
+refuses_percent bytes left none = record {
+  wrong = λ _ line r more items e. let some : 0 < marks_in items =
+      one_mark (without_return more) items (sym (line_of line r more) ∙ e) in omega arith;
+  ended = λ e. absurd (omega arith);
   cause = λ line r. rw r refl;
 }
   where
-    signs : ((b == 35) ≡ false) × ((b == 43) ≡ false) × ((b == 45) ≡ false)
-    signs =
-        let one = or_false (b == 35 || b == 43) (b == 45)
-        (not_true (b == 35 || b == 43 || b == 45) f) in
-        let two = or_false (b == 35) (b == 43) one.0 in
-        (two.0, two.1, one.1)
-
     line_of : (line : List ℕ) → line ≡ [] → (more : List ℕ)
-        → line_items (line ++ b ∷ more) ≡ content_items (b ∷ without_return more)
-    line_of line r more = rw r (line_items-byte [] b more signs.0 c)
+        → line_items (line ++ 37 ∷ more) ≡ content_items (37 ∷ without_return more)
+    line_of line r more = rw r (line_items-byte [] 37 more refl (λ e. absurd (omega arith)))
 
-    by_percent : (t : Bool) (n : ℕ) (items : List Item)
-        → cond t (cond (n == 0) (Some (mark ∷ [])) None) None ≡ Some items → 0 < marks_in items
-    by_percent false n items e = cc
-    by_percent true n items e = by_length (n == 0) items e
-      where
-        by_length : (t : Bool) (items : List Item) → cond t (Some (mark ∷ [])) None ≡ Some items
-            → 0 < marks_in items
-        by_length false items e = cc
-        by_length true items e = let same : mark ∷ [] ≡ items = cc in rw (← same) (omega arith)
-
-    only_mark : (more : List ℕ) (items : List Item) → content_items (b ∷ more) ≡ Some items
+    one_mark : (more : List ℕ) (items : List Item) → content_items (37 ∷ more) ≡ Some items
         → 0 < marks_in items
-    only_mark more items e =
-        let same : content_items (b ∷ more)
-        ≡ cond (b == 37) (cond (length more == 0) (Some (mark ∷ [])) None) None =
-        rw (signs.1, signs.2) refl in
-        by_percent (b == 37) (length more) items (sym same ∙ e)
+    one_mark [] items e = let same : mark ∷ [] ≡ items = cc in rw (← same) (omega arith)
+    one_mark (c ∷ more) items e = let none = mark_items-bad [] c more in cc
 
 -- a byte that no content of this sign has
-refuses_behind_sign : (place : Place) (bytes : List ℕ) (b : ℕ) → is_foreign place b ≡ true → b ≢ 10
-    → b ≢ 13
+refuses_behind_sign : (place : Place) (bytes : List ℕ) (left b : ℕ) → is_foreign place b ≡ true
+    → b ≢ 10 → b ≢ 13
     → (sign : ℕ) → (sign == 35) ≡ false
     → ((line : List ℕ) → Reads place bytes line → (x : List ℕ) × (line ≡ sign ∷ x))
     → ((x more : List ℕ) → content_items (sign ∷ (x ++ b ∷ more)) ≡ None)
     → ((x : List ℕ) → ends_in_return (sign ∷ x) ≡ false → fault_in_line (sign ∷ x) (Some b) ≡ Char)
-    → Refuses place bytes b Char
-refuses_behind_sign place bytes b f l c sign h form none cause =
+    → Refuses place bytes left b Char
+refuses_behind_sign place bytes left b f l c sign h form none cause =
     refuses_inside l c (λ line r more. rw (form line r).1 h)
     (λ line r more. let x = form line r in rw x.1 (none x.0 more))
     (λ line r. let x = form line r in rw x.1
     (cause x.0 (rw x.1 at (foreign_plain place b bytes line f r).whole)))
 
 -- another byte that is no part of the content
-pub refuses_foreign : (place : Place) (bytes : List ℕ) (b : ℕ) → is_foreign place b ≡ true → b ≢ 10
-    → b ≢ 13 → Refuses place bytes b Char
-refuses_foreign Start bytes b f l c = refuses_start bytes b f l c
-refuses_foreign (Comment n) bytes b f l c = cc
-refuses_foreign Pairs bytes b f l c =
+pub refuses_foreign : (place : Place) (bytes : List ℕ) (left b : ℕ) → is_foreign place b ≡ true
+    → b ≢ 10 → b ≢ 13 → Refuses place bytes left b Char
+refuses_foreign Start bytes left b f l c = refuses_start bytes left b f l c
+refuses_foreign (Comment n) bytes left b f l c = cc
+refuses_foreign Pairs bytes left b f l c =
     let d = not_true (is_hex_digit b) f in
-    refuses_behind_sign Pairs bytes b f l c 43 refl
+    refuses_behind_sign Pairs bytes left b f l c 43 refl
     (λ line r. (r.digits, r.is))
     (λ x more. byte_items-bad x b more d)
     (λ x w. rw (w, test_of b 10 l, test_of b 13 c, d) refl)
-refuses_foreign (HalfPair high) bytes b f l c =
+refuses_foreign (HalfPair high) bytes left b f l c =
     let d = not_true (is_hex_digit b) f in
-    refuses_behind_sign (HalfPair high) bytes b f l c 43 refl
+    refuses_behind_sign (HalfPair high) bytes left b f l c 43 refl
     (λ line r. (r.digits ++ r.digit ∷ [], r.is))
     (λ x more. byte_items-bad x b more d)
     (λ x w. rw (w, test_of b 10 l, test_of b 13 c, d) refl)
-refuses_foreign Minus bytes b f l c =
+refuses_foreign Minus bytes left b f l c =
     let d = not_true (is_decimal_digit b) f in
-    refuses_behind_sign Minus bytes b f l c 45 refl
+    refuses_behind_sign Minus bytes left b f l c 45 refl
     (λ line r. ([], r))
     (λ x more. silence_items-bad x b more d)
     (λ x w. rw (w, test_of b 10 l, test_of b 13 c, d) refl)
-refuses_foreign (Number n) bytes b f l c =
+refuses_foreign (Number n) bytes left b f l c =
     let d = not_true (is_decimal_digit b) f in
-    refuses_behind_sign (Number n) bytes b f l c 45 refl
+    refuses_behind_sign (Number n) bytes left b f l c 45 refl
     (λ line r. (r.digits, r.is))
     (λ x more. silence_items-bad x b more d)
     (λ x w. rw (w, test_of b 10 l, test_of b 13 c, d) refl)
-refuses_foreign (Returned content) bytes b f l c = cc
-refuses_foreign (Refused why) bytes b f l c = cc
+refuses_foreign Percent bytes left b f l c =
+    refuses_behind_sign Percent bytes left b f l c 37 refl (λ line r. ([], r))
+    (λ x more. mark_items-bad x b more) (λ x w. rw w refl)
+refuses_foreign (Returned content) bytes left b f l c = cc
+refuses_foreign (Refused why) bytes left b f l c = cc

@@ -19,6 +19,16 @@ accepts_each_kind : IsTickText 1 (codes "+0aF5" ++ 13 ∷ 10 ∷ 10 ∷ codes "#
 unfolding lines_of line_items decode_pairs
 accepts_each_kind = record { lines = refl; marked = refl }
 
+-- two lines of a mark
+accepts_two_marks : IsTickText 2 (codes "%" ++ 13 ∷ 10 ∷ codes "%") (mark ∷ mark ∷ [])
+unfolding lines_of line_items
+accepts_two_marks = record { lines = refl; marked = refl }
+
+-- a mark and one byte more
+refuses_more_behind_a_mark : line_items (codes "%1") ≡ None
+unfolding line_items
+refuses_more_behind_a_mark = refl
+
 accepts_nothing : IsTickText 0 [] []
 unfolding lines_of line_items
 accepts_nothing = record { lines = refl; marked = refl }
@@ -104,6 +114,18 @@ module _ where
   after_return_is_char : fault_after (codes "+0a" ++ 13 ∷ []) 120 ≡ Char
   unfolding lines_of
   after_return_is_char = refl
+
+  no_mark_left_is_char : fault_after [] 37 ≡ Char
+  unfolding lines_of
+  no_mark_left_is_char = refl
+
+  second_mark_is_char : fault_after (codes "%" ++ 10 ∷ []) 37 ≡ Char
+  unfolding lines_of
+  second_mark_is_char = refl
+
+  more_behind_a_mark_is_char : fault_after (codes "%") 37 ≡ Char
+  unfolding lines_of
+  more_behind_a_mark_is_char = refl
 
   missing_mark_is_mark : fault_at_end (codes "+01") ≡ Mark
   unfolding lines_of line_items decode_pairs

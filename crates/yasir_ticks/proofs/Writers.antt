@@ -16,7 +16,7 @@ use Rattle.yasir_ticks.specs.declared.writer.TickWriter.{TickWriter}
 use Rattle.yasir_ticks.specs.declared.run.Run.{Run}
 use Rattle.arrayvec.specs.ArrayVec.{ArrayVec}
 use borrow.Author.Tests.{ltb-true}
-use Rattle.yasir_ticks.specs.declared.run.Run.TheVariants.{Nothing, Bytes, Silence}
+use Rattle.yasir_ticks.specs.declared.run.Run.TheVariants.{Nothing, Bytes, Silence, Mark}
 use Rattle.yasir_ticks.specs.Ticks.{IsTick, AreTicks, silent}
 use Rattle.yasir_ticks.specs.declared.tick.Tick.{Tick}
 use Rattle.yasir_ticks.specs.declared.tick.Tick.TheVariants.{Silent, Byte}
@@ -236,6 +236,7 @@ begins b (Bytes line) parts answered is ends =
     (some, subst P (sym is) ends)
 begins b Nothing parts answered is ends = absurd is
 begins b (Silence n) parts answered is ends = absurd is
+begins b Mark parts answered is ends = absurd is
 
 pub byte_joins : (old : Run) (line new_line : ArrayVec ℕ) (b : ℕ) (text : List ℕ) → old ≡ Bytes line
     → new_line.items ≡ line.items ++ b ∷ [] → text ≡ []

@@ -3,18 +3,21 @@
 use Rattle.std.specs.Prelude.{◌≡◌, ℕ, ◌+◌, ◌≤◌, ◌<◌, ◌==◌, Bool, true, false, List, [], ◌∷◌, ◌++◌}
 use Rattle.std.specs.Prelude.{length, map, replicate, Some, Ok}
 use Rattle.hex.specs.Hex.{decode_of, hex_digit_value}
-use Rattle.yasir_ticks.specs.Characters.{plus_sign, minus_sign, number_sign, carriage_return}
+use Rattle.yasir_ticks.specs.Characters.{plus_sign, minus_sign, percent_sign, number_sign}
+use Rattle.yasir_ticks.specs.Characters.{carriage_return}
 use Rattle.yasir_ticks.specs.Ticks.{Item, marks_in}
-use Rattle.yasir_ticks.specs.Ticks.Item.{tick}
+use Rattle.yasir_ticks.specs.Ticks.Item.{tick, mark}
 use Rattle.yasir_ticks.specs.TickText.{lines_of, all_items, ended_items, line_after, content_items}
 use Rattle.yasir_ticks.specs.TickText.{is_plain_decimal, number_after}
 use Rattle.yasir_ticks.specs.declared.fault.BadTicks.{BadTicks}
 use Rattle.yasir_ticks.specs.declared.tick.Tick.TheVariants.{Silent, Byte}
 use Rattle.yasir_ticks.specs.declared.place.Content.{Content}
 use Rattle.yasir_ticks.specs.declared.place.Content.TheVariants.{NoTick, KeptBytes, SilentTicks}
+use Rattle.yasir_ticks.specs.declared.place.Content.TheVariants.{OneMark}
 use Rattle.yasir_ticks.specs.declared.place.Place.{Place}
 use Rattle.yasir_ticks.specs.declared.place.Place.TheVariants.{Start, Comment, Pairs, HalfPair}
-use Rattle.yasir_ticks.specs.declared.place.Place.TheVariants.{Minus, Number, Returned, Refused}
+use Rattle.yasir_ticks.specs.declared.place.Place.TheVariants.{Minus, Number, Percent, Returned}
+use Rattle.yasir_ticks.specs.declared.place.Place.TheVariants.{Refused}
 use Rattle.yasir_ticks.specs.declared.reader.TickReader.{TickReader}
 
 -- what a line stands for whose content this is, the bytes of a `+` line being these
@@ -22,6 +25,25 @@ abbrev pub items_of_content : Content → List ℕ → List Item
 items_of_content NoTick bytes = []
 items_of_content KeptBytes bytes = map (λ b. tick (Byte b)) bytes
 items_of_content (SilentTicks n) bytes = replicate n (tick Silent)
+items_of_content OneMark bytes = mark ∷ []
+
+abbrev pub marks_of_content : Content → ℕ
+marks_of_content NoTick = 0
+marks_of_content KeptBytes = 0
+marks_of_content (SilentTicks n) = 0
+marks_of_content OneMark = 1
+
+-- how many marks a line stands for that has come to this place: one behind `%`
+abbrev pub marks_at : Place → ℕ
+marks_at Start = 0
+marks_at (Comment n) = 0
+marks_at Pairs = 0
+marks_at (HalfPair high) = 0
+marks_at Minus = 0
+marks_at (Number n) = 0
+marks_at Percent = 1
+marks_at (Returned content) = marks_of_content content
+marks_at (Refused why) = 0
 
 abbrev pub starts_comment : List ℕ → Bool
 starts_comment [] = false
@@ -73,20 +95,22 @@ Reads Pairs bytes line = HasPairs bytes line
 Reads (HalfPair high) bytes line = HasHalfPair high bytes line
 Reads Minus bytes line = line ≡ minus_sign ∷ []
 Reads (Number n) bytes line = HasNumber n line
+Reads Percent bytes line = line ≡ percent_sign ∷ []
 Reads (Returned content) bytes line = IsReturned content bytes line
 Reads (Refused why) bytes line = ⊥
 
--- A text with so many marks, of which these are left, brings a reader to this place.
+-- A text with so many marks, of which these are left behind the line so far, brings a reader to
+-- this place.
 pub record IsAt (place : Place) (bytes : List ℕ) (line left marks : ℕ) (text : List ℕ) :
     Type 0 where
   pub ended : all_items (lines_of text).ended ≡ Some (ended_items text)
-  pub marked : marks_in (ended_items text) + left ≡ marks
+  pub marked : marks_in (ended_items text) + (marks_at place + left) ≡ marks
   pub counted : line ≡ line_after text
   pub last : Reads place bytes (lines_of text).last
 
--- The reader has taken this text, and no byte of it is refused; no mark is left.
+-- The reader of a text with so many marks has taken this much, and no byte of it is refused.
 pub record StandsFor (reader : TickReader) (marks : ℕ) (text : List ℕ) : Type 0 where
-  pub at : IsAt reader.place reader.bytes.items reader.line 0 marks text
+  pub at : IsAt reader.place reader.bytes.items reader.line reader.left marks text
 
 -- the line in which the reader stands
 abbrev pub reader_line : TickReader → ℕ

@@ -1,13 +1,15 @@
 -- What one byte of a tick text, or its end, does at a place of its line.
-use Rattle.std.specs.Prelude.{◌≡◌, ℕ, ◌+◌, ◌<◌, ◌==◌, ◌≢◌, true, List, [], ◌∷◌, ◌++◌, Option, Some}
-use Rattle.std.specs.Prelude.{None, Result, Ok, Err, if◌then◌else◌}
+use Rattle.std.specs.Prelude.{◌≡◌, ℕ, ◌+◌, ◌<◌, ◌==◌, ◌≢◌, ◌⊎◌, true, List, [], ◌∷◌, ◌++◌, Option}
+use Rattle.std.specs.Prelude.{Some, None, Result, Ok, Err, if◌then◌else◌}
 use Rattle.yasir_ticks.specs.Characters.{line_feed}
 use Rattle.yasir_ticks.specs.Ticks.{Item, items_of_run, marks_in}
 use Rattle.yasir_ticks.specs.Place.{ended_has_ticks}
 use Rattle.yasir_ticks.specs.TickText.{line_items, fault_in_line, ends_content}
-use Rattle.yasir_ticks.specs.Reader.{Reads, items_of_content, HasRefused}
+use Rattle.yasir_ticks.specs.Reader.{Reads, items_of_content, marks_of_content, marks_at}
+use Rattle.yasir_ticks.specs.Reader.{HasRefused}
 use Rattle.yasir_ticks.specs.declared.fault.BadTicks.{BadTicks}
 use Rattle.yasir_ticks.specs.declared.fault.TickFault.{TickFault}
+use Rattle.yasir_ticks.specs.declared.fault.TickFault.TheVariants.{Mark}
 use Rattle.yasir_ticks.specs.declared.run.Run.{Run}
 use Rattle.yasir_ticks.specs.declared.run.Run.TheVariants.{Nothing}
 use Rattle.yasir_ticks.specs.declared.place.Content.{Content}
@@ -21,22 +23,24 @@ items_of_ended None bytes = []
 items_of_ended (Some content) bytes = items_of_content content bytes
 
 -- A byte that goes on with the line brings its reader to the new place; an LF ends the line, which
--- stands for the items.
-pub record Accepts (place : Place) (bytes : List ℕ) (b : ℕ) (items : List Item) (new_place : Place)
-    (new_bytes : List ℕ) : Type 0 where
+-- stands for the items. Of the marks that are left, those are taken that the line then stands for.
+pub record Accepts (place : Place) (bytes : List ℕ) (left b : ℕ) (items : List Item)
+    (new_place : Place) (new_bytes : List ℕ) (new_left : ℕ) : Type 0 where
   pub nothing : b ≢ line_feed → items ≡ []
   pub reads : b ≢ line_feed → (line : List ℕ) → Reads place bytes line
       → Reads new_place new_bytes (line ++ b ∷ [])
   pub start : b ≡ line_feed → new_place ≡ Start
   pub stands : b ≡ line_feed → (line : List ℕ) → Reads place bytes line
       → line_items line ≡ Some items
+  pub marked : marks_in items + (marks_at new_place + new_left) ≡ marks_at place + left
 
--- No line of a right form goes on with this byte, unless it is a mark, and none is left; an LF ends
--- a line of no right form.
-pub record Refuses (place : Place) (bytes : List ℕ) (b : ℕ) (why : TickFault) : Type 0 where
+-- No line of a right form goes on with this byte, unless it is one mark more than are left; an LF
+-- ends a line of no right form.
+pub record Refuses (place : Place) (bytes : List ℕ) (left b : ℕ) (why : TickFault) :
+    Type 0 where
   pub wrong : b ≢ line_feed → (line : List ℕ) → Reads place bytes line
       → (more : List ℕ) (items : List Item) → line_items (line ++ b ∷ more) ≡ Some items
-      → 0 < marks_in items
+      → marks_at place + left < marks_in items
   pub ended : b ≡ line_feed → (line : List ℕ) → Reads place bytes line → line_items line ≡ None
   pub cause : (line : List ℕ) → Reads place bytes line → fault_in_line line (Some b) ≡ why
 
@@ -44,6 +48,7 @@ pub record Refuses (place : Place) (bytes : List ℕ) (b : ℕ) (why : TickFault
 pub record Closes (place : Place) (bytes : List ℕ) (content : Content) : Type 0 where
   pub stands : (line : List ℕ) → Reads place bytes line
       → line_items line ≡ Some (items_of_content content bytes)
+  pub marked : marks_of_content content ≡ marks_at place
 
 -- A line that ends here, by a CR, an LF or the end of the text, has no right form.
 pub record IsOpen (place : Place) (bytes : List ℕ) (why : TickFault) : Type 0 where
@@ -56,12 +61,13 @@ line_with line b = if b == line_feed then line + 1 else line
 
 abbrev pub AdvanceCase : TickReader → ℕ → Result (Option Content) TickFault → TickReader → Type 0
 AdvanceCase old b (Ok ended) new =
-    Accepts old.place old.bytes.items b (items_of_ended ended new.bytes.items) new.place
-    new.bytes.items
+    Accepts old.place old.bytes.items old.left b (items_of_ended ended new.bytes.items) new.place
+    new.bytes.items new.left
     × (new.line ≡ line_with old.line b) × (b ≢ line_feed → ended ≡ None)
     × (ended_has_ticks ended new.bytes.items ≡ true)
 AdvanceCase old b (Err why) new =
-    Refuses old.place old.bytes.items b why × (new.line ≡ old.line) × (new.place ≡ Refused why)
+    Refuses old.place old.bytes.items old.left b why × (new.line ≡ old.line)
+    × (new.place ≡ Refused why)
 
 -- one byte at a reader, up to the run of a line that it ends
 pub record Advances (old : TickReader) (b : ℕ) (result : Result (Option Content) TickFault)
@@ -70,22 +76,34 @@ pub record Advances (old : TickReader) (b : ℕ) (result : Result (Option Conten
 
 abbrev pub StepCase : TickReader → ℕ → Result Run BadTicks → TickReader → Type 0
 StepCase old b (Ok run) new =
-    Accepts old.place old.bytes.items b (items_of_run run) new.place new.bytes.items
+    Accepts old.place old.bytes.items old.left b (items_of_run run) new.place new.bytes.items
+    new.left
     × (new.line ≡ line_with old.line b)
     × (items_of_run run ≡ [] → run ≡ Nothing)
 StepCase old b (Err bad) new =
-    Refuses old.place old.bytes.items b bad.why × (bad.line ≡ old.line) × HasRefused new bad
+    Refuses old.place old.bytes.items old.left b bad.why × (bad.line ≡ old.line)
+    × HasRefused new bad
 
 -- one byte at a reader
 pub record Steps (old : TickReader) (b : ℕ) (result : Result Run BadTicks) (new : TickReader) :
     Type 0 where
   pub case : StepCase old b result new
 
+-- The line that ends here has a right form, and marks are missing.
+pub record LacksMark (place : Place) (bytes : List ℕ) (left : ℕ) (why : TickFault) : Type 0 where
+  pub content : Content
+  pub closes : Closes place bytes content
+  pub some : 0 < left
+  pub is : why ≡ Mark
+
 abbrev pub EndCase : TickReader → Result Run BadTicks → Type 0
 EndCase reader (Ok run) = ((line : List ℕ) → Reads reader.place reader.bytes.items line
     → line_items line ≡ Some (items_of_run run))
     × (items_of_run run ≡ [] → run ≡ Nothing)
-EndCase reader (Err bad) = IsOpen reader.place reader.bytes.items bad.why × (bad.line ≡ reader.line)
+    × (marks_in (items_of_run run) ≡ marks_at reader.place) × (reader.left ≡ 0)
+EndCase reader (Err bad) = (IsOpen reader.place reader.bytes.items bad.why
+    ⊎ LacksMark reader.place reader.bytes.items reader.left bad.why)
+    × (bad.line ≡ reader.line)
 
 -- the end of the text at a reader
 pub record Stops (reader : TickReader) (result : Result Run BadTicks) : Type 0 where

@@ -1,7 +1,7 @@
 -- A line is a list of ticks; the first one is tick 0.
 use Rattle.std.specs.Prelude.{ℕ, suc, ◌<◌, List, [], ◌∷◌, map, replicate}
 use Rattle.yasir_ticks.specs.declared.run.Run.{Run}
-use Rattle.yasir_ticks.specs.declared.run.Run.TheVariants.{Nothing, Bytes, Silence}
+use Rattle.yasir_ticks.specs.declared.run.Run.TheVariants.{Nothing, Bytes, Silence, Mark}
 use Rattle.yasir_ticks.specs.declared.tick.Tick.{Tick}
 use Rattle.yasir_ticks.specs.declared.tick.Tick.TheVariants.{Silent, Byte}
 
@@ -47,3 +47,4 @@ abbrev pub items_of_run : Run → List Item
 items_of_run Nothing = []
 items_of_run (Bytes bytes) = map (λ b. tick (Byte b)) bytes.items
 items_of_run (Silence n) = replicate n (tick Silent)
+items_of_run Mark = mark ∷ []

@@ -7,7 +7,7 @@ use Rattle.yasir_ticks.specs.Ticks.{AreTicks}
 use Rattle.yasir_ticks.specs.CanonicalText.{Stretch, stretches, stretch_lines}
 use Rattle.yasir_ticks.specs.CanonicalText.Stretch.{bytes, silence}
 use Rattle.yasir_ticks.specs.declared.run.Run.{Run}
-use Rattle.yasir_ticks.specs.declared.run.Run.TheVariants.{Nothing, Bytes, Silence}
+use Rattle.yasir_ticks.specs.declared.run.Run.TheVariants.{Nothing, Bytes, Silence, Mark}
 use Rattle.yasir_ticks.specs.declared.tick.Tick.{Tick}
 use Rattle.yasir_ticks.specs.declared.tick.Tick.TheVariants.{Silent, Byte}
 use Rattle.yasir_ticks.specs.declared.writer.TickWriter.{TickWriter}
@@ -40,6 +40,7 @@ Leaves Nothing parts answered = IsUntouched parts answered
     ⊎ (EndsInBytes [] parts answered ⊎ EndsInSilence 0 parts answered)
 Leaves (Bytes line) parts answered = (0 < length line.items) × EndsInBytes line.items parts answered
 Leaves (Silence n) parts answered = (0 < n) × EndsInSilence n parts answered
+Leaves Mark parts answered = ⊥
 
 -- The writer has taken these ticks, and all its answers joined are this text.
 pub record HasWritten (writer : TickWriter) (ticks : List Tick) (answered : List ℕ) : Type 0 where
@@ -69,6 +70,7 @@ joins (Bytes line) (Byte b) = nat_lt (length line.items + 1) 32
 joins (Bytes line) Silent = false
 joins (Silence n) Silent = nat_lt (n + 1) 1000000
 joins (Silence n) (Byte b) = false
+joins Mark t = false
 
 -- a writer takes this tick without completing a line
 abbrev pub has_room_for : TickWriter → Tick → Bool
@@ -79,3 +81,4 @@ abbrev pub BeginsWith : ℕ → Run → Type 0
 BeginsWith b Nothing = ⊥
 BeginsWith b (Bytes line) = line.items ≡ b ∷ []
 BeginsWith b (Silence n) = ⊥
+BeginsWith b Mark = ⊥

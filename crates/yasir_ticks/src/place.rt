@@ -11,6 +11,8 @@ pub enum Content {
     KeptBytes,
     /// So many silent ticks.
     SilentTicks(u32),
+    /// A mark.
+    OneMark,
 }
 
 impl Content {
@@ -28,6 +30,7 @@ impl Content {
             Content::NoTick => Run::Nothing,
             Content::KeptBytes => Run::Bytes(bytes.take()),
             Content::SilentTicks(n) => Run::Silence(n),
+            Content::OneMark => Run::Mark,
         }
     }
 }
@@ -47,6 +50,8 @@ pub enum Place {
     Minus,
     /// After `-` and the digits of this number.
     Number(u32),
+    /// After `%` alone.
+    Percent,
     /// After the CR behind this content.
     Returned(Content),
     /// Past a refusal.

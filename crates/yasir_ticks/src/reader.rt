@@ -1,7 +1,7 @@
 ghost use Rattle.std.specs.Prelude.{◌≡◌, ℕ, ◌+◌, ◌-◌, ◌*◌, ◌<◌, ◌≤◌, ◌^◌, ◌==◌, ◌++◌, ◌∷◌, []};
 ghost use Rattle.std.specs.Prelude.{List, true, length, IsTrue, MatchResult, Some, if◌then◌else◌};
 ghost use Rattle.hex.specs.Hex.{hex_digit_value, is_hex_digit};
-ghost use Rattle.yasir_ticks.specs.Characters.{line_feed, carriage_return};
+ghost use Rattle.yasir_ticks.specs.Characters.{line_feed, carriage_return, percent_sign};
 ghost use Rattle.yasir_ticks.specs.Place.{has_ticks, is_sound, is_foreign};
 
 use crate::digit::hex_value;
@@ -21,6 +21,8 @@ type Advance = Result<Option<Content>, TickFault>;
 #[derive(Drop)]
 pub struct TickReader {
     pub(crate) line: u32,
+    // how many marks may still begin
+    pub(crate) left: u8,
     pub(crate) place: Place,
     pub(crate) bytes: LineBytes,
     ghost room: { is_sound place bytes.items ≡ true },
@@ -39,14 +41,13 @@ impl TickReader {
 
     /// A reader of a text with exactly so many marks.
     pub fn new(marks: u8) -> TickReader
-        requires { marks ≡ 0 }
         ensures stands { StandsFor result marks [] }
         ensures begins { BeginsTickText marks [] }
         ensures line { reader_line result ≡ 1 }
     {
-        prove!(marks == 0);
         TickReader {
             line: 1,
+            left: marks,
             place: Place::Start,
             bytes: LineBytes::new(),
         }
@@ -79,6 +80,7 @@ impl TickReader {
             Place::HalfPair(_) => Err(TickFault::Odd),
             Place::Minus => Err(TickFault::Empty),
             Place::Number(n) => Ok(Content::SilentTicks(n)),
+            Place::Percent => Ok(Content::OneMark),
             Place::Returned(content) => Ok(content),
             Place::Refused(why) => Err(why),
         }
@@ -92,6 +94,7 @@ impl TickReader {
         ensures place { self.new.place ≡ place }
         ensures bytes { self.new.bytes.items ≡ self.old.bytes.items }
         ensures line { self.new.line ≡ self.old.line }
+        ensures left { self.new.left ≡ self.old.left }
     {
         self.place = place;
         Ok(None)
@@ -158,7 +161,21 @@ impl TickReader {
             }
             b'-' => self.go(Place::Minus),
             b'#' => self.go(Place::Comment(0)),
+            b'%' => self.begin_mark(),
             _ => self.after_content(b),
+        }
+    }
+
+    /// A `%` at the front of a line, which is refused where no mark is left.
+    fn begin_mark(&mut self) -> Advance
+        requires { self.old.place ≡ Place.Start }
+        ensures { Advances self.old percent_sign result self.new }
+    {
+        if self.left > 0 {
+            self.left -= 1;
+            self.go(Place::Percent)
+        } else {
+            self.refuse(TickFault::Char)
         }
     }
 
@@ -266,6 +283,7 @@ impl TickReader {
             Place::Start => self.at_start(b),
             Place::Minus => self.after_minus(b),
             Place::Number(number) => self.in_number(number, b),
+            Place::Percent => self.after_content(b),
             Place::Comment(length) => self.in_comment(length, b),
             Place::Returned(content) => self.after_return(content, b),
             Place::Refused(why) => Err(why),
@@ -303,7 +321,7 @@ impl TickReader {
         ensures run { (marks : ℕ) (text : List ℕ) → StandsFor self.old marks text
             → IfOk result (λ run. ended_items (text ++ b ∷ [])
             ≡ ended_items text ++ items_of_run run) }
-        // It is `Nothing` exactly where no line with ticks ended.
+        // It is `Nothing` exactly where no line with ticks or a mark ended.
         ensures nothing { IfOk result (λ run. items_of_run run ≡ [] → run ≡ Run.Nothing) }
         // It refuses the text at its refused place, and nowhere else.
         ensures refused { (marks : ℕ) (text : List ℕ) → StandsFor self.old marks text
@@ -324,7 +342,7 @@ impl TickReader {
     pub fn finish(mut self) -> Result<Run, BadTicks>
         ensures right { (marks : ℕ) (text : List ℕ) → StandsFor self marks text
             → IfOk result (λ run. IsTickText marks text (ended_items text ++ items_of_run run)) }
-        // It is `Nothing` exactly where the last line has no tick.
+        // It is `Nothing` exactly where the last line has no tick, and is no mark.
         ensures nothing { IfOk result (λ run. items_of_run run ≡ [] → run ≡ Run.Nothing) }
         ensures refused { (marks : ℕ) (text : List ℕ) → StandsFor self marks text
             → IfErr result (λ bad. (¬ ((items : List Item) × IsTickText marks text items))
@@ -340,6 +358,10 @@ impl TickReader {
         ensures again { (bad : BadTicks) → HasRefused self.old bad → result ≡ Err bad }
     {
         match self.content() {
+            Ok(_) if self.left > 0 => Err(BadTicks {
+                line: self.line,
+                why: TickFault::Mark,
+            }),
             Ok(content) => {
                 self.place = Place::Start;
                 Ok(content.run(&mut self.bytes))

@@ -6,10 +6,12 @@ pub type LineBytes = ArrayVec<u8, 32>;
 /// What one line of a tick text adds to the recorded line.
 #[derive(Drop)]
 pub enum Run {
-    /// No tick: the line isn't ended yet, is empty or is a comment.
+    /// Neither a tick nor a mark: the line isn't ended yet, is empty or is a comment.
     Nothing,
     /// These bytes, one a tick.
     Bytes(LineBytes),
     /// So many silent ticks.
     Silence(u32),
+    /// A mark, which is no tick.
+    Mark,
 }

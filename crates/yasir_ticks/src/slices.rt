@@ -86,8 +86,8 @@ impl TickReader {
         }
     }
 
-    /// Takes bytes of the text up to and with the first one that ends a line with ticks, or up to a
-    /// refused one, or all of them. It is as if they were fed one by one.
+    /// Takes bytes of the text up to and with the first one that ends a line with ticks or a mark,
+    /// or up to a refused one, or all of them. It is as if they were fed one by one.
     pub fn feed_some(&mut self, bytes: &[u8]) -> Fed
         requires { reader_line self.old + length bytes.now < 2 ^ 32 }
         ensures within { result.taken ≤ length bytes.now }
@@ -99,17 +99,17 @@ impl TickReader {
         ensures run { (marks : ℕ) (text : List ℕ) → StandsFor self.old marks text
             → IfOk result.run (λ run. ended_items (text ++ take result.taken bytes.now)
             ≡ ended_items text ++ items_of_run run) }
-        // It is `Nothing` exactly where no line with ticks ended.
+        // It is `Nothing` exactly where no line with ticks or a mark ended.
         ensures nothing { IfOk result.run (λ run. items_of_run run ≡ [] → run ≡ Nothing) }
-        // A line with ticks ended at the last byte that was taken, and none before.
+        // Such a line ended at the last byte that was taken, and none before.
         ensures last { (marks : ℕ) (text : List ℕ) → StandsFor self.old marks text
             → IfOk result.run (λ run. run ≢ Nothing → (0 < result.taken)
             × (ended_items (text ++ take (result.taken - 1) bytes.now) ≡ ended_items text)) }
-        // Where no line with ticks ended, every byte was taken.
+        // Where none ended, every byte was taken.
         ensures whole { result.run ≡ Ok Nothing → result.taken ≡ length bytes.now }
         ensures progress { 0 < length bytes.now → OnOk result.run (0 < result.taken) }
         // It refuses the text at its refused place, and nowhere else; the lines that ended before
-        // have no ticks.
+        // are empty or comments.
         ensures refused { (marks : ℕ) (text : List ℕ) → StandsFor self.old marks text
             → IfErr result.run (λ bad. (result.taken < length bytes.now)
             × IsRefusedAfter marks (text ++ take result.taken bytes.now)

@@ -64,11 +64,35 @@ const REFUSED: [(&[u8], u32, TickFault); 21] = [
     ),
 ];
 
+/// Texts with so many marks, and the bytes, silent ticks and marks that they stand for.
+const MARKED: [(u8, &[u8], &[u8], u32); 5] = [
+    (1, b"%", b"", 0),
+    (1, b"+01\n%\n-3\n", b"\x01", 3),
+    (1, b"+01\r\n%\r\n+02", b"\x01\x02", 0),
+    (2, b"%\n\n# two\n%\r", b"", 0),
+    (3, b"%\n%\n%\n+ff\n", b"\xff", 0),
+];
+
+/// Texts with so many marks stated, and the line and the cause of their refusal.
+const REFUSED_MARKS: [(u8, &[u8], u32, TickFault); 10] = [
+    (1, b"+01", 1, TickFault::Mark),
+    (1, b"+01\n", 2, TickFault::Mark),
+    (1, b"", 1, TickFault::Mark),
+    (2, b"%\n+01", 2, TickFault::Mark),
+    (1, b"%\n%", 2, TickFault::Char),
+    (1, b"+01\n%\n%\n", 3, TickFault::Char),
+    (1, b"%%", 1, TickFault::Char),
+    (1, b"% ", 1, TickFault::Char),
+    (1, b"%\r\r", 1, TickFault::Char),
+    (1, b"+1", 1, TickFault::Odd),
+];
+
 /// What the lines of a text stand for.
 #[derive(Drop)]
 struct Seen {
     bytes: Vec<u8>,
     silent: u32,
+    marks: u8,
 }
 
 impl Seen {
@@ -77,6 +101,7 @@ impl Seen {
             Run::Nothing => {}
             Run::Bytes(bytes) => self.bytes.extend_from_slice(bytes.as_slice())?,
             Run::Silence(n) => self.silent = self.silent.wrapping_add(n),
+            Run::Mark => self.marks = self.marks.wrapping_add(1),
         }
         Ok(())
     }
@@ -92,11 +117,17 @@ fn refused_for_good(rt: &impl Abort, mut reader: TickReader, bad: BadTicks) -> B
 }
 
 /// Feeds a text to a reader and ends it.
-fn read(rt: &impl Abort, alloc: Global, text: &[u8]) -> Result<Result<Seen, BadTicks>, Fail> {
-    let mut reader = TickReader::new(0);
+fn read(
+    rt: &impl Abort,
+    alloc: Global,
+    marks: u8,
+    text: &[u8],
+) -> Result<Result<Seen, BadTicks>, Fail> {
+    let mut reader = TickReader::new(marks);
     let mut seen = Seen {
         bytes: Vec::new(alloc),
         silent: 0,
+        marks: 0,
     };
     for b in text {
         assert!(rt; reader.line() < 9);
@@ -115,12 +146,30 @@ fn read(rt: &impl Abort, alloc: Global, text: &[u8]) -> Result<Result<Seen, BadT
 #[test]
 fn reads_each_kind_of_text(rt: HostRuntime) -> Result<(), Fail> {
     for (text, bytes, silent) in ACCEPTED {
-        let seen = read(&rt, rt.alloc(), text)?.ok().ok_or("refused")?;
+        let seen = read(&rt, rt.alloc(), 0, text)?.ok().ok_or("refused")?;
         assert_eq!(rt; seen.bytes.as_slice(), bytes);
         assert_eq!(rt; seen.silent, silent);
     }
     for (text, line, why) in REFUSED {
-        let bad = read(&rt, rt.alloc(), text)?.err().ok_or("accepted")?;
+        let bad = read(&rt, rt.alloc(), 0, text)?.err().ok_or("accepted")?;
+        assert_eq!(rt; bad, BadTicks { line, why });
+    }
+    Ok(())
+}
+
+#[test]
+fn reads_marks(rt: HostRuntime) -> Result<(), Fail> {
+    for (marks, text, bytes, silent) in MARKED {
+        let seen = read(&rt, rt.alloc(), marks, text)?.ok().ok_or("refused")?;
+        assert_eq!(rt; seen.bytes.as_slice(), bytes);
+        assert_eq!(rt; seen.silent, silent);
+        assert_eq!(rt; seen.marks, marks);
+        let sliced = read_slices(rt.alloc(), marks, text, 3)?;
+        assert_eq!(rt; sliced.bytes.as_slice(), bytes);
+        assert_eq!(rt; sliced.marks, marks);
+    }
+    for (marks, text, line, why) in REFUSED_MARKS {
+        let bad = read(&rt, rt.alloc(), marks, text)?.err().ok_or("accepted")?;
         assert_eq!(rt; bad, BadTicks { line, why });
     }
     Ok(())
@@ -189,11 +238,12 @@ fn takes_runs(rt: HostRuntime) -> Result<(), Fail> {
 }
 
 /// Feeds a text in slices of so many bytes to a reader and ends it.
-fn read_slices(alloc: Global, text: &[u8], size: usize) -> Result<Seen, Fail> {
-    let mut reader = TickReader::new(0);
+fn read_slices(alloc: Global, marks: u8, text: &[u8], size: usize) -> Result<Seen, Fail> {
+    let mut reader = TickReader::new(marks);
     let mut seen = Seen {
         bytes: Vec::new(alloc),
         silent: 0,
+        marks: 0,
     };
     let mut rest = text;
     for _ in 0..200 {
@@ -213,7 +263,7 @@ fn read_slices(alloc: Global, text: &[u8], size: usize) -> Result<Seen, Fail> {
 fn reads_slices_of_each_size(rt: HostRuntime) -> Result<(), Fail> {
     for (text, bytes, silent) in ACCEPTED {
         for size in [1, 2, 3, 7, 200] {
-            let seen = read_slices(rt.alloc(), text, size)?;
+            let seen = read_slices(rt.alloc(), 0, text, size)?;
             assert_eq!(rt; seen.bytes.as_slice(), bytes);
             assert_eq!(rt; seen.silent, silent);
         }

@@ -94,7 +94,7 @@ impl TickWriter {
                 }
                 joins
             }
-            Run::Silence(_) => false,
+            Run::Silence(_) | Run::Mark => false,
             Run::Nothing => {
                 self.begin_bytes(b);
                 true
@@ -117,7 +117,7 @@ impl TickWriter {
                 }
                 joins
             }
-            Run::Bytes(_) => false,
+            Run::Bytes(_) | Run::Mark => false,
             Run::Nothing => {
                 self.unfilled = Run::Silence(1);
                 true
@@ -197,6 +197,7 @@ impl TickWriter {
                 line
             }
             Run::Nothing => LineText::new(),
+            Run::Mark => LineText::new(),
         }
     }
 
@@ -216,6 +217,7 @@ impl TickWriter {
                 line
             }
             Run::Nothing => LineText::new(),
+            Run::Mark => LineText::new(),
         }
     }
 
@@ -257,6 +259,7 @@ impl TickWriter {
             Run::Nothing => LineText::new(),
             Run::Bytes(line) => hex_line(line),
             Run::Silence(n) => count_line(*n),
+            Run::Mark => LineText::new(),
         }
     }
 }

@@ -1,6 +1,6 @@
 use Rattle.std.proofs.Common.{arith}
-use Rattle.tick_drive.proofs.ItemLaws.{length-silent_items}
-use Rattle.tick_drive.proofs.Driving.{rest_taken, rest_stops, other_ends, length-whole}
+use Rattle.tick_drive.proofs.ItemLaws.{length-ticks_in-silence}
+use Rattle.tick_drive.proofs.Driving.{rest_taken, rest_stops, other_ends, few-whole}
 use Rattle.tick_drive.proofs.input_loop.drive_to_rest.Goals as goal
 
 pub take-requires : goal.take-requires
@@ -10,9 +10,9 @@ take-requires g c =
         arith,
         driven.gives.counted,
         c.requires.fresh.none,
-        length-silent_items c.args.rest,
+        length-ticks_in-silence c.args.rest,
         c.ranges.rest.fits,
-        length-whole _ _ _ driven.items c.requires.no_mark driven.takes,
+        few-whole _ _ _ driven.items driven.takes,
       );
       able = driven.gives.is_able;
     }

@@ -1,7 +1,7 @@
 use Rattle.std.proofs.Common.{◌+◌, take, drop, arith}
 use Rattle.tick_drive.specs.Items.{byte_items}
-use Rattle.tick_drive.proofs.ItemLaws.{byte_items-at, byte_items-more, length-byte_items}
-use Rattle.tick_drive.proofs.ItemLaws.{length-byte_items-take}
+use Rattle.tick_drive.proofs.ItemLaws.{byte_items-at, byte_items-more}
+use Rattle.tick_drive.proofs.ItemLaws.{length-ticks_in-bytes, length-ticks_in-take}
 use Rattle.tick_drive.proofs.Moving.{gives_none, gives_more, gives_stop}
 use Rattle.tick_drive.proofs.consumer.Consumer.take_bytes.Goals as goal
 
@@ -24,8 +24,8 @@ take_tick-requires g c = record {
     arith,
     c.requires.room,
     c.loop-byte.invariant.counted,
-    length-byte_items c.args.bytes.now,
-    length-byte_items-take c.args.bytes.now c.loop-byte.byte-index (omega arith),
+    length-ticks_in-bytes c.args.bytes.now,
+    length-ticks_in-take c.args.bytes.now c.loop-byte.byte-index (omega arith),
     c.loop-byte-test.true,
   );
   able = c.loop-byte.invariant.is_able;

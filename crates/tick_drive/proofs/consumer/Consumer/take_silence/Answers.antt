@@ -1,6 +1,7 @@
 use Rattle.std.proofs.Common.{◌+◌, ◌-◌, arith}
 use Rattle.tick_drive.specs.Items.{silent_items}
-use Rattle.tick_drive.proofs.ItemLaws.{silent_items-at, silent_items-more, length-silent_items}
+use Rattle.tick_drive.proofs.ItemLaws.{silent_items-at, silent_items-more}
+use Rattle.tick_drive.proofs.ItemLaws.{length-ticks_in-silence}
 use Rattle.tick_drive.proofs.Moving.{gives_none, gives_more, gives_stop}
 use Rattle.tick_drive.proofs.consumer.Consumer.take_silence.Goals as goal
 
@@ -22,8 +23,8 @@ take_tick-requires g c = record {
     arith,
     c.requires.room,
     c.loop.invariant.counted,
-    length-silent_items c.args.ticks,
-    length-silent_items c.loop.counter,
+    length-ticks_in-silence c.args.ticks,
+    length-ticks_in-silence c.loop.counter,
     c.loop-test.true,
   );
   able = c.loop.invariant.is_able;

@@ -1,6 +1,7 @@
 use Rattle.std.proofs.Common.{inl, inr, arith}
 use Rattle.yasir_ticks.proofs.Steps.{closes_start, closes_comment, closes_pairs, closes_number}
-use Rattle.yasir_ticks.proofs.Steps.{closes_returned, open_pairs, open_half_pair, open_minus}
+use Rattle.yasir_ticks.proofs.Steps.{closes_percent, closes_returned}
+use Rattle.yasir_ticks.proofs.Steps.{open_pairs, open_half_pair, open_minus}
 use Rattle.yasir_ticks.proofs.reader.TickReader.content.Goals as goal
 
 pub returns-in-Start-clause-content : goal.returns-in-Start-clause-content
@@ -24,6 +25,9 @@ returns-in-Minus-clause-content c = rw c.in-Minus.is (open_minus _)
 
 pub returns-in-Number-clause-content : goal.returns-in-Number-clause-content
 returns-in-Number-clause-content c = rw c.in-Number.is (closes_number _ _)
+
+pub returns-in-Percent-clause-content : goal.returns-in-Percent-clause-content
+returns-in-Percent-clause-content c = rw c.in-Percent.is (closes_percent _)
 
 pub returns-in-Returned-clause-content : goal.returns-in-Returned-clause-content
 returns-in-Returned-clause-content c = rw c.in-Returned.is (closes_returned _ _)

@@ -6,4 +6,4 @@ pub returns-else-length-lt-MAX_COMMENT : goal.returns-else-length-lt-MAX_COMMENT
 returns-else-length-lt-MAX_COMMENT c =
     step_refused _ _ _ _ _ _ c.requires.place c.refuse.ensures.err c.refuse.ensures.place
     c.refuse.ensures.line
-    (refuses_comment _ _ _ c.if-length-lt-MAX_COMMENT.false c.if-b-eq10.false)
+    (refuses_comment _ _ _ _ c.if-length-lt-MAX_COMMENT.false c.if-b-eq10.false)

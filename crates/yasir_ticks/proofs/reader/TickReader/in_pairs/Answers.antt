@@ -7,4 +7,4 @@ pub returns-then-is_full : goal.returns-then-is_full
 returns-then-is_full c =
     step_refused _ _ _ _ _ _ c.requires.place c.refuse.ensures.err c.refuse.ensures.place
     c.refuse.ensures.line
-    (refuses_long _ _ (ap is_some (sym c.in-Some.ensures.value)) (grind arith))
+    (refuses_long _ _ _ (ap is_some (sym c.in-Some.ensures.value)) (grind arith))

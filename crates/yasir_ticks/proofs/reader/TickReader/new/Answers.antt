@@ -4,7 +4,7 @@ use Rattle.yasir_ticks.proofs.Feeding.{at_first}
 use Rattle.yasir_ticks.proofs.reader.TickReader.new.Goals as goal
 
 pub returns-clause-stands : goal.returns-clause-stands
-returns-clause-stands c = record { at = at_first _ _ c.requires }
+returns-clause-stands c = record { at = at_first _ _ }
 
 pub returns-clause-begins : goal.returns-clause-begins
-returns-clause-begins c = begins_at (at_first [] _ c.requires)
+returns-clause-begins c = begins_at (at_first [] _)

@@ -14,5 +14,5 @@ returns-clause-goes c =
     c.memchr.ensures) in
     let inside : taken ≤ room = found.0 in
     goes_on_comment _ _ c.args.behind (c.args.behind + taken) (take taken c.args.bytes.now)
-    c.requires refl refl refl found.1
+    c.requires refl refl refl refl found.1
     (omega (arith, length-take taken c.args.bytes.now)) (omega arith)

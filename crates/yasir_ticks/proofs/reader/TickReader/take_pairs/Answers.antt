@@ -9,6 +9,6 @@ loop-taken-preserved c =
       place = before.place;
       goes = rw (take_pair c.args.bytes.now c.loop-taken.taken c.loop-taken-test.true)
           (goes_on_then _ _ _ _ _ before.goes
-          (goes_on_pair _ _ _ _ _ _ before.place before.place refl c.in-Some.ensures.value
+          (goes_on_pair _ _ _ _ _ _ before.place before.place refl refl c.in-Some.ensures.value
           c.in-Some-hex_value.ensures.value (grind arith) c.push.ensures.items));
     }

@@ -1,5 +1,6 @@
 use Rattle.std.proofs.Common.{◌≡◌, ◌∙◌, ◌≤◌, ◌+◌, true, false, length, sym, ap, arith}
 use Rattle.std.proofs.lemmas.Bool.{ltb-false}
+use Rattle.yasir_ticks.specs.Line.{is_unfilled}
 use Rattle.yasir_ticks.specs.Writer.{joins}
 use Rattle.yasir_ticks.specs.declared.tick.Tick.TheVariants.{Byte}
 use Rattle.yasir_ticks.proofs.Writers.{byte_fills, byte_ends_silence}
@@ -21,3 +22,7 @@ returns-in-Silence-clause-writes c = byte_ends_silence _ _ c.in-Silence.n _ _ c.
 pub returns-in-Nothing-clause-writes : goal.returns-in-Nothing-clause-writes
 returns-in-Nothing-clause-writes c = let both : true ≡ false =
     sym (ap (λ run. joins run (Byte c.args.b)) c.in-Nothing.is) ∙ c.requires in cc
+
+pub returns-in-Mark-clause-writes : goal.returns-in-Mark-clause-writes
+returns-in-Mark-clause-writes c = let both : false ≡ true =
+    sym (ap is_unfilled c.in-Mark.is) ∙ c.args.self.now.room in cc

@@ -1,5 +1,6 @@
 use Rattle.std.proofs.Common.{◌≡◌, ◌∙◌, ◌≤◌, ◌+◌, true, false, sym, ap}
 use Rattle.std.proofs.lemmas.Bool.{ltb-false}
+use Rattle.yasir_ticks.specs.Line.{is_unfilled}
 use Rattle.yasir_ticks.specs.Writer.{joins}
 use Rattle.yasir_ticks.specs.declared.tick.Tick.TheVariants.{Silent}
 use Rattle.yasir_ticks.proofs.Writers.{silence_fills, silent_ends_bytes}
@@ -20,3 +21,7 @@ returns-in-Bytes c = silent_ends_bytes _ c.in-Bytes.line _ c.in-Bytes.is c.args.
 pub returns-in-Nothing : goal.returns-in-Nothing
 returns-in-Nothing c = let both : true ≡ false =
     sym (ap (λ run. joins run Silent) c.in-Nothing.is) ∙ c.requires in cc
+
+pub returns-in-Mark : goal.returns-in-Mark
+returns-in-Mark c = let both : false ≡ true =
+    sym (ap is_unfilled c.in-Mark.is) ∙ c.args.self.now.room in cc

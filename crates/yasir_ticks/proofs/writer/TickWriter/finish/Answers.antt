@@ -1,4 +1,5 @@
-use Rattle.std.proofs.Common.{◌++◌}
+use Rattle.std.proofs.Common.{◌≡◌, ◌∙◌, ◌++◌, true, false, sym, ap}
+use Rattle.yasir_ticks.specs.Line.{is_unfilled}
 use Rattle.yasir_ticks.proofs.Writers.{finished_bytes, finished_silence, finished_nothing}
 use Rattle.yasir_ticks.proofs.CanonicalLaws.{whole_text}
 use Rattle.yasir_ticks.proofs.writer.TickWriter.finish.Goals as goal
@@ -22,6 +23,10 @@ returns-in-Silence-clause-reads c = λ ticks answered has.
     whole_text ticks (answered ++ c.count_line.result.items)
     (finished_silence c.args.self c.in-Silence.n _ c.in-Silence.is c.args.self.room
     c.count_line.ensures ticks answered has) has.are
+
+pub returns-in-Mark : goal.returns-in-Mark
+returns-in-Mark c = let both : false ≡ true =
+    sym (ap is_unfilled c.in-Mark.is) ∙ c.args.self.room in cc
 
 pub returns-in-Nothing-clause-whole : goal.returns-in-Nothing-clause-whole
 returns-in-Nothing-clause-whole c = finished_nothing c.args.self _ c.in-Nothing.is c.new.ensures

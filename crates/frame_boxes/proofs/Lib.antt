@@ -1,0 +1,4 @@
+pub mod Lives
+pub mod LastNotes
+pub mod Starting
+pub mod Noting

@@ -1,0 +1,91 @@
+-- What is kept of a line, and of one tick more.
+use Rattle.std.proofs.Common.{◌≡◌, ◌∙◌, ℕ, List, [], ◌∷◌, ◌++◌, Some, None, Result, refl}
+use Rattle.std.proofs.Common.{ap, sym, subst, append-nil}
+use Rattle.std.specs.Prelude.{OnOk}
+use Rattle.std.proofs.lemmas.List.{map-append}
+use Rattle.std.proofs.lemmas.Result.{on_ok_weaker}
+use Rattle.yasir_ticks.specs.declared.tick.Tick.{Tick}
+use Rattle.link_format.specs.Setup.{Setup}
+use Rattle.device_model.specs.Frames.{frames_of}
+use Rattle.device_model.specs.declared.device.Device.{Ghosts as Device}
+use Rattle.device_model.specs.declared.device.FrameAt.{FrameAt}
+use Rattle.replay_lists.specs.FrameList.{Kept, Holds}
+use Rattle.replay_lists.specs.FrameBox.{AnswersFrame, frame_told, kept_numbered}
+use Rattle.replay_lists.specs.FrameBox.{kept_frames}
+use Rattle.replay_lists.specs.ReplayLists.{KeepsFrames, StepsInto, Listens, kept_read, kept_reads}
+use Rattle.replay_lists.specs.declared.frame_box.FrameBox.{Ghosts as FrameBox}
+use Rattle.replay_lists.specs.declared.frame_box.FrameStep.{FrameStep}
+use Rattle.replay_lists.specs.declared.frame_box.Numbered.{Numbered}
+use Rattle.replay_lists.specs.declared.frame_list.FrameList.{FrameList}
+
+-- ---- a step of a box
+
+module _ {B : Type 0} (box : FrameBox B) (old new : B) (before after : FrameList Numbered)
+    (setup : Setup) (line : List Tick) (t : Tick) (step : FrameStep) where
+  abbrev now : List Tick
+  now = line ++ t ∷ []
+
+  -- with a frame, which was pushed
+  pub steps-frame : (head : Numbered) → step.frame ≡ Some head
+      → KeepsFrames box old before setup line → box.stands new setup now
+      → AnswersFrame (box.numbering setup) line t step (box.shown new)
+      → ((frames : List (Kept Numbered)) → Holds before frames
+      → Holds after (frames ++ record { head = head; frame = box.shown new } ∷ []))
+      → StepsInto box new after setup line t step.tick
+  steps-frame head is keeps stands answers push =
+      let frames = (box.numbering setup).frames in
+      let told : frame_told step.frame (box.shown new)
+      ≡ record { number = head.number; start = head.start; frame = box.shown new } ∷ [] =
+      rw is refl in
+      let more : kept_frames (frames line) ++ record { head = head; frame = box.shown new } ∷ []
+      ≡ kept_frames (frames now) =
+      sym (ap kept_frames (answers.frame_is ∙ ap (λ l. frames line ++ l) told)
+      ∙ map-append kept_numbered (frames line)
+      (record { number = head.number; start = head.start; frame = box.shown new } ∷ [])) in
+      record {
+        keeps = record {
+          steps = stands;
+          holds = subst (Holds after) more (push (kept_frames (frames line)) keeps.holds);
+        };
+        answers = answers.tick_is;
+      }
+
+  -- without one
+  pub steps-none : step.frame ≡ None → KeepsFrames box old before setup line
+      → box.stands new setup now
+      → AnswersFrame (box.numbering setup) line t step (box.shown new)
+      → StepsInto box new before setup line t step.tick
+  steps-none is keeps stands answers =
+      let frames = (box.numbering setup).frames in
+      let told : frame_told step.frame (box.shown new) ≡ [] = rw is refl in
+      let same : frames line ≡ frames now =
+      sym (answers.frame_is ∙ ap (λ l. frames line ++ l) told ∙ append-nil (frames line)) in
+      record {
+        keeps = record {
+          steps = stands;
+          holds = subst (λ l. Holds before (kept_frames l)) same keeps.holds;
+        };
+        answers = answers.tick_is;
+      }
+
+-- ---- a tick at a device
+
+module _ {V : Type 0} (device : Device V) (old new : V) (before after : FrameList ℕ) (t : Tick)
+  where
+    -- which has read a frame
+    pub listens-more : {E : Type 0} (frame : FrameAt) (result : Result (Unit {0}) E)
+        → ((line : List Tick) → device.stands old line → device.stands new (line ++ t ∷ []))
+        → ((line : List Tick) → device.stands old line
+        → device.reads (line ++ t ∷ []) ≡ device.reads line ++ frames_of (Some frame))
+        → OnOk result ((frames : List (Kept ℕ)) → Holds before frames
+        → Holds after (frames ++ record { head = frame.start; frame = frame.bytes.items } ∷ []))
+        → OnOk result ((line : List Tick) → Listens device old before line
+        → Listens device new after (line ++ t ∷ []))
+    listens-more frame result stands answer push =
+        on_ok_weaker result (λ pushed line listens. record {
+          hears = stands line listens.hears;
+          holds = subst (Holds after)
+              (sym (ap kept_reads (answer line listens.hears)
+              ∙ map-append kept_read (device.reads line) (frames_of (Some frame))))
+              (pushed (kept_reads (device.reads line)) listens.holds);
+        }) push

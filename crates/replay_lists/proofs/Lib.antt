@@ -1,0 +1,5 @@
+pub mod Lists
+pub mod Marks
+pub mod Keeping
+pub mod Listing
+pub mod Listed

@@ -1,0 +1,35 @@
+-- A box between two lines: the frames that it numbers, and what its steps answer.
+use Rattle.std.specs.Prelude.{◌≡◌, ℕ, List, [], ◌∷◌, ◌++◌, Option, Some, None, map}
+use Rattle.yasir_ticks.specs.declared.tick.Tick.{Tick}
+use Rattle.link_format.specs.NumberedFrame.{NumberedFrame}
+use Rattle.replay_lists.specs.FrameList.{Kept}
+use Rattle.replay_lists.specs.declared.frame_box.Numbered.{Numbered}
+use Rattle.replay_lists.specs.declared.frame_box.FrameStep.{FrameStep}
+
+-- What a box makes of a line: the other line, and the frames that it has sealed or passed, in
+-- order.
+pub record Numbering : Type 0 where
+  pub other_line : List Tick → List Tick
+  pub frames : List Tick → List NumberedFrame
+
+-- the frame of a step, with these bytes, or none
+abbrev pub frame_told : Option Numbered → List ℕ → List NumberedFrame
+frame_told None bytes = []
+frame_told (Some f) bytes = record { number = f.number; start = f.start; frame = bytes } ∷ []
+
+-- A step answers, after this line and with one tick more, one tick of the other line, and the frame
+-- that falls into it, with these bytes, or none.
+pub record AnswersFrame (box : Numbering) (line : List Tick) (t : Tick) (step : FrameStep)
+    (bytes : List ℕ) : Type 0 where
+  pub tick_is : box.other_line (line ++ t ∷ []) ≡ box.other_line line ++ step.tick ∷ []
+  pub frame_is : box.frames (line ++ t ∷ []) ≡ box.frames line ++ frame_told step.frame bytes
+
+-- a frame as it is kept
+abbrev pub kept_numbered : NumberedFrame → Kept Numbered
+kept_numbered f = record {
+  head = record { number = f.number; start = f.start };
+  frame = f.frame;
+}
+
+abbrev pub kept_frames : List NumberedFrame → List (Kept Numbered)
+kept_frames frames = map kept_numbered frames

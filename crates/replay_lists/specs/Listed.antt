@@ -1,0 +1,48 @@
+-- What is listed of two recordings in an input.
+use Rattle.std.specs.Prelude.{◌≡◌, ℕ, false, List, [], ◌++◌, Option}
+use Rattle.yasir_ticks.specs.Ticks.{Item, silent}
+use Rattle.link_format.specs.Setup.{Setup}
+use Rattle.device_model.specs.declared.device.Device.{Ghosts as Device}
+use Rattle.tick_drive.specs.Input.{Takes, IsWhole}
+use Rattle.tick_drive.specs.declared.end.End.{End}
+use Rattle.tick_drive.specs.declared.end.End.TheVariants.{Whole}
+use Rattle.replay_lists.specs.Recordings.{before_mark, behind_mark}
+use Rattle.replay_lists.specs.ReplayLists.{HasListed, IsReady, lists_taken}
+use Rattle.replay_lists.specs.declared.frame_box.FrameBox.{Ghosts as FrameBox}
+use Rattle.replay_lists.specs.declared.replay_lists.ReplayLists.{ReplayLists}
+
+-- silence behind the recording before the mark, and behind the one behind it
+abbrev pub device_rest : ℕ
+device_rest = 24
+
+abbrev pub link_rest : ℕ
+link_rest = 320
+
+module _ {S C V : Type 0} (s : FrameBox S) (c : FrameBox C) (v : Device V) where
+  -- Lists that have taken no item, set up somehow.
+  pub record MayList (lists : ReplayLists S C V) : Type 0 where
+    pub none : lists_taken s c v lists ≡ 0
+    pub ready : IsReady s c v lists
+    pub unmarked : lists.marked ≡ false
+    pub setup : Setup
+    pub listed : HasListed s c v lists setup [] []
+
+  -- The input is a whole text with one mark. The lists are those of the recording before it and of
+  -- the one behind it, with so much silence behind each.
+  pub record ListsBoth (old new : ReplayLists S C V) (before now : Option (List ℕ)) : Type 0 where
+    pub items : List Item
+    pub takes : IsWhole 1 link_rest before now items
+    pub listed : (setup : Setup) → HasListed s c v old setup [] []
+        → HasListed s c v new setup (before_mark takes.told ++ silent device_rest)
+        (behind_mark takes.told ++ silent link_rest)
+
+  -- What was taken of the input as the listing ended so; where it didn't end well the lists are of
+  -- no use.
+  pub record EndsListing (before now : Option (List ℕ)) (end : End) : Type 0 where
+    pub items : List Item
+    pub takes : Takes 1 link_rest before now items end
+
+  abbrev pub ListsRecordings : ReplayLists S C V → ReplayLists S C V → Option (List ℕ)
+      → Option (List ℕ) → End → Type 0
+  ListsRecordings old new before now Whole = ListsBoth old new before now
+  ListsRecordings old new before now end = EndsListing before now end

@@ -1,0 +1,99 @@
+-- What is kept of two recordings.
+use Rattle.std.specs.Prelude.{◌≡◌, ℕ, ◌+◌, List, [], ◌∷◌, ◌++◌, map, Option, ⊤}
+use Rattle.yasir_ticks.specs.Ticks.{Item}
+use Rattle.yasir_ticks.specs.declared.tick.Tick.{Tick}
+use Rattle.link_format.specs.Setup.{Setup}
+use Rattle.device_model.specs.Frames.{FrameRead}
+use Rattle.device_model.specs.declared.device.Device.{Ghosts as Device}
+use Rattle.tick_drive.specs.Consumers.{Consuming, Outputs}
+use Rattle.tick_drive.specs.declared.consumer.Stop.{Stop}
+use Rattle.tick_drive.specs.declared.consumer.Stop.TheVariants.{NoMemory}
+use Rattle.replay_lists.specs.FrameBox.{kept_frames}
+use Rattle.replay_lists.specs.FrameList.{Kept, Holds}
+use Rattle.replay_lists.specs.Recordings.{has_mark, before_mark, behind_mark}
+use Rattle.replay_lists.specs.declared.frame_box.FrameBox.{Ghosts as FrameBox}
+use Rattle.replay_lists.specs.declared.frame_box.Numbered.{Numbered}
+use Rattle.replay_lists.specs.declared.frame_list.FrameList.{FrameList}
+use Rattle.replay_lists.specs.declared.replay_lists.ReplayLists.{ReplayLists}
+
+-- The box has taken this line, and the list holds its frames.
+pub record KeepsFrames {B : Type 0} (box : FrameBox B) (value : B) (list : FrameList Numbered)
+    (setup : Setup) (line : List Tick) : Type 0 where
+  pub steps : box.stands value setup line
+  pub holds : Holds list (kept_frames ((box.numbering setup).frames line))
+
+-- And so with one tick more, to which it has answered this one.
+pub record StepsInto {B : Type 0} (box : FrameBox B) (value : B) (list : FrameList Numbered)
+    (setup : Setup) (line : List Tick) (t tick : Tick) : Type 0 where
+  pub keeps : KeepsFrames box value list setup (line ++ t ∷ [])
+  pub answers : (box.numbering setup).other_line (line ++ t ∷ [])
+      ≡ (box.numbering setup).other_line line ++ tick ∷ []
+
+abbrev pub kept_read : FrameRead → Kept ℕ
+kept_read f = record { head = f.start; frame = f.frame }
+
+abbrev pub kept_reads : List FrameRead → List (Kept ℕ)
+kept_reads reads = map kept_read reads
+
+-- The device has heard this line, and the list holds what it has read.
+pub record Listens {V : Type 0} (device : Device V) (value : V) (list : FrameList ℕ)
+    (line : List Tick) : Type 0 where
+  pub hears : device.stands value line
+  pub holds : Holds list (kept_reads (device.reads line))
+
+-- what the sinks held at the start, and how the boxes were set up
+pub record ReplayOrigin : Type 0 where
+  pub setup : Setup
+  pub out : Option (List ℕ)
+  pub log : Option (List ℕ)
+
+-- There was no memory, and nothing was written.
+pub record StopsListing (stop : Stop) (origin : ReplayOrigin) (outputs : Outputs) : Type 0 where
+  pub why : stop ≡ NoMemory
+  pub out : outputs.out ≡ origin.out
+  pub log : outputs.log ≡ origin.log
+
+module _ {S C V : Type 0} (s : FrameBox S) (c : FrameBox C) (v : Device V) where
+  -- The receiver has taken this link, and the device has heard the receiver's line.
+  pub record Checks (lists : ReplayLists S C V) (setup : Setup) (link : List Tick) : Type 0 where
+    pub passes : KeepsFrames c lists.checker lists.passed setup link
+    pub reads : Listens v lists.device lists.read ((c.numbering setup).other_line link)
+
+  -- The lists hold what is sealed of this line of a device, and what passes and is read of this
+  -- link.
+  pub record HasListed (lists : ReplayLists S C V) (setup : Setup) (device link : List Tick) :
+      Type 0 where
+    pub seals : KeepsFrames s lists.sealer lists.sealed setup device
+    pub checks : Checks lists setup link
+
+  -- how many ticks were taken of both recordings
+  abbrev pub lists_taken : ReplayLists S C V → ℕ
+  lists_taken lists = s.taken lists.sealer + c.taken lists.checker
+
+  -- Both boxes may take a tick, and the device has heard a tick for each one that the receiver has
+  -- taken.
+  pub record IsReady (lists : ReplayLists S C V) : Type 0 where
+    pub sealer : s.able lists.sealer
+    pub checker : c.able lists.checker
+    pub level : v.taken lists.device ≡ c.taken lists.checker
+
+  -- The boxes have taken these items: the ticks before the mark, and those behind it. Nothing is
+  -- written.
+  pub record ListsItems (lists : ReplayLists S C V) (origin : ReplayOrigin) (outputs : Outputs)
+      (items : List Item) : Type 0 where
+    pub listed : HasListed lists origin.setup (before_mark items) (behind_mark items)
+    pub marked : lists.marked ≡ has_mark items
+    pub out : outputs.out ≡ origin.out
+    pub log : outputs.log ≡ origin.log
+
+  -- What is said of such a consumer. It uses no disk.
+  abbrev pub listing : {D : Type 0} → Consuming (ReplayLists S C V) D
+  listing = record {
+    Origin = ReplayOrigin;
+    stands = ListsItems;
+    stopped = λ lists stop origin outputs items. StopsListing stop origin outputs;
+    taken = lists_taken;
+    able = λ lists disk. IsReady lists;
+    kept = λ lists disk. ⊤;
+    safe = λ lists image. ⊤;
+  }

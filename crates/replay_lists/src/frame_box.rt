@@ -1,0 +1,69 @@
+ghost use Rattle.std.specs.Prelude.{◌≡◌, ℕ, ◌+◌, ◌<◌, ◌≤◌, List, [], ◌∷◌, ◌++◌};
+ghost use Rattle.yasir_ticks.specs.declared.tick.Tick.{Tick};
+ghost use Rattle.link_format.specs.NumberedFrame.{NumberedFrame};
+ghost use Rattle.link_format.specs.Setup.{Setup, setup_of};
+ghost use Rattle.replay_lists.specs.FrameBox.{Numbering, AnswersFrame};
+
+use hmac_tag::Dir;
+use yasir_ticks::{MAX_TICKS, Tick};
+
+/// The number of a frame that falls into a step, and the tick of its first byte.
+#[derive(Clone, Copy, Debug, PartialEq, Eq)]
+pub struct Numbered {
+    pub number: u64,
+    pub start: u64,
+}
+
+/// What a box answers to a tick: the tick of the other line, and the frame that it seals or passes
+/// in this step, if there is one.
+#[derive(Clone, Copy, Debug, PartialEq, Eq)]
+pub struct FrameStep {
+    pub tick: Tick,
+    pub frame: Option<Numbered>,
+}
+
+/// A box between two lines that seals frames or passes them, with numbers that begin at 1. It shows
+/// the bytes of each.
+pub trait FrameBox: Drop {
+    /// Begun with this setup, the box has taken these ticks.
+    ghost stands: { Self → Setup → List Tick → Type 0 };
+
+    /// How many ticks it has taken.
+    ghost taken: { Self → ℕ };
+
+    /// It may take a tick.
+    ghost able: { Self → Type 0 };
+
+    /// What it makes of a line.
+    ghost numbering: { Setup → Numbering };
+
+    /// What must hold of the widths that it is made with.
+    ghost widths_fit: { Type 0 };
+
+    /// The bytes that it shows.
+    ghost shown: { Self → List ℕ };
+
+    /// A box that has taken no tick.
+    fn new(key: &[u8], dir: Dir) -> Self
+        requires { widths_fit }
+        ensures taken { taken result ≡ 0 }
+        ensures able { able result }
+        ensures stands { stands result (setup_of key.now dir 0) [] }
+        ensures nothing { (setup : Setup) → (numbering setup).frames [] ≡ [] }
+        ensures no_tick { (setup : Setup) → (numbering setup).other_line [] ≡ [] };
+
+    /// Takes the next tick.
+    fn step(&mut self, t: Tick) -> FrameStep
+        requires room { taken self.old < MAX_TICKS }
+        requires able { able self.old }
+        ensures taken { taken self.new ≡ taken self.old + 1 }
+        ensures able { able self.new }
+        ensures stands { (setup : Setup) (line : List Tick) → stands self.old setup line
+            → stands self.new setup (line ++ t ∷ []) }
+        ensures answer { (setup : Setup) (line : List Tick) → stands self.old setup line
+            → AnswersFrame (numbering setup) line t result (shown self.new) };
+
+    /// The bytes of the frame of the step before, where it had one.
+    fn bytes(&self) -> &[u8]
+        ensures { result.now ≡ shown self.now };
+}

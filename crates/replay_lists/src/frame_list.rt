@@ -1,0 +1,110 @@
+ghost use Rattle.std.specs.Prelude.{◌≡◌, ◌<◌, ◌≤◌, ◌-◌, take, drop, List, [], ◌∷◌, ◌++◌};
+ghost use Rattle.std.specs.Prelude.{length, OnOk, slice_index_or};
+ghost use Rattle.replay_lists.specs.FrameList.{Kept, Holds, IsWhole, list_len};
+
+use std::alloc::Global;
+
+/// There was no memory for a frame more.
+#[derive(Clone, Copy, Debug, PartialEq, Eq)]
+pub struct NoMemory;
+
+/// What is kept of a frame beside its bytes, and where these end among those of all frames.
+#[derive(Clone, Copy)]
+struct Entry<K> {
+    head: K,
+    end: usize,
+}
+
+/// Where the bytes of a frame stand among those of all: from `start` up to `end`.
+struct Bounds {
+    start: usize,
+    end: usize,
+}
+
+/// Frames in memory, in the order in which they came, each with a head of its own. The bytes of all
+/// stand in one buffer, one frame after the other. Where there was no memory for a frame, the list
+/// is not used again.
+#[derive(Drop)]
+pub struct FrameList<K> {
+    entries: Vec<Entry<K>>,
+    bytes: Vec<u8>,
+}
+
+impl<K: Copy + Drop> FrameList<K> {
+    /// No frame.
+    pub fn new(alloc: Global) -> FrameList<K>
+        ensures { Holds result [] }
+    {
+        FrameList {
+            entries: Vec::new(alloc),
+            bytes: Vec::new(alloc),
+        }
+    }
+
+    /// Adds a frame behind the others.
+    #[inline(never)]
+    pub fn push(&mut self, head: K, bytes: &[u8]) -> Result<(), NoMemory>
+        ensures { OnOk result ((frames : List (Kept K)) → Holds self.old frames
+            → Holds self.new (frames ++ record { head = head; frame = bytes.now } ∷ [])) }
+    {
+        let Ok(()) = self.bytes.extend_from_slice(bytes) else {
+            return Err(NoMemory);
+        };
+        let entry = Entry {
+            head,
+            end: self.bytes.as_slice().len(),
+        };
+        match self.entries.push(entry) {
+            Ok(()) => Ok(()),
+            Err(_) => Err(NoMemory),
+        }
+    }
+
+    /// How many frames there are.
+    pub fn len(&self) -> usize
+        ensures value { result ≡ list_len self.now }
+        ensures frames { (frames : List (Kept K)) → Holds self.now frames → result ≡ length frames }
+    {
+        self.entries.as_slice().len()
+    }
+
+    /// The head of a frame, counted from 0.
+    pub fn head(&self, index: usize) -> K
+        requires { index < list_len self.now }
+        ensures { (frames : List (Kept K)) (other : Kept K) → Holds self.now frames
+            → result ≡ (slice_index_or frames index other).head }
+    {
+        self.entries[index].head
+    }
+
+    /// The bytes of a frame, counted from 0.
+    pub fn bytes(&self, index: usize) -> &[u8]
+        requires within { index < list_len self.now }
+        requires whole { IsWhole self.now }
+        ensures { (frames : List (Kept K)) (other : Kept K) → Holds self.now frames
+            → result.now ≡ (slice_index_or frames index other).frame }
+    {
+        let Bounds { start, end } = self.bounds(index);
+        &self.bytes.as_slice()[start..end]
+    }
+
+    // Where the bytes of a frame stand.
+    fn bounds(&self, index: usize) -> Bounds
+        requires within { index < list_len self.now }
+        requires whole { IsWhole self.now }
+        ensures rise { result.start ≤ result.end }
+        ensures end { result.end ≤ length self.now.bytes.items }
+        ensures frame { (frames : List (Kept K)) (other : Kept K) → Holds self.now frames
+            → take (result.end - result.start) (drop result.start self.now.bytes.items)
+            ≡ (slice_index_or frames index other).frame }
+    {
+        let end = self.entries[index].end;
+        if index == 0 {
+            return Bounds { start: 0, end };
+        }
+        Bounds {
+            start: self.entries[index - 1].end,
+            end,
+        }
+    }
+}

@@ -1,0 +1,224 @@
+ghost use Rattle.std.specs.Prelude.{◌≡◌, ℕ, ◌+◌, ◌<◌, ◌≤◌, List, [], ◌∷◌, ◌++◌, IfOk, OnOk, false};
+ghost use Rattle.yasir_ticks.specs.declared.tick.Tick.{Tick};
+ghost use Rattle.yasir_ticks.specs.Ticks.{silent};
+ghost use Rattle.link_format.specs.Setup.{Setup, setup_of};
+ghost use Rattle.device_model.specs.declared.device.Device.{Ghosts as Device};
+ghost use Rattle.replay_lists.specs.FrameBox.{kept_frames};
+ghost use Rattle.replay_lists.specs.FrameList.{Kept, Holds};
+ghost use Rattle.replay_lists.specs.ReplayLists.{KeepsFrames, Listens, StepsInto};
+ghost use Rattle.replay_lists.specs.declared.frame_box.Numbered.{Numbered};
+
+use crate::frame_box::{FrameBox, Numbered};
+use crate::frame_list::{FrameList, NoMemory};
+use device_model::Device;
+use hmac_tag::Dir;
+use std::alloc::Global;
+use tick_drive::{Consumer, Stop};
+use yasir_io::{Sink, SlotDisk};
+use yasir_ticks::{MAX_TICKS, Tick};
+
+// One step of a box, whose frame is kept. Answers the tick of the other line.
+#[inline]
+fn step_into<B: FrameBox>(
+    line_box: &mut B,
+    frames: &mut FrameList<Numbered>,
+    t: Tick,
+) -> Result<Tick, NoMemory>
+    requires room { B.taken line_box.old < MAX_TICKS }
+    requires able { B.able line_box.old }
+    ensures able { B.able line_box.new }
+    ensures taken { B.taken line_box.new ≡ B.taken line_box.old + 1 }
+    ensures ok { IfOk result (λ tick. (setup : Setup) (line : List Tick)
+        → KeepsFrames B.FrameBox line_box.old frames.old setup line
+        → StepsInto B.FrameBox line_box.new frames.new setup line t tick) }
+{
+    let step = line_box.step(t);
+    match step.frame {
+        None => Ok(step.tick),
+        Some(head) => match frames.push(head, line_box.bytes()) {
+            Ok(()) => Ok(step.tick),
+            Err(NoMemory) => Err(NoMemory),
+        },
+    }
+}
+
+// One step of a device, whose frame is kept.
+#[inline]
+fn hear_into<V: Device>(
+    device: &mut V,
+    frames: &mut FrameList<u64>,
+    t: Tick,
+) -> Result<(), NoMemory>
+    requires { V.taken device.old < MAX_TICKS }
+    ensures taken { V.taken device.new ≡ V.taken device.old + 1 }
+    ensures ok { OnOk result ((line : List Tick) → Listens V.Device device.old frames.old line
+        → Listens V.Device device.new frames.new (line ++ t ∷ [])) }
+{
+    match device.step(t) {
+        None => Ok(()),
+        Some(frame) => frames.push(frame.start, frame.bytes.as_slice()),
+    }
+}
+
+/// Takes two recordings that a mark parts: the device's line, which a transmitter `S` takes, and
+/// the link, which a receiver `C` takes, and a device `V` the receiver's line. It keeps the frames
+/// that are sealed, passed and read, and writes nothing.
+#[derive(Drop)]
+pub struct ReplayLists<S, C, V> {
+    sealer: S,
+    checker: C,
+    device: V,
+    sealed: FrameList<Numbered>,
+    passed: FrameList<Numbered>,
+    read: FrameList<u64>,
+    marked: bool,
+}
+
+impl<S: FrameBox, C: FrameBox, V: Device + Drop> ReplayLists<S, C, V> {
+    ghost use Rattle.replay_lists.specs.ReplayLists.{Checks, HasListed, IsReady};
+    ghost use Rattle.replay_lists.specs.Listed.{MayList};
+    ghost use Rattle.replay_lists.specs.ReplayLists.{kept_reads};
+
+    /// Lists of no frame, and boxes that have taken no tick, for a key of any length and a
+    /// direction.
+    pub fn new(alloc: Global, key: &[u8], dir: Dir) -> ReplayLists<S, C, V>
+        requires sealer { S.widths_fit }
+        requires checker { C.widths_fit }
+        ensures listed { HasListed S.FrameBox C.FrameBox V.Device result
+            (setup_of key.now dir 0) [] [] }
+        ensures may_list { MayList S.FrameBox C.FrameBox V.Device result }
+    {
+        ReplayLists {
+            sealer: S::new(key, dir),
+            checker: C::new(key, dir),
+            device: V::fresh(),
+            sealed: FrameList::new(alloc),
+            passed: FrameList::new(alloc),
+            read: FrameList::new(alloc),
+            marked: false,
+        }
+    }
+
+    // Gives a tick to the transmitter.
+    #[inline]
+    fn seal(&mut self, t: Tick) -> Result<(), NoMemory>
+        requires room { S.taken self.old.sealer < MAX_TICKS }
+        requires able { S.able self.old.sealer }
+        ensures able { S.able self.new.sealer }
+        ensures others { self.new ≡ record self.old {
+          sealer = self.new.sealer;
+          sealed = self.new.sealed;
+        } }
+        ensures taken { S.taken self.new.sealer ≡ S.taken self.old.sealer + 1 }
+        ensures ok { OnOk result ((setup : Setup) (line : List Tick)
+            → KeepsFrames S.FrameBox self.old.sealer self.old.sealed setup line
+            → KeepsFrames S.FrameBox self.new.sealer self.new.sealed setup (line ++ t ∷ [])) }
+    {
+        match step_into(&mut self.sealer, &mut self.sealed, t) {
+            Ok(_) => Ok(()),
+            Err(NoMemory) => Err(NoMemory),
+        }
+    }
+
+    // Gives a tick to the receiver, and the tick that it answers to the device.
+    #[inline]
+    fn check(&mut self, t: Tick) -> Result<(), NoMemory>
+        requires room { C.taken self.old.checker < MAX_TICKS }
+        requires ready { IsReady S.FrameBox C.FrameBox V.Device self.old }
+        ensures others { self.new ≡ record self.old {
+          checker = self.new.checker;
+          device = self.new.device;
+          passed = self.new.passed;
+          read = self.new.read;
+        } }
+        ensures taken { C.taken self.new.checker ≡ C.taken self.old.checker + 1 }
+        ensures ready { OnOk result (IsReady S.FrameBox C.FrameBox V.Device self.new) }
+        ensures ok { OnOk result ((setup : Setup) (link : List Tick)
+            → Checks S.FrameBox C.FrameBox V.Device self.old setup link
+            → Checks S.FrameBox C.FrameBox V.Device self.new setup (link ++ t ∷ [])) }
+    {
+        let received = match step_into(&mut self.checker, &mut self.passed, t) {
+            Ok(tick) => tick,
+            Err(NoMemory) => return Err(NoMemory),
+        };
+        hear_into(&mut self.device, &mut self.read, received)
+    }
+
+    /// The frames that were sealed.
+    pub fn sealed(&self) -> &FrameList<Numbered>
+        ensures { (setup : Setup) (device link : List Tick)
+            → HasListed S.FrameBox C.FrameBox V.Device self.now setup device link
+            → Holds result.now (kept_frames ((S.numbering setup).frames device)) }
+    {
+        &self.sealed
+    }
+
+    /// The frames that have passed.
+    pub fn passed(&self) -> &FrameList<Numbered>
+        ensures { (setup : Setup) (device link : List Tick)
+            → HasListed S.FrameBox C.FrameBox V.Device self.now setup device link
+            → Holds result.now (kept_frames ((C.numbering setup).frames link)) }
+    {
+        &self.passed
+    }
+
+    /// The frames that were read, each with the tick of its first byte.
+    pub fn read(&self) -> &FrameList<u64>
+        ensures { (setup : Setup) (device link : List Tick)
+            → HasListed S.FrameBox C.FrameBox V.Device self.now setup device link
+            → Holds result.now (kept_reads (V.reads ((C.numbering setup).other_line link))) }
+    {
+        &self.read
+    }
+
+    /// Gives so many silent ticks to the transmitter, behind the recording before the mark.
+    pub fn rest(&mut self, ticks: u32) -> Result<(), NoMemory>
+        requires room { S.taken self.old.sealer + ticks ≤ MAX_TICKS }
+        requires able { S.able self.old.sealer }
+        ensures { OnOk result ((setup : Setup) (device link : List Tick)
+            → HasListed S.FrameBox C.FrameBox V.Device self.old setup device link
+            → HasListed S.FrameBox C.FrameBox V.Device self.new setup (device ++ silent ticks)
+            link) }
+    {
+        for _ in 0..ticks {
+            if let Err(NoMemory) = self.seal(Tick::Silent) {
+                return Err(NoMemory);
+            }
+        }
+        Ok(())
+    }
+}
+
+impl<S: FrameBox, C: FrameBox, V: Device + Drop, O: Sink, L: Sink, D: SlotDisk> Consumer<O, L, D>
+    for ReplayLists<S, C, V> {
+    ghost use Rattle.replay_lists.specs.ReplayLists.{listing};
+
+    ghost meaning = { listing S.FrameBox C.FrameBox V.Device };
+
+    fn take_tick(
+        &mut self,
+        _out: &mut O,
+        _log: &mut L,
+        _disk: &mut D,
+        tick: Tick,
+    ) -> Result<(), Stop> {
+        if self.marked {
+            match self.check(tick) {
+                Ok(()) => Ok(()),
+                Err(NoMemory) => Err(Stop::NoMemory),
+            }
+        } else {
+            match self.seal(tick) {
+                Ok(()) => Ok(()),
+                Err(NoMemory) => Err(Stop::NoMemory),
+            }
+        }
+    }
+
+    fn take_mark(&mut self, _out: &mut O, _log: &mut L, _disk: &mut D) -> Result<(), Stop> {
+        self.marked = true;
+        Ok(())
+    }
+
+    ghost safe_now = { λ consumer disk image kept left. tt };
+}
