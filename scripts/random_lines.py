@@ -137,4 +137,5 @@ def main():
     print("\n".join("%7d %s" % (count, kind) for kind, count in sorted(seen.items())))
 
 
-main()
+if __name__ == "__main__":
+    main()
