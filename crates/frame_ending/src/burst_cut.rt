@@ -184,7 +184,10 @@ impl<R: LineRules> BurstCut<R> {
         ensures all { result < length bytes.now → (line : List Tick) (b : ℕ)
             → StandsFor R.LineRules self.new line → cut_of R.rules line (Byte b) ≡ Live b → ⊥ }
     {
-        if self.quiet >= T3_5_TICKS || self.paused {
+        if self.quiet >= T3_5_TICKS {
+            return 0;
+        }
+        if self.paused {
             return 0;
         }
         let count = self.rules.take_some(bytes);
