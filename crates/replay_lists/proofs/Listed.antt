@@ -118,11 +118,11 @@ module _ {S C V O L D : Type 0} (s : FrameBox S) (c : FrameBox C) (v : Device V)
       }
 
   -- an input that isn't listed to its end
-  pub ends-listing : (device_rest : ℕ) (end : End) → (end ≡ Whole → ⊥) → HasDriven end
-      → ListsRecordings s c v device_rest old new before now end
-  ends-listing device_rest Whole other driven = absurd (other refl)
-  ends-listing device_rest (Refused bad) other driven = record { items = driven.items; takes = driven.takes }
-  ends-listing device_rest (TooLong what count) other driven =
+  pub ends-listing : (end : End) → (end ≡ Whole → ⊥) → HasDriven end
+      → (device_rest : ℕ) → ListsRecordings s c v device_rest old new before now end
+  ends-listing Whole other driven rest = absurd (other refl)
+  ends-listing (Refused bad) other driven rest = record { items = driven.items; takes = driven.takes }
+  ends-listing (TooLong what count) other driven rest =
       record { items = driven.items; takes = driven.takes }
-  ends-listing device_rest ReadFault other driven = record { items = driven.items; takes = driven.takes }
-  ends-listing device_rest (Stopped stop) other driven = record { items = driven.items; takes = driven.takes }
+  ends-listing ReadFault other driven rest = record { items = driven.items; takes = driven.takes }
+  ends-listing (Stopped stop) other driven rest = record { items = driven.items; takes = driven.takes }

@@ -11,7 +11,8 @@ use Rattle.replay_lists.specs.ReplayLists.{HasListed, IsReady, lists_taken}
 use Rattle.replay_lists.specs.declared.frame_box.FrameBox.{Ghosts as FrameBox}
 use Rattle.replay_lists.specs.declared.replay_lists.ReplayLists.{ReplayLists}
 
--- silence behind the recording behind the mark
+-- So many silent ticks stand behind the recording behind the mark: the last verdict falls in them,
+-- and all that the receiver holds back leaves and is read.
 abbrev pub link_rest : ℕ
 link_rest = 320
 

@@ -1,4 +1,4 @@
-use Rattle.std.proofs.Common.{inr, sym, arith}
+use Rattle.std.proofs.Common.{inr, arith}
 use Rattle.replay_lists.proofs.Listed.{listed-whole, room-whole, quiet, ends-listing}
 use Rattle.replay_lists.proofs.recordings.list_recordings.Goals as goal
 
@@ -9,7 +9,8 @@ returns-in_default g c =
     c.requires _ driven in
     record {
       listed = ends-listing g.S.FrameBox g.C.FrameBox g.V.Device g.O.Sink g.L.Sink _ _ _ _ _ _ _ _
-          _ _ _ c.requires _ _ c.in_default.not-Whole driven;
+          _ _ _ c.requires _ c.in_default.not-Whole driven
+          c.args.device_rest;
       out = still.out;
       log = still.log;
       read = c.drive_to_rest.ensures.read;
@@ -29,9 +30,9 @@ returns-in-Ok-clause-listed g c =
     let driven = c.in-Whole.ensures.driven in record {
       items = driven.items;
       takes = driven.takes;
-      listed = λ setup listed. rw (sym c.from.ensures) (c.in-Ok.ensures setup _ _
+      listed = λ setup listed. c.in-Ok.ensures setup _ _
           (listed-whole g.S.FrameBox g.C.FrameBox g.V.Device g.O.Sink g.L.Sink _ _ _ _ _ _ _ _ _ _
-          _ c.requires driven setup listed));
+          _ c.requires driven setup listed);
     }
 
 pub returns-in-Ok-clause-out : goal.returns-in-Ok-clause-out
