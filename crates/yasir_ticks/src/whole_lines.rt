@@ -71,7 +71,8 @@ impl TickReader {
     /// The bytes of the `+` line that was ended last. They stand until the next byte is fed.
     #[inline]
     pub fn line_bytes(&self) -> &[u8]
-        ensures { result.now ≡ lent_bytes self.now }
+        ensures bytes { result.now ≡ lent_bytes self.now }
+        ensures few { length result.now ≤ 32 }
     {
         &self.bytes
     }
