@@ -50,9 +50,10 @@ drop-one zero [] = refl
 drop-one (suc n) [] = refl
 drop-one n (b ∷ l) = refl
 
-pub drop-none : (n : ℕ) → drop n [] ≡ ([] : List ℕ)
-drop-none zero = refl
-drop-none (suc n) = refl
+pub drop-none : (n : ℕ) (l : List ℕ) → l ≡ [] → drop n l ≡ l
+drop-none zero l is = refl
+drop-none (suc n) [] is = refl
+drop-none (suc n) (b ∷ l) is = cc
 
 module _ {R M : Type 0} (proto : LineRules R) (code : Mac M) (word_len : ℕ) (setup : Setup) where
   abbrev rules : Rules
