@@ -7,4 +7,5 @@ pub mod LiveTicks
 pub mod Running
 pub mod Dividing
 pub mod Cutting
+pub mod Runs
 pub mod Rows
