@@ -61,8 +61,8 @@ module _ {K S O L D : Type 0} (k : Source K) (s : Source S) (o : Sink O) (l : Si
       (status : Status)
       → HasOwnCauses k s o l d asked before (record after { log = noted }) status
       → HasOwnCauses k s o l d asked before after status
-  own-after (Some (Seal proto dir)) before after noted status h = h
-  own-after (Some (Check proto dir)) before after noted status h = h
+  own-after (Some (Seal proto profile dir)) before after noted status h = h
+  own-after (Some (Check proto profile dir)) before after noted status h = h
   own-after None before after noted status h = h
   own-after (Some Init) before after noted status h = h
   own-after (Some (Read proto)) before after noted status h = h
@@ -110,9 +110,9 @@ module _ {K S O L D : Type 0} (k : Source K) (s : Source S) (o : Sink O) (l : Si
       does.frames causes.own.0 causes.sinks
   asked_done (Some Vectors) before after status may calm does causes =
       tables_done _ _ _ _ _ _ _ _ _ _ calm _ _ status does.tables causes.sinks
-  asked_done (Some (Seal proto dir)) before after status may calm does causes =
-      replayable_done k s o l d (seal_boxed proto) dir seal_rest before after may calm status
-      does causes.reads causes.own causes.sinks
-  asked_done (Some (Check proto dir)) before after status may calm does causes =
-      replayable_done k s o l d (check_boxed proto) dir check_rest before after may calm status
+  asked_done (Some (Seal proto profile dir)) before after status may calm does causes =
+      replayable_done k s o l d (seal_boxed proto profile) dir (seal_rest profile) before after may calm
+      status does causes.reads causes.own causes.sinks
+  asked_done (Some (Check proto profile dir)) before after status may calm does causes =
+      replayable_done k s o l d (check_boxed proto profile) dir check_rest before after may calm status
       does causes.reads causes.own causes.sinks

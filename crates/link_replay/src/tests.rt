@@ -1,4 +1,4 @@
-use crate::{Command, Dir, Proto, journal_word, key_word, makes_journal, read_words, run};
+use crate::{Command, Dir, Profile, Proto, journal_word, key_word, makes_journal, read_words, run};
 use replay_status::Status;
 use std::alloc::{AllocError, Global};
 use std::process::Abort;
@@ -75,11 +75,13 @@ fn run_over<D: SlotDisk>(
 
 #[test]
 fn refuses_words_of_no_command(rt: HostRuntime) -> Result<(), Fail> {
-    let rows: [&[&str]; 21] = [
+    let rows: [&[&str]; 24] = [
         &[],
         &["read"],
         &["read", "dnp"],
         &["read", "rtu", "x"],
+        &["read", "rtu24"],
+        &["read", "dnp24"],
         &["read", "RTU"],
         &["rtu", "read"],
         &["seal", "rtu"],
@@ -88,6 +90,7 @@ fn refuses_words_of_no_command(rt: HostRuntime) -> Result<(), Fail> {
         &["seal", "rtu", "ab", "key", ""],
         &["seal", "rtu", "AB", "key", "journal"],
         &["seal", "dnp", "ab", "key", "journal"],
+        &["seal", "dnp324", "ab", "key", "journal"],
         &["seal", "rtu", "ab", "key", "journal", "x"],
         &["check", "rtu", "ab", "key"],
         &["check", "rtu", "ab", "", "journal"],
@@ -137,35 +140,35 @@ fn finds_the_paths_among_the_words(rt: HostRuntime) -> Result<(), Fail> {
         (&["vectors"], Command::Vectors, None, None, false),
         (
             &["seal", "rtu", "ab", "key", "journal"],
-            Command::Seal(Proto::Rtu, Dir::Ab),
+            Command::Seal(Proto::Rtu, Profile::Y18, Dir::Ab),
             Some(3),
             Some(4),
             false,
         ),
         (
             &["seal", "rtu", "ba", "key", "journal"],
-            Command::Seal(Proto::Rtu, Dir::Ba),
+            Command::Seal(Proto::Rtu, Profile::Y18, Dir::Ba),
             Some(3),
             Some(4),
             false,
         ),
         (
             &["seal", "dnp3", "ba", "key", "journal"],
-            Command::Seal(Proto::Dnp3, Dir::Ba),
+            Command::Seal(Proto::Dnp3, Profile::Y18, Dir::Ba),
             Some(3),
             Some(4),
             false,
         ),
         (
             &["check", "dnp3", "ab", "key", "journal"],
-            Command::Check(Proto::Dnp3, Dir::Ab),
+            Command::Check(Proto::Dnp3, Profile::Y18, Dir::Ab),
             Some(3),
             Some(4),
             false,
         ),
         (
             &["check", "rtu", "ba", "key", "journal"],
-            Command::Check(Proto::Rtu, Dir::Ba),
+            Command::Check(Proto::Rtu, Profile::Y18, Dir::Ba),
             Some(3),
             Some(4),
             false,
@@ -212,7 +215,7 @@ pub const READ: Row = Row {
 
 pub const VECTORS: Row = Row {
     words: &["vectors"],
-    out: b"crc 4 ok\nhmac 5 ok\nframes 7 ok\nuser 2 ok\n",
+    out: b"crc 4 ok\nhmac 7 ok\nframes 7 ok\nuser 2 ok\n",
     ..READ
 };
 
@@ -354,7 +357,46 @@ const CHECK_DNP3: Row = Row {
     ..CHECK
 };
 
-const BOXES: [Row; 7] = [
+// By the profile y24; the tags as those of its rows in `replay_tests`.
+const SEAL_RTU24: Row = Row {
+    words: &["seal", "rtu24", "ab", "key", "journal"],
+    out: b"+01030000000ac5cd\n-3\n+0000000165d245ba109509aa6c32ac3cfa228fd6\n-11\n",
+    ..SEAL
+};
+
+const CHECK_RTU24: Row = Row {
+    words: &["check", "rtu24", "ab", "key", "journal"],
+    text: b"+01030000000ac5cd\n-3\n+0000000165d245ba109509aa6c32ac3cfa228fd6\n-11\n",
+    out: b"-24\n+01030000000ac5cd\n-330\n",
+    ..CHECK
+};
+
+const SEAL_DNP24: Row = Row {
+    words: &["seal", "dnp24", "ab", "key", "journal"],
+    out: b"+056405c001000004e921\n-3\n+00000001cd525d6a6c119047d45db5ba9f9e4290\n-11\n",
+    ..SEAL_DNP3
+};
+
+const CHECK_DNP24: Row = Row {
+    words: &["check", "dnp24", "ab", "key", "journal"],
+    text: b"+056405c001000004e921\n-3\n+00000001cd525d6a6c119047d45db5ba9f9e4290\n-11\n",
+    out: b"-24\n+056405c001000004e921\n-330\n",
+    ..CHECK_DNP3
+};
+
+const BOXES: [Row; 12] = [
+    SEAL_RTU24,
+    CHECK_RTU24,
+    SEAL_DNP24,
+    CHECK_DNP24,
+    // A link of the other profile.
+    Row {
+        text: SEALED_REQUEST,
+        out: b"-24\n+01030000000ac5cc\n-324\n",
+        log: b"refused at 0 trailer\n",
+        slots_now: (NUMBER_0, NO_NUMBER),
+        ..CHECK_RTU24
+    },
     SEAL_DNP3,
     CHECK_DNP3,
     SEAL,
