@@ -6,6 +6,8 @@ ghost use Rattle.std.specs.String.{string_bytes};
 ghost use Rattle.link_replay.specs.Words.{word_in};
 
 mod commands;
+#[cfg(test)]
+mod failing;
 mod program;
 #[cfg(test)]
 mod tests;

@@ -12,7 +12,7 @@ const REQUEST: &[u8] = b"+01030000000ac5cd\n-4\n";
 
 const REQUEST_LINE: &[u8] = b"read at 0 01030000000ac5cd\n";
 
-const KEY: &[u8] = b"000102030405060708090a0b0c0d0e0f";
+pub const KEY: &[u8] = b"000102030405060708090a0b0c0d0e0f";
 
 /// A slot that holds number 0, one that holds number 1, and one that holds none.
 const NUMBER_0: [u8; 16] = [
@@ -33,13 +33,13 @@ struct Ran {
     log: MemSink,
 }
 
-fn plan(calls: &[u32]) -> Plan {
+pub fn plan(calls: &[u32]) -> Plan {
     let mut plan = Plan::new();
     let _ = plan.try_extend_from_slice(calls);
     plan
 }
 
-fn strings(alloc: Global, words: &[&str]) -> Result<Vec<String>, AllocError> {
+pub fn strings(alloc: Global, words: &[&str]) -> Result<Vec<String>, AllocError> {
     let mut strings = Vec::new(alloc);
     for word in words {
         strings.push(String::from_str(alloc, *word)?)?;
@@ -187,20 +187,20 @@ fn finds_the_paths_among_the_words(rt: HostRuntime) -> Result<(), Fail> {
 /// Words, the slots before, and what comes of them over the key and the input below, where calls of
 /// the output and the disk fail.
 #[derive(Clone, Copy, Drop)]
-struct Row {
-    words: &'static [&'static str],
-    text: &'static [u8],
-    slots: ([u8; 16], [u8; 16]),
-    out_fails: &'static [u32],
-    disk_fails: &'static [u32],
-    status: Status,
-    code: u8,
-    out: &'static [u8],
-    log: &'static [u8],
-    slots_now: ([u8; 16], [u8; 16]),
+pub struct Row {
+    pub words: &'static [&'static str],
+    pub text: &'static [u8],
+    pub slots: ([u8; 16], [u8; 16]),
+    pub out_fails: &'static [u32],
+    pub disk_fails: &'static [u32],
+    pub status: Status,
+    pub code: u8,
+    pub out: &'static [u8],
+    pub log: &'static [u8],
+    pub slots_now: ([u8; 16], [u8; 16]),
 }
 
-const READ: Row = Row {
+pub const READ: Row = Row {
     words: &["read", "rtu"],
     text: REQUEST,
     slots: (NO_NUMBER, NO_NUMBER),
@@ -213,13 +213,13 @@ const READ: Row = Row {
     slots_now: (NO_NUMBER, NO_NUMBER),
 };
 
-const VECTORS: Row = Row {
+pub const VECTORS: Row = Row {
     words: &["vectors"],
     out: b"crc 4 ok\nhmac 7 ok\nframes 7 ok\nuser 2 ok\n",
     ..READ
 };
 
-const INIT: Row = Row {
+pub const INIT: Row = Row {
     words: &["init", "journal"],
     out: b"",
     slots_now: (NUMBER_0, NO_NUMBER),
@@ -317,7 +317,7 @@ const ROWS: [Row; 14] = [
 // The tag is that of the transmitter's rows in `replay_tests`.
 const SEALED_REQUEST: &[u8] = b"+01030000000ac5cd\n-3\n+0001014c5b8d33c6d29a347013b0\n-11\n";
 
-const SEAL: Row = Row {
+pub const SEAL: Row = Row {
     words: &["seal", "rtu", "ab", "key", "journal"],
     slots: (NUMBER_0, NO_NUMBER),
     out: SEALED_REQUEST,
@@ -327,7 +327,7 @@ const SEAL: Row = Row {
 };
 
 // What `seal` has made of the request, checked.
-const CHECK: Row = Row {
+pub const CHECK: Row = Row {
     words: &["check", "rtu", "ab", "key", "journal"],
     text: SEALED_REQUEST,
     out: b"-18\n+01030000000ac5cd\n-330\n",
