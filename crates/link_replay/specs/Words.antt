@@ -6,6 +6,7 @@ use Rattle.link_replay.specs.declared.words.Proto.{Proto}
 use Rattle.link_replay.specs.declared.words.Proto.TheVariants.{Rtu, Dnp3}
 use Rattle.link_replay.specs.declared.words.Command.{Command}
 use Rattle.link_replay.specs.declared.words.Command.TheVariants.{Init, Read, Vectors, Seal, Check}
+use Rattle.link_replay.specs.declared.words.Command.TheVariants.{Replay}
 
 abbrev pub proto_word : Proto → List ℕ
 proto_word Rtu = codes "rtu"
@@ -29,6 +30,8 @@ IsCommand words (Read proto) = words ≡ codes "read" ∷ proto_word proto ∷ [
 IsCommand words Vectors = words ≡ codes "vectors" ∷ []
 IsCommand words (Seal proto dir) = AskForBox (codes "seal") proto dir words
 IsCommand words (Check proto dir) = AskForBox (codes "check") proto dir words
+IsCommand words (Replay proto dir) = (key : List ℕ) × (key ≢ [])
+    × (words ≡ codes "replay" ∷ proto_word proto ∷ dir_word dir ∷ key ∷ [])
 
 -- what the words ask for: a command, or none where they fit no command
 abbrev pub Asks : List (List ℕ) → Option Command → Type 0
@@ -42,6 +45,7 @@ key_place (Read proto) = None
 key_place Vectors = None
 key_place (Seal proto dir) = Some 3
 key_place (Check proto dir) = Some 3
+key_place (Replay proto dir) = Some 3
 
 -- the place of the word that is the journal's path
 abbrev pub journal_place : Command → Option ℕ
@@ -50,6 +54,7 @@ journal_place (Read proto) = None
 journal_place Vectors = None
 journal_place (Seal proto dir) = Some 4
 journal_place (Check proto dir) = Some 4
+journal_place (Replay proto dir) = None
 
 -- the word at a place, where there is one
 abbrev pub word_in : List (List ℕ) → Option ℕ → Option (List ℕ)
