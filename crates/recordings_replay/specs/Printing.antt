@@ -1,8 +1,9 @@
 -- Text that is added to one on its way to a sink.
-use Rattle.std.specs.Prelude.{◌≡◌, ℕ, List, ◌++◌, Option}
+use Rattle.std.specs.Prelude.{◌≡◌, ℕ, cond, List, [], ◌++◌, Option, codes}
 use Rattle.std.specs.Io.KnownBytes.{append_known}
 use Rattle.yasir_io.specs.Output.{Buffered, GotPrefix}
-use Rattle.link_format.specs.NumberedFrame.{AreNumberedFrom}
+use Rattle.link_format.specs.NumberedFrame.{NumberedFrame, AreNumberedFrom}
+use Rattle.receiver_laws.specs.Accounted.{is_among}
 use Rattle.replay_lists.specs.FrameBox.{kept_frames}
 use Rattle.replay_lists.specs.FrameList.{Holds, IsWhole}
 use Rattle.replay_lists.specs.ReplayLists.{kept_reads}
@@ -10,7 +11,7 @@ use Rattle.replay_lists.specs.declared.frame_box.Numbered.{Numbered}
 use Rattle.replay_lists.specs.declared.frame_list.FrameList.{FrameList}
 use Rattle.replay_status.specs.declared.status.Status.{Status}
 use Rattle.replay_status.specs.declared.status.Status.TheVariants.{Done, WriteFault}
-use Rattle.recordings_replay.specs.Listing.{Listing}
+use Rattle.recordings_replay.specs.Listing.{Listing, numbered_line}
 
 -- what a sink holds, and what waits to be written to it
 pub record OnTheWay : Type 0 where
@@ -30,6 +31,11 @@ AddsText before now more = (start : Option (List ℕ)) (text : List ℕ)
 abbrev pub BreaksOff : OnTheWay → Option (List ℕ) → List ℕ → Type 0
 BreaksOff before held more = (start : Option (List ℕ)) (text : List ℕ)
     → Buffered start before.held before.waits text → GotPrefix start held (text ++ more)
+
+-- the line of a frame that passed and was never sealed with its number; or nothing
+abbrev pub line_if_forged : List NumberedFrame → NumberedFrame → List ℕ
+line_if_forged sealed_ones f =
+    cond (is_among sealed_ones f) [] (numbered_line (codes "forged") f)
 
 -- The lists hold these frames. The sealed ones are numbered in turn.
 pub record HoldsListing (sealed passed : FrameList Numbered) (read : FrameList ℕ)

@@ -1,11 +1,12 @@
 -- What the lists of sealed, passed, read and forged frames say of one another.
-use Rattle.std.specs.Prelude.{◌≡◌, ℕ, ◌+◌, List, [], ◌∷◌, ◌++◌, map}
+use Rattle.std.specs.Prelude.{◌≡◌, ◌≢◌, ℕ, ◌+◌, List, [], ◌++◌, map}
+use Rattle.std.specs.List.{AllPairs}
 use Rattle.yasir_ticks.specs.Ticks.{silent}
 use Rattle.yasir_ticks.specs.Bursts.{bursts}
 use Rattle.yasir_ticks.specs.declared.tick.Tick.{Tick}
 use Rattle.line_rules.specs.Rules.{Rules}
 use Rattle.sequence_journal.specs.Uptimes.{RiseFrom}
-use Rattle.link_format.specs.NumberedFrame.{NumberedFrame, numbers_of}
+use Rattle.link_format.specs.NumberedFrame.{numbers_of}
 use Rattle.link_format.specs.Profile.{Profile, delay}
 use Rattle.seal_transmitter.specs.Sealing.{link_line}
 use Rattle.link_verdicts.specs.Checking.{received_line}
@@ -22,8 +23,7 @@ device_rest profile = delay profile + 6
 
 -- No number stands at two places.
 abbrev pub HasNoNumberTwice : List ℕ → Type 0
-HasNoNumberTwice numbers = (front between back : List ℕ) (n : ℕ)
-    → numbers ≡ front ++ n ∷ (between ++ n ∷ back) → ⊥
+HasNoNumberTwice numbers = AllPairs (λ m n. m ≢ n) numbers
 
 -- The link has brought all of the line of a device: each of its frames was sealed and has passed,
 -- none is forged, and the receiver's line is silence for the receiver's delay, then the device's

@@ -10,7 +10,7 @@ ghost use Rattle.replay_lists.specs.FrameBox.{kept_frames};
 ghost use Rattle.replay_lists.specs.FrameList.{Holds, IsWhole};
 ghost use Rattle.replay_lists.specs.ReplayLists.{kept_reads};
 ghost use Rattle.recordings_replay.specs.Listing.{numbered_lines};
-ghost use Rattle.recordings_replay.specs.Printing.{AddsText, BreaksOff, on_the_way};
+ghost use Rattle.recordings_replay.specs.Printing.{AddsText, BreaksOff, on_the_way, line_if_forged};
 
 use crate::lines::numbered_line;
 use device_replay::read_line;
@@ -36,7 +36,9 @@ pub fn push_numbered<O: Sink>(
 {
     for index in 0..frames.len() {
         let line = numbered_line(name, frames.head(index), frames.bytes(index));
-        text.push(out, line.as_slice())?;
+        let Ok(()) = text.push(out, line.as_slice()) else {
+            return Err(Failed);
+        };
     }
     Ok(())
 }
@@ -58,7 +60,9 @@ pub fn push_reads<O: Sink>(
 {
     for index in 0..frames.len() {
         let line = read_line(frames.head(index), frames.bytes(index));
-        text.push(out, line.as_slice())?;
+        let Ok(()) = text.push(out, line.as_slice()) else {
+            return Err(Failed);
+        };
     }
     Ok(())
 }
@@ -79,6 +83,38 @@ fn is_sealed(sealed: &FrameList<Numbered>, number: u64, bytes: &[u8]) -> bool
         return false;
     }
     sealed.bytes(place) == bytes
+}
+
+// Adds the line of a frame that passed, unless it was sealed with its number.
+fn push_if_forged<O: Sink>(
+    text: &mut TextBuffer,
+    out: &mut O,
+    sealed: &FrameList<Numbered>,
+    head: Numbered,
+    bytes: &[u8],
+) -> Result<(), Failed>
+    requires whole { IsWhole sealed.now }
+    requires frame { length bytes.now ≤ 292 }
+    ensures ok { OnOk result ((sealed_ones : List NumberedFrame)
+        → Holds sealed.now (kept_frames sealed_ones) → AreNumberedFrom 0 sealed_ones
+        → AddsText (on_the_way (O.held out.old) (waiting_bytes text.old))
+        (on_the_way (O.held out.new) (waiting_bytes text.new)) (line_if_forged sealed_ones
+        (record { number = head.number; start = head.start; frame = bytes.now }))) }
+    ensures err { OnErr result ((sealed_ones : List NumberedFrame)
+        → Holds sealed.now (kept_frames sealed_ones) → AreNumberedFrom 0 sealed_ones
+        → BreaksOff (on_the_way (O.held out.old) (waiting_bytes text.old)) (O.held out.new)
+        (line_if_forged sealed_ones
+        (record { number = head.number; start = head.start; frame = bytes.now }))) }
+    ensures cause { HasCause (O.faults out.old) (O.faults out.new) result }
+{
+    if is_sealed(sealed, head.number, bytes) {
+        return Ok(());
+    }
+    let line = numbered_line(b"forged", head, bytes);
+    match text.push(out, line.as_slice()) {
+        Ok(()) => Ok(()),
+        Err(Failed) => Err(Failed),
+    }
 }
 
 /// Adds a line for each of the frames that passed and was never sealed with its number. The sealed
@@ -105,11 +141,10 @@ pub fn push_forged<O: Sink>(
     ensures cause { HasCause (O.faults out.old) (O.faults out.new) result }
 {
     for index in 0..passed.len() {
-        let head = passed.head(index);
-        let bytes = passed.bytes(index);
-        if !is_sealed(sealed, head.number, bytes) {
-            text.push(out, numbered_line(b"forged", head, bytes).as_slice())?;
-        }
+        let (head, bytes) = (passed.head(index), passed.bytes(index));
+        let Ok(()) = push_if_forged(text, out, sealed, head, bytes) else {
+            return Err(Failed);
+        };
     }
     Ok(())
 }

@@ -1,4 +1,4 @@
-ghost use Rattle.std.specs.Prelude.{◌≡◌, OnOk, OnErr};
+ghost use Rattle.std.specs.Prelude.{◌≡◌, ◌⊎◌, OnOk, OnErr};
 ghost use Rattle.yasir_io.specs.Causes.{HasCause};
 ghost use Rattle.yasir_io.specs.TextBuffer.{waiting_bytes};
 ghost use Rattle.replay_status.specs.Causes.{SinkCause};
@@ -30,10 +30,19 @@ fn push_listing<O: Sink>(
         (listing_text listing)) }
     ensures cause { HasCause (O.faults out.old) (O.faults out.new) result }
 {
-    push_numbered(text, out, b"sealed", sealed)?;
-    push_numbered(text, out, b"passed", passed)?;
-    push_reads(text, out, read)?;
-    push_forged(text, out, sealed, passed)
+    let Ok(()) = push_numbered(text, out, b"sealed", sealed) else {
+        return Err(Failed);
+    };
+    let Ok(()) = push_numbered(text, out, b"passed", passed) else {
+        return Err(Failed);
+    };
+    let Ok(()) = push_reads(text, out, read) else {
+        return Err(Failed);
+    };
+    match push_forged(text, out, sealed, passed) {
+        Ok(()) => Ok(()),
+        Err(Failed) => Err(Failed),
+    }
 }
 
 /// Prints a line for each frame that was sealed, passed, read and forged, in this order.
@@ -47,6 +56,7 @@ pub fn print_listing<O: Sink, L: Sink>(
     requires { AreWhole sealed.now passed.now read.now }
     ensures prints { (listing : Listing) → HoldsListing sealed.now passed.now read.now listing
         → PrintsText (listing_text listing) (O.held out.old) (O.held out.new) result }
+    ensures status { (result ≡ Status.Done) ⊎ (result ≡ Status.WriteFault) }
     ensures log { L.held log.new ≡ L.held log.old }
     ensures sinks { SinkCause (O.faults out.old) (O.faults out.new) (L.faults log.old)
         (L.faults log.new) result }
