@@ -1,0 +1,11 @@
+pub mod Draws
+pub mod DrawnFrames
+pub mod RtuDrawn
+pub mod DnpDrawn
+pub mod Alterations
+pub mod Session
+pub mod Summaries
+pub mod Counting
+pub mod Sides
+pub mod Runs
+pub mod TrialLine

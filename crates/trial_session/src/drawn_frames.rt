@@ -1,0 +1,69 @@
+ghost use Rattle.std.specs.Prelude.{◌≡◌, ℕ, true};
+ghost use Rattle.trial_session.specs.Draws.{draw_state, state_after};
+ghost use Rattle.trial_session.specs.DrawnFrames.{Drawing};
+
+use crate::Draws;
+use arrayvec::ArrayVec;
+use dnp_link_frame::{Dnp, Header, build};
+use line_rules::LineRules;
+use rtu_frame::{Rtu, RtuBytes, close};
+
+/// The bytes of a frame of either protocol.
+pub type FrameBytes = ArrayVec<u8, 292>;
+
+/// A protocol whose frames can be drawn.
+pub trait DrawnFrames: LineRules {
+    /// Which frame is drawn, and by how many draws.
+    ghost drawing: { Drawing };
+
+    /// Draws a frame.
+    fn draw_frame(draws: &mut Draws) -> FrameBytes
+        ensures frame { result.items ≡ drawing.frame (draw_state draws.old) }
+        ensures state { draw_state draws.new
+            ≡ state_after (drawing.draws (draw_state draws.old)) (draw_state draws.old) };
+
+    // By the protocol's rules it is a frame.
+    ghost are_frames: { (x : ℕ) → Self.rules.is_frame (drawing.frame x) ≡ true };
+}
+
+impl DrawnFrames for Rtu {
+    ghost use Rattle.trial_session.specs.RtuDrawn.{rtu_drawing};
+    ghost use Rattle.trial_session.proofs.RtuFrames.{rtu_are_frames};
+
+    ghost drawing = { rtu_drawing };
+
+    ghost are_frames = { rtu_are_frames };
+
+    fn draw_frame(draws: &mut Draws) -> FrameBytes {
+        let body_len = draws.draw() % 253 + 2;
+        let mut frame = RtuBytes::new();
+        draws.push_bytes(&mut frame, body_len as usize);
+        close(&mut frame).unwrap();
+        let mut bytes = FrameBytes::new();
+        bytes.try_extend_from_slice(frame.as_slice()).unwrap();
+        bytes
+    }
+}
+
+impl DrawnFrames for Dnp {
+    ghost use Rattle.trial_session.specs.DnpDrawn.{dnp_drawing};
+    ghost use Rattle.trial_session.proofs.DnpFrames.{dnp_are_frames};
+
+    ghost drawing = { dnp_drawing };
+
+    ghost are_frames = { dnp_are_frames };
+
+    fn draw_frame(draws: &mut Draws) -> FrameBytes {
+        let user_len = draws.draw() % 251;
+        let destination = (draws.draw() % 65536) as u16;
+        let source = (draws.draw() % 65536) as u16;
+        let header = Header {
+            control: 0xC4,
+            destination,
+            source,
+        };
+        let mut user: ArrayVec<u8, 250> = ArrayVec::new();
+        draws.push_bytes(&mut user, user_len as usize);
+        build(&header, user.as_slice()).unwrap()
+    }
+}

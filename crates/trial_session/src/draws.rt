@@ -1,0 +1,47 @@
+use arrayvec::ArrayVec;
+
+/// Numbers that are drawn one after the other from a first one: a linear congruential generator
+/// (Knuth, MMIX), of whose state each draw gives the high half.
+#[derive(Drop)]
+pub struct Draws {
+    state: u64,
+}
+
+impl Draws {
+    ghost use Rattle.std.specs.Prelude.{◌≡◌, ◌+◌, ◌≤◌, ◌++◌, length};
+    ghost use Rattle.trial_session.specs.Draws.{next_state, drawn, state_after, bytes_drawn};
+    ghost use Rattle.trial_session.specs.Draws.{draw_state};
+
+    /// Nothing is drawn yet.
+    pub fn new(seed: u32) -> Draws
+        ensures { draw_state result ≡ seed }
+    {
+        Draws {
+            state: u64::from(seed),
+        }
+    }
+
+    /// The next number.
+    #[inline]
+    pub fn draw(&mut self) -> u32
+        ensures state { draw_state self.new ≡ next_state (draw_state self.old) }
+        ensures value { result ≡ drawn (draw_state self.new) }
+    {
+        self.state = self
+            .state
+            .wrapping_mul(6_364_136_223_846_793_005)
+            .wrapping_add(1_442_695_040_888_963_407);
+        (self.state >> 32) as u32
+    }
+
+    /// Appends so many bytes, each the low byte of a draw.
+    pub fn push_bytes<const CAP: usize>(&mut self, bytes: &mut ArrayVec<u8, CAP>, n: usize)
+        requires { length bytes.old.items + n ≤ CAP }
+        ensures state { draw_state self.new ≡ state_after n (draw_state self.old) }
+        ensures bytes { bytes.new.items ≡ bytes.old.items ++ bytes_drawn n (draw_state self.old) }
+    {
+        for _ in 0..n {
+            bytes.push((self.draw() % 256) as u8);
+        }
+    }
+}
