@@ -2,6 +2,7 @@ pub mod Draws
 pub mod DrawnFrames
 pub mod RtuDrawn
 pub mod DnpDrawn
+pub mod DrawLaws
 pub mod Alterations
 pub mod Session
 pub mod Summaries

@@ -28,16 +28,18 @@ pub trait DrawnFrames: LineRules {
 
 impl DrawnFrames for Rtu {
     ghost use Rattle.trial_session.specs.RtuDrawn.{rtu_drawing};
-    ghost use Rattle.trial_session.proofs.RtuFrames.{rtu_are_frames};
+    ghost use Rattle.trial_session.specs.DrawLaws.{rtu_are_frames};
 
     ghost drawing = { rtu_drawing };
 
     ghost are_frames = { rtu_are_frames };
 
     fn draw_frame(draws: &mut Draws) -> FrameBytes {
-        let body_len = draws.draw() % 253 + 2;
+        let body_len = (draws.draw() % 253 + 2) as usize;
+        let mut body = [0; 254];
+        draws.fill_bytes(&mut body[..body_len]);
         let mut frame = RtuBytes::new();
-        draws.push_bytes(&mut frame, body_len as usize);
+        frame.try_extend_from_slice(&body[..body_len]).unwrap();
         close(&mut frame).unwrap();
         let mut bytes = FrameBytes::new();
         bytes.try_extend_from_slice(frame.as_slice()).unwrap();
@@ -47,14 +49,14 @@ impl DrawnFrames for Rtu {
 
 impl DrawnFrames for Dnp {
     ghost use Rattle.trial_session.specs.DnpDrawn.{dnp_drawing};
-    ghost use Rattle.trial_session.proofs.DnpFrames.{dnp_are_frames};
+    ghost use Rattle.trial_session.specs.DrawLaws.{dnp_are_frames};
 
     ghost drawing = { dnp_drawing };
 
     ghost are_frames = { dnp_are_frames };
 
     fn draw_frame(draws: &mut Draws) -> FrameBytes {
-        let user_len = draws.draw() % 251;
+        let user_len = (draws.draw() % 251) as usize;
         let destination = (draws.draw() % 65536) as u16;
         let source = (draws.draw() % 65536) as u16;
         let header = Header {
@@ -62,8 +64,8 @@ impl DrawnFrames for Dnp {
             destination,
             source,
         };
-        let mut user: ArrayVec<u8, 250> = ArrayVec::new();
-        draws.push_bytes(&mut user, user_len as usize);
-        build(&header, user.as_slice()).unwrap()
+        let mut user = [0; 250];
+        draws.fill_bytes(&mut user[..user_len]);
+        build(&header, &user[..user_len]).unwrap()
     }
 }

@@ -1,5 +1,3 @@
-use arrayvec::ArrayVec;
-
 /// Numbers that are drawn one after the other from a first one: a linear congruential generator
 /// (Knuth, MMIX), of whose state each draw gives the high half.
 #[derive(Drop)]
@@ -8,7 +6,7 @@ pub struct Draws {
 }
 
 impl Draws {
-    ghost use Rattle.std.specs.Prelude.{◌≡◌, ◌+◌, ◌≤◌, ◌++◌, length};
+    ghost use Rattle.std.specs.Prelude.{◌≡◌, length};
     ghost use Rattle.trial_session.specs.Draws.{next_state, drawn, state_after, bytes_drawn};
     ghost use Rattle.trial_session.specs.Draws.{draw_state};
 
@@ -34,14 +32,14 @@ impl Draws {
         (self.state >> 32) as u32
     }
 
-    /// Appends so many bytes, each the low byte of a draw.
-    pub fn push_bytes<const CAP: usize>(&mut self, bytes: &mut ArrayVec<u8, CAP>, n: usize)
-        requires { length bytes.old.items + n ≤ CAP }
-        ensures state { draw_state self.new ≡ state_after n (draw_state self.old) }
-        ensures bytes { bytes.new.items ≡ bytes.old.items ++ bytes_drawn n (draw_state self.old) }
+    /// Fills some bytes, each with the low byte of a draw.
+    pub fn fill_bytes(&mut self, bytes: &mut [u8])
+        ensures state { draw_state self.new
+            ≡ state_after (length bytes.old) (draw_state self.old) }
+        ensures bytes { bytes.new ≡ bytes_drawn (length bytes.old) (draw_state self.old) }
     {
-        for _ in 0..n {
-            bytes.push((self.draw() % 256) as u8);
+        for at in 0..bytes.len() {
+            bytes[at] = (self.draw() % 256) as u8;
         }
     }
 }

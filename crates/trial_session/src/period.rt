@@ -1,4 +1,5 @@
-ghost use Rattle.std.specs.Prelude.{◌≡◌, ◌-◌, ◌≤◌, ◌++◌, length, take};
+ghost use Rattle.std.specs.Prelude.{◌≡◌, ◌-◌, ◌≤◌, ◌++◌, length, map, take};
+ghost use Rattle.yasir_ticks.specs.declared.tick.Tick.TheVariants.{Byte};
 ghost use Rattle.yasir_ticks.specs.Ticks.{silent};
 ghost use Rattle.trial_session.specs.Session.{period_line, period_len};
 ghost use Rattle.trial_session.specs.Alterations.{altered, changed};
@@ -16,10 +17,21 @@ pub type PeriodTicks = [Tick; 640];
 
 // Makes all ticks from a place on silent.
 fn silence_from(ticks: &mut PeriodTicks, place: usize)
+    requires { place ≤ 640 }
     ensures { ticks.new ≡ take place ticks.old ++ silent (period_len - place) }
 {
     for at in place..PERIOD {
         ticks[at] = Tick::Silent;
+    }
+}
+
+// Puts the bytes of a frame first.
+fn put_first(ticks: &mut PeriodTicks, frame: &[u8])
+    requires { length frame.now ≤ 640 }
+    ensures { take (length frame.now) ticks.new ≡ map Byte frame.now }
+{
+    for (at, byte) in frame.iter().enumerate() {
+        ticks[at] = Tick::Byte(*byte);
     }
 }
 
@@ -29,9 +41,7 @@ pub fn period_line(frame: &[u8]) -> PeriodTicks
     ensures { result ≡ period_line frame.now }
 {
     let mut ticks = [Tick::Silent; PERIOD];
-    for (at, byte) in frame.iter().enumerate() {
-        ticks[at] = Tick::Byte(*byte);
-    }
+    put_first(&mut ticks, frame);
     silence_from(&mut ticks, frame.len());
     ticks
 }
@@ -66,6 +76,6 @@ pub fn alter(ticks: &mut PeriodTicks, alteration: Alteration)
         }
         Alteration::Lose => silence_from(ticks, 0),
         Alteration::Repeat => repeat(ticks),
-        Alteration::CutOff { place } => silence_from(ticks, place),
+        Alteration::CutOff { place } => silence_from(ticks, place.min(PERIOD)),
     }
 }

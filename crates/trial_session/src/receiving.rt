@@ -1,6 +1,9 @@
+ghost use Rattle.std.specs.Prelude.{◌≡◌, ◌≤◌, length};
+ghost use Rattle.device_model.specs.Frames.{frames_of};
+
 use crate::Summary;
 use check_receiver::{CheckNote, Checker};
-use device_model::Device;
+use device_model::{Device, FrameAt};
 use hmac_tag::{Dir, Mac};
 use line_rules::LineRules;
 use sequence_journal::Journal;
@@ -21,10 +24,20 @@ pub struct Receiving<R, M, V, const B: usize, const D: usize> {
     read: u64,
 }
 
+// How many frames a step of the device has read.
+fn frames_in(frame: Option<FrameAt>) -> u64
+    ensures value { result ≡ length (frames_of frame) }
+    ensures few { result ≤ 1 }
+{
+    match frame {
+        Some(_) => 1,
+        None => 0,
+    }
+}
+
 impl<R: LineRules, M: Mac, V: Device + Drop, const B: usize, const D: usize>
     Receiving<R, M, V, B, D> {
-    ghost use Rattle.std.specs.Prelude.{◌≡◌, ◌+◌, ◌<◌, ◌≤◌, List, [], ◌∷◌, ◌++◌, length};
-    ghost use Rattle.std.specs.Prelude.{Option};
+    ghost use Rattle.std.specs.Prelude.{◌+◌, ◌<◌, List, [], ◌∷◌, ◌++◌};
     ghost use Rattle.yasir_ticks.specs.declared.tick.Tick.{Tick};
     ghost use Rattle.link_format.specs.Profile.{IsWordLen};
     ghost use Rattle.trial_session.specs.Sides.{MayReceive, HasReceived, ticks_received};
@@ -89,9 +102,7 @@ impl<R: LineRules, M: Mac, V: Device + Drop, const B: usize, const D: usize>
             .step(t, &mut self.journal, &mut self.disk)
             .unwrap();
         self.count(step.note);
-        if self.device.step(step.tick).is_some() {
-            self.read += 1;
-        }
+        self.read += frames_in(self.device.step(step.tick));
     }
 
     /// Takes the next ticks of the link.

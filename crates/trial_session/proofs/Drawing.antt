@@ -1,0 +1,63 @@
+-- One draw more.
+use Rattle.std.proofs.Common.{◌≡◌, ◌∙◌, ℕ, zero, suc, ◌+◌, ◌*◌, ◌/◌, ◌%◌, ◌^◌, List, [], ◌∷◌, ◌++◌}
+use Rattle.std.proofs.Common.{refl, ap, sym, map, arith, length, take, ◌<◌, ◌≤◌}
+use Rattle.std.specs.Prelude.{slice_set}
+use Rattle.std.proofs.lemmas.List.{map-append, take_more_set, take_all}
+use Rattle.trial_session.specs.Draws.{next_state, drawn, state_after, draws, bytes_drawn}
+
+pub state_after-suc : (n x : ℕ) → state_after (suc n) x ≡ next_state (state_after n x)
+unfolding state_after
+state_after-suc zero x = refl
+state_after-suc (suc n) x = state_after-suc n (next_state x)
+
+pub draws-suc : (n x : ℕ) → draws (suc n) x ≡ draws n x ++ drawn (state_after (suc n) x) ∷ []
+unfolding draws state_after
+draws-suc zero x = refl
+draws-suc (suc n) x = ap (λ l. drawn (next_state x) ∷ l) (draws-suc n (next_state x))
+
+pub state_after-more : (n x : ℕ) → state_after (n + 1) x ≡ next_state (state_after n x)
+state_after-more n x =
+    let more : n + 1 ≡ suc n = omega arith in
+    ap (λ k. state_after k x) more ∙ state_after-suc n x
+
+pub bytes_drawn-more : (n x : ℕ)
+    → bytes_drawn (n + 1) x ≡ bytes_drawn n x ++ (drawn (next_state (state_after n x)) % 256) ∷ []
+bytes_drawn-more n x =
+    let more : n + 1 ≡ suc n = omega arith in
+    ap (λ k. bytes_drawn k x) more
+    ∙ ap (map (λ d. d % 256)) (draws-suc n x)
+    ∙ map-append (λ d. d % 256) (draws n x) (drawn (state_after (suc n) x) ∷ [])
+    ∙ ap (λ s. bytes_drawn n x ++ (drawn s % 256) ∷ []) (state_after-suc n x)
+
+-- two parts of draws
+pub state_after-add : (m n x : ℕ) → state_after (m + n) x ≡ state_after n (state_after m x)
+unfolding state_after
+state_after-add zero n x =
+    let same : 0 + n ≡ n = omega arith in
+    ap (λ k. state_after k x) same
+state_after-add (suc m) n x =
+    let more : suc m + n ≡ suc (m + n) = omega arith in
+    ap (λ k. state_after k x) more ∙ state_after-add m n (next_state x)
+
+pub state_after-zero : (x : ℕ) → state_after 0 x ≡ x
+unfolding state_after
+state_after-zero x = refl
+
+pub bytes_drawn-zero : (x : ℕ) → bytes_drawn 0 x ≡ []
+unfolding draws
+bytes_drawn-zero x = refl
+
+-- the same by a state that a value stands at
+pub filled-more : (bytes : List ℕ) (at x state value next : ℕ) → at < length bytes
+    → state ≡ state_after at x → take at bytes ≡ bytes_drawn at x → next ≡ next_state state
+    → value ≡ drawn next
+    → take (at + 1) (slice_set bytes at (value % 256)) ≡ bytes_drawn (at + 1) x
+filled-more bytes at x state value next within is so stepped gives =
+    let last : value ≡ drawn (next_state (state_after at x)) =
+    gives ∙ ap drawn (stepped ∙ ap next_state is) in
+    take_more_set bytes at (value % 256) within ∙ ap (λ l. l ++ (value % 256) ∷ []) so
+    ∙ ap (λ d. bytes_drawn at x ++ (d % 256) ∷ []) last ∙ sym (bytes_drawn-more at x)
+
+pub whole : (bytes drawn_bytes : List ℕ) (at n : ℕ) → length bytes ≡ n → at ≤ n → n ≤ at
+    → take at bytes ≡ drawn_bytes → bytes ≡ drawn_bytes
+whole bytes drawn_bytes at n long within all so = sym (take_all at bytes (omega arith)) ∙ so
