@@ -7,7 +7,15 @@ use Rattle.std.proofs.lemmas.List.Elements.{filter-append}
 use Rattle.yasir_ticks.specs.declared.tick.Tick.{Tick}
 use Rattle.burst_walk.specs.Walk.{Walker, Noted, notes_of}
 use Rattle.burst_walk.specs.Answers.{AnswersTick, told_notes, note_in}
-use Rattle.trial_session.specs.Counting.{counted}
+use Rattle.trial_session.specs.Boxes.{told_by}
+use Rattle.trial_session.specs.Counting.{through_in, refused_in, dropped_in}
+use Rattle.trial_session.specs.declared.counting_box.Fate.{Fate}
+use Rattle.trial_session.specs.declared.counting_box.Fate.TheVariants.{Through, Refused, Dropped}
+
+-- 1 where there is a note that is told so, else 0
+abbrev pub counted : {A : Type 0} → (A → Bool) → Option A → ℕ
+counted told None = 0
+counted told (Some note) = cond (told note) 1 0
 
 -- how many of these notes are told so
 abbrev pub tally : {N : Type 0} → (N → Bool) → List (Noted N) → ℕ
@@ -83,3 +91,79 @@ frames-step {N = N} w brief begun line t answer note frame_in told agree answers
     ∙ tally-step w brief begun line t answer note p told agree answers
     ∙ ap (λ k. k + counted told note)
     (sym (length-filter_map frame_in p (λ n. refl) (notes_of w begun line)))
+
+-- ---- by fates
+
+abbrev pub is_through : Fate → Bool
+is_through Through = true
+is_through Refused = false
+is_through Dropped = false
+
+abbrev pub is_refused : Fate → Bool
+is_refused Through = false
+is_refused Refused = true
+is_refused Dropped = false
+
+abbrev pub is_dropped : Fate → Bool
+is_dropped Through = false
+is_dropped Refused = false
+is_dropped Dropped = true
+
+through-one : (fate : Fate) → cond (is_through fate) 1 0 ≡ through_in (Some fate)
+through-one Through = refl
+through-one Refused = refl
+through-one Dropped = refl
+
+refused-one : (fate : Fate) → cond (is_refused fate) 1 0 ≡ refused_in (Some fate)
+refused-one Through = refl
+refused-one Refused = refl
+refused-one Dropped = refl
+
+dropped-one : (fate : Fate) → cond (is_dropped fate) 1 0 ≡ dropped_in (Some fate)
+dropped-one Through = refl
+dropped-one Refused = refl
+dropped-one Dropped = refl
+
+module _ {A : Type 0} (fate_of : A → Fate) where
+  through-told : (note : Option A)
+      → counted (λ a. is_through (fate_of a)) note ≡ through_in (told_by fate_of note)
+  through-told None = refl
+  through-told (Some note) = through-one (fate_of note)
+
+  refused-told : (note : Option A)
+      → counted (λ a. is_refused (fate_of a)) note ≡ refused_in (told_by fate_of note)
+  refused-told None = refl
+  refused-told (Some note) = refused-one (fate_of note)
+
+  dropped-told : (note : Option A)
+      → counted (λ a. is_dropped (fate_of a)) note ≡ dropped_in (told_by fate_of note)
+  dropped-told None = refl
+  dropped-told (Some note) = dropped-one (fate_of note)
+
+  module _ {S N : Type 0} (w : Walker S N) (brief : N → A) (begun : S) (line : List Tick)
+      (t answer : Tick) (note : Option A) (answers : AnswersTick w brief begun line t answer note)
+      where
+    pub through-step : {F : Type 0} (frame_in : N → Option F)
+        → ((n : N) → is_some (frame_in n) ≡ is_through (fate_of (brief n)))
+        → length (filter_map (λ n. frame_in n.note) (notes_of w begun (line ++ t ∷ [])))
+        ≡ length (filter_map (λ n. frame_in n.note) (notes_of w begun line))
+        + through_in (told_by fate_of note)
+    through-step frame_in agree =
+        frames-step w brief begun line t answer note frame_in (λ a. is_through (fate_of a)) agree
+        answers
+        ∙ ap (λ k. length (filter_map (λ n. frame_in n.note) (notes_of w begun line)) + k)
+        (through-told note)
+
+    pub refused-step : (p : N → Bool) → ((n : N) → p n ≡ is_refused (fate_of (brief n)))
+        → tally p (notes_of w begun (line ++ t ∷ []))
+        ≡ tally p (notes_of w begun line) + refused_in (told_by fate_of note)
+    refused-step p agree =
+        tally-step w brief begun line t answer note p (λ a. is_refused (fate_of a)) agree answers
+        ∙ ap (λ k. tally p (notes_of w begun line) + k) (refused-told note)
+
+    pub dropped-step : (p : N → Bool) → ((n : N) → p n ≡ is_dropped (fate_of (brief n)))
+        → tally p (notes_of w begun (line ++ t ∷ []))
+        ≡ tally p (notes_of w begun line) + dropped_in (told_by fate_of note)
+    dropped-step p agree =
+        tally-step w brief begun line t answer note p (λ a. is_dropped (fate_of a)) agree answers
+        ∙ ap (λ k. tally p (notes_of w begun line) + k) (dropped-told note)

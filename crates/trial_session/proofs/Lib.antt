@@ -1,5 +1,6 @@
 pub mod Drawing
 pub mod Lists
-pub mod Counting
 pub mod Starting
+pub mod Counting
+pub mod Fates
 pub mod SentTicks

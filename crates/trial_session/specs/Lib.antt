@@ -5,8 +5,9 @@ pub mod DnpDrawn
 pub mod DrawLaws
 pub mod Alterations
 pub mod Session
-pub mod Summaries
 pub mod Counting
+pub mod Boxes
+pub mod Summaries
 pub mod Sides
 pub mod Runs
 pub mod TrialLine

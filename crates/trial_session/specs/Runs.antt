@@ -1,27 +1,33 @@
 -- How far a session has come.
-use Rattle.std.specs.Prelude.{◌≡◌, ℕ, ◌*◌, ◌≤◌, List}
-use Rattle.line_rules.specs.declared.line_rules.LineRules.{Ghosts as LineRules}
-use Rattle.hmac_tag.specs.declared.tag.Mac.{Ghosts as Mac}
+use Rattle.std.specs.Prelude.{◌≡◌, ℕ, ◌≤◌}
 use Rattle.device_model.specs.declared.device.Device.{Ghosts as Device}
-use Rattle.seal_transmitter.specs.Sealing.{link_line}
 use Rattle.trial_session.specs.Draws.{draw_state}
 use Rattle.trial_session.specs.DrawnFrames.{Drawing}
 use Rattle.trial_session.specs.Session.{period_len, state_at, session_line, altered_link}
-use Rattle.trial_session.specs.Sides.{MaySend, MayReceive, HasSent, HasReceived, ticks_sent}
-use Rattle.trial_session.specs.Sides.{ticks_received}
-use Rattle.trial_session.specs.Summaries.{trial_profile}
+use Rattle.trial_session.specs.Sides.{MayTake, HasTaken, HasHeard}
+use Rattle.trial_session.specs.declared.counting_box.CountingBox.{Ghosts as CountingBox}
 use Rattle.trial_session.specs.declared.session.Session.{Session}
 
+-- Both boxes and the device have taken so many ticks, and may take more.
+pub record MayGoOn {S C V : Type 0} (seals : CountingBox S) (checks : CountingBox C)
+    (device : Device V) (session : Session S C V) (ticks : ℕ) : Type 0 where
+  pub may_seal : MayTake seals session.sealing
+  pub may_check : MayTake checks session.checking
+  pub read_few : session.listening.read ≤ device.taken session.listening.device
+  pub sealed_ticks : seals.taken session.sealing.line_box ≡ ticks
+  pub checked_ticks : checks.taken session.checking.line_box ≡ ticks
+  pub heard_ticks : device.taken session.listening.device ≡ ticks
+
 -- So many periods of the session of a seed have gone through both boxes and the device.
-pub record HasRun {R M V : Type 0} {B D : ℕ} (drawing : Drawing) (proto : LineRules R)
-    (code : Mac M) (device : Device V) (session : Session R M V B D) (seed count : ℕ)
-    : Type 0 where
+pub record HasRun {S C V : Type 0} (seals : CountingBox S) (checks : CountingBox C)
+    (device : Device V) (drawing : Drawing) (behind : ℕ) (session : Session S C V)
+    (seed count : ℕ) : Type 0 where
   pub state_is : draw_state session.draws ≡ state_at drawing seed count
-  pub may_send : MaySend session.sending
-  pub may_receive : MayReceive device session.receiving
-  pub sent_ticks : ticks_sent session.sending ≡ period_len * count
-  pub received_ticks : ticks_received session.receiving ≡ period_len * count
-  pub sends : HasSent proto code session.sending (session_line drawing seed count)
-  pub receives : HasReceived proto code device session.receiving
-      (altered_link drawing (trial_profile proto code B) seed count
-      (link_line (trial_profile proto code B) proto.rules 0 (session_line drawing seed count)))
+  pub seals_line : HasTaken seals session.sealing (session_line drawing seed count)
+  pub checks_link : HasTaken checks session.checking
+      (altered_link drawing behind seed count
+      (seals.counting.other_line (session_line drawing seed count)))
+  pub hears_line : HasHeard device session.listening
+      (checks.counting.other_line
+      (altered_link drawing behind seed count
+      (seals.counting.other_line (session_line drawing seed count))))

@@ -4,7 +4,6 @@ use Rattle.std.specs.Prelude.{drop}
 use Rattle.yasir_ticks.specs.Ticks.{silent}
 use Rattle.yasir_ticks.specs.declared.tick.Tick.{Tick}
 use Rattle.yasir_ticks.specs.declared.tick.Tick.TheVariants.{Byte}
-use Rattle.link_format.specs.Profile.{Profile, pause_len, trailer_len}
 use Rattle.trial_session.specs.Draws.{state_after, nth_drawn}
 use Rattle.trial_session.specs.DrawnFrames.{Drawing}
 use Rattle.trial_session.specs.Alterations.{alteration_of, altered}
@@ -17,10 +16,6 @@ period_len = 640
 -- A frame stands first in its period, and the rest is silent.
 abbrev pub period_line : List ℕ → List Tick
 period_line frame = map (λ b. Byte b) frame ++ silent (period_len - length frame)
-
--- how many ticks a frame takes on the link, with its pause and its trailer
-abbrev pub packet_len : Profile → List ℕ → ℕ
-packet_len profile frame = length frame + (pause_len + trailer_len profile)
 
 module _ (drawing : Drawing) where
   -- the state once the frame of a period is drawn, that began in this state
@@ -36,12 +31,12 @@ module _ (drawing : Drawing) where
   state_at seed zero = seed
   state_at seed (suc n) = after_period (state_at seed n)
 
-  -- What becomes of the link in the period that begins in this state: a kind, a place within the
-  -- frame's packet, and a value from 1 to 255.
-  abbrev pub alteration_in : Profile → ℕ → Alteration
-  alteration_in profile x =
+  -- What becomes of the link in the period that begins in this state, where so many ticks follow
+  -- a frame in its packet: a kind, a place within the packet, and a value from 1 to 255.
+  abbrev pub alteration_in : ℕ → ℕ → Alteration
+  alteration_in behind x =
       alteration_of (nth_drawn 1 (after_frame x) % 8)
-      (nth_drawn 2 (after_frame x) % packet_len profile (drawing.frame x))
+      (nth_drawn 2 (after_frame x) % (length (drawing.frame x) + behind))
       (1 + nth_drawn 3 (after_frame x) % 255)
 
   -- the device's line of so many periods
@@ -54,7 +49,7 @@ module _ (drawing : Drawing) where
   ticks_of n line = take period_len (drop (period_len * n) line)
 
   -- the first periods of a link, each altered as the session of this seed has it
-  unfoldable pub altered_link : Profile → ℕ → ℕ → List Tick → List Tick
-  altered_link profile seed zero link = []
-  altered_link profile seed (suc n) link = altered_link profile seed n link
-      ++ altered (alteration_in profile (state_at seed n)) (ticks_of n link)
+  unfoldable pub altered_link : ℕ → ℕ → ℕ → List Tick → List Tick
+  altered_link behind seed zero link = []
+  altered_link behind seed (suc n) link = altered_link behind seed n link
+      ++ altered (alteration_in behind (state_at seed n)) (ticks_of n link)

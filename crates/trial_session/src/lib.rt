@@ -4,19 +4,25 @@
 #![tactic(auto)]
 
 mod alteration;
-mod draws;
+mod check_counting;
+mod counting_box;
 mod drawn_frames;
+mod draws;
+mod listening;
 mod period;
 mod printing;
-mod receiving;
-mod sending;
+mod seal_counting;
 mod session;
+mod side;
 mod summary;
 
 pub use alteration::Alteration;
-pub use draws::Draws;
+pub use check_counting::CheckCounting;
+pub use counting_box::{CountedStep, CountingBox, Fate};
 pub use drawn_frames::{DrawnFrames, FrameBytes};
+pub use draws::Draws;
 pub use printing::print_session;
+pub use seal_counting::SealCounting;
 pub use session::try_session;
 pub use summary::Summary;
 

@@ -1,12 +1,10 @@
-ghost use Rattle.std.specs.Prelude.{◌≡◌, ◌+◌, ◌≤◌, ◌++◌, length};
-ghost use Rattle.link_format.specs.Profile.{IsWordLen};
+ghost use Rattle.std.specs.Prelude.{◌≡◌, ◌+◌, ◌<◌, ◌≤◌, ◌++◌, length};
 ghost use Rattle.replay_status.specs.Causes.{SinkCause};
-ghost use Rattle.trial_session.specs.Summaries.{session_summary, trial_profile};
+ghost use Rattle.trial_session.specs.Summaries.{session_summary};
 ghost use Rattle.trial_session.specs.TrialLine.{worded, trial_line, PrintsLine};
 
-use crate::{DrawnFrames, Summary, try_session};
+use crate::{CountingBox, DrawnFrames, Summary, try_session};
 use device_model::Device;
-use hmac_tag::Mac;
 use replay_status::{Line, Status, flush_both, push_decimal};
 use yasir_io::{Failed, Sink, write_all};
 
@@ -42,37 +40,37 @@ fn trial_line(name: &[u8], seed: u32, count: u32, counted: Summary) -> Line
     line
 }
 
-/// Runs the session of so many frames, at most 10,000, from a seed, and prints its line, with the
-/// name of its protocol.
+/// Runs the session of so many frames, at most 10,000, from a seed, as `try_session` does, and
+/// prints its line, with the name of its protocol.
 pub fn print_session<
     R: DrawnFrames,
-    M: Mac,
+    S: CountingBox,
+    C: CountingBox,
     V: Device + Drop,
-    const B: usize,
-    const D: usize,
     O: Sink,
     L: Sink,
 >(
     name: &[u8],
     seed: u32,
     count: u32,
+    behind: usize,
     out: &mut O,
     log: &mut L,
 ) -> Status
     requires name { length name.now ≤ 10 }
     requires count { count ≤ 10000 }
-    requires word { IsWordLen B }
-    requires wide { 2 ≤ B }
-    requires delay { D ≡ 4 + B + M.TAG }
+    requires some { 0 < behind }
+    requires few { behind ≤ 64 }
+    requires sealing { S.widths_fit }
+    requires checking { C.widths_fit }
     ensures line { PrintsLine (O.held out.old) (O.held out.new)
         (trial_line name.now seed count
-        (session_summary R.drawing (trial_profile R.LineRules M.Mac B) R.rules V.reads seed count))
-        result }
+        (session_summary R.drawing behind S.counting C.counting V.reads seed count)) result }
     ensures log { L.held log.new ≡ L.held log.old }
     ensures sinks { SinkCause (O.faults out.old) (O.faults out.new) (L.faults log.old)
         (L.faults log.new) result }
 {
-    let counted = try_session::<R, M, V, B, D>(seed, count);
+    let counted = try_session::<R, S, C, V>(seed, count, behind);
     match write_all(out, trial_line(name, seed, count, counted).as_slice()) {
         Ok(()) => flush_both(out, log),
         Err(Failed) => Status::WriteFault,

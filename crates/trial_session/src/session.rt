@@ -1,33 +1,30 @@
 ghost use Rattle.std.specs.Prelude.{◌≡◌, ◌+◌, ◌%◌, ◌<◌, ◌≤◌};
-ghost use Rattle.link_format.specs.Profile.{IsWordLen};
 ghost use Rattle.trial_session.specs.Alterations.{alteration_of};
 ghost use Rattle.trial_session.specs.Draws.{draw_state, state_after, nth_drawn};
-ghost use Rattle.trial_session.specs.Summaries.{session_summary, trial_profile};
+ghost use Rattle.trial_session.specs.Summaries.{session_summary};
 
 use crate::alteration::{Alteration, alteration_of};
+use crate::listening::Listening;
 use crate::period::{alter, period_line};
-use crate::receiving::Receiving;
-use crate::sending::Sending;
-use crate::{Draws, DrawnFrames, Summary};
+use crate::side::Side;
+use crate::{CountingBox, DrawnFrames, Draws, Summary};
 use device_model::Device;
-use hmac_tag::Mac;
 use yasir_ticks::{MAX_TICKS, Tick};
 
 /// So many silent ticks follow the link of a session, so that all that has passed is read.
 const REST: usize = 320;
 
-/// How many silent ticks stand between a frame and its trailer.
-const PAUSE: usize = 3;
-
-/// A session on its way, over the periods so far.
+/// A session on its way: frames go through the transmitter `S`, over the link, through the receiver
+/// `C` and to the device `V`.
 #[derive(Drop)]
-pub struct Session<R, M, V, const B: usize, const D: usize> {
+pub struct Session<S, C, V> {
     draws: Draws,
-    sending: Sending<R, M, B>,
-    receiving: Receiving<R, M, V, B, D>,
+    sealing: Side<S>,
+    checking: Side<C>,
+    listening: Listening<V>,
 }
 
-// Draws what becomes of the link in the period of a frame of so many bytes.
+// Draws what becomes of the link in the period of a packet of so many ticks.
 fn draw_alteration(draws: &mut Draws, packet_len: usize) -> Alteration
     requires { 0 < packet_len }
     ensures state { draw_state draws.new ≡ state_after 3 (draw_state draws.old) }
@@ -41,75 +38,92 @@ fn draw_alteration(draws: &mut Draws, packet_len: usize) -> Alteration
     alteration_of(kind, place, value)
 }
 
-impl<R: DrawnFrames, M: Mac, V: Device + Drop, const B: usize, const D: usize>
-    Session<R, M, V, B, D> {
-    ghost use Rattle.std.specs.Prelude.{ℕ, suc};
-    ghost use Rattle.trial_session.specs.Runs.{HasRun};
-    ghost use Rattle.trial_session.specs.Sides.{MaySend, MayReceive, ticks_sent, ticks_received};
+impl<S: CountingBox, C: CountingBox, V: Device + Drop> Session<S, C, V> {
+    ghost use Rattle.std.specs.Prelude.{ℕ, suc, ◌*◌, length};
+    ghost use Rattle.trial_session.specs.Session.{session_line, period_len};
+    ghost use Rattle.trial_session.specs.DrawnFrames.{Drawing};
+    ghost use Rattle.trial_session.specs.Runs.{HasRun, MayGoOn};
 
-    fn new(seed: u32) -> Session<R, M, V, B, D>
-        requires word { IsWordLen B }
-        requires wide { 2 ≤ B }
-        requires delay { D ≡ 4 + B + M.TAG }
-        ensures { HasRun R.drawing R.LineRules M.Mac V.Device result seed 0 }
+    // The session of a seed, before its first period.
+    fn new(seed: u32) -> Session<S, C, V>
+        requires sealing { S.widths_fit }
+        requires checking { C.widths_fit }
+        ensures able { MayGoOn S.CountingBox C.CountingBox V.Device result 0 }
+        ensures run { (drawing : Drawing) (behind : ℕ)
+            → HasRun S.CountingBox C.CountingBox V.Device drawing behind result seed 0 }
     {
         Session {
             draws: Draws::new(seed),
-            sending: Sending::new(),
-            receiving: Receiving::new(),
+            sealing: Side::new(),
+            checking: Side::new(),
+            listening: Listening::new(),
         }
     }
 
-    // One more period.
-    fn run_period(&mut self)
-        requires word { IsWordLen B }
-        requires may_send { MaySend self.old.sending }
-        requires may_receive { MayReceive V.Device self.old.receiving }
-        requires room_sent { ticks_sent self.old.sending + 640 ≤ MAX_TICKS }
-        requires room_received { ticks_received self.old.receiving + 640 ≤ MAX_TICKS }
-        ensures { (seed count : ℕ)
-            → HasRun R.drawing R.LineRules M.Mac V.Device self.old seed count
-            → HasRun R.drawing R.LineRules M.Mac V.Device self.new seed (suc count) }
+    // One more period, where so many ticks follow a frame in its packet.
+    fn run_period<R: DrawnFrames>(&mut self, behind: usize)
+        requires some { 0 < behind }
+        requires few { behind ≤ 64 }
+        requires able { MayGoOn S.CountingBox C.CountingBox V.Device self.old
+            (S.taken self.old.sealing.line_box) }
+        requires room { S.taken self.old.sealing.line_box + 640 ≤ MAX_TICKS }
+        ensures able { MayGoOn S.CountingBox C.CountingBox V.Device self.new
+            (S.taken self.old.sealing.line_box + 640) }
+        ensures run { (seed count : ℕ)
+            → length (session_line R.drawing seed count) ≡ period_len * count
+            → HasRun S.CountingBox C.CountingBox V.Device R.drawing behind self.old seed count
+            → HasRun S.CountingBox C.CountingBox V.Device R.drawing behind self.new seed
+            (suc count) }
     {
         let frame = R::draw_frame(&mut self.draws);
-        let packet_len = frame.len() + (PAUSE + (B + M::TAG));
-        let alteration = draw_alteration(&mut self.draws, packet_len);
+        let alteration = draw_alteration(&mut self.draws, frame.len() + behind);
         let mut ticks = period_line(frame.as_slice());
-        self.sending.send(&mut ticks);
+        self.sealing.send(&mut ticks);
         alter(&mut ticks, alteration);
-        self.receiving.receive(&ticks);
+        self.checking.send(&mut ticks);
+        self.listening.hear(&ticks);
     }
 
     // The silence behind the link, and what was counted.
     fn close(&mut self) -> Summary
-        requires may_receive { MayReceive V.Device self.old.receiving }
-        requires room { ticks_received self.old.receiving + 320 ≤ MAX_TICKS }
-        ensures { (seed count : ℕ)
-            → HasRun R.drawing R.LineRules M.Mac V.Device self.old seed count
-            → result ≡ session_summary R.drawing (trial_profile R.LineRules M.Mac B) R.rules
-            V.reads seed count }
+        requires able { MayGoOn S.CountingBox C.CountingBox V.Device self.old
+            (S.taken self.old.sealing.line_box) }
+        requires room { S.taken self.old.sealing.line_box + 320 ≤ MAX_TICKS }
+        ensures { (drawing : Drawing) (behind seed count : ℕ)
+            → HasRun S.CountingBox C.CountingBox V.Device drawing behind self.old seed count
+            → result ≡ session_summary drawing behind S.counting C.counting V.reads seed count }
     {
-        self.receiving.receive(&[Tick::Silent; REST]);
-        self.receiving.summary(self.sending.sealed())
+        let mut ticks = [Tick::Silent; REST];
+        self.checking.send(&mut ticks);
+        self.listening.hear(&ticks);
+        Summary {
+            sealed: self.sealing.through(),
+            passed: self.checking.through(),
+            refused: self.checking.refused(),
+            dropped: self.checking.dropped(),
+            read: self.listening.read(),
+        }
     }
 }
 
-/// Runs the session of so many frames, at most 10,000, from a seed, with words of `B` bytes and a
-/// delay of `D` ticks, and counts what comes of it.
-pub fn try_session<R: DrawnFrames, M: Mac, V: Device + Drop, const B: usize, const D: usize>(
+/// Runs the session of so many frames, at most 10,000, from a seed: drawn by the protocol `R`,
+/// sealed by `S`, checked by `C` and read by `V`. So many ticks follow a frame in its packet.
+pub fn try_session<R: DrawnFrames, S: CountingBox, C: CountingBox, V: Device + Drop>(
     seed: u32,
     count: u32,
+    behind: usize,
 ) -> Summary
     requires count { count ≤ 10000 }
-    requires word { IsWordLen B }
-    requires wide { 2 ≤ B }
-    requires delay { D ≡ 4 + B + M.TAG }
-    ensures { result ≡ session_summary R.drawing (trial_profile R.LineRules M.Mac B) R.rules V.reads
-        seed count }
+    requires some { 0 < behind }
+    requires few { behind ≤ 64 }
+    requires sealing { S.widths_fit }
+    requires checking { C.widths_fit }
+    ensures { result
+        ≡ session_summary R.drawing behind S.counting C.counting V.reads seed count }
 {
-    let mut session: Session<R, M, V, B, D> = Session::new(seed);
+    let mut session: Session<S, C, V> = Session::new(seed);
     for _ in 0..count {
-        session.run_period();
+        session.run_period::<R>(behind);
     }
     session.close()
 }

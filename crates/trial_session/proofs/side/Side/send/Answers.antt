@@ -1,17 +1,10 @@
-use Rattle.std.proofs.Common.{◌≡◌, ◌∙◌, ◌+◌, ◌<◌, length, take, subst, arith, rules}
+use Rattle.std.proofs.Common.{◌≡◌, ◌+◌, ◌<◌, length, take, subst, arith, rules}
 use Rattle.std.proofs.lemmas.List.{take_all}
 use Rattle.yasir_ticks.specs.declared.TheConstants.{MAX_TICKS}
 use Rattle.yasir_ticks.specs.declared.tick.Tick.TheVariants.{Silent}
-use Rattle.trial_session.specs.Sides.{ticks_sent, SendsAs}
+use Rattle.trial_session.specs.Sides.{HasSent}
 use Rattle.trial_session.proofs.SentTicks.{same-rest, same-tick, sends-more}
-use Rattle.trial_session.proofs.sending.Sending.send.Goals as goal
-
-pub step-requires : goal.step-requires
-step-requires g c =
-    let may = c.loop-at.invariant.0 in
-    let room : ticks_sent c.loop-at.self < MAX_TICKS =
-    omega (arith, c.requires.room, c.loop-at.invariant.1, c.loop-at-test.true) in
-    search rules
+use Rattle.trial_session.proofs.side.Side.send.Goals as goal
 
 pub loop-at-preserved : goal.loop-at-preserved
 loop-at-preserved g c =
@@ -22,18 +15,18 @@ loop-at-preserved g c =
     let within : at < length ticks = omega (arith, c.loop-at.auto.ticks, inside) in
     let same = c.loop-at.invariant.2 in
     (c.step.ensures.able,
-    omega (arith, c.step.ensures.taken, c.loop-at.invariant.1),
+    omega (arith, c.step.ensures.level, c.loop-at.invariant.1),
     same-rest ticks given at Silent c.step.result within inside same,
-    λ line sent. sends-more g.R.LineRules g.M.Mac c.loop-at.self c.step.new.self line given ticks
+    λ line taken. sends-more g.X.CountingBox c.loop-at.self c.step.new.self line given ticks
     at _ Silent c.step.result within inside (same-tick ticks given at Silent within inside same)
-    (c.loop-at.invariant.3 line sent) c.step.ensures.sent)
+    (c.loop-at.invariant.3 line taken) c.step.ensures.sent)
 
 pub returns-clause-sent : goal.returns-clause-sent
-returns-clause-sent g c = λ line sent.
+returns-clause-sent g c = λ line taken.
     let at = c.loop-at.at in
     let given = c.args.ticks.now in
-    subst (λ l. SendsAs g.R.LineRules g.M.Mac c.loop-at.self line l c.loop-at.ticks)
+    subst (λ l. HasSent g.X.CountingBox c.loop-at.self line l c.loop-at.ticks)
     (take_all at given c.loop-at-test.false)
-    (subst (λ l. SendsAs g.R.LineRules g.M.Mac c.loop-at.self line (take at given) l)
+    (subst (λ l. HasSent g.X.CountingBox c.loop-at.self line (take at given) l)
     (take_all at c.loop-at.ticks (omega (arith, c.loop-at.auto.ticks, c.loop-at-test.false)))
-    (c.loop-at.invariant.3 line sent))
+    (c.loop-at.invariant.3 line taken))
