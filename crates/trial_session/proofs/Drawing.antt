@@ -1,9 +1,10 @@
 -- One draw more.
 use Rattle.std.proofs.Common.{◌≡◌, ◌∙◌, ℕ, zero, suc, ◌+◌, ◌*◌, ◌/◌, ◌%◌, ◌^◌, List, [], ◌∷◌, ◌++◌}
-use Rattle.std.proofs.Common.{refl, ap, sym, map, arith, length, take, ◌<◌, ◌≤◌}
+use Rattle.std.proofs.Common.{refl, ap, sym, map, arith, add_comm, length, take, ◌<◌, ◌≤◌}
 use Rattle.std.specs.Prelude.{slice_set}
 use Rattle.std.proofs.lemmas.List.{map-append, take_more_set, take_all}
-use Rattle.trial_session.specs.Draws.{next_state, drawn, state_after, draws, bytes_drawn}
+use Rattle.trial_session.specs.Draws.{next_state, drawn, state_after, draws, bytes_drawn, nth_drawn}
+use Rattle.trial_session.specs.Alterations.{alteration_of}
 
 pub state_after-suc : (n x : ℕ) → state_after (suc n) x ≡ next_state (state_after n x)
 unfolding state_after
@@ -61,3 +62,40 @@ filled-more bytes at x state value next within is so stepped gives =
 pub whole : (bytes drawn_bytes : List ℕ) (at n : ℕ) → length bytes ≡ n → at ≤ n → n ≤ at
     → take at bytes ≡ drawn_bytes → bytes ≡ drawn_bytes
 whole bytes drawn_bytes at n long within all so = sym (take_all at bytes (omega arith)) ∙ so
+
+-- ---- a few draws
+
+pub after-one : (x : ℕ) → state_after 1 x ≡ next_state x
+unfolding state_after
+after-one x = refl
+
+pub after-two : (x : ℕ) → state_after 2 x ≡ next_state (next_state x)
+unfolding state_after
+after-two x = refl
+
+pub after-three : (x : ℕ) → state_after 3 x ≡ next_state (next_state (next_state x))
+unfolding state_after
+after-three x = refl
+
+-- three draws that follow a state
+module _ (x one two three a b c : ℕ) (first : one ≡ next_state x) (second : two ≡ next_state one)
+    (third : three ≡ next_state two) where
+  pub one-is : one ≡ state_after 1 x
+  one-is = first ∙ sym (after-one x)
+
+  pub two-is : two ≡ state_after 2 x
+  two-is = second ∙ ap next_state first ∙ sym (after-two x)
+
+  pub three-is : three ≡ state_after 3 x
+  three-is = third ∙ ap next_state (second ∙ ap next_state first) ∙ sym (after-three x)
+
+  pub alteration-is : (n : ℕ) → a ≡ drawn one → b ≡ drawn two → c ≡ drawn three
+      → alteration_of (a % 8) (b % n) (c % 255 + 1)
+      ≡ alteration_of (nth_drawn 1 x % 8) (nth_drawn 2 x % n) (1 + nth_drawn 3 x % 255)
+  alteration-is n a_is b_is c_is =
+      ap (λ k. alteration_of (k % 8) (b % n) (c % 255 + 1)) (a_is ∙ ap drawn one-is)
+      ∙ ap (λ k. alteration_of (nth_drawn 1 x % 8) (k % n) (c % 255 + 1)) (b_is ∙ ap drawn two-is)
+      ∙ ap (λ k. alteration_of (nth_drawn 1 x % 8) (nth_drawn 2 x % n) (k % 255 + 1))
+      (c_is ∙ ap drawn three-is)
+      ∙ ap (λ k. alteration_of (nth_drawn 1 x % 8) (nth_drawn 2 x % n) k)
+      (add_comm (nth_drawn 3 x % 255) 1)

@@ -4,3 +4,4 @@ pub mod Starting
 pub mod Counting
 pub mod Fates
 pub mod SentTicks
+pub mod Periods

@@ -1,5 +1,5 @@
 -- How far a session has come.
-use Rattle.std.specs.Prelude.{◌≡◌, ℕ, ◌≤◌}
+use Rattle.std.specs.Prelude.{◌≡◌, ℕ, ◌*◌, ◌≤◌, length}
 use Rattle.device_model.specs.declared.device.Device.{Ghosts as Device}
 use Rattle.trial_session.specs.Draws.{draw_state}
 use Rattle.trial_session.specs.DrawnFrames.{Drawing}
@@ -24,6 +24,9 @@ pub record HasRun {S C V : Type 0} (seals : CountingBox S) (checks : CountingBox
     (seed count : ℕ) : Type 0 where
   pub state_is : draw_state session.draws ≡ state_at drawing seed count
   pub seals_line : HasTaken seals session.sealing (session_line drawing seed count)
+  -- the link has as many ticks
+  pub link_long : length (seals.counting.other_line (session_line drawing seed count))
+      ≡ period_len * count
   pub checks_link : HasTaken checks session.checking
       (altered_link drawing behind seed count
       (seals.counting.other_line (session_line drawing seed count)))

@@ -39,8 +39,7 @@ fn draw_alteration(draws: &mut Draws, packet_len: usize) -> Alteration
 }
 
 impl<S: CountingBox, C: CountingBox, V: Device + Drop> Session<S, C, V> {
-    ghost use Rattle.std.specs.Prelude.{ℕ, suc, ◌*◌, length};
-    ghost use Rattle.trial_session.specs.Session.{session_line, period_len};
+    ghost use Rattle.std.specs.Prelude.{ℕ, suc};
     ghost use Rattle.trial_session.specs.DrawnFrames.{Drawing};
     ghost use Rattle.trial_session.specs.Runs.{HasRun, MayGoOn};
 
@@ -70,7 +69,6 @@ impl<S: CountingBox, C: CountingBox, V: Device + Drop> Session<S, C, V> {
         ensures able { MayGoOn S.CountingBox C.CountingBox V.Device self.new
             (S.taken self.old.sealing.line_box + 640) }
         ensures run { (seed count : ℕ)
-            → length (session_line R.drawing seed count) ≡ period_len * count
             → HasRun S.CountingBox C.CountingBox V.Device R.drawing behind self.old seed count
             → HasRun S.CountingBox C.CountingBox V.Device R.drawing behind self.new seed
             (suc count) }

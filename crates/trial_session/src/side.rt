@@ -18,6 +18,7 @@ impl<X: CountingBox> Side<X> {
     ghost use Rattle.std.specs.Prelude.{◌≡◌, ◌+◌, ◌<◌, ◌≤◌, List, [], ◌∷◌, ◌++◌, length};
     ghost use Rattle.yasir_ticks.specs.declared.tick.Tick.{Tick};
     ghost use Rattle.trial_session.specs.Counting.{through_in, refused_in, dropped_in};
+    ghost use Rattle.trial_session.specs.Counting.{CountsNothing};
     ghost use Rattle.trial_session.specs.Sides.{MayTake, HasTaken, HasSent};
 
     /// A new box over a new journal.
@@ -26,6 +27,7 @@ impl<X: CountingBox> Side<X> {
         ensures able { MayTake X.CountingBox result }
         ensures level { X.taken result.line_box ≡ 0 }
         ensures taken { HasTaken X.CountingBox result [] }
+        ensures nothing { CountsNothing X.counting }
     {
         let mut disk = SteadySlots::new([0; 16], [0; 16]);
         let journal = Journal::init(&mut disk).unwrap();
