@@ -1,8 +1,7 @@
 -- One draw more.
 use Rattle.std.proofs.Common.{◌≡◌, ◌∙◌, ℕ, zero, suc, ◌+◌, ◌*◌, ◌/◌, ◌%◌, ◌^◌, List, [], ◌∷◌, ◌++◌}
-use Rattle.std.proofs.Common.{refl, ap, sym, map, arith, add_comm, length, take, ◌<◌, ◌≤◌}
-use Rattle.std.specs.Prelude.{slice_set}
-use Rattle.std.proofs.lemmas.List.{map-append, take_more_set, take_all}
+use Rattle.std.proofs.Common.{refl, ap, sym, map, arith, add_comm, length}
+use Rattle.std.proofs.lemmas.List.{map-append}
 use Rattle.trial_session.specs.Draws.{next_state, drawn, state_after, draws, bytes_drawn, nth_drawn}
 use Rattle.trial_session.specs.Alterations.{alteration_of}
 
@@ -49,19 +48,14 @@ unfolding draws
 bytes_drawn-zero x = refl
 
 -- the same by a state that a value stands at
-pub filled-more : (bytes : List ℕ) (at x state value next : ℕ) → at < length bytes
-    → state ≡ state_after at x → take at bytes ≡ bytes_drawn at x → next ≡ next_state state
-    → value ≡ drawn next
-    → take (at + 1) (slice_set bytes at (value % 256)) ≡ bytes_drawn (at + 1) x
-filled-more bytes at x state value next within is so stepped gives =
-    let last : value ≡ drawn (next_state (state_after at x)) =
+pub drawn-more : (bytes : List ℕ) (n x state value next : ℕ) → state ≡ state_after n x
+    → bytes ≡ bytes_drawn n x → next ≡ next_state state → value ≡ drawn next
+    → bytes ++ (value % 256) ∷ [] ≡ bytes_drawn (n + 1) x
+drawn-more bytes n x state value next is so stepped gives =
+    let last : value ≡ drawn (next_state (state_after n x)) =
     gives ∙ ap drawn (stepped ∙ ap next_state is) in
-    take_more_set bytes at (value % 256) within ∙ ap (λ l. l ++ (value % 256) ∷ []) so
-    ∙ ap (λ d. bytes_drawn at x ++ (d % 256) ∷ []) last ∙ sym (bytes_drawn-more at x)
-
-pub whole : (bytes drawn_bytes : List ℕ) (at n : ℕ) → length bytes ≡ n → at ≤ n → n ≤ at
-    → take at bytes ≡ drawn_bytes → bytes ≡ drawn_bytes
-whole bytes drawn_bytes at n long within all so = sym (take_all at bytes (omega arith)) ∙ so
+    ap (λ l. l ++ (value % 256) ∷ []) so
+    ∙ ap (λ d. bytes_drawn n x ++ (d % 256) ∷ []) last ∙ sym (bytes_drawn-more n x)
 
 -- ---- a few draws
 

@@ -1,4 +1,5 @@
 pub mod Drawing
+pub mod FrameDraws
 pub mod Lists
 pub mod Starting
 pub mod Counting

@@ -2,14 +2,10 @@ ghost use Rattle.std.specs.Prelude.{◌≡◌, ℕ, true};
 ghost use Rattle.trial_session.specs.Draws.{draw_state, state_after};
 ghost use Rattle.trial_session.specs.DrawnFrames.{Drawing};
 
-use crate::Draws;
-use arrayvec::ArrayVec;
+use crate::{Draws, FrameBytes};
 use dnp_link_frame::{Dnp, Header, build};
 use line_rules::LineRules;
 use rtu_frame::{Rtu, RtuBytes, close};
-
-/// The bytes of a frame of either protocol.
-pub type FrameBytes = ArrayVec<u8, 292>;
 
 /// A protocol whose frames can be drawn.
 pub trait DrawnFrames: LineRules {
@@ -36,10 +32,9 @@ impl DrawnFrames for Rtu {
 
     fn draw_frame(draws: &mut Draws) -> FrameBytes {
         let body_len = (draws.draw() % 253 + 2) as usize;
-        let mut body = [0; 254];
-        draws.fill_bytes(&mut body[..body_len]);
+        let body = draws.draw_bytes(body_len);
         let mut frame = RtuBytes::new();
-        frame.try_extend_from_slice(&body[..body_len]).unwrap();
+        frame.try_extend_from_slice(body.as_slice()).unwrap();
         close(&mut frame).unwrap();
         let mut bytes = FrameBytes::new();
         bytes.try_extend_from_slice(frame.as_slice()).unwrap();
@@ -64,8 +59,7 @@ impl DrawnFrames for Dnp {
             destination,
             source,
         };
-        let mut user = [0; 250];
-        draws.fill_bytes(&mut user[..user_len]);
-        build(&header, &user[..user_len]).unwrap()
+        let user = draws.draw_bytes(user_len);
+        build(&header, user.as_slice()).unwrap()
     }
 }

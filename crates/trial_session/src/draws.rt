@@ -1,3 +1,8 @@
+use arrayvec::ArrayVec;
+
+/// The bytes of a frame of either protocol.
+pub type FrameBytes = ArrayVec<u8, 292>;
+
 /// Numbers that are drawn one after the other from a first one: a linear congruential generator
 /// (Knuth, MMIX), of whose state each draw gives the high half.
 #[derive(Drop)]
@@ -6,7 +11,7 @@ pub struct Draws {
 }
 
 impl Draws {
-    ghost use Rattle.std.specs.Prelude.{◌≡◌, length};
+    ghost use Rattle.std.specs.Prelude.{◌≡◌, ◌≤◌, length};
     ghost use Rattle.trial_session.specs.Draws.{next_state, drawn, state_after, bytes_drawn};
     ghost use Rattle.trial_session.specs.Draws.{draw_state};
 
@@ -32,14 +37,17 @@ impl Draws {
         (self.state >> 32) as u32
     }
 
-    /// Fills some bytes, each with the low byte of a draw.
-    pub fn fill_bytes(&mut self, bytes: &mut [u8])
-        ensures state { draw_state self.new
-            ≡ state_after (length bytes.old) (draw_state self.old) }
-        ensures bytes { bytes.new ≡ bytes_drawn (length bytes.old) (draw_state self.old) }
+    /// So many bytes, at most 292, each the low byte of a draw.
+    pub fn draw_bytes(&mut self, n: usize) -> FrameBytes
+        requires { n ≤ 292 }
+        ensures state { draw_state self.new ≡ state_after n (draw_state self.old) }
+        ensures bytes { result.items ≡ bytes_drawn n (draw_state self.old) }
+        ensures long { length result.items ≡ n }
     {
-        for at in 0..bytes.len() {
-            bytes[at] = (self.draw() % 256) as u8;
+        let mut bytes = FrameBytes::new();
+        for _ in 0..n {
+            bytes.push((self.draw() % 256) as u8);
         }
+        bytes
     }
 }
