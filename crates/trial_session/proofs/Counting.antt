@@ -142,28 +142,28 @@ module _ {A : Type 0} (fate_of : A → Fate) where
 
   module _ {S N : Type 0} (w : Walker S N) (brief : N → A) (begun : S) (line : List Tick)
       (t answer : Tick) (note : Option A) (answers : AnswersTick w brief begun line t answer note)
-      where
-    pub through-step : {F : Type 0} (frame_in : N → Option F)
-        → ((n : N) → is_some (frame_in n) ≡ is_through (fate_of (brief n)))
-        → length (filter_map (λ n. frame_in n.note) (notes_of w begun (line ++ t ∷ [])))
-        ≡ length (filter_map (λ n. frame_in n.note) (notes_of w begun line))
-        + through_in (told_by fate_of note)
-    through-step frame_in agree =
-        frames-step w brief begun line t answer note frame_in (λ a. is_through (fate_of a)) agree
-        answers
-        ∙ ap (λ k. length (filter_map (λ n. frame_in n.note) (notes_of w begun line)) + k)
-        (through-told note)
+    where
+      pub through-step : {F : Type 0} (frame_in : N → Option F)
+          → ((n : N) → is_some (frame_in n) ≡ is_through (fate_of (brief n)))
+          → length (filter_map (λ n. frame_in n.note) (notes_of w begun (line ++ t ∷ [])))
+          ≡ length (filter_map (λ n. frame_in n.note) (notes_of w begun line))
+          + through_in (told_by fate_of note)
+      through-step frame_in agree =
+          frames-step w brief begun line t answer note frame_in (λ a. is_through (fate_of a)) agree
+          answers
+          ∙ ap (λ k. length (filter_map (λ n. frame_in n.note) (notes_of w begun line)) + k)
+          (through-told note)
 
-    pub refused-step : (p : N → Bool) → ((n : N) → p n ≡ is_refused (fate_of (brief n)))
-        → tally p (notes_of w begun (line ++ t ∷ []))
-        ≡ tally p (notes_of w begun line) + refused_in (told_by fate_of note)
-    refused-step p agree =
-        tally-step w brief begun line t answer note p (λ a. is_refused (fate_of a)) agree answers
-        ∙ ap (λ k. tally p (notes_of w begun line) + k) (refused-told note)
+      pub refused-step : (p : N → Bool) → ((n : N) → p n ≡ is_refused (fate_of (brief n)))
+          → tally p (notes_of w begun (line ++ t ∷ []))
+          ≡ tally p (notes_of w begun line) + refused_in (told_by fate_of note)
+      refused-step p agree =
+          tally-step w brief begun line t answer note p (λ a. is_refused (fate_of a)) agree answers
+          ∙ ap (λ k. tally p (notes_of w begun line) + k) (refused-told note)
 
-    pub dropped-step : (p : N → Bool) → ((n : N) → p n ≡ is_dropped (fate_of (brief n)))
-        → tally p (notes_of w begun (line ++ t ∷ []))
-        ≡ tally p (notes_of w begun line) + dropped_in (told_by fate_of note)
-    dropped-step p agree =
-        tally-step w brief begun line t answer note p (λ a. is_dropped (fate_of a)) agree answers
-        ∙ ap (λ k. tally p (notes_of w begun line) + k) (dropped-told note)
+      pub dropped-step : (p : N → Bool) → ((n : N) → p n ≡ is_dropped (fate_of (brief n)))
+          → tally p (notes_of w begun (line ++ t ∷ []))
+          ≡ tally p (notes_of w begun line) + dropped_in (told_by fate_of note)
+      dropped-step p agree =
+          tally-step w brief begun line t answer note p (λ a. is_dropped (fate_of a)) agree answers
+          ∙ ap (λ k. tally p (notes_of w begun line) + k) (dropped-told note)

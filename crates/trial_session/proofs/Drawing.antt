@@ -1,6 +1,6 @@
 -- One draw more.
-use Rattle.std.proofs.Common.{◌≡◌, ◌∙◌, ℕ, zero, suc, ◌+◌, ◌*◌, ◌/◌, ◌%◌, ◌^◌, List, [], ◌∷◌, ◌++◌}
-use Rattle.std.proofs.Common.{refl, ap, sym, map, arith, add_comm, length}
+use Rattle.std.proofs.Common.{◌≡◌, ◌∙◌, ℕ, zero, suc, ◌+◌, ◌%◌, List, [], ◌∷◌, ◌++◌}
+use Rattle.std.proofs.Common.{refl, ap, sym, map, arith, add_comm}
 use Rattle.std.proofs.lemmas.List.{map-append}
 use Rattle.trial_session.specs.Draws.{next_state, drawn, state_after, draws, bytes_drawn, nth_drawn}
 use Rattle.trial_session.specs.Alterations.{alteration_of}

@@ -1,5 +1,5 @@
 -- The fates of the bursts that transmitter and receiver note.
-use Rattle.std.proofs.Common.{◌≡◌, ◌∙◌, ℕ, ◌+◌, List, [], ◌∷◌, ◌++◌, length, Option, Some, None, refl, ap}
+use Rattle.std.proofs.Common.{◌≡◌, ◌+◌, List, length, Option, Some, None, refl, ap}
 use Rattle.std.specs.Prelude.{is_some}
 use Rattle.std.specs.List.{filter, filter_map}
 use Rattle.yasir_ticks.specs.declared.tick.Tick.{Tick}

@@ -1,5 +1,5 @@
 -- The draws of a frame.
-use Rattle.std.proofs.Common.{◌≡◌, ◌∙◌, ℕ, ◌+◌, ◌-◌, ◌%◌, List, ◌++◌, ap, sym, arith}
+use Rattle.std.proofs.Common.{◌≡◌, ◌∙◌, ℕ, ◌+◌, ◌-◌, ◌%◌, List, ap, sym, arith}
 use Rattle.dnp_link_frame.specs.Frame.{frame_of}
 use Rattle.dnp_link_frame.specs.declared.header.Header.{Header}
 use Rattle.trial_session.specs.Draws.{next_state, drawn, state_after, bytes_drawn, nth_drawn}
@@ -46,10 +46,10 @@ module _ (x one two three a b c : ℕ) (first : one ≡ next_state x) (second : 
   begun-three = three-is x one two three a b c first second third
 
   header-is : (let header : Header = record {
-        control = 0xC4;
-        destination = b % 65536;
-        source = c % 65536;
-      } in
+    control = 0xC4;
+    destination = b % 65536;
+    source = c % 65536;
+  } in
       header ≡ dnp_header x)
   header-is =
       ap (λ d. record { control = 0xC4; destination = d % 65536; source = c % 65536 }) second-is

@@ -42,7 +42,7 @@ pub cut-off : (ticks : List Tick) (place from : ℕ) → length ticks ≡ 640 �
 cut-off ticks place from long is =
     let rest : 640 - from ≡ length ticks - place = omega arith in
     let front : take from ticks ≡ take place ticks = ⊎_elim
-        (λ below. let same : from ≡ place = omega arith in ap (λ n. take n ticks) same)
-        (λ beyond. take_all from ticks (omega arith) ∙ sym (take_all place ticks (omega arith)))
-        (cases_lt place 640) in
+    (λ below. let same : from ≡ place = omega arith in ap (λ n. take n ticks) same)
+    (λ beyond. take_all from ticks (omega arith) ∙ sym (take_all place ticks (omega arith)))
+    (cases_lt place 640) in
     ap (λ l. l ++ silent (640 - from)) front ∙ ap (λ n. take place ticks ++ silent n) rest

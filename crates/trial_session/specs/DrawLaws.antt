@@ -1,6 +1,6 @@
 -- Draws one after the other, and frames that are drawn are frames.
-use Rattle.std.specs.Prelude.{◌≡◌, ℕ, zero, suc, ◌+◌, ◌-◌, ◌*◌, ◌/◌, ◌%◌, ◌^◌, ◌<◌, ◌≤◌, true, List}
-use Rattle.std.specs.Prelude.{[], ◌∷◌, ◌++◌, length, map, refl, slice_index_or}
+use Rattle.std.specs.Prelude.{◌≡◌, ℕ, zero, suc, ◌-◌, ◌%◌, ◌<◌, true, List}
+use Rattle.std.specs.Prelude.{length, map, refl, slice_index_or}
 use Rattle.std.proofs.Common.{arith, ◌∙◌, length-append, lit<}
 use Rattle.std.proofs.lemmas.List.{length-map}
 use Rattle.std.proofs.lemmas.List.Elements.{All-map}

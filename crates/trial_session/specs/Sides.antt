@@ -1,5 +1,5 @@
 -- A box of a session, and what it has counted.
-use Rattle.std.specs.Prelude.{◌≡◌, ℕ, ◌≤◌, List, ◌++◌, length, Some}
+use Rattle.std.specs.Prelude.{◌≡◌, ◌≤◌, List, ◌++◌, length, Some}
 use Rattle.yasir_io.specs.Steady.{steady_slots}
 use Rattle.yasir_ticks.specs.declared.tick.Tick.{Tick}
 use Rattle.device_model.specs.declared.device.Device.{Ghosts as Device}

@@ -49,14 +49,7 @@ pub fn print_session<
     V: Device + Drop,
     O: Sink,
     L: Sink,
->(
-    name: &[u8],
-    seed: u32,
-    count: u32,
-    behind: usize,
-    out: &mut O,
-    log: &mut L,
-) -> Status
+>(name: &[u8], seed: u32, count: u32, behind: usize, out: &mut O, log: &mut L) -> Status
     requires name { length name.now ≤ 10 }
     requires count { count ≤ 10000 }
     requires some { 0 < behind }

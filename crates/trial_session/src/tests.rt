@@ -8,13 +8,33 @@ use rtu_frame::Rtu;
 #[test]
 fn sessions(rt: HostRuntime) {
     assert_eq!(rt;
-        try_session::<Rtu, SealCounting<Rtu, HmacSha1, 2>, CheckCounting<Rtu, HmacSha1, 2, 18>,
-            RtuDevice>(7, 100, 17),
-        Summary { sealed: 100, passed: 64, refused: 38, dropped: 0, read: 64 }
+        try_session::<
+            Rtu,
+            SealCounting<Rtu, HmacSha1, 2>,
+            CheckCounting<Rtu, HmacSha1, 2, 18>,
+            RtuDevice
+        >(7, 100, 17),
+        Summary {
+            sealed: 100,
+            passed: 64,
+            refused: 38,
+            dropped: 0,
+            read: 64
+        }
     );
     assert_eq!(rt;
-        try_session::<Dnp, SealCounting<Dnp, HmacSha1, 2>, CheckCounting<Dnp, HmacSha1, 2, 18>,
-            DnpDevice>(0, 1000, 17),
-        Summary { sealed: 1000, passed: 598, refused: 363, dropped: 21, read: 598 }
+        try_session::<
+            Dnp,
+            SealCounting<Dnp, HmacSha1, 2>,
+            CheckCounting<Dnp, HmacSha1, 2, 18>,
+            DnpDevice
+        >(0, 1000, 17),
+        Summary {
+            sealed: 1000,
+            passed: 598,
+            refused: 363,
+            dropped: 21,
+            read: 598
+        }
     );
 }

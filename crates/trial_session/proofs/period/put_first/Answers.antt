@@ -10,10 +10,11 @@ loop-at-init c = (c.told-ticks, refl)
 pub loop-at-preserved : goal.loop-at-preserved
 loop-at-preserved c =
     let long = c.loop-at.invariant.0 in
-    let within = c.loop-at-test.true in
-    (length-set c.loop-at.ticks c.loop-at.at _ ∙ long,
-    byte-more c.loop-at.ticks c.args.frame.now c.loop-at.at 0
-    (omega (arith, long, within, c.requires)) within c.loop-at.invariant.1)
+    let within = c.loop-at-test.true in (
+      length-set c.loop-at.ticks c.loop-at.at _ ∙ long,
+      byte-more c.loop-at.ticks c.args.frame.now c.loop-at.at 0
+          (omega (arith, long, within, c.requires)) within c.loop-at.invariant.1,
+    )
 
 pub returns : goal.returns
 returns c =

@@ -4,8 +4,10 @@ use Rattle.trial_session.specs.Summaries.{session_summary}
 use Rattle.trial_session.proofs.session.try_session.Goals as goal
 
 pub loop-init : goal.loop-init
-loop-init g c = (c.new-session.ensures.able,
-    c.new-session.ensures.run g.R.DrawnFrames.drawing c.args.behind)
+loop-init g c = (
+  c.new-session.ensures.able,
+  c.new-session.ensures.run g.R.DrawnFrames.drawing c.args.behind,
+)
 
 pub run_period-requires-clause-able : goal.run_period-requires-clause-able
 run_period-requires-clause-able g c =
@@ -21,12 +23,13 @@ pub loop-preserved : goal.loop-preserved
 loop-preserved g c =
     let more : suc c.loop.counter ≡ c.loop.counter + 1 = omega arith in
     let ticks : g.S.CountingBox.taken c.loop.session.sealing.line_box + 640
-    ≡ 640 * (c.loop.counter + 1) = omega (arith, c.loop.invariant.0.sealed_ticks) in
-    (subst (MayGoOn g.S.CountingBox g.C.CountingBox g.V.Device c.run_period.new.self) ticks
-    c.run_period.ensures.able,
-    subst (HasRun g.S.CountingBox g.C.CountingBox g.V.Device g.R.DrawnFrames.drawing c.args.behind
-    c.run_period.new.self c.args.seed) more
-    (c.run_period.ensures.run c.args.seed c.loop.counter c.loop.invariant.1))
+    ≡ 640 * (c.loop.counter + 1) = omega (arith, c.loop.invariant.0.sealed_ticks) in (
+      subst (MayGoOn g.S.CountingBox g.C.CountingBox g.V.Device c.run_period.new.self) ticks
+          c.run_period.ensures.able,
+      subst (HasRun g.S.CountingBox g.C.CountingBox g.V.Device g.R.DrawnFrames.drawing c.args.behind
+          c.run_period.new.self c.args.seed) more
+          (c.run_period.ensures.run c.args.seed c.loop.counter c.loop.invariant.1),
+    )
 
 pub close-requires-clause-able : goal.close-requires-clause-able
 close-requires-clause-able g c =

@@ -1,4 +1,4 @@
-use Rattle.std.proofs.Common.{◌≡◌, ◌∙◌, ◌++◌, ap, refl}
+use Rattle.std.proofs.Common.{◌≡◌, ◌∙◌, ◌++◌, ap}
 use Rattle.line_rules.specs.Bytes.{low_first}
 use Rattle.rtu_frame.specs.Crc.{crc_rtu}
 use Rattle.trial_session.specs.Draws.{draw_state}

@@ -16,13 +16,14 @@ push-requires c =
 
 pub loop-preserved : goal.loop-preserved
 loop-preserved c =
-    let x = c.args.self.now.state in
-    (c.draw.ensures.state ∙ ap next_state c.loop.invariant.0
-    ∙ sym (state_after-more c.loop.counter x),
-    c.push.ensures.items
-    ∙ drawn-more c.loop.bytes.items c.loop.counter x c.loop.self.state c.draw.result
-    c.draw.new.self.state c.loop.invariant.0 c.loop.invariant.1 c.draw.ensures.state
-    c.draw.ensures.value)
+    let x = c.args.self.now.state in (
+      c.draw.ensures.state ∙ ap next_state c.loop.invariant.0
+          ∙ sym (state_after-more c.loop.counter x),
+      c.push.ensures.items
+          ∙ drawn-more c.loop.bytes.items c.loop.counter x c.loop.self.state c.draw.result
+          c.draw.new.self.state c.loop.invariant.0 c.loop.invariant.1 c.draw.ensures.state
+          c.draw.ensures.value,
+    )
 
 pub returns : goal.returns
 returns c =

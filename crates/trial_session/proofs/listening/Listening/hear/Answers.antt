@@ -7,14 +7,15 @@ use Rattle.trial_session.proofs.listening.Listening.hear.Goals as goal
 pub loop-t-preserved : goal.loop-t-preserved
 loop-t-preserved g c =
     let at = c.loop-t.t-index in
-    let ticks = c.args.ticks.now in
-    (c.step.ensures.few,
-    omega (arith, c.step.ensures.level, c.loop-t.invariant.1),
-    λ line heard.
-    subst (λ l. HasHeard g.V.Device c.step.new.self l)
-    (append_assoc line (take at ticks) _
-    ∙ ap (λ l. line ++ l) (sym (take_more ticks at Silent c.loop-t-test.true)))
-    (c.step.ensures.heard (line ++ take at ticks) (c.loop-t.invariant.2 line heard)))
+    let ticks = c.args.ticks.now in (
+      c.step.ensures.few,
+      omega (arith, c.step.ensures.level, c.loop-t.invariant.1),
+      λ line heard.
+          subst (λ l. HasHeard g.V.Device c.step.new.self l)
+          (append_assoc line (take at ticks) _
+          ∙ ap (λ l. line ++ l) (sym (take_more ticks at Silent c.loop-t-test.true)))
+          (c.step.ensures.heard (line ++ take at ticks) (c.loop-t.invariant.2 line heard)),
+    )
 
 pub returns-clause-heard : goal.returns-clause-heard
 returns-clause-heard g c = λ line heard.

@@ -1,4 +1,4 @@
-use Rattle.std.proofs.Common.{subst, sym, [], replicate}
+use Rattle.std.proofs.Common.{subst, [], replicate}
 use Rattle.seal_transmitter.specs.Stands.{StandsFor}
 use Rattle.trial_session.specs.Boxes.{trial_profile}
 use Rattle.trial_session.proofs.Fates.{seals-nothing}

@@ -1,6 +1,5 @@
-use Rattle.std.proofs.Common.{◌≡◌, ◌+◌, ◌<◌, length, take, subst, arith, rules}
+use Rattle.std.proofs.Common.{◌<◌, length, take, subst, arith}
 use Rattle.std.proofs.lemmas.List.{take_all}
-use Rattle.yasir_ticks.specs.declared.TheConstants.{MAX_TICKS}
 use Rattle.yasir_ticks.specs.declared.tick.Tick.TheVariants.{Silent}
 use Rattle.trial_session.specs.Sides.{HasSent}
 use Rattle.trial_session.proofs.SentTicks.{same-rest, same-tick, sends-more}
@@ -13,13 +12,14 @@ loop-at-preserved g c =
     let at = c.loop-at.at in
     let inside = c.loop-at-test.true in
     let within : at < length ticks = omega (arith, c.loop-at.auto.ticks, inside) in
-    let same = c.loop-at.invariant.2 in
-    (c.step.ensures.able,
-    omega (arith, c.step.ensures.level, c.loop-at.invariant.1),
-    same-rest ticks given at Silent c.step.result within inside same,
-    λ line taken. sends-more g.X.CountingBox c.loop-at.self c.step.new.self line given ticks
-    at _ Silent c.step.result within inside (same-tick ticks given at Silent within inside same)
-    (c.loop-at.invariant.3 line taken) c.step.ensures.sent)
+    let same = c.loop-at.invariant.2 in (
+      c.step.ensures.able,
+      omega (arith, c.step.ensures.level, c.loop-at.invariant.1),
+      same-rest ticks given at Silent c.step.result within inside same,
+      λ line taken. sends-more g.X.CountingBox c.loop-at.self c.step.new.self line given ticks
+          at _ Silent c.step.result within inside (same-tick ticks given at Silent within inside same)
+          (c.loop-at.invariant.3 line taken) c.step.ensures.sent,
+    )
 
 pub returns-clause-sent : goal.returns-clause-sent
 returns-clause-sent g c = λ line taken.
