@@ -319,7 +319,7 @@ impl<R: LineRules> BurstCut<R> {
         ensures { (line : List Tick) → StandsFor R.LineRules self.now line
             → result ≡ is_over_so_far R.rules line }
     {
-        self.paused || self.rules.full()
+        self.is_over()
     }
 
     /// How many ticks were taken.

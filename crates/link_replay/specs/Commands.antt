@@ -1,5 +1,5 @@
 -- What the program does for each thing that its words may ask for.
-use Rattle.std.specs.Prelude.{◌≡◌, Option, Some, None}
+use Rattle.std.specs.Prelude.{◌≡◌, ◌⊎◌, Option, Some, None}
 use Rattle.yasir_io.specs.declared.source.Source.{Ghosts as Source}
 use Rattle.yasir_io.specs.declared.sink.Sink.{Ghosts as Sink}
 use Rattle.yasir_io.specs.declared.disk.SlotDisk.{Ghosts as SlotDisk}
@@ -17,10 +17,18 @@ use Rattle.link_replay.specs.VectorsCommand.{Tabulates}
 use Rattle.box_replay.specs.ReplaysBox.{BoxDiskCause, IsReplayable, KeepsFloorThroughout}
 use Rattle.link_replay.specs.SealCommand.{Seals}
 use Rattle.link_replay.specs.CheckCommand.{Checks}
+use Rattle.link_replay.specs.ReplayCommand.{Replays, IsListable}
 use Rattle.replay_status.specs.declared.status.Status.{Status}
-use Rattle.replay_status.specs.declared.status.Status.TheVariants.{Usage}
+use Rattle.replay_status.specs.declared.status.Status.TheVariants.{Usage, Done, NoMemory}
 use Rattle.link_replay.specs.declared.words.Command.{Command}
 use Rattle.link_replay.specs.declared.words.Command.TheVariants.{Init, Read, Vectors, Seal, Check}
+use Rattle.link_replay.specs.declared.words.Command.TheVariants.{Replay}
+
+-- How a command ends that is given what is right, and where nothing outside fails. Of all commands
+-- `replay` alone takes memory, and there may be none.
+abbrev pub EndsWell : Option Command → Status → Type 0
+EndsWell (Some (Replay proto dir)) status = (status ≡ Done) ⊎ (status ≡ NoMemory)
+EndsWell asked status = status ≡ Done
 
 -- What a crash may leave of the disk, at any moment of the run or at its end.
 abbrev pub KeepsDisk : {D : Type 0} → SlotDisk D → Option Command → D → D → Type 0
@@ -42,6 +50,7 @@ module _ {K S O L D : Type 0} (k : Source K) (s : Source S) (o : Sink O) (l : Si
       Seals k s o l d proto profile dir before after status
   Does (Some (Check proto profile dir)) before after status =
       Checks k s o l d proto profile dir before after status
+  Does (Some (Replay proto dir)) before after status = Replays k s o l proto dir before after status
 
   -- What a run does: what was asked for, and then the fault line in the log, where the status has
   -- one.
@@ -63,6 +72,7 @@ module _ {K S O L D : Type 0} (k : Source K) (s : Source S) (o : Sink O) (l : Si
       IsReplayable (k.left before.key) (d.told before.disk) (s.left before.input)
   MayDo (Some (Check proto profile dir)) before =
       IsReplayable (k.left before.key) (d.told before.disk) (s.left before.input)
+  MayDo (Some (Replay proto dir)) before = IsListable (k.left before.key) (s.left before.input)
 
   -- Nothing outside failed.
   abbrev pub IsCalm : Outside K S O L D → Outside K S O L D → Type 0
@@ -76,6 +86,8 @@ module _ {K S O L D : Type 0} (k : Source K) (s : Source S) (o : Sink O) (l : Si
       BoxDiskCause (d.faults before.disk) (d.faults after.disk) status
   HasOwnCauses (Some (Check proto profile dir)) before after status =
       BoxDiskCause (d.faults before.disk) (d.faults after.disk) status
+  HasOwnCauses (Some (Replay proto dir)) before after status =
+      DiskCause (d.faults before.disk) (d.faults after.disk) status
   HasOwnCauses asked before after status =
       InputCause (s.faults before.input) (s.faults after.input) status
       × DiskCause (d.faults before.disk) (d.faults after.disk) status

@@ -8,6 +8,7 @@ use Rattle.link_replay.specs.declared.words.Profile.{Profile}
 use Rattle.link_replay.specs.declared.words.Profile.TheVariants.{Y18, Y24}
 use Rattle.link_replay.specs.declared.words.Command.{Command}
 use Rattle.link_replay.specs.declared.words.Command.TheVariants.{Init, Read, Vectors, Seal, Check}
+use Rattle.link_replay.specs.declared.words.Command.TheVariants.{Replay}
 
 abbrev pub proto_word : Proto → List ℕ
 proto_word Rtu = codes "rtu"
@@ -37,6 +38,8 @@ IsCommand words (Read proto) = words ≡ codes "read" ∷ proto_word proto ∷ [
 IsCommand words Vectors = words ≡ codes "vectors" ∷ []
 IsCommand words (Seal proto profile dir) = AskForBox (codes "seal") proto profile dir words
 IsCommand words (Check proto profile dir) = AskForBox (codes "check") proto profile dir words
+IsCommand words (Replay proto dir) = (key : List ℕ) × (key ≢ [])
+    × (words ≡ codes "replay" ∷ proto_word proto ∷ dir_word dir ∷ key ∷ [])
 
 -- what the words ask for: a command, or none where they fit no command
 abbrev pub Asks : List (List ℕ) → Option Command → Type 0
@@ -50,6 +53,7 @@ key_place (Read proto) = None
 key_place Vectors = None
 key_place (Seal proto profile dir) = Some 3
 key_place (Check proto profile dir) = Some 3
+key_place (Replay proto dir) = Some 3
 
 -- the place of the word that is the journal's path
 abbrev pub journal_place : Command → Option ℕ
@@ -58,6 +62,7 @@ journal_place (Read proto) = None
 journal_place Vectors = None
 journal_place (Seal proto profile dir) = Some 4
 journal_place (Check proto profile dir) = Some 4
+journal_place (Replay proto dir) = None
 
 -- the word at a place, where there is one
 abbrev pub word_in : List (List ℕ) → Option ℕ → Option (List ℕ)
