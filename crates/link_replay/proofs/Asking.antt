@@ -9,6 +9,7 @@ use Rattle.link_replay.specs.declared.words.Proto.{Proto}
 use Rattle.link_replay.specs.declared.words.Proto.TheVariants.{Rtu, Dnp3}
 use Rattle.link_replay.specs.declared.words.Command.{Command}
 use Rattle.link_replay.specs.declared.words.Command.TheVariants.{Init, Read, Vectors, Seal, Check}
+use Rattle.link_replay.specs.declared.words.Command.TheVariants.{Replay}
 
 -- A word as one number, so that two words are told apart by a test.
 abbrev number_of : List ℕ → ℕ
@@ -31,7 +32,8 @@ command_by verb first second =
     (cond (is_word (codes "read") verb) (Read (proto_by first))
     (cond (is_word (codes "vectors") verb) Vectors
     (cond (is_word (codes "seal") verb) (Seal (proto_by first) (dir_by second))
-    (Check (proto_by first) (dir_by second)))))
+    (cond (is_word (codes "check") verb) (Check (proto_by first) (dir_by second))
+    (Replay (proto_by first) (dir_by second))))))
 
 abbrev word_at : ℕ → List (List ℕ) → List ℕ
 word_at zero [] = []
@@ -56,6 +58,10 @@ command-in words (Check Rtu Ab) h = ap command_in h.4
 command-in words (Check Rtu Ba) h = ap command_in h.4
 command-in words (Check Dnp3 Ab) h = ap command_in h.4
 command-in words (Check Dnp3 Ba) h = ap command_in h.4
+command-in words (Replay Rtu Ab) h = ap command_in h.2
+command-in words (Replay Rtu Ba) h = ap command_in h.2
+command-in words (Replay Dnp3 Ab) h = ap command_in h.2
+command-in words (Replay Dnp3 Ba) h = ap command_in h.2
 
 pub asks-one : (words : List (List ℕ)) (a b : Option Command) → Asks words a → Asks words b → a ≡ b
 asks-one words None None ha hb = refl
