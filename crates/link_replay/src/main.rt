@@ -8,6 +8,8 @@ ghost use Rattle.link_replay.specs.Words.{word_in};
 mod commands;
 mod program;
 #[cfg(test)]
+mod recording_tests;
+#[cfg(test)]
 mod tests;
 mod words;
 

@@ -12,7 +12,7 @@ const REQUEST: &[u8] = b"+01030000000ac5cd\n-4\n";
 
 const REQUEST_LINE: &[u8] = b"read at 0 01030000000ac5cd\n";
 
-const KEY: &[u8] = b"000102030405060708090a0b0c0d0e0f";
+pub const KEY: &[u8] = b"000102030405060708090a0b0c0d0e0f";
 
 /// A slot that holds number 0, one that holds number 1, and one that holds none.
 const NUMBER_0: [u8; 16] = [
@@ -27,19 +27,19 @@ const NO_NUMBER: [u8; 16] = [0x11; 16];
 
 /// How a run ended, and what its sinks hold.
 #[derive(Drop)]
-struct Ran {
-    status: Status,
-    out: MemSink,
-    log: MemSink,
+pub struct Ran {
+    pub status: Status,
+    pub out: MemSink,
+    pub log: MemSink,
 }
 
-fn plan(calls: &[u32]) -> Plan {
+pub fn plan(calls: &[u32]) -> Plan {
     let mut plan = Plan::new();
     let _ = plan.try_extend_from_slice(calls);
     plan
 }
 
-fn strings(alloc: Global, words: &[&str]) -> Result<Vec<String>, AllocError> {
+pub fn strings(alloc: Global, words: &[&str]) -> Result<Vec<String>, AllocError> {
     let mut strings = Vec::new(alloc);
     for word in words {
         strings.push(String::from_str(alloc, *word)?)?;
@@ -48,7 +48,7 @@ fn strings(alloc: Global, words: &[&str]) -> Result<Vec<String>, AllocError> {
 }
 
 // A run with this key and this input, in which these calls of the output fail.
-fn run_over<D: SlotDisk>(
+pub fn run_over<D: SlotDisk>(
     alloc: Global,
     words: &[&str],
     key: &[u8],
@@ -59,7 +59,7 @@ fn run_over<D: SlotDisk>(
     let words = strings(alloc, words)?;
     let mut key = MemSource::new(key, 512, Plan::new());
     let mut input = MemSource::new(text, 512, Plan::new());
-    let mut out = MemSink::with_room(alloc, 300, 512, plan(fail))?;
+    let mut out = MemSink::with_room(alloc, 800, 512, plan(fail))?;
     let mut log = MemSink::with_room(alloc, 100, 512, Plan::new())?;
     let status = run(
         alloc,
@@ -75,7 +75,7 @@ fn run_over<D: SlotDisk>(
 
 #[test]
 fn refuses_words_of_no_command(rt: HostRuntime) -> Result<(), Fail> {
-    let rows: [&[&str]; 21] = [
+    let rows: [&[&str]; 26] = [
         &[],
         &["read"],
         &["read", "dnp"],
@@ -94,6 +94,11 @@ fn refuses_words_of_no_command(rt: HostRuntime) -> Result<(), Fail> {
         &["check", "rtu", "ab", "key", ""],
         &["check", "dnp33", "ab", "key", "journal"],
         &["checks", "rtu", "ab", "key", "journal"],
+        &["replay", "rtu", "ab"],
+        &["replay", "rtu", "ab", ""],
+        &["replay", "dnp", "ab", "key"],
+        &["replay", "rtu", "AB", "key"],
+        &["replay", "rtu", "ab", "key", "journal"],
         &["init"],
         &["init", ""],
         &["vectors", "x"],
@@ -118,7 +123,7 @@ fn refuses_words_of_no_command(rt: HostRuntime) -> Result<(), Fail> {
 #[test]
 fn finds_the_paths_among_the_words(rt: HostRuntime) -> Result<(), Fail> {
     // words, command, place of the key's path, place of the journal's, whether the journal is made
-    let rows: [(&[&str], Command, Option<usize>, Option<usize>, bool); 9] = [
+    let rows: [(&[&str], Command, Option<usize>, Option<usize>, bool); 11] = [
         (&["init", "journal"], Command::Init, None, Some(1), true),
         (
             &["read", "rtu"],
@@ -168,6 +173,20 @@ fn finds_the_paths_among_the_words(rt: HostRuntime) -> Result<(), Fail> {
             Command::Check(Proto::Rtu, Dir::Ba),
             Some(3),
             Some(4),
+            false,
+        ),
+        (
+            &["replay", "rtu", "ab", "key"],
+            Command::Replay(Proto::Rtu, Dir::Ab),
+            Some(3),
+            None,
+            false,
+        ),
+        (
+            &["replay", "dnp3", "ba", "key"],
+            Command::Replay(Proto::Dnp3, Dir::Ba),
+            Some(3),
+            None,
             false,
         ),
     ];
