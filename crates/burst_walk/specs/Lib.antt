@@ -4,3 +4,4 @@ pub mod Causal
 pub mod Longer
 pub mod HasCome
 pub mod Answers
+pub mod Runs

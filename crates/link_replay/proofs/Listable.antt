@@ -15,16 +15,17 @@ use Rattle.replay_status.specs.declared.status.Status.TheVariants.{NoMemory}
 use Rattle.replay_status.proofs.Readable.{not_refused, not_too_long}
 use Rattle.box_replay.proofs.Replayable.{no_key_refused}
 use Rattle.link_replay.specs.ReplayCommand.{Replays, IsListable}
+use Rattle.link_replay.specs.declared.words.Profile.{Profile}
 use Rattle.link_replay.specs.declared.words.Proto.{Proto}
 
 module _ {K S O L D : Type 0} (k : Source K) (s : Source S) (o : Sink O) (l : Sink L)
-    (d : SlotDisk D) (proto : Proto) (dir : Dir) (before after : Outside K S O L D)
+    (d : SlotDisk D) (proto : Proto) (profile : Profile) (dir : Dir) (before after : Outside K S O L D)
     (right : IsListable (k.left before.key) (s.left before.input))
     (calm : NoneRose (k.faults before.key) (k.faults after.key) (s.faults before.input)
     (s.faults after.input)
     (o.faults before.out) (o.faults after.out) (l.faults before.log) (l.faults after.log)
     (d.faults before.disk) (d.faults after.disk)) where
-  pub listable_done : (status : Status) → Replays k s o l proto dir before after status
+  pub listable_done : (status : Status) → Replays k s o l proto profile dir before after status
       → ReadsCause (k.faults before.key) (k.faults after.key) (s.faults before.input)
       (s.faults after.input) status
       → SinkCause (o.faults before.out) (o.faults after.out) (l.faults before.log)
