@@ -29,6 +29,7 @@ fn push_frame<O: Sink>(lines: &mut TextBuffer, out: &mut O, frame: &FrameAt) -> 
         → Buffered start (O.held out.old) (waiting_bytes lines.old) text
         → GotPrefix start (O.held out.new) (text ++ frame_line (read_at frame.now))) }
     ensures cause { HasCause (O.faults out.old) (O.faults out.new) result }
+    ensures flushes { O.flushes out.new ≡ O.flushes out.old }
 {
     lines.push(out, frame_line(frame).as_slice())
 }
@@ -56,6 +57,7 @@ impl<V: Device + Drop> FrameLines<V> {
             → Buffered start (O.held out.old) (waiting_bytes self.old.lines) text
             → GotPrefix start (O.held out.new) text) }
         ensures cause { HasCause (O.faults out.old) (O.faults out.new) result }
+        ensures flushes { O.flushes out.new ≡ O.flushes out.old }
     {
         self.lines.drain(out)
     }

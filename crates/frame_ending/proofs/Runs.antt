@@ -2,25 +2,53 @@
 use Rattle.std.proofs.Common.{◌≡◌, ◌∙◌, ℕ, zero, suc, ◌+◌, ◌<◌, ◌≤◌, Bool, true, false, ◌||◌}
 use Rattle.std.proofs.Common.{List, [], ◌∷◌, ◌++◌}
 use Rattle.std.proofs.Common.{length, take, map, replicate, refl, sym, ap, subst, arith}
-use Rattle.std.proofs.Common.{append_assoc, append-nil, length-append}
+use Rattle.std.proofs.Common.{append_assoc, append-nil, length-append, Option, Some, None, ⊎_elim}
 use Rattle.std.proofs.Math.Seq.{drop-append_seam}
-use Rattle.std.proofs.lemmas.Bool.{eqb-false}
+use Rattle.std.proofs.lemmas.Bool.{cases_lt, eq-eqb, eqb-false, lt-ltb, le-ltb, cond-true, cond-false}
 use Rattle.std.proofs.lemmas.List.{length-take-le, take-take}
 use Rattle.std.proofs.lemmas.List.Elements.{All-append, All-head, All-tail, All-nil, All-cons, All-drop}
 use Rattle.line_rules.specs.Bytes.{AreBytes}
 use Rattle.line_rules.specs.Rules.{Rules, fills_room}
 use Rattle.line_rules.specs.declared.line_rules.LineRules.{Ghosts as LineRules}
+use Rattle.yasir_ticks.specs.Bursts.{Burst, end_of}
 use Rattle.yasir_ticks.specs.Ticks.{silent}
+use Rattle.yasir_ticks.proofs.BurstLaws.{alone}
 use Rattle.yasir_ticks.specs.declared.tick.Tick.{Tick}
 use Rattle.yasir_ticks.specs.declared.tick.Tick.TheVariants.{Silent, Byte}
 use Rattle.frame_ending.specs.declared.burst_cut.BurstCut.{BurstCut}
 use Rattle.frame_ending.specs.declared.cut.Cut.{Cut}
 use Rattle.frame_ending.specs.declared.cut.Cut.TheVariants.{Start, Live, Extra, Quiet}
-use Rattle.frame_ending.specs.SoFar.{live_bytes_so_far}
-use Rattle.frame_ending.specs.Cuts.{cut_of, cuts_after}
+use Rattle.frame_ending.specs.SoFar.{last_burst, start_in, start_so_far, live_bytes_so_far}
+use Rattle.frame_ending.specs.Cuts.{cut_of, byte_cut, cuts_after}
 use Rattle.frame_ending.specs.Stands.{StandsFor}
+use Rattle.frame_ending.proofs.LastBurst.{grown, last_burst-byte}
 use Rattle.frame_ending.proofs.Cutting.{cut-begin, cut-pass, stands-go_on, cut-go_on}
 use Rattle.frame_ending.proofs.Cutting.{stands-rest, cut-rest}
+
+-- a live byte that starts no burst belongs to the last one
+pub live-start : (rules : Rules) (line : List Tick) (b : ℕ) → cut_of rules line (Byte b) ≡ Live b
+    → start_so_far (line ++ Byte b ∷ []) ≡ start_so_far line
+live-start rules line b live = by_last (last_burst line) refl
+  where
+    not_alone : last_burst (line ++ Byte b ∷ []) ≡ Some (alone (length line) b) → ⊥
+    not_alone is =
+        let starts : cut_of rules line (Byte b) ≡ Start b =
+        ap (λ o. byte_cut rules (length line) b o) is
+        ∙ cond-true _ _ _ (eq-eqb (length line) (length line) refl) in
+        let other : Start b ≡ Live b = sym starts ∙ live in cc
+
+    by_last : (o : Option Burst) → last_burst line ≡ o
+        → start_so_far (line ++ Byte b ∷ []) ≡ start_so_far line
+    by_last None is = absurd (not_alone (last_burst-byte line b
+        ∙ ap (λ o. Some (grown (length line) b o)) is))
+    by_last (Some d) is =
+        let now : last_burst (line ++ Byte b ∷ []) ≡ Some (grown (length line) b (Some d)) =
+        last_burst-byte line b ∙ ap (λ o. Some (grown (length line) b o)) is in
+        ⊎_elim
+        (λ near. ap start_in (now ∙ ap Some (cond-true _ _ _ (lt-ltb _ _ near)))
+        ∙ sym (ap start_in is))
+        (λ far. absurd (not_alone (now ∙ ap Some (cond-false _ _ _ (le-ltb _ _ far)))))
+        (cases_lt (length line) (end_of d + 4))
 
 module _ {R : Type 0} (proto : LineRules R) where
   abbrev rules : Rules

@@ -9,6 +9,7 @@ use Rattle.sequence_journal.specs.Journal.{IsBeside}
 use Rattle.replay_status.specs.Outside.{Outside}
 use Rattle.replay_status.specs.Causes.{InputCause, ReadsCause, SinkCause, DiskCause, LogsFault}
 use Rattle.replay_status.specs.Causes.{NoneRose}
+use Rattle.replay_status.specs.Flushes.{FlushesAtEnd}
 use Rattle.link_replay.specs.InitCommand.{Inits, IsBlank}
 use Rattle.replay_status.specs.Readable.{IsReadable}
 use Rattle.link_replay.specs.ReadCommand.{Reads}
@@ -78,7 +79,8 @@ module _ {K S O L D : Type 0} (k : Source K) (s : Source S) (o : Sink O) (l : Si
       InputCause (s.faults before.input) (s.faults after.input) status
       × DiskCause (d.faults before.disk) (d.faults after.disk) status
 
-  -- The counts of faults that rose, for each status.
+  -- The counts of faults that rose, and the flushes that were made, for each status: both sinks are
+  -- flushed on the way to Done, once each, behind all that was written, and nowhere else.
   pub record HasCauses (asked : Option Command) (before after : Outside K S O L D)
       (status : Status) : Type 0 where
     pub reads : ReadsCause (k.faults before.key) (k.faults after.key)
@@ -86,3 +88,4 @@ module _ {K S O L D : Type 0} (k : Source K) (s : Source S) (o : Sink O) (l : Si
     pub sinks : SinkCause (o.faults before.out) (o.faults after.out)
         (l.faults before.log) (l.faults after.log) status
     pub own : HasOwnCauses asked before after status
+    pub flushes : FlushesAtEnd o l before.out after.out before.log after.log status

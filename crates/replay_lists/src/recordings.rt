@@ -9,23 +9,23 @@ use device_model::Device;
 use tick_drive::{End, Stop, drive_to_rest};
 use yasir_io::{Sink, Source, SteadySlots};
 
-/// How many silent ticks stand behind the recording before the mark, so that its last burst is
-/// judged and its trailer is sent.
-const DEVICE_REST: u32 = 24;
-
-/// How many stand behind the recording behind it, so that what passes is sent and read.
+/// How many silent ticks stand behind the recording behind the mark, so that what passes is sent
+/// and read.
 const LINK_REST: u32 = 320;
 
-/// Lists the frames of two recordings, which a mark parts in the input. Nothing is written.
+/// Lists the frames of two recordings, which a mark parts in the input. Behind the one before it
+/// stand `device_rest` silent ticks, so that its last burst is judged and its trailer is sent.
+/// Nothing is written.
 pub fn list_recordings<S: FrameBox, C: FrameBox, V: Device + Drop, I: Source, O: Sink, L: Sink>(
+    device_rest: u32,
     lists: &mut ReplayLists<S, C, V>,
     input: &mut I,
     out: &mut O,
     log: &mut L,
 ) -> End
     requires { MayList S.FrameBox C.FrameBox V.Device lists.old }
-    ensures listed { ListsRecordings S.FrameBox C.FrameBox V.Device lists.old lists.new
-        (I.left input.old) (I.left input.new) result }
+    ensures listed { ListsRecordings S.FrameBox C.FrameBox V.Device device_rest lists.old
+        lists.new (I.left input.old) (I.left input.new) result }
     ensures out { O.held out.new ≡ O.held out.old }
     ensures log { L.held log.new ≡ L.held log.old }
     ensures read { IsReadCause (I.faults input.old) (I.faults input.new) (is_read_fault result) }
@@ -37,7 +37,7 @@ pub fn list_recordings<S: FrameBox, C: FrameBox, V: Device + Drop, I: Source, O:
         End::Whole => {}
         end => return end,
     }
-    match lists.rest(DEVICE_REST) {
+    match lists.rest(device_rest) {
         Ok(()) => End::Whole,
         Err(NoMemory) => End::Stopped(Stop::NoMemory),
     }

@@ -6,7 +6,7 @@ mod crc;
 mod frame;
 pub mod laws;
 mod rtu;
-mod whole_bytes;
+mod table;
 
 pub use closing::{NoRoom, RtuBytes, close};
 pub use crc::crc16;

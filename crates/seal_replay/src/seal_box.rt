@@ -1,4 +1,4 @@
-ghost use Rattle.std.specs.Prelude.{◌≡◌, ℕ, ◌+◌, ◌≤◌, [], ◌++◌, List};
+ghost use Rattle.std.specs.Prelude.{◌≡◌, ℕ, ◌+◌, ◌≤◌, [], ◌++◌, List, length};
 ghost use Rattle.link_format.specs.Profile.{IsWordLen};
 ghost use Rattle.seal_transmitter.specs.Stands.{StandsFor, ticks_taken};
 ghost use Rattle.seal_replay.specs.NoteLines.{seal_line};
@@ -6,18 +6,29 @@ ghost use Rattle.seal_replay.specs.SealBoxed.{sealing_by};
 ghost use Rattle.seal_replay.specs.SealBoxedLaws.{seals-boxed, seals-floor};
 
 use crate::note_lines::note_line;
-use box_replay::{BoxStep, LineBox, NoteLine};
+use box_replay::{BoxStep, LineBox, NoteLine, RunBytes};
 use hmac_tag::{Dir, Mac};
 use line_rules::LineRules;
 use seal_transmitter::{SealNote, SealStep, Sealer};
 use sequence_journal::{Journal, JournalFault};
 use yasir_io::SlotDisk;
-use yasir_ticks::Tick;
+use yasir_ticks::{LineBytes, Tick};
 
 /// The transmitter as a box, with words of `B` bytes.
 #[derive(Drop)]
 pub struct SealBox<R, M, const B: usize> {
     sealer: Sealer<R, M, B>,
+}
+
+// Puts these bytes into `left` in place of what stands there, and answers how many.
+#[inline]
+fn put(left: &mut RunBytes, sent: &LineBytes) -> usize
+    ensures items { left.new.items ≡ sent.now.items }
+    ensures count { result ≡ length sent.now.items }
+{
+    left.clear();
+    let _ = left.try_extend_from_slice(sent.as_slice());
+    sent.len()
 }
 
 impl<R: LineRules, M: Mac, const B: usize> LineBox for SealBox<R, M, B> {
@@ -58,5 +69,30 @@ impl<R: LineRules, M: Mac, const B: usize> LineBox for SealBox<R, M, B> {
             Ok(SealStep { tick, note }) => Ok(BoxStep { tick, note }),
             Err(JournalFault) => Err(JournalFault),
         }
+    }
+
+    #[inline]
+    fn forward_bytes(&mut self, bytes: &[u8]) -> usize {
+        self.sealer.forward(bytes)
+    }
+
+    #[inline]
+    fn forward_silence(&mut self, ticks: u32) -> u32 {
+        self.sealer.rest(ticks)
+    }
+
+    // Over an early burst goes what is left of the last trailer, and then silence.
+    fn pass_bytes(&mut self, bytes: &[u8], left: &mut RunBytes) -> usize {
+        let held = self.sealer.hold(bytes);
+        if held > 0 {
+            left.clear();
+            return held;
+        }
+        put(left, &self.sealer.send_over(bytes))
+    }
+
+    // What is left of a trailer.
+    fn pass_silence(&mut self, ticks: u32, left: &mut RunBytes) -> u32 {
+        put(left, &self.sealer.send_some(ticks)) as u32
     }
 }

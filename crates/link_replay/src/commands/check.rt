@@ -1,6 +1,7 @@
 ghost use Rattle.std.specs.Prelude.{◌≡◌, ℕ, List};
 ghost use Rattle.replay_status.specs.Outside.{outside};
 ghost use Rattle.replay_status.specs.Causes.{ReadsCause, SinkCause};
+ghost use Rattle.replay_status.specs.Flushes.{FlushesAtEnd};
 ghost use Rattle.box_replay.specs.ReplaysBox.{KeepsFloorThroughout, BoxDiskCause};
 ghost use Rattle.link_replay.specs.CheckCommand.{Checks};
 
@@ -37,6 +38,7 @@ pub fn check<K: Source, S: Source, O: Sink, L: Sink, D: SlotDisk>(
     ensures disk { BoxDiskCause (D.faults disk.old) (D.faults disk.new) result }
     ensures sinks { SinkCause (O.faults out.old) (O.faults out.new)
         (L.faults log.old) (L.faults log.new) result }
+    ensures flushes { FlushesAtEnd O.Sink L.Sink out.old out.new log.old log.new result }
 {
     match proto {
         Proto::Rtu => replay_box::<CheckBox<Rtu, HmacSha1, 2, 18>, K, S, O, L, D>(

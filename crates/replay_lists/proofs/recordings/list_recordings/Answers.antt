@@ -9,7 +9,8 @@ returns-in_default g c =
     c.requires _ driven in
     record {
       listed = ends-listing g.S.FrameBox g.C.FrameBox g.V.Device g.O.Sink g.L.Sink _ _ _ _ _ _ _ _
-          _ _ _ c.requires _ c.in_default.not-Whole driven;
+          _ _ _ c.requires _ c.in_default.not-Whole driven
+          c.args.device_rest;
       out = still.out;
       log = still.log;
       read = c.drive_to_rest.ensures.read;

@@ -18,6 +18,7 @@ returns-in-None g c = record {
   };
   disk = search rules;
   sinks = search rules;
+  flushes = search rules;
 }
 
 pub returns-in-Ok : goal.returns-in-Ok
@@ -36,6 +37,7 @@ returns-in-Ok g c = record {
   };
   disk = search rules;
   sinks = search rules;
+  flushes = search rules;
 }
 
 pub returns-in-Err : goal.returns-in-Err
@@ -58,4 +60,5 @@ returns-in-Err g c = record {
   };
   disk = search rules;
   sinks = search rules;
+  flushes = search rules;
 }
