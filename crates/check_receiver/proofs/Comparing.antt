@@ -14,7 +14,7 @@ use Rattle.byteorder.specs.Numbers.{big_from-append}
 use Rattle.hmac_tag.specs.declared.tag.Mac.{Ghosts as Mac}
 use Rattle.sequence_journal.specs.declared.numbers.TheConstants.{LIMIT}
 use Rattle.sequence_journal.specs.Numbers.{full_of}
-use Rattle.check_receiver.specs.Arrivals.{MayArrive, HasArrived, IsTagged, is_at}
+use Rattle.check_receiver.specs.Arrivals.{Arrives, MayArrive, HasArrived, IsTagged, is_at}
 use Rattle.check_receiver.specs.declared.arriving.Arriving.{Arriving}
 
 -- ---- one more byte against a tag
@@ -92,6 +92,29 @@ tagged-by : (o : Option ℕ) (tag : List ℕ) (f g : ℕ → List ℕ) → ((n :
 tagged-by None tag f g same is = tt
 tagged-by (Some n) tag f g same is = is ∙ sym (same n)
 
+-- ---- a byte comes behind the word
+
+pub arrives-more : {B : ℕ} (tag_of : ℕ → List ℕ) (floor place byte : ℕ) (old new : Arriving B)
+    (x : List ℕ) → Arrives tag_of floor old x → B ≤ length x → place ≡ length x - B
+    → new ≡ record old { same = new.same }
+    → new.same ≡ (old.same && is_at old.tag.items place byte)
+    → Arrives tag_of floor new (x ++ byte ∷ [])
+arrives-more {B} tag_of floor place byte old new x arrived come here rest same =
+    let P : Arriving B → Type 0 = λ v. Arrives tag_of floor v (x ++ byte ∷ []) in
+    let long = length-append x (byte ∷ []) in
+    subst P (sym rest)
+    (record {
+      word_is = λ few. absurd (omega arith);
+      fresh_is = λ few. absurd (omega arith);
+      number_is = λ whole. arrived.number_is come
+          ∙ ap (λ n. full_of LIMIT (256 ^ B) floor n)
+          (sym (big_from-append B x (byte ∷ []) come));
+      tag_is = λ whole. arrived.tag_is come;
+      same_is = λ whole. same-more B byte tag_of x old.number old.tag.items old.same new.same
+          come (same ∙ ap (λ k. old.same && is_at old.tag.items k byte) here)
+          (arrived.tag_is come) (arrived.same_is come);
+    })
+
 -- ---- a byte comes
 
 module _ {M : Type 0} {B : ℕ} (code : Mac M) (tag_of : ℕ → List ℕ) (floor place byte : ℕ)
@@ -102,29 +125,14 @@ module _ {M : Type 0} {B : ℕ} (code : Mac M) (tag_of : ℕ → List ℕ) (floo
       → new.same ≡ (old.same && is_at old.tag.items (place - B) byte)
       → HasArrived code tag_of floor new mac key text (x ++ byte ∷ [])
   compared new behind rest same =
-      let P : Arriving B → Type 0 = λ v. HasArrived code tag_of floor v mac key text
-      (x ++ byte ∷ []) in
       let here = may.place_is in
-      let come : B ≤ length x = omega arith in
-      let long = length-append x (byte ∷ []) in
-      subst P (sym rest)
-      (record {
-        arrived = record {
-          word_is = λ few. absurd (omega arith);
-          fresh_is = λ few. absurd (omega arith);
-          number_is = λ whole. may.arrived.number_is come
-              ∙ ap (λ n. full_of LIMIT (256 ^ B) floor n)
-              (sym (big_from-append B x (byte ∷ []) come));
-          tag_is = λ whole. may.arrived.tag_is come;
-          same_is = λ whole. same-more B byte tag_of x old.number old.tag.items old.same new.same
-              come
-              (same ∙ ap (λ k. old.same && is_at old.tag.items (k - B) byte) here)
-              (may.arrived.tag_is come) (may.arrived.same_is come);
-        };
+      record {
+        arrived = arrives-more tag_of floor (place - B) byte old new x may.arrived (omega arith)
+            (omega arith) rest same;
         rest = text;
         codes = may.codes;
         text_is = λ few. refl;
-      })
+      }
 
   module _ (new : Arriving B) (inside : place < B)
       (items : new.word.items ≡ old.word.items ++ byte ∷ []) (same : new.same ≡ old.same) where

@@ -21,7 +21,7 @@ use Rattle.frame_ending.specs.LiveBytes.{live_bytes, live_end}
 use Rattle.frame_ending.specs.SoFar.{last_of, live_bytes_in, live_bytes_so_far}
 use Rattle.frame_ending.specs.Stands.{StandsFor as CutStandsFor}
 use Rattle.frame_ending.specs.declared.burst_cut.BurstCut.{BurstCut}
-use Rattle.frame_ending.specs.declared.cut.Cut.TheVariants.{Live}
+use Rattle.frame_ending.specs.declared.cut.Cut.TheVariants.{Live, Extra}
 use Rattle.delay_ring.specs.DelayRing.{ring_ticks, AreAlike}
 use Rattle.delay_ring.specs.declared.delay_ring.DelayRing.{DelayRing}
 use Rattle.spoiler.specs.Outlet.{StandsFor as OutletStandsFor, owed_by}
@@ -54,6 +54,8 @@ use Rattle.check_receiver.proofs.PauseRuns.{pause-run}
 use Rattle.check_receiver.proofs.RestRuns.{idle-run, flow-run}
 use Rattle.check_receiver.proofs.RunTicks.{front-answered, answered-bytes}
 use Rattle.check_receiver.proofs.Silences.{timely}
+use Rattle.check_receiver.proofs.TrailerRuns.{trailer-run, trailer-long}
+use Rattle.check_receiver.specs.declared.arriving.Arriving.{Arriving}
 
 no-ticks : (x : List Tick) → length x ≡ 0 → x ≡ []
 no-ticks [] none = refl
@@ -414,6 +416,105 @@ module _ {R M : Type 0} (proto : LineRules R) (code : Mac M) {B D : ℕ} (old : 
             };
           };
           answers = runs.answers;
+        })
+
+    -- ---- bytes of the tag come of the burst whose verdict is open
+
+    pub tag-taken : (bytes : List ℕ) (arriving : Arriving B) (place : ℕ) → old.waits ≡ true
+        → length bytes ≤ c → old.until + (3 + (B + place)) ≡ D
+        → length bytes + 2 ≤ old.until
+        → CutStandsFor proto cut (line ++ map (λ b. Byte b) bytes)
+        → cuts_after rules line (map (λ b. Byte b) bytes) ≡ map (λ b. Extra b) bytes
+        → ((tag_of : ℕ → List ℕ) (floor : ℕ) (y : List ℕ) → Arrives tag_of floor old.arriving y
+        → length y ≡ B + place → Arrives tag_of floor arriving (y ++ bytes))
+        → IsFront (ring_ticks old.ring) (length bytes) x
+        → ring_ticks ring ≡ drop (length bytes) (ring_ticks old.ring ++ silent (length bytes))
+        → until ≡ old.until - length bytes
+        → HasTakenRun proto code
+        (record old {
+          cut = cut;
+          arriving = arriving;
+          ring = ring;
+          outlet = outlet;
+          until = until;
+        }) last setup line (map (λ b. Byte b) bytes) (answered (length bytes) x)
+    tag-taken bytes arriving place waits few where' left_over cuts are_extra takes is ring_is
+        until_is =
+        let d : Burst = (opened waits).0 in
+        let n : ℕ = length bytes in
+        let run : List Tick = map (λ b. Byte b) bytes in
+        let walked = live-opened waits in
+        let long = long-opened waits in
+        let count = stands.walks.until_is in
+        let delay_is = stands.delay_is in
+        let wide = stands.wide in
+        let most = stands.walks.few in
+        let first : take n live ≡ take n Q =
+        sym (ap (λ l. take n l) stands.walks.ring_is
+        ∙ take-append-le n live (silent (D - length live)) (omega arith)) in
+        let leaves = front n few is in
+        let after = trailer-run proto profile time some setup.floor state bytes line left live d
+        walked (omega arith) (omega arith) (omega arith) are_extra in
+        let e : Burst = after.burst in
+        let before = coded-opened waits in
+        let size = trailer-long proto profile time some setup.floor state line left live d walked in
+        let so_far : length (trailer_so_far rules d) ≡ B + place = omega arith in
+        let grown = ap length after.trailer in
+        let sum = length-append (trailer_so_far rules d) bytes in
+        let arrived = takes (λ k. profile.tag k (live_bytes rules d)) last (trailer_so_far rules d)
+        before.arrives so_far in
+        let T : List ℕ → Type 0 = λ y. Arrives (λ k. profile.tag k (live_bytes rules d)) last
+        arriving y in
+        let F : List ℕ → Type 0 = λ f. Arrives (λ k. profile.tag k f) last arriving
+        (trailer_so_far rules e) in
+        let coded : Codes proto code setup last old.mac arriving e = record {
+          text = before.text;
+          codes = before.codes;
+          text_is = λ short. absurd (omega arith);
+          arrives = subst F (sym after.bytes) (subst T (sym after.trailer) arrived);
+        } in
+        let fewer = length-drop n live in
+        let more = more-opened waits in
+        let Z : ℕ → Type 0 = λ k. HasWalked profile rules setup.floor (length (line ++ run))
+        (bursts (line ++ run)) state false (left ++ bytes_in (take n live)) (drop n live) k
+        (Some e) in
+        let P : Bool → Type 0 = λ p. HasWalked profile rules setup.floor
+        (length (line ++ run)) (bursts (line ++ run)) state p
+        (left ++ bytes_in (take n live)) (drop n live) (owed_by outlet) (Some e) in
+        let L : List Tick → Type 0 = λ l. OutletStandsFor proto outlet (left ++ bytes_in l) in
+        let A : List Tick → Type 0 = λ l. HasTakenRun proto code
+        (record old {
+          cut = cut;
+          arriving = arriving;
+          ring = ring;
+          outlet = outlet;
+          until = until;
+        }) last setup line run l in
+        subst A (first ∙ leaves) (record {
+          stands = record {
+            word_is = stands.word_is;
+            wide = stands.wide;
+            delay_is = stands.delay_is;
+            direction_is = stands.direction_is;
+            cuts = cuts;
+            walks = record {
+              waiting = Some e;
+              left = left ++ bytes_in (take n live);
+              live = drop n live;
+              walked = subst P (sym (walked-opened waits).opens.1)
+                  (subst Z (sym unowed) after.runs.walked);
+              outlet_is = subst L (sym first) (has-left n leaves (walked.room (omega arith)));
+              ring_is = ring_is
+                  ∙ (ap (λ l. drop n (l ++ silent n)) stands.walks.ring_is
+                  ∙ ring-rest live D n (omega arith) most);
+              few = omega arith;
+              until_is = omega arith;
+              waits_is = waits;
+              code_is = stands.walks.code_is;
+              coded = coded;
+            };
+          };
+          answers = after.runs.answers;
         })
 
     -- ---- live bytes come of the burst whose verdict is open

@@ -21,7 +21,7 @@ pub struct Arriving<const B: usize> {
 
 impl<const B: usize> Arriving<B> {
     ghost use Rattle.std.specs.Prelude.{◌≡◌, ℕ, ◌^◌, ◌≤◌, ◌<◌, [], ◌∷◌, ◌++◌, List, length, true};
-    ghost use Rattle.std.specs.Prelude.{◌&&◌};
+    ghost use Rattle.std.specs.Prelude.{◌&&◌, ◌+◌};
     ghost use Rattle.byteorder.specs.Endian.{big_number};
     ghost use Rattle.sequence_journal.specs.declared.numbers.TheConstants.{LIMIT};
     ghost use Rattle.sequence_journal.specs.Numbers.{full_of};
@@ -129,6 +129,21 @@ impl<const B: usize> Arriving<B> {
     {
         if self.tag.as_slice().get(place).copied() != Some(byte) {
             self.same = false;
+        }
+    }
+
+    /// Takes bytes behind the word, from this place of the tag on.
+    #[inline]
+    pub fn take_tag(&mut self, place: usize, bytes: &[u8])
+        requires { place + length bytes.now ≤ 128 }
+        ensures { (tag_of : ℕ → List ℕ) (floor : ℕ) (x : List ℕ)
+            → Arrives tag_of floor self.old x → length x ≡ B + place
+            → Arrives tag_of floor self.new (x ++ bytes.now) }
+    {
+        let mut at = place;
+        for byte in bytes {
+            self.compare(at, *byte);
+            at += 1;
         }
     }
 

@@ -159,6 +159,9 @@ impl<R: LineRules, M: Mac, const B: usize, const D: usize> Checker<R, M, B, D> {
     {
         left.clear();
         if self.waits {
+            if self.cut.live_over() {
+                return self.hear_tag(bytes, left);
+            }
             return self.follow(bytes, left);
         }
         if self.outlet.owes() {
@@ -235,6 +238,41 @@ impl<R: LineRules, M: Mac, const B: usize, const D: usize> Checker<R, M, B, D> {
         self.ring.pass_bytes(entering);
         let whole = D as u8;
         self.until = whole;
+        taken
+    }
+
+    // Bytes of the tag of the burst whose verdict is open, but for the last one.
+    fn hear_tag(&mut self, bytes: &[u8], left: &mut RunBytes) -> usize
+        requires room { ticks_taken self.old + length bytes.now ≤ MAX_TICKS }
+        requires waits { self.old.waits ≡ true }
+        requires empty { left.old.items ≡ [] }
+        ensures within { result ≤ length bytes.now }
+        ensures taken { ticks_taken self.new ≡ ticks_taken self.old + result }
+        ensures run { (last : ℕ) (setup : Setup) (line : List Tick)
+            → StandsAt R.LineRules M.Mac self.old last setup line
+            → HasTakenRun R.LineRules M.Mac self.new last setup line
+            (map Byte (take result bytes.now)) (answered result left.new.items) }
+    {
+        let until = usize::from(self.until);
+        if until < 2 {
+            return 0;
+        }
+        if D < until + PAUSE {
+            return 0;
+        }
+        let place = D - PAUSE - until;
+        if place < B {
+            return 0;
+        }
+        let most = bytes.len().min(until - 2).min(D);
+        let count = self.ring.front_alike(most);
+        let part = &bytes[..count];
+        let taken = self.cut.pass_over_some(part);
+        let heard = &part[..taken];
+        lend(&self.ring, &mut self.outlet, taken, left);
+        self.ring.pass_silence(taken);
+        self.arriving.take_tag(place - B, heard);
+        self.until -= taken as u8;
         taken
     }
 

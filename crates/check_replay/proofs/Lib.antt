@@ -1,1 +1,2 @@
 pub mod Checkings
+pub mod Runs

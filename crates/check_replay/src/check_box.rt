@@ -5,7 +5,7 @@ ghost use Rattle.check_replay.specs.CheckBoxed.{checking_by, HaveWidths};
 ghost use Rattle.check_replay.specs.CheckBoxedLaws.{checks-boxed, checks-floor};
 
 use crate::note_lines::note_line;
-use box_replay::{BoxStep, LineBox, NoteLine};
+use box_replay::{BoxStep, LineBox, NoteLine, RunBytes};
 use check_receiver::{CheckNote, CheckStep, Checker};
 use hmac_tag::{Dir, Mac};
 use line_rules::LineRules;
@@ -57,5 +57,15 @@ impl<R: LineRules, M: Mac, const B: usize, const D: usize> LineBox for CheckBox<
             Ok(CheckStep { tick, note }) => Ok(BoxStep { tick, note }),
             Err(JournalFault) => Err(JournalFault),
         }
+    }
+
+    #[inline]
+    fn pass_bytes(&mut self, bytes: &[u8], left: &mut RunBytes) -> usize {
+        self.checker.pass_bytes(bytes, left)
+    }
+
+    #[inline]
+    fn pass_silence(&mut self, ticks: u32, left: &mut RunBytes) -> u32 {
+        self.checker.pass_silence(ticks, left)
     }
 }
