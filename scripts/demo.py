@@ -138,6 +138,27 @@ def show_altered(name, protocol, what, reader, folder):
     return show_received(name, protocol, "ab", reader, link, folder)
 
 
+def show_session(name, protocol, line, link, what, folder):
+    """Shows both boxes over a line and a link at once: what was sealed, passed and read, and what passed and was never sealed."""
+    print("== %s\n" % what)
+    session = os.path.join(folder, name + ".ticks")
+    with open(session, "w") as written:
+        written.write((open(line).read() if line else "") + "%\n" + open(link).read())
+    lists, _ = run(["replay", protocol, "ab", os.path.join(EXAMPLES, "key.txt")], session)
+    return show("replay %s ab" % protocol, lists, name + ".lists.txt")
+
+
+def show_sessions(folder):
+    """Shows the headline: sealed, passed, read and forged frames of a line and of a link that an attacker has altered, side by side."""
+    requests, altered, outstation, outstation_altered = [
+        os.path.join(EXAMPLES, name + ".ticks") for name in ("requests", "altered", "outstation", "outstation_altered")]
+    same = show_session("session", "rtu", requests, altered,
+                        "Both at once: the line to the device, and its link as the attacker left it", folder)
+    same &= show_session("session_outstation", "dnp3", outstation, outstation_altered, "The same for the outstation", folder)
+    return same & show_session("session_forged", "rtu", None, altered,
+                               "The same link without the line: nothing was sealed, so what passes is named as forged", folder)
+
+
 def main():
     jobs = int(sys.argv[1]) if len(sys.argv) > 1 else max(1, (os.cpu_count() or 2) // 2)
     os.makedirs(os.path.dirname(LOG), exist_ok=True)
@@ -149,6 +170,7 @@ def main():
         same &= show_altered("altered", "rtu", "The first of these links again", "device", folder)
         same &= show_side("outstation", "dnp3", "ab", "From the control centre to a DNP3 outstation", "outstation", folder)
         same &= show_altered("outstation_altered", "dnp3", "This link again", "outstation", folder)
+        same &= show_sessions(folder)
     print("All of it is what examples/expected/ has." if same else "Something differs from examples/expected/.")
     return 0 if same else 1
 

@@ -3,16 +3,17 @@
 It shares nothing with the program, so that the two can be compared (random_lines.py). A line is a list of ticks: a byte,
 or None for silence. The tags are by hashlib.
 """
-import hashlib, hmac
+import collections, hashlib, hmac
 
 LIMIT = (1 << 48) - 1
 
-# Silent ticks that end a burst, and that stand between a frame and its trailer; bytes of a word and of a tag; the delay.
-CUT, PAUSE, WORD, TAG = 4, 3, 2, 12
-DELAY = PAUSE + WORD + TAG + 1
+# Silent ticks that end a burst, and that stand between a frame and its trailer; those that the program takes to follow a link.
+CUT, PAUSE, LINK_REST = 4, 3, 320
 
-# Silent ticks that the program takes to follow a line.
-REST = {"seal": 24, "check": 320}
+# Bytes of a word and of a tag, the hash, and the ticks by which the receiver is late.
+Profile = collections.namedtuple("Profile", "name word tag hash delay")
+Y18 = Profile("", 2, 12, hashlib.sha1, 18)
+Y24 = Profile("24", 4, 16, hashlib.sha256, 24)
 
 
 def crc(poly, register, data):
@@ -153,19 +154,19 @@ def live(proto, line, start, end):
     return kept, len(kept) < sum(byte is not None for byte in body)
 
 
-def tag(proto, key, direction, frame, number):
+def tag(proto, key, direction, frame, number, profile=Y18):
     text = bytes([proto.label, direction]) + bytes(frame) + number.to_bytes(8, "big")
-    return hmac.new(key, text, hashlib.sha1).digest()[:TAG]
+    return hmac.new(key, text, profile.hash).digest()[:profile.tag]
 
 
-def trailer(proto, key, direction, frame, number):
-    return list(number.to_bytes(8, "big")[-WORD:] + tag(proto, key, direction, frame, number))
+def trailer(proto, key, direction, frame, number, profile=Y18):
+    return list(number.to_bytes(8, "big")[-profile.word:] + tag(proto, key, direction, frame, number, profile))
 
 
-def seal(proto, key, direction, floor, line):
-    """The line of the link, the notes, and the journal's floor after them."""
-    line = line + [None] * REST["seal"]
-    link, notes, free = [None] * len(line), [], 0
+def seal(proto, key, direction, floor, line, profile=Y18):
+    """The line of the link, the notes, the journal's floor after them, and the sealed frames with number and start."""
+    line = line + [None] * (profile.delay + 6)
+    link, notes, free, sealed = [None] * len(line), [], 0, []
     for start, end in bursts(line):
         kept, has_extra = live(proto, line, start, end)
         frame, last = [byte for _, byte in kept], kept[-1][0]
@@ -183,39 +184,40 @@ def seal(proto, key, direction, floor, line):
             notes.append("unsealed at %d spent" % start)
         else:
             floor += 1
-            for place, byte in enumerate(trailer(proto, key, direction, frame, floor)):
+            for place, byte in enumerate(trailer(proto, key, direction, frame, floor, profile)):
                 if last + PAUSE + 1 + place < len(link):
                     link[last + PAUSE + 1 + place] = byte
-            free = last + DELAY + CUT
+            free = last + profile.delay + CUT
             notes.append("sealed %d at %d len %d" % (floor, start, len(frame)))
-    return link, notes, floor
+            sealed.append((floor, start, frame))
+    return link, notes, floor, sealed
 
 
 def spoil(proto, before, byte):
     return byte ^ 1 if proto.has_right_ending(before + [byte]) else byte
 
 
-def verdict(proto, key, direction, floor, frame, after):
+def verdict(proto, key, direction, floor, frame, after, profile):
     """What is found of live bytes and the ticks after them: a number or a reason, and how many ticks it took."""
     for place, byte in enumerate(after, 1):
         if (byte is not None) != (place > PAUSE):
             return None, "trailer", place
     if not proto.is_frame(frame):
         return None, "form", len(after)
-    word = int.from_bytes(bytes(after[PAUSE:PAUSE + WORD]), "big")
-    number = floor + 1 + (word - floor - 1) % (1 << 8 * WORD)
+    word = int.from_bytes(bytes(after[PAUSE:PAUSE + profile.word]), "big")
+    number = floor + 1 + (word - floor - 1) % (1 << 8 * profile.word)
     if number > LIMIT:
         return None, "number", len(after)
-    if bytes(after[PAUSE + WORD:]) != tag(proto, key, direction, frame, number):
+    if bytes(after[PAUSE + profile.word:]) != tag(proto, key, direction, frame, number, profile):
         return None, "tag", len(after)
     return number, None, len(after)
 
 
-def check(proto, key, direction, floor, link):
-    """The receiver's line, the notes, and the journal's floor after them."""
-    link = link + [None] * REST["check"]
-    behind = link + [None] * DELAY
-    sent, notes, free = {}, [], 0
+def check(proto, key, direction, floor, link, profile=Y18):
+    """The receiver's line, the notes, the journal's floor after them, and the passed frames with number and start."""
+    link, delay = link + [None] * LINK_REST, profile.delay
+    behind = link + [None] * delay
+    sent, notes, free, passed = {}, [], 0, []
     for start, end in bursts(link):
         kept, _ = live(proto, link, start, end)
         frame, last = [byte for _, byte in kept], kept[-1][0]
@@ -226,21 +228,34 @@ def check(proto, key, direction, floor, link):
         elif not proto.is_good_header(frame):
             notes.append((kept[proto.header - 1][0], "dropped at %d head" % start))
         else:
-            number, why, took = verdict(proto, key, direction, floor, frame, behind[last + 1:last + DELAY])
-            sent.update((tick + DELAY, byte) for tick, byte in kept)
-            free = last + DELAY + 1
+            number, why, took = verdict(proto, key, direction, floor, frame, behind[last + 1:last + delay], profile)
+            sent.update((tick + delay, byte) for tick, byte in kept)
+            free = last + delay + 1
             if why is None:
                 notes.append((last + took, "passed %d at %d len %d" % (number, start, len(frame))))
-                floor = number if last + took < len(link) else floor
+                if last + took < len(link):
+                    floor = number
+                    passed.append((number, start, frame))
                 continue
             notes.append((last + took, "refused at %d %s" % (start, why)))
             owed = proto.size(frame) - len(frame)
             whole = frame + [0] * owed
-            sent.update((last + DELAY + place, 0) for place in range(1, owed + 1))
-            sent[last + DELAY + owed] = spoil(proto, whole[:-1], whole[-1])
+            sent.update((last + delay + place, 0) for place in range(1, owed + 1))
+            sent[last + delay + owed] = spoil(proto, whole[:-1], whole[-1])
             free += owed
     told = [note for tick, note in sorted(notes, key=lambda noted: noted[0]) if tick < len(link)]
-    return [sent.get(tick) for tick in range(len(link))], told, floor
+    return [sent.get(tick) for tick in range(len(link))], told, floor, passed
+
+
+def replay(proto, key, direction, line, link, profile=Y18):
+    """The lines that `replay` writes: the frames that are sealed, passed, read and forged."""
+    sealed = seal(proto, key, direction, 0, line, profile)[3]
+    received, _, _, passed = check(proto, key, direction, 0, link, profile)
+    known = {(number, bytes(frame)) for number, _, frame in sealed}
+    forged = [entry for entry in passed if (entry[0], bytes(entry[2])) not in known]
+    numbered = lambda word, entries: ["%s %d at %d %s" % (word, number, start, bytes(frame).hex()) for number, start, frame in entries]
+    read = ["read at %d %s" % (start, bytes(frame).hex()) for start, frame in proto.reads(received)]
+    return numbered("sealed", sealed) + numbered("passed", passed) + read + numbered("forged", forged)
 
 
 def canonical(line):

@@ -4,14 +4,18 @@
     python3 scripts/random_lines.py [LINES] [PROGRAM] [SEED]
 
 A line has frames, packets (altered, cut, repeated or whole), noise and silence, with the lengths at which rules change.
-Compared are `read`, `seal` and `check`: standard output, the notes, and the floor of the journal after the run.
+Compared are `read`, `seal`, `check` and `replay` with both profiles: standard output, the notes, and the floor of the journal
+after the run. A link that `replay` gets is that of its device's line, altered here and there, or one of its own.
 It is no part of the gate.
 """
 import os, random, subprocess, sys, tempfile
 
 import model
 from killed import KEY, floor_of
-from model import LIMIT, PAUSE, Dnp3, Rtu
+from model import LIMIT, PAUSE, Y18, Y24, Dnp3, Rtu
+
+# The words of notes and printed frames by which runs are counted.
+WORDS = ("sealed", "unsealed", "passed", "refused", "dropped", "read", "forged", "early", "form", "spent", "trailer", "number", "tag", "busy", "head")
 
 
 def some_frame(proto, chance):
@@ -45,13 +49,13 @@ def with_gaps(frame, chance):
     return ticks
 
 
-def some_line(proto, key, direction, floor, packets, chance):
+def some_line(proto, key, direction, floor, packets, chance, profile=Y18):
     line, number, sent = [], floor, [some_frame(proto, chance)]
     for _ in range(chance.randrange(1, 8)):
         kind, frame = chance.randrange(10), some_frame(proto, chance)
         if kind < 5:
             number = min(number + chance.choice([1, 1, 1, 2, 100]), LIMIT)
-            behind = [None] * PAUSE + model.trailer(proto, key, direction, frame, number) if packets else []
+            behind = [None] * PAUSE + model.trailer(proto, key, direction, frame, number, profile) if packets else []
             sent.append((frame if kind else with_gaps(frame, chance)) + behind)
             line += sent[-1]
         elif kind == 5:
@@ -70,20 +74,41 @@ def slot_of(number):
     return number.to_bytes(8, "big") + (number ^ (1 << 64) - 1).to_bytes(8, "big")
 
 
-def run(program, words, line, journal, floor):
+def some_link(proto, key, direction, line, chance, profile):
+    """What stands on the link behind the transmitter of this line: parts of what it sent, some altered, or a link of its own."""
+    link, parts = model.seal(proto, key, direction, 0, line, profile)[0], []
+    if chance.random() < 0.2:
+        return link
+    for _ in range(chance.randrange(1, 6)):
+        first = chance.randrange(len(link))
+        part = link[first:first + chance.choice([30, 60, 200, 1000])]
+        parts += altered(part, chance) if chance.random() < 0.4 else part
+        parts += [None] * chance.choice([0, 4, 20, 40])
+    return parts if chance.random() < 0.7 else some_line(proto, key, direction, 0, True, chance, profile)
+
+
+def run(program, words, text, journal, floor):
     """What the program writes, and the journal's floor after it, from a journal at this floor on."""
     with open(journal, "wb") as file:
         file.write(slot_of(floor) + bytes(16))
-    ran = subprocess.run([program] + words, input=model.canonical(line), capture_output=True, text=True)
+    ran = subprocess.run([program] + words, input=text, capture_output=True, text=True)
     return ran.returncode, ran.stdout, ran.stderr.splitlines(), floor_of(journal)
 
 
-def expected(proto, command, key, direction, line, floor):
+def expected(proto, profile, command, key, direction, lines, floor):
     if command == "read":
-        return 0, "".join("read at %d %s\n" % (start, bytes(frame).hex()) for start, frame in proto.reads(line)), [], floor
+        return 0, "".join("read at %d %s\n" % (start, bytes(frame).hex()) for start, frame in proto.reads(lines[0])), [], floor
+    if command == "replay":
+        return 0, "".join(line + "\n" for line in model.replay(proto, key, direction, lines[0], lines[1], profile)), [], floor
     box = model.seal if command == "seal" else model.check
-    other, notes, floor = box(proto, key, direction, floor, line)
+    other, notes, floor, _ = box(proto, key, direction, floor, lines[0], profile)
     return 0, model.canonical(other), notes, floor
+
+
+def words_of(proto, profile, command, direction, key_file, journal):
+    name = {"rtu": "rtu", "dnp3": "dnp"}[proto.word] + profile.name if profile.name and command != "read" else proto.word
+    named = [["ab", "ba"][direction], key_file] + [journal] * (command != "replay")
+    return [command, name] + named * (command != "read")
 
 
 def main():
@@ -94,19 +119,23 @@ def main():
         key_file, journal = os.path.join(folder, "key"), os.path.join(folder, "journal")
         open(key_file, "w").write(KEY)
         for _ in range(lines):
-            proto, command, direction = chance.choice([Rtu, Dnp3]), chance.choice(["read", "seal", "check", "check"]), chance.randrange(2)
-            floor = chance.choice([0, 0, 5, 65530, 70000, LIMIT - 3, LIMIT])
-            line = some_line(proto, key, direction, floor, command != "seal", chance)
-            words = [command, proto.word] + ([] if command == "read" else [["ab", "ba"][direction], key_file, journal])
-            wrote, wanted = run(program, words, line, journal, floor), expected(proto, command, key, direction, line, floor)
+            proto, direction, profile = chance.choice([Rtu, Dnp3]), chance.randrange(2), chance.choice([Y18, Y18, Y24])
+            command = chance.choice(["read", "seal", "check", "check", "replay"])
+            floor = 0 if command == "replay" else chance.choice([0, 0, 5, 65530, 70000, LIMIT - 3, LIMIT])
+            given = [some_line(proto, key, direction, floor, command == "check", chance, profile)]
+            if command == "replay":
+                given.append(some_link(proto, key, direction, given[0], chance, profile))
+            words, text = words_of(proto, profile, command, direction, key_file, journal), "%\n".join(map(model.canonical, given))
+            wrote = run(program, words, text, journal, floor)
+            wanted = expected(proto, profile, command, key, direction, given, floor)
             if wrote != wanted:
-                sys.exit("`%s` from floor %d writes\n%s\nand the model\n%s\nof the line\n%s"
-                         % (" ".join(words), floor, wrote, wanted, model.canonical(line)))
-            for note in wrote[2] + wrote[1].splitlines() * (command == "read"):
-                kind = " ".join([proto.word] + [word for word in note.split() if word.isalpha() and word not in ("at", "len")][:2])
+                sys.exit("`%s` from floor %d writes\n%s\nand the model\n%s\nof\n%s" % (" ".join(words), floor, wrote, wanted, text))
+            for note in wrote[2] + wrote[1].splitlines() * (command in ("read", "replay")):
+                kind = " ".join(words[:2] + [word for word in note.split() if word.isalpha() and word in WORDS][:2])
                 seen[kind] = seen.get(kind, 0) + 1
     print("%d lines, and all is what the model writes. Seen were:" % lines)
     print("\n".join("%7d %s" % (count, kind) for kind, count in sorted(seen.items())))
 
 
-main()
+if __name__ == "__main__":
+    main()

@@ -1,5 +1,6 @@
 ghost use Rattle.std.specs.Prelude.{◌≡◌, ℕ, ◌+◌, ◌≤◌, List, false, [], ◌∷◌, ◌++◌, OnOk, OnErr};
 ghost use Rattle.yasir_io.specs.Causes.{HasCause};
+ghost use Rattle.yasir_io.specs.Flushed.{NoneFlushed};
 ghost use Rattle.yasir_io.specs.Output.{Buffered, GotPrefix};
 ghost use Rattle.yasir_io.specs.TextBuffer.{waiting_bytes};
 ghost use Rattle.yasir_ticks.specs.Writer.{has_room_for};
@@ -43,6 +44,7 @@ fn push_note<B: LineBox, L: Sink>(
     ensures err { OnErr result (GotPrefix (L.held log.old) (L.held log.new)
         (waiting_bytes notes.old ++ B.line_of note.now)) }
     ensures cause { HasCause (L.faults log.old) (L.faults log.new) result }
+    ensures flushes { L.flushes log.new ≡ L.flushes log.old }
 {
     notes.push(log, B::note_line(note).as_slice())
 }
@@ -59,6 +61,7 @@ fn push_note_of_step<B: LineBox, L: Sink>(
     ensures err { OnErr result (GotPrefix (L.held log.old) (L.held log.new)
         (waiting_bytes notes.old ++ line_of_note B.line_of note)) }
     ensures cause { HasCause (L.faults log.old) (L.faults log.new) result }
+    ensures flushes { L.flushes log.new ≡ L.flushes log.old }
 {
     match note {
         None => Ok(()),
@@ -81,6 +84,7 @@ fn push_line<O: Sink, L: Sink>(
         (waiting_bytes notes.old) result }
     ensures cause { HaveCause (O.faults out.old) (O.faults out.new) (L.faults log.old)
         (L.faults log.new) result }
+    ensures flushes { NoneFlushed O.Sink L.Sink out.old out.new log.old log.new }
 {
     if ticks.extend(line) {
         return Ok(());
@@ -111,6 +115,7 @@ fn push_completing<B: LineBox, O: Sink, L: Sink>(
         tick (line_of_note B.line_of note) result }
     ensures cause { HaveCause (O.faults out.old) (O.faults out.new) (L.faults log.old)
         (L.faults log.new) result }
+    ensures flushes { NoneFlushed O.Sink L.Sink out.old out.new log.old log.new }
 {
     let line = writer.complete(tick);
     push_note_of_step::<B, L>(notes, log, note)?;
@@ -136,6 +141,7 @@ fn push_step<B: LineBox, O: Sink, L: Sink>(
         tick (line_of_note B.line_of note) result }
     ensures cause { HaveCause (O.faults out.old) (O.faults out.new) (L.faults log.old)
         (L.faults log.new) result }
+    ensures flushes { NoneFlushed O.Sink L.Sink out.old out.new log.old log.new }
 {
     if writer.extend(tick) {
         return push_note_of_step::<B, L>(notes, log, note);
@@ -179,6 +185,7 @@ impl<B: LineBox> BoxLines<B> {
             → HasSentFronts box before (sink_texts (O.held out.new) (L.held log.new)) line) }
         ensures cause { HaveCause (O.faults out.old) (O.faults out.new) (L.faults log.old)
             (L.faults log.new) result }
+        ensures flushes { NoneFlushed O.Sink L.Sink out.old out.new log.old log.new }
     {
         let BoxLines {
             writer,

@@ -4,6 +4,7 @@ ghost use Rattle.tick_drive.specs.Drive.{answer_of};
 ghost use Rattle.box_replay.specs.ReplaysBox.{around, boxed_with, RunsBox, ReplaysBox};
 ghost use Rattle.box_replay.specs.ReplaysBox.{KeepsFloorThroughout, BoxDiskCause};
 ghost use Rattle.replay_status.specs.Causes.{InputCause, ReadsCause, SinkCause};
+ghost use Rattle.replay_status.specs.Flushes.{FlushesAtEnd};
 ghost use Rattle.replay_status.specs.Outside.{outside};
 
 use crate::box_lines::BoxLines;
@@ -45,6 +46,7 @@ pub fn replay_keyed<B: LineBox, S: Source, O: Sink, L: Sink, D: SlotDisk>(
     ensures disk { BoxDiskCause (D.faults disk.old) (D.faults disk.new) result }
     ensures sinks { SinkCause (O.faults out.old) (O.faults out.new) (L.faults log.old)
         (L.faults log.new) result }
+    ensures flushes { FlushesAtEnd O.Sink L.Sink out.old out.new log.old log.new result }
 {
     let journal = match Journal::load(disk) {
         Ok(journal) => journal,
@@ -88,6 +90,7 @@ pub fn replay_box<B: LineBox, K: Source, S: Source, O: Sink, L: Sink, D: SlotDis
     ensures disk { BoxDiskCause (D.faults disk.old) (D.faults disk.new) result }
     ensures sinks { SinkCause (O.faults out.old) (O.faults out.new) (L.faults log.old)
         (L.faults log.new) result }
+    ensures flushes { FlushesAtEnd O.Sink L.Sink out.old out.new log.old log.new result }
 {
     match read_key(key) {
         Ok(key) => replay_keyed::<B, S, O, L, D>(key.as_slice(), dir, rest, input, out, log, disk),

@@ -3,4 +3,5 @@ pub mod Emissions
 pub mod Walks
 pub mod Longer
 pub mod Coming
+pub mod Runs
 pub mod LaidBursts

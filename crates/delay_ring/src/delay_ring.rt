@@ -1,27 +1,64 @@
-ghost use Rattle.std.specs.Prelude.{◌≡◌, ◌<◌, ◌≤◌, length};
+ghost use Rattle.std.specs.Prelude.{◌≡◌, ◌+◌, ◌<◌, ◌≤◌, ◌++◌, length, take, drop};
 
 use yasir_ticks::Tick;
 
 /// How many ticks a ring holds at most.
 pub const MAX_DELAY: usize = 64;
 
+/// How many ticks a ring takes at once at most.
+pub const MAX_RUN: usize = 64;
+
+/// How many places a ring has: what it holds moves on by a place a tick, and is moved back to the
+/// front when no place is left.
+const PLACES: usize = 256;
+
+// The marks of a run: of bytes, and of silent ticks.
+const BYTES: [u8; MAX_RUN] = [1; MAX_RUN];
+
+const SILENCE: [u8; MAX_RUN] = [0; MAX_RUN];
+
+// Writes these over the places from `from` on.
+#[inline]
+fn overwrite(places: &mut [u8], from: usize, with: &[u8])
+    requires { from + length with.now ≤ length places.old }
+    ensures { places.new
+        ≡ take from places.old ++ (with.now ++ drop (from + length with.now) places.old) }
+{
+    places[from..from + with.len()].copy_from_slice(with);
+}
+
+// Moves so many places to the front.
+fn move_to_front(places: &mut [u8], from: usize, count: usize)
+    requires few { count ≤ 64 }
+    requires within { from + count ≤ length places.old }
+    ensures { places.new ≡ take count (drop from places.old) ++ drop count places.old }
+{
+    let mut kept = [0; MAX_DELAY];
+    overwrite(&mut kept, 0, &places[from..from + count]);
+    overwrite(places, 0, &kept[..count]);
+}
+
 /// The last `D` ticks of a line, all silent at first: each tick leaves `D` ticks after it came. It
 /// takes no memory.
 #[derive(Drop)]
 pub struct DelayRing<const D: usize> {
-    ticks: [Tick; MAX_DELAY],
-    // the place of the oldest tick among the first `D`
+    // The ticks stand from the oldest one on: the byte of each, and whether there is one.
+    bytes: [u8; PLACES],
+    marks: [u8; PLACES],
     oldest: usize,
-    ghost some: { oldest < D },
+    ghost some: { 1 ≤ D },
     ghost fits: { D ≤ 64 },
-    ghost room: { length ticks ≡ 64 },
+    ghost within: { oldest + D ≤ 256 },
+    ghost byte_room: { length bytes ≡ 256 },
+    ghost mark_room: { length marks ≡ 256 },
 }
 
 impl<const D: usize> DelayRing<D> {
-    ghost use Rattle.std.specs.Prelude.{◌≡◌, ◌+◌, ◌<◌, ◌≤◌, [], ◌∷◌, ◌++◌, drop, slice_index_or};
-    ghost use Rattle.yasir_ticks.specs.declared.tick.Tick.TheVariants.{Silent};
+    ghost use Rattle.std.specs.Prelude.{◌≡◌, ℕ, ◌+◌, ◌-◌, ◌<◌, ◌≤◌, [], ◌∷◌, ◌++◌, length, map};
+    ghost use Rattle.std.specs.Prelude.{take, drop, slice_index_or};
+    ghost use Rattle.yasir_ticks.specs.declared.tick.Tick.TheVariants.{Silent, Byte};
     ghost use Rattle.yasir_ticks.specs.Ticks.{silent};
-    ghost use Rattle.delay_ring.specs.DelayRing.{ring_ticks};
+    ghost use Rattle.delay_ring.specs.DelayRing.{ring_ticks, marked, marked_ticks, AreAlike};
 
     /// A ring of silent ticks.
     pub fn new() -> DelayRing<D>
@@ -30,9 +67,32 @@ impl<const D: usize> DelayRing<D> {
         ensures { ring_ticks result ≡ silent D }
     {
         DelayRing {
-            ticks: [Tick::Silent; MAX_DELAY],
+            bytes: [0; PLACES],
+            marks: [0; PLACES],
             oldest: 0,
         }
+    }
+
+    // Moves the ticks back to the front, where fewer places than these are left behind them.
+    #[inline]
+    fn make_room(&mut self, count: usize)
+        requires { count ≤ 64 }
+        ensures ticks { ring_ticks self.new ≡ ring_ticks self.old }
+        ensures room { self.new.oldest + D + count ≤ 256 }
+    {
+        if self.oldest + D + count > PLACES {
+            self.move_back();
+        }
+    }
+
+    #[inline(never)]
+    fn move_back(&mut self)
+        ensures ticks { ring_ticks self.new ≡ ring_ticks self.old }
+        ensures first { self.new.oldest ≡ 0 }
+    {
+        move_to_front(&mut self.bytes, self.oldest, D);
+        move_to_front(&mut self.marks, self.oldest, D);
+        self.oldest = 0;
     }
 
     /// Takes the next tick, and answers the one that came `D` turns before.
@@ -41,23 +101,64 @@ impl<const D: usize> DelayRing<D> {
         ensures answer { result ≡ slice_index_or (ring_ticks self.old) 0 Silent }
         ensures ticks { ring_ticks self.new ≡ drop 1 (ring_ticks self.old) ++ t ∷ [] }
     {
-        let place = self.oldest;
-        let leaves = self.ticks[place];
-        self.ticks[place] = t;
-        self.oldest = Self::place_after(place);
+        self.make_room(1);
+        let leaves = self.peek(0);
+        match t {
+            Tick::Byte(byte) => self.put(byte, 1),
+            Tick::Silent => self.put(0, 0),
+        }
         leaves
     }
 
-    // The place that the tick after this one has.
+    // A byte with its mark comes, and the oldest tick leaves.
     #[inline]
-    fn place_after(place: usize) -> usize
-        requires within { place < D }
-        requires fits { D ≤ 64 }
-        ensures within { result < D }
-        ensures round { place + 1 ≡ D → result ≡ 0 }
-        ensures on { (place + 1 ≡ D → ⊥) → result ≡ place + 1 }
+    fn put(&mut self, byte: u8, mark: u8)
+        requires { self.old.oldest + D + 1 ≤ 256 }
+        ensures { ring_ticks self.new ≡ drop 1 (ring_ticks self.old) ++ marked byte mark ∷ [] }
     {
-        if place + 1 == D { 0 } else { place + 1 }
+        let place = self.oldest + D;
+        self.bytes[place] = byte;
+        self.marks[place] = mark;
+        self.oldest += 1;
+    }
+
+    /// Takes these bytes, one a tick, `MAX_RUN` at most.
+    #[inline]
+    pub fn pass_bytes(&mut self, bytes: &[u8])
+        requires { length bytes.now ≤ 64 }
+        ensures { ring_ticks self.new
+            ≡ drop (length bytes.now) (ring_ticks self.old ++ map Byte bytes.now) }
+    {
+        let count = bytes.len();
+        self.make_room(count);
+        let place = self.oldest + D;
+        overwrite(&mut self.bytes, place, bytes);
+        overwrite(&mut self.marks, place, &BYTES[..count]);
+        self.oldest += count;
+    }
+
+    /// Takes so many silent ticks, `MAX_RUN` at most.
+    #[inline]
+    pub fn pass_silence(&mut self, ticks: usize)
+        requires { ticks ≤ 64 }
+        ensures { ring_ticks self.new ≡ drop ticks (ring_ticks self.old ++ silent ticks) }
+    {
+        self.make_room(ticks);
+        let place = self.oldest + D;
+        overwrite(&mut self.marks, place, &SILENCE[..ticks]);
+        self.oldest += ticks;
+    }
+
+    #[inline]
+    fn tick_at(&self, place: usize) -> Tick
+        requires { place < 256 }
+        ensures { result ≡ slice_index_or (marked_ticks self.now.bytes self.now.marks) place Silent }
+    {
+        if self.marks[place] == 0 {
+            Tick::Silent
+        } else {
+            Tick::Byte(self.bytes[place])
+        }
     }
 
     /// The tick that leaves after `i` more turns.
@@ -66,11 +167,70 @@ impl<const D: usize> DelayRing<D> {
         requires { i < D }
         ensures { result ≡ slice_index_or (ring_ticks self.now) i Silent }
     {
-        let place = self.oldest + i;
-        if place < D {
-            self.ticks[place]
+        self.tick_at(self.oldest + i)
+    }
+
+    // How many of the ticks that leave next, of so many, are bytes up to the first silent one.
+    #[inline]
+    fn bytes_in_front(&self, most: usize) -> usize
+        requires { most ≤ D }
+        ensures within { result ≤ most }
+        ensures marks { (k : ℕ) → k < result
+            → (slice_index_or self.now.marks (self.now.oldest + k) 0 ≡ 0 → ⊥) }
+        ensures all { result < most
+            → slice_index_or self.now.marks (self.now.oldest + result) 0 ≡ 0 }
+    {
+        for n in 0..most {
+            if self.marks[self.oldest + n] == 0 {
+                return n;
+            }
+        }
+        most
+    }
+
+    /// The bytes that leave next, of so many ticks, up to the first silent one.
+    #[inline]
+    pub fn front_bytes(&self, most: usize) -> &[u8]
+        requires { most ≤ D }
+        ensures within { length result.now ≤ most }
+        ensures bytes { map Byte result.now ≡ take (length result.now) (ring_ticks self.now) }
+        ensures all { length result.now < most
+            → slice_index_or (ring_ticks self.now) (length result.now) Silent ≡ Silent }
+    {
+        let count = self.bytes_in_front(most);
+        &self.bytes[self.oldest..self.oldest + count]
+    }
+
+    /// How many of the ticks that leave next, of so many, are silent up to the first byte.
+    #[inline]
+    pub fn front_silence(&self, most: usize) -> usize
+        requires { most ≤ D }
+        ensures within { result ≤ most }
+        ensures silent { take result (ring_ticks self.now) ≡ silent result }
+        ensures all { result < most
+            → (slice_index_or (ring_ticks self.now) result Silent ≡ Silent → ⊥) }
+    {
+        for n in 0..most {
+            if self.marks[self.oldest + n] != 0 {
+                return n;
+            }
+        }
+        most
+    }
+
+    /// How many of the ticks that leave next, of so many, are alike: all silent, or all bytes.
+    #[inline]
+    pub fn front_alike(&self, most: usize) -> usize
+        requires { most ≤ D }
+        ensures within { result ≤ most }
+        ensures alike { AreAlike (take result (ring_ticks self.now)) }
+        ensures some { 0 < most → 0 < result }
+    {
+        let silence = self.front_silence(most);
+        if silence > 0 {
+            silence
         } else {
-            self.ticks[place - D]
+            self.front_bytes(most).len()
         }
     }
 
@@ -79,6 +239,6 @@ impl<const D: usize> DelayRing<D> {
     pub fn clear(&mut self)
         ensures { ring_ticks self.new ≡ silent D }
     {
-        self.ticks = [Tick::Silent; MAX_DELAY];
+        overwrite(&mut self.marks, self.oldest, &SILENCE[..D]);
     }
 }

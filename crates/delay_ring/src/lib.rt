@@ -5,4 +5,4 @@ mod delay_ring;
 #[cfg(test)]
 mod tests;
 
-pub use delay_ring::{DelayRing, MAX_DELAY};
+pub use delay_ring::{DelayRing, MAX_DELAY, MAX_RUN};

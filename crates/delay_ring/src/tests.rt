@@ -30,3 +30,57 @@ fn the_longest_and_the_shortest_delay(rt: HostRuntime) {
     }
     assert_eq!(rt; ring.turn(Tick::Silent), Tick::Byte(7));
 }
+
+// Whether a ring that takes runs of these lengths, of bytes and of silence in turn, holds and lets
+// out what one does that takes them tick by tick.
+fn takes_runs_as_ticks<const D: usize>(lengths: &[usize]) -> bool {
+    if D == 0 || D > MAX_DELAY {
+        return false;
+    }
+    let bytes = [7u8; MAX_RUN];
+    let mut by_runs = DelayRing::<D>::new();
+    let mut by_ticks = DelayRing::<D>::new();
+    let mut silent = false;
+    for length in lengths {
+        let count = *length % (MAX_RUN + 1);
+        let run = &bytes[..count];
+        if silent {
+            by_runs.pass_silence(count);
+        } else {
+            by_runs.pass_bytes(run);
+        }
+        for byte in run {
+            by_ticks.turn(if silent {
+                Tick::Silent
+            } else {
+                Tick::Byte(*byte)
+            });
+        }
+        for place in 0..D {
+            if by_runs.peek(place) != by_ticks.peek(place) {
+                return false;
+            }
+        }
+        let front = by_ticks.front_bytes(D).len();
+        if by_runs.front_bytes(D).len() != front
+            || by_runs.front_silence(D) != by_ticks.front_silence(D)
+        {
+            return false;
+        }
+        silent = !silent;
+    }
+    true
+}
+
+#[test]
+fn runs_are_as_their_ticks(rt: HostRuntime) {
+    let lengths = [
+        1, 1, 2, 3, 5, 17, 18, 19, 31, 32, 33, 63, 64, 0, 64, 64, 64, 64, 1, 40, 64, 7, 64, 64, 2,
+        64, 64, 64,
+    ];
+    assert!(rt; takes_runs_as_ticks::<1>(&lengths));
+    assert!(rt; takes_runs_as_ticks::<3>(&lengths));
+    assert!(rt; takes_runs_as_ticks::<18>(&lengths));
+    assert!(rt; takes_runs_as_ticks::<63>(&lengths));
+    assert!(rt; takes_runs_as_ticks::<64>(&lengths));
+}

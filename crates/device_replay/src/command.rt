@@ -1,10 +1,12 @@
 ghost use Rattle.std.specs.Prelude.{◌≡◌, [], ℕ};
+ghost use Rattle.yasir_io.specs.Flushed.{NoneFlushed};
 ghost use Rattle.yasir_io.specs.TextBuffer.{waiting_bytes};
 ghost use Rattle.tick_drive.specs.Input.{IsReadCause, is_read_fault};
 ghost use Rattle.tick_drive.specs.Consumers.{IsSinkCause, is_write_fault};
 ghost use Rattle.tick_drive.specs.Drive.{answer_of};
 ghost use Rattle.device_replay.specs.PrintsFrames.{DrivesFrames, PrintsFrames};
 ghost use Rattle.replay_status.specs.Causes.{InputCause, SinkCause};
+ghost use Rattle.replay_status.specs.Flushes.{FlushesAtEnd};
 
 use crate::frame_lines::FrameLines;
 use device_model::Device;
@@ -32,6 +34,7 @@ fn drive_frames<V: Device + Drop, S: Source, O: Sink, L: Sink>(
     ensures read { IsReadCause (S.faults input.old) (S.faults input.new) (is_read_fault result) }
     ensures sinks { IsSinkCause (O.faults out.old) (O.faults out.new)
         (L.faults log.old) (L.faults log.new) (is_write_fault (answer_of result)) }
+    ensures flushes { NoneFlushed O.Sink L.Sink out.old out.new log.old log.new }
 {
     let mut no_disk = SteadySlots::new([0; 16], [0; 16]);
     drive_to_rest(0, REST, input, printer, out, log, &mut no_disk)
@@ -49,6 +52,7 @@ pub fn read_frames<V: Device + Drop, S: Source, O: Sink, L: Sink>(
     ensures input { InputCause (S.faults input.old) (S.faults input.new) result }
     ensures sinks { SinkCause (O.faults out.old) (O.faults out.new)
         (L.faults log.old) (L.faults log.new) result }
+    ensures flushes { FlushesAtEnd O.Sink L.Sink out.old out.new log.old log.new result }
 {
     let mut printer = FrameLines::<V>::new();
     let end = drive_frames(&mut printer, input, out, log);

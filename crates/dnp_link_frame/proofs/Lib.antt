@@ -1,7 +1,8 @@
 pub mod Residue
-pub mod Table
 pub mod HeaderLaws
 pub mod DnpLaws
+pub mod DnpRuns
+pub mod Tables
 pub mod Rows
 pub mod Parts
 pub mod BlockParts

@@ -57,7 +57,7 @@ register_of-two x low high first second =
     ∙ (ap (λ b. byte_step 0xA6BC (byte_step 0xA6BC (register_of x) b) high) (back low first)
     ∙ (ap (λ b. byte_step 0xA6BC (byte_step 0xA6BC (register_of x) (bit_xor (0xFF - low) 0xFF)) b)
     (back high second)
-    ∙ (byte_steps-turned 0xA6BC (lit≤ tt) (lit< tt) (register_of x) (0xFF - low) (0xFF - high)
+    ∙ (byte_steps-turned 0xA6BC (register_of x) (0xFF - low) (0xFF - high)
     0xFF 0xFF
     ∙ (ap (bit_xor (byte_step 0xA6BC (byte_step 0xA6BC (register_of x) (0xFF - low))
     (0xFF - high))) complement_adds

@@ -14,7 +14,11 @@ residue = 0x66C5
 abbrev pub begins_block : ℕ → Bool
 begins_block n = nat_le 10 n && (n - 10) % 18 == 0
 
--- the register of the block that the byte belongs to
+-- the register before the byte of the block that the byte belongs to
+abbrev pub register_before : ℕ → ℕ → ℕ
+register_before n register = if begins_block n then 0 else register
+
+-- the register of that block
 abbrev pub register_after : ℕ → ℕ → ℕ → ℕ
 register_after n register byte =
     if begins_block n then byte_step 0xA6BC 0 byte else byte_step 0xA6BC register byte

@@ -1,8 +1,10 @@
 use crate::crc::FIRST_REGISTER;
-use crate::size::{LONGEST, room_by, size_by};
+use crate::size::{HEADER_LEN, LONGEST, room_by, size_by};
 use crate::steps::{
-    blocks_after, ends_right, head_by, header_after, is_whole, len_byte_after, register_after,
+    blocks_after, ends_right, head_by, header_after, is_whole, left_in_block, len_byte_after,
+    register_after, register_before,
 };
+use crate::table::after_bytes;
 use line_rules::{Head, LineRules};
 
 /// The bytes of a burst so far, as the rules of the DNP3 link layer see them: how many there are,
@@ -19,6 +21,54 @@ pub struct Dnp {
     header_right: bool,
     // each finished block of user data is right
     blocks_right: bool,
+}
+
+impl Dnp {
+    ghost use Rattle.std.specs.Prelude.{◌≡◌, ℕ, ◌+◌, ◌-◌, ◌%◌, ◌<◌, ◌≤◌, false, List, ◌++◌};
+    ghost use Rattle.std.specs.Prelude.{length, take};
+    ghost use Rattle.line_rules.specs.Rules.{fills_room};
+    ghost use Rattle.dnp_link_frame.specs.Blocks.{room_by};
+    ghost use Rattle.dnp_link_frame.specs.Rules.{dnp_rules};
+    ghost use Rattle.dnp_link_frame.specs.Dnp.{DnpStandsFor, is_full_dnp};
+
+    // Appends bytes behind the header that all belong to one block.
+    #[inline]
+    fn take_in_block(&mut self, run: &[u8])
+        requires behind { 10 ≤ self.old.len }
+        requires some { 0 < length run.now }
+        requires block { (self.old.len - 10) % 18 + length run.now ≤ 18 }
+        requires room { self.old.len + length run.now ≤ room_by self.old.len_byte }
+        ensures { (x : List ℕ) → DnpStandsFor self.old x → DnpStandsFor self.new (x ++ run.now) }
+    {
+        self.blocks_right = blocks_after(self.len, self.blocks_right, self.register);
+        self.register = after_bytes(register_before(self.len, self.register), run);
+        self.len += run.len() as u16;
+    }
+
+    // Appends the next byte of a header, or of what is behind it as many bytes as belong to one
+    // block and have room; says how many.
+    #[inline]
+    fn take_next(&mut self, rest: &[u8]) -> usize
+        requires room { is_full_dnp self.old ≡ false }
+        requires some { 0 < length rest.now }
+        ensures some { 0 < result }
+        ensures within { result ≤ length rest.now }
+        ensures stands { (x : List ℕ) → DnpStandsFor self.old x
+            → DnpStandsFor self.new (x ++ take result rest.now) }
+        ensures room { (x : List ℕ) (n : ℕ) → DnpStandsFor self.old x → n < result
+            → fills_room dnp_rules (x ++ take n rest.now) ≡ false }
+    {
+        if self.len < HEADER_LEN {
+            self.take(rest[0]);
+            return 1;
+        }
+        let room = room_by(self.len_byte) - self.len;
+        let run = rest
+            .len()
+            .min(usize::from(room.min(left_in_block(self.len))));
+        self.take_in_block(&rest[..run]);
+        run
+    }
 }
 
 impl LineRules for Dnp {
@@ -94,6 +144,17 @@ impl LineRules for Dnp {
         self.header_right = header_after(self.len, self.header_right, self.register, b);
         self.len_byte = len_byte_after(self.len, self.len_byte, b);
         self.len += 1;
+    }
+
+    fn take_some(&mut self, part: &[u8]) -> usize {
+        let mut taken = 0;
+        while taken < part.len() {
+            if self.full() {
+                return taken;
+            }
+            taken += self.take_next(&part[taken..]);
+        }
+        taken
     }
 
     #[inline]

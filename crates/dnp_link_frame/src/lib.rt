@@ -9,6 +9,7 @@ pub mod laws;
 mod parsing;
 mod size;
 mod steps;
+mod table;
 
 pub use building::{DnpBytes, TooMuchData, build};
 pub use crc::dnp_crc;

@@ -1,11 +1,12 @@
 //! What one more byte does to what is kept of the bytes so far.
-ghost use Rattle.std.specs.Prelude.{◌≡◌, ◌&&◌};
-ghost use Rattle.dnp_link_frame.specs.Steps.{begins_block, register_after, fits_header};
-ghost use Rattle.dnp_link_frame.specs.Steps.{head_by};
+ghost use Rattle.std.specs.Prelude.{◌≡◌, ◌+◌, ◌-◌, ◌%◌, ◌≤◌, ◌&&◌};
+ghost use Rattle.dnp_link_frame.specs.Steps.{begins_block, register_before, register_after};
+ghost use Rattle.dnp_link_frame.specs.Steps.{fits_header, head_by};
 ghost use Rattle.dnp_link_frame.specs.Steps.{blocks_after, len_byte_after, is_whole, ends_right};
 
-use crate::crc::{FIRST_REGISTER, RESIDUE, after_byte};
+use crate::crc::{FIRST_REGISTER, RESIDUE};
 use crate::size::{BLOCK_DATA_LEN, COUNTED_OF_HEADER, CRC_LEN, HEADER_LEN, size_by};
+use crate::table::after_byte;
 use line_rules::Head;
 
 // The two bytes that a frame begins with.
@@ -21,14 +22,32 @@ fn begins_block(len: u16) -> bool
     len >= HEADER_LEN && (len - HEADER_LEN) % BLOCK_LEN == 0
 }
 
+// How many bytes more, after so many of a frame whose header is whole, belong to one block.
+#[inline]
+pub(crate) fn left_in_block(len: u16) -> u16
+    requires { 10 ≤ len }
+    ensures { result + (len - 10) % 18 ≡ 18 }
+{
+    BLOCK_LEN - (len - HEADER_LEN) % BLOCK_LEN
+}
+
+// The register that the block of the next byte begins with, where it begins with that byte, or has
+// come to.
+#[inline]
+pub(crate) fn register_before(len: u16, register: u16) -> u16
+    ensures { result ≡ register_before len register }
+{
+    if begins_block(len) {
+        return FIRST_REGISTER;
+    }
+    register
+}
+
 #[inline]
 pub(crate) fn register_after(len: u16, register: u16, byte: u8) -> u16
     ensures { result ≡ register_after len register byte }
 {
-    if begins_block(len) {
-        return after_byte(FIRST_REGISTER, byte);
-    }
-    after_byte(register, byte)
+    after_byte(register_before(len, register), byte)
 }
 
 // Whether a header may have this byte after so many; the register is the one that it leaves.

@@ -14,40 +14,35 @@ use Rattle.frame_ending.specs.declared.cut.Cut.TheVariants.{Quiet}
 use Rattle.frame_ending.specs.LiveBytes.{before_pause, has_pause, up_to_byte}
 use Rattle.frame_ending.specs.SoFar.{last_of, start_so_far, last_live_so_far, live_bytes_so_far}
 use Rattle.frame_ending.specs.SoFar.{has_extra_so_far, is_over_so_far}
-use Rattle.frame_ending.specs.Cuts.{cut_of}
+use Rattle.frame_ending.specs.Cuts.{cuts_after}
 
 -- room for so many bytes, and no frames
 abbrev with_room : ℕ → Rules
 with_room n = headerless 1 n (λ x. false) (λ x. false)
 
--- what these ticks are, after those before
-pub cuts_after : Rules → List Tick → List Tick → List Cut
-cuts_after rules before [] = []
-cuts_after rules before (t ∷ l) = cut_of rules before t ∷ cuts_after rules (before ++ t ∷ []) l
-
 pub apart : cuts_after (with_room 256) []
     (Silent ∷ Byte 1 ∷ Silent ∷ Byte 3 ∷ Silent ∷ Byte 64 ∷ [])
     ≡ Quiet ∷ Start 1 ∷ Pause 1 ∷ Live 3 ∷ Pause 1 ∷ Live 64 ∷ []
-unfolding cuts_after with_byte bursts_from before_pause has_pause up_to_byte last_of
+unfolding with_byte bursts_from before_pause has_pause up_to_byte last_of
 apart = refl
 
 pub parted : cuts_after (with_room 256) []
     (Byte 1 ∷ Byte 3 ∷ Silent ∷ Silent ∷ Byte 64 ∷ Byte 33 ∷ silent 5)
     ≡ Start 1 ∷ Live 3 ∷ Pause 1 ∷ Pause 2 ∷ Extra 64 ∷ Extra 33 ∷ Pause 1 ∷ Pause 2 ∷ Pause 3
     ∷ Closed ∷ Quiet ∷ []
-unfolding cuts_after with_byte bursts_from before_pause has_pause up_to_byte last_of
+unfolding with_byte bursts_from before_pause has_pause up_to_byte last_of
 parted = refl
 
 pub three_and_four : cuts_after (with_room 256) []
     (Byte 1 ∷ Silent ∷ Silent ∷ Silent ∷ Byte 2 ∷ silent 4 ++ Byte 3 ∷ [])
     ≡ Start 1 ∷ Pause 1 ∷ Pause 2 ∷ Pause 3 ∷ Extra 2 ∷ Pause 1 ∷ Pause 2 ∷ Pause 3 ∷ Closed
     ∷ Start 3 ∷ []
-unfolding cuts_after with_byte bursts_from before_pause has_pause up_to_byte last_of
+unfolding with_byte bursts_from before_pause has_pause up_to_byte last_of
 three_and_four = refl
 
 pub no_room : cuts_after (with_room 2) [] (Byte 1 ∷ Byte 2 ∷ Byte 3 ∷ [])
     ≡ Start 1 ∷ Live 2 ∷ Extra 3 ∷ []
-unfolding cuts_after with_byte bursts_from before_pause has_pause up_to_byte last_of
+unfolding with_byte bursts_from before_pause has_pause up_to_byte last_of
 no_room = refl
 
 -- a burst that two silent ticks part, at its end and before them

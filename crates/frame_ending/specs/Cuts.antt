@@ -38,6 +38,11 @@ abbrev pub cut_of : Rules → List Tick → Tick → Cut
 cut_of rules line (Byte b) = byte_cut rules (length line) b (last_burst (line ++ Byte b ∷ []))
 cut_of rules line Silent = silent_cut (length line) (last_burst line)
 
+-- what each of these ticks is, which come after this line
+abbrev pub cuts_after : Rules → List Tick → List Tick → List Cut
+cuts_after rules line [] = []
+cuts_after rules line (t ∷ more) = cut_of rules line t ∷ cuts_after rules (line ++ t ∷ []) more
+
 -- a tick that is neither a live byte nor closes a burst
 abbrev pub IsPassing : Cut → Type 0
 IsPassing (Start b) = ⊥

@@ -1,4 +1,5 @@
-ghost use Rattle.std.specs.Prelude.{◌<◌, length};
+ghost use Rattle.std.specs.Prelude.{◌≡◌, ◌+◌, ◌<◌, ◌≤◌, length};
+ghost use Rattle.frame_ending.specs.Stands.{ticks_taken};
 
 use super::*;
 use line_rules::{FourBytes, LineRules};
@@ -233,5 +234,76 @@ fn a_byte_more_than_there_is_room_for(rt: HostRuntime) -> Result<(), Fail> {
             over: true
         }
     );
+    Ok(())
+}
+
+// Takes the same tick so many times, a step each.
+fn step_times(cut: &mut BurstCut<FourBytes>, tick: Tick, times: usize)
+    requires { ticks_taken cut.old + times ≤ 1000 }
+    ensures { ticks_taken cut.new ≡ ticks_taken cut.old + times }
+{
+    for taken in 0..times {
+        cut.step(tick);
+    }
+}
+
+const BYTE: u8 = 0x41;
+
+// A value that has taken so many bytes and then so many silent ticks.
+fn begun(bytes: usize, silence: usize) -> BurstCut<FourBytes>
+    requires { bytes + silence ≤ 500 }
+    ensures { ticks_taken result ≡ bytes + silence }
+{
+    let mut cut = BurstCut::new();
+    step_times(&mut cut, Tick::Byte(BYTE), bytes);
+    step_times(&mut cut, Tick::Silent, silence);
+    cut
+}
+
+// Takes so many bytes as runs, as far as each is live, and the others by steps.
+fn take_by_runs(cut: &mut BurstCut<FourBytes>, len: usize)
+    requires length { len ≤ 200 }
+    requires room { ticks_taken cut.old + len ≤ 1000 }
+    ensures { ticks_taken cut.new ≡ ticks_taken cut.old + len }
+{
+    let bytes = [BYTE; 200];
+    let live = cut.go_on_some(&bytes[..len]);
+    step_times(cut, Tick::Byte(BYTE), len - live);
+}
+
+// What a run of bytes leads to, cut in two at any place, is what its single bytes lead to: in a
+// burst, after each length of silence, and where the room ends inside the run.
+#[test]
+fn runs_of_bytes_are_their_bytes(rt: HostRuntime) -> Result<(), Fail> {
+    for (before, silence) in [(0, 0), (1, 0), (1, 1), (1, 2), (1, 3), (1, 4), (120, 0)] {
+        for len in 0..201 {
+            let mut steps = begun(before, silence);
+            step_times(&mut steps, Tick::Byte(BYTE), len);
+            let told = burst_told(&steps);
+            for at in 0..len + 1 {
+                let mut runs = begun(before, silence);
+                take_by_runs(&mut runs, at);
+                take_by_runs(&mut runs, len - at);
+                let same = burst_told(&runs) == told;
+                assert_eq!(rt; same, true, "{len} bytes cut at {at}");
+            }
+        }
+    }
+    Ok(())
+}
+
+// A run of silence is taken where no burst runs, and nowhere else.
+#[test]
+fn runs_of_silence_are_silent_ticks(rt: HostRuntime) -> Result<(), Fail> {
+    for ticks in 0..200u32 {
+        for (silence, taken) in [(3, 0), (4, ticks), (9, ticks)] {
+            let mut cut = begun(2, silence);
+            let start = cut.ticks();
+            let told = burst_told(&cut);
+            assert_eq!(rt; cut.rest(ticks), taken);
+            assert_eq!(rt; cut.ticks(), start + u64::from(taken));
+            assert_eq!(rt; burst_told(&cut), told);
+        }
+    }
     Ok(())
 }

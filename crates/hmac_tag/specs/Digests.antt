@@ -1,17 +1,23 @@
 -- The lengths of digests and tags, and that they are bytes.
-use Rattle.std.specs.Prelude.{◌≡◌, ℕ, zero, suc, ◌<◌, ◌≤◌, List, length, All, refl}
+use Rattle.std.specs.Prelude.{◌≡◌, ℕ, zero, suc, ◌<◌, ◌≤◌, List, [], ◌++◌, length, All, refl}
+use Rattle.std.specs.Prelude.{slice_index}
 use Rattle.std.specs.Int.{byte_at, bytes_high_first}
-use Rattle.std.proofs.Common.{arith, inl}
+use Rattle.std.proofs.Common.{arith, inl, inr}
 use Rattle.std.proofs.lemmas.List.{length-take-le}
 use Rattle.std.proofs.lemmas.List.Elements.{All-nil, All-cons, All-append, All-take}
 use Rattle.hmac_tag.specs.Hmac.{hmac}
 use Rattle.hmac_tag.specs.Tag.{IsTagSize, hmac_cut}
 use Rattle.sha1.specs.Sha1.{digest_bytes, sha1}
+use Rattle.sha2.specs.Sha256.{digest_bytes as digest_bytes_256, sha256}
 
--- a digest of SHA-1 has 20 bytes
+-- a digest of SHA-1 has 20 bytes, one of SHA-256 has 32
 pub length-sha1 : (message : List ℕ) → length (sha1 message) ≡ 20
 unfolding digest_bytes sha1
 length-sha1 message = refl
+
+pub length-sha256 : (message : List ℕ) → length (sha256 message) ≡ 32
+unfolding digest_bytes_256 sha256
+length-sha256 message = refl
 
 byte_at-lt : (i n : ℕ) → byte_at i n < 256
 byte_at-lt zero n = omega arith
@@ -22,26 +28,50 @@ All-bytes_high_first zero n = All-nil _
 All-bytes_high_first (suc k) n = All-cons (λ b. b < 256) (byte_at k n) _ (byte_at-lt k n)
     (All-bytes_high_first k n)
 
-All-digest_bytes : (hash : List ℕ) (k : ℕ) → All (λ b. b < 256) (digest_bytes hash k)
+-- words of four bytes, written one after the other, are bytes
+All-words : (written : ℕ → List ℕ) (word : ℕ → ℕ) → written zero ≡ []
+    → ((k : ℕ) → written (suc k) ≡ written k ++ bytes_high_first 4 (word k))
+    → (k : ℕ) → All (λ b. b < 256) (written k)
+All-words written word none more zero = rw none (All-nil _)
+All-words written word none more (suc k) = rw (more k)
+    (All-append (λ b. b < 256) (written k) _ (All-words written word none more k)
+    (All-bytes_high_first 4 (word k)))
+
+All-digest_bytes : (value : List ℕ) (k : ℕ) → All (λ b. b < 256) (digest_bytes value k)
 unfolding digest_bytes
-All-digest_bytes hash zero = All-nil _
-All-digest_bytes hash (suc k) = All-append (λ b. b < 256) (digest_bytes hash k)
-    _ (All-digest_bytes hash k) (All-bytes_high_first 4 _)
+All-digest_bytes value = All-words (digest_bytes value) (slice_index value) refl (λ k. refl)
+
+All-digest_bytes_256 : (value : List ℕ) (k : ℕ) → All (λ b. b < 256) (digest_bytes_256 value k)
+unfolding digest_bytes_256
+All-digest_bytes_256 value = All-words (digest_bytes_256 value) (slice_index value) refl (λ k. refl)
 
 -- the bytes of a digest are bytes
 pub All-sha1 : (message : List ℕ) → All (λ b. b < 256) (sha1 message)
 unfolding sha1
 All-sha1 message = All-digest_bytes _ 5
 
--- it fits a block, and a tag has no more bytes
+pub All-sha256 : (message : List ℕ) → All (λ b. b < 256) (sha256 message)
+unfolding sha256
+All-sha256 message = All-digest_bytes_256 _ 8
+
+-- a digest fits a block, and a tag has no more bytes
 pub sha1-fits_block : 20 ≤ 64
 sha1-fits_block = omega arith
+
+pub sha256-fits_block : 32 ≤ 64
+sha256-fits_block = omega arith
 
 pub sha1-tag_size : IsTagSize 12
 sha1-tag_size = inl refl
 
+pub sha256-tag_size : IsTagSize 16
+sha256-tag_size = inr refl
+
 pub sha1-tag_within : 12 ≤ 20
 sha1-tag_within = omega arith
+
+pub sha256-tag_within : 16 ≤ 32
+sha256-tag_within = omega arith
 
 module _ (hash : List ℕ → List ℕ) where
   -- a tag has its size, where digests have as many bytes

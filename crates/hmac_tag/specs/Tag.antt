@@ -2,6 +2,7 @@
 use Rattle.std.specs.Prelude.{◌≡◌, ◌⊎◌, ℕ, List, ◌∷◌, ◌++◌, take}
 use Rattle.std.specs.Int.{w64, to_be_bytes}
 use Rattle.sha1.specs.Sha1.{sha1}
+use Rattle.sha2.specs.Sha256.{sha256}
 use Rattle.hmac_tag.specs.Hmac.{hmac}
 use Rattle.hmac_tag.specs.declared.dir.Dir.{Dir}
 use Rattle.hmac_tag.specs.declared.dir.Dir.TheVariants.{Ab, Ba}
@@ -20,6 +21,13 @@ hmac_sha1 = hmac sha1
 
 abbrev pub hmac_sha1_96 : List ℕ → List ℕ → List ℕ
 hmac_sha1_96 = hmac_cut sha1 12
+
+-- HMAC over SHA-256, and its first 16 bytes (RFC 4868)
+abbrev pub hmac_sha256 : List ℕ → List ℕ → List ℕ
+hmac_sha256 = hmac sha256
+
+abbrev pub hmac_sha256_128 : List ℕ → List ℕ → List ℕ
+hmac_sha256_128 = hmac_cut sha256 16
 
 -- the number of a direction
 abbrev pub direction_number : Dir → ℕ

@@ -8,6 +8,7 @@ ghost use Rattle.hmac_tag.specs.Tag.{hmac_cut};
 use crate::{Digest, Mac, TagBytes};
 use arrayvec::ArrayVec;
 use sha1::Sha1;
+use sha2::Sha256;
 use std::mem;
 
 const BLOCK_LEN: usize = 64;
@@ -29,6 +30,9 @@ pub struct Hmac<D, const N: usize> {
 
 /// HMAC over SHA-1, whose tags are its first 12 bytes (RFC 2404).
 pub type HmacSha1 = Hmac<Sha1, 20>;
+
+/// HMAC over SHA-256, whose tags are its first 16 bytes (RFC 4868).
+pub type HmacSha256 = Hmac<Sha256, 32>;
 
 // A key of at most a block, filled with zeros.
 fn filled(key: &[u8]) -> [u8; BLOCK_LEN]

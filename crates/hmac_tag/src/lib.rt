@@ -1,4 +1,4 @@
-//! HMAC (RFC 2104) as a stream over one key, and the tags that are its first bytes (RFC 2404).
+//! HMAC (RFC 2104) as a stream over one key, and the tags that are its first bytes (RFC 2404, RFC 4868).
 #![tactic(auto)]
 
 mod dir;
@@ -10,5 +10,5 @@ mod tests;
 
 pub use dir::Dir;
 pub use hash::Digest;
-pub use keyed_hash::{Hmac, HmacSha1};
+pub use keyed_hash::{Hmac, HmacSha1, HmacSha256};
 pub use tag::{Mac, TagBytes};

@@ -1,4 +1,4 @@
-use crate::{Dir, HmacSha1, Mac, TagBytes};
+use crate::{Dir, HmacSha1, HmacSha256, Mac, TagBytes};
 
 // HMAC-SHA-1 by Python's `hmac`: of the text whose byte i is 5 i + 1 (modulo 256), whole with 150
 // bytes and empty, under the first bytes of the key whose byte i is 7 i + 3.
@@ -49,6 +49,28 @@ const CODES: [(usize, [u8; 20], [u8; 20]); 4] = [
     ),
 ];
 
+// HMAC-SHA-256: the first two test cases of RFC 4231.
+const CODES_256: [(&[u8], &[u8], [u8; 32]); 2] = [
+    (
+        &[0x0b; 20],
+        b"Hi There",
+        [
+            0xb0, 0x34, 0x4c, 0x61, 0xd8, 0xdb, 0x38, 0x53, 0x5c, 0xa8, 0xaf, 0xce, 0xaf, 0x0b,
+            0xf1, 0x2b, 0x88, 0x1d, 0xc2, 0x00, 0xc9, 0x83, 0x3d, 0xa7, 0x26, 0xe9, 0x37, 0x6c,
+            0x2e, 0x32, 0xcf, 0xf7,
+        ],
+    ),
+    (
+        b"Jefe",
+        b"what do ya want for nothing?",
+        [
+            0x5b, 0xdc, 0xc1, 0x46, 0xbf, 0x60, 0x75, 0x4e, 0x6a, 0x04, 0x24, 0x26, 0x08, 0x95,
+            0x75, 0xc7, 0x5a, 0x00, 0x3f, 0x08, 0x9d, 0x27, 0x39, 0x83, 0x9d, 0xec, 0x58, 0xb9,
+            0x64, 0xec, 0x38, 0x43,
+        ],
+    ),
+];
+
 fn bytes<const N: usize>(step: u8, first: u8) -> [u8; N] {
     let mut bytes = [first; N];
     let mut next = first;
@@ -94,6 +116,18 @@ fn texts_cut_at_every_place(rt: HostRuntime) {
             &empty[..12],
             "a key of {len} bytes, no text"
         );
+    }
+}
+
+#[test]
+fn codes_and_tags_of_sha_256(rt: HostRuntime) {
+    for (key, text, whole) in &CODES_256 {
+        assert_eq!(rt; HmacSha256::digest(key, text), *whole);
+        let mut mac = HmacSha256::with_key(key);
+        for cut in 0..text.len() + 1 {
+            let tag = tag_of_parts(&mut mac, &text[..cut], &text[cut..]);
+            assert_eq!(rt; tag.as_slice(), &whole[..16], "cut at {cut}");
+        }
     }
 }
 

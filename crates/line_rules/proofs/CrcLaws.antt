@@ -1,14 +1,17 @@
 -- The register, one step at a time.
+use Rattle.std.proofs.Common.{◌*◌, ◌++◌, take}
+use Rattle.std.proofs.lemmas.List.{take-append-drop}
 use Rattle.std.proofs.Common.{◌≡◌, ℕ, zero, suc, ◌+◌, ◌-◌, ◌/◌, ◌%◌, ◌^◌, ◌<◌, ◌≤◌, ◌∷◌, List, []}
 use Rattle.std.proofs.Common.{length, get_or, drop, refl, arith, sym, ◌∙◌, ap, bit_and, nat_eq}
 use Rattle.std.proofs.Common.{add-one}
 use Rattle.std.specs.Prelude.{bit_xor}
 use Rattle.std.specs.Int.Bits.{and_zero_r, xor_zero_r}
-use Rattle.std.proofs.Math.Nat.{mod-eq_of_lt}
+use Rattle.std.proofs.Math.Nat.{mod-eq_of_lt, pow-succ', mul_assoc}
 use Rattle.std.proofs.Math.ListN.{drop_of_length-le}
 use Rattle.std.proofs.Math.Seq.{drop-cons}
 use Rattle.std.proofs.lemmas.Nat.{and_mask}
-use Rattle.std.proofs.lemmas.Bool.{cond_both, eqb-true, eqb-false}
+use Rattle.std.proofs.lemmas.Bool.{cond_both, cond-true, cond-false, eqb-true, eqb-false}
+use Rattle.std.proofs.lemmas.Bool.{eq-eqb, ne_eqb}
 use Rattle.line_rules.specs.Crc.{bit_step, bit_steps, byte_step, crc}
 
 -- A bit step without a branch: the mask is all ones where the lowest bit is 1, and else 0.
@@ -81,3 +84,53 @@ pub bit_steps-done : (p k n r : ℕ) → k ≤ n → bit_steps p (k - n) r ≡ r
 bit_steps-done p k n r done =
     let none : k - n ≡ 0 = omega arith in
     ap (λ i. bit_steps p i r) none ∙ bit_steps-zero p r
+
+-- ---- a step by its lowest bit, and steps that shift alone
+
+pub bit_step-even : (p r : ℕ) → r % 2 ≡ 0 → bit_step p r ≡ r / 2
+unfolding bit_step
+bit_step-even p r even =
+    cond-false (nat_eq (r % 2) 1) _ _ (ne_eqb (r % 2) 1 (λ odd. omega arith))
+
+pub bit_step-odd : (p r : ℕ) → r % 2 ≡ 1 → bit_step p r ≡ bit_xor (r / 2) p
+unfolding bit_step
+bit_step-odd p r odd = cond-true (nat_eq (r % 2) 1) _ _ (eq-eqb (r % 2) 1 odd)
+
+pub bit_steps-shift : (p n v : ℕ) → bit_steps p n (2 ^ n * v) ≡ v
+unfolding bit_steps
+bit_steps-shift p zero v = omega arith
+bit_steps-shift p (suc n) v =
+    let e : 2 ^ suc n * v ≡ 2 * (2 ^ n * v) =
+    ap (λ x. x * v) (pow-succ' 2 n) ∙ mul_assoc 2 (2 ^ n) v in
+    let even : 2 * (2 ^ n * v) % 2 ≡ 0 = omega arith in
+    let half : 2 * (2 ^ n * v) / 2 ≡ 2 ^ n * v = omega arith in
+    ap (λ x. bit_steps p n (bit_step p x)) e
+    ∙ (ap (λ x. bit_steps p n x) (bit_step-even p (2 * (2 ^ n * v)) even ∙ half)
+    ∙ bit_steps-shift p n v)
+
+-- some steps, and then others
+pub bit_steps-add : (p m n r : ℕ) → bit_steps p (m + n) r ≡ bit_steps p n (bit_steps p m r)
+unfolding bit_steps
+bit_steps-add p zero n r = let e : zero + n ≡ n = omega arith in rw e refl
+bit_steps-add p (suc m) n r =
+    let e : suc m + n ≡ suc (m + n) = omega arith in
+    ap (λ k. bit_steps p k r) e ∙ bit_steps-add p m n (bit_step p r)
+
+-- ---- bytes in parts
+
+pub crc-one : (p r b : ℕ) → crc p r (b ∷ []) ≡ byte_step p r b
+crc-one p r b = crc-cons p r b [] ∙ crc-nil p (byte_step p r b)
+
+pub crc-parts : (p r : ℕ) (x y : List ℕ) → crc p r (x ++ y) ≡ crc p (crc p r x) y
+unfolding crc
+crc-parts p r [] y = refl
+crc-parts p r (b ∷ x) y = crc-parts p (byte_step p r b) x y
+
+-- the register that all bytes leave, where that of those from some place on is the same
+pub crc-later : (p r next all n : ℕ) (x front rest : List ℕ) → front ≡ take n x → rest ≡ drop n x
+    → next ≡ crc p r front → crc p r x ≡ all → crc p next rest ≡ all
+crc-later p r next all n x front rest front_is rest_is taken so_far =
+    ap (λ s. crc p s rest) (taken ∙ ap (crc p r) front_is)
+    ∙ (ap (crc p (crc p r (take n x))) rest_is
+    ∙ (sym (crc-parts p r (take n x) (drop n x))
+    ∙ (ap (crc p r) (take-append-drop n x) ∙ so_far)))

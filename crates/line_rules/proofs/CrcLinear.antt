@@ -7,8 +7,8 @@ use Rattle.std.proofs.Math.Nat.{mod-eq_of_lt}
 use Rattle.std.proofs.lemmas.Nat.{xor_shr, xor_mod, xor_comm}
 use Rattle.std.proofs.lemmas.Bool.{cases_eq, and_parts, eqb-true}
 use Rattle.line_rules.specs.Crc.{bit_step, bit_steps, byte_step}
-use Rattle.line_rules.proofs.CrcLaws.{byte_step_lem}
-use Rattle.line_rules.proofs.CrcZero.{bit_step-even, bit_step-odd, bit_steps-shift}
+use Rattle.line_rules.proofs.CrcLaws.{byte_step_lem, bit_step-even, bit_step-odd}
+use Rattle.line_rules.proofs.CrcLaws.{bit_steps-shift}
 
 -- ---- xor
 
@@ -28,7 +28,7 @@ crossed r s a b =
     ∙ xor_assoc a s b))
     ∙ sym (xor_assoc r a (bit_xor s b)))
 
-module _ (p : ℕ) (high : 2 ^ 15 ≤ p) (fits : p < 2 ^ 16) where
+module _ (p : ℕ) where
   -- ---- steps are linear
 
   bit_step-xor : (x y : ℕ) → bit_step p (bit_xor x y) ≡ bit_xor (bit_step p x) (bit_step p y)
@@ -40,17 +40,17 @@ module _ (p : ℕ) (high : 2 ^ 15 ≤ p) (fits : p < 2 ^ 16) where
       (λ odd_y.
       let even : bit_xor x y % 2 ≡ 0 = low ∙ ap (λ u. bit_xor u (y % 2)) odd_x
       ∙ ap (bit_xor 1) odd_y in
-      bit_step-even p high fits (bit_xor x y) even ∙ rest ∙ sym (twice (x / 2) (y / 2) p)
-      ∙ sym (ap (λ u. bit_xor u (bit_step p y)) (bit_step-odd p high fits x odd_x)
-      ∙ ap (bit_xor (bit_xor (x / 2) p)) (bit_step-odd p high fits y odd_y)))
+      bit_step-even p (bit_xor x y) even ∙ rest ∙ sym (twice (x / 2) (y / 2) p)
+      ∙ sym (ap (λ u. bit_xor u (bit_step p y)) (bit_step-odd p x odd_x)
+      ∙ ap (bit_xor (bit_xor (x / 2) p)) (bit_step-odd p y odd_y)))
       (λ not_y.
       let even_y : y % 2 ≡ 0 = omega arith in
       let odd : bit_xor x y % 2 ≡ 1 = low ∙ ap (λ u. bit_xor u (y % 2)) odd_x
       ∙ ap (bit_xor 1) even_y in
-      bit_step-odd p high fits (bit_xor x y) odd ∙ ap (λ u. bit_xor u p) rest
+      bit_step-odd p (bit_xor x y) odd ∙ ap (λ u. bit_xor u p) rest
       ∙ front (x / 2) (y / 2) p
-      ∙ sym (ap (λ u. bit_xor u (bit_step p y)) (bit_step-odd p high fits x odd_x)
-      ∙ ap (bit_xor (bit_xor (x / 2) p)) (bit_step-even p high fits y even_y)))
+      ∙ sym (ap (λ u. bit_xor u (bit_step p y)) (bit_step-odd p x odd_x)
+      ∙ ap (bit_xor (bit_xor (x / 2) p)) (bit_step-even p y even_y)))
       (cases_eq (y % 2) 1))
       (λ not_x.
       let even_x : x % 2 ≡ 0 = omega arith in
@@ -58,21 +58,21 @@ module _ (p : ℕ) (high : 2 ^ 15 ≤ p) (fits : p < 2 ^ 16) where
       (λ odd_y.
       let odd : bit_xor x y % 2 ≡ 1 = low ∙ ap (λ u. bit_xor u (y % 2)) even_x
       ∙ ap (bit_xor 0) odd_y in
-      bit_step-odd p high fits (bit_xor x y) odd ∙ ap (λ u. bit_xor u p) rest
+      bit_step-odd p (bit_xor x y) odd ∙ ap (λ u. bit_xor u p) rest
       ∙ xor_assoc (x / 2) (y / 2) p
-      ∙ sym (ap (λ u. bit_xor u (bit_step p y)) (bit_step-even p high fits x even_x)
-      ∙ ap (bit_xor (x / 2)) (bit_step-odd p high fits y odd_y)))
+      ∙ sym (ap (λ u. bit_xor u (bit_step p y)) (bit_step-even p x even_x)
+      ∙ ap (bit_xor (x / 2)) (bit_step-odd p y odd_y)))
       (λ not_y.
       let even_y : y % 2 ≡ 0 = omega arith in
       let even : bit_xor x y % 2 ≡ 0 = low ∙ ap (λ u. bit_xor u (y % 2)) even_x
       ∙ ap (bit_xor 0) even_y in
-      bit_step-even p high fits (bit_xor x y) even ∙ rest
-      ∙ sym (ap (λ u. bit_xor u (bit_step p y)) (bit_step-even p high fits x even_x)
-      ∙ ap (bit_xor (x / 2)) (bit_step-even p high fits y even_y)))
+      bit_step-even p (bit_xor x y) even ∙ rest
+      ∙ sym (ap (λ u. bit_xor u (bit_step p y)) (bit_step-even p x even_x)
+      ∙ ap (bit_xor (x / 2)) (bit_step-even p y even_y)))
       (cases_eq (y % 2) 1))
       (cases_eq (x % 2) 1)
 
-  bit_steps-xor : (n x y : ℕ) → bit_steps p n (bit_xor x y)
+  pub bit_steps-xor : (n x y : ℕ) → bit_steps p n (bit_xor x y)
       ≡ bit_xor (bit_steps p n x) (bit_steps p n y)
   unfolding bit_steps
   bit_steps-xor zero x y = refl
@@ -127,7 +127,7 @@ module _ (p : ℕ) (high : 2 ^ 15 ≤ p) (fits : p < 2 ^ 16) where
       byte_step_lem p r b ∙ ap (bit_steps p 8) parts
       ∙ bit_steps-xor 8 (bit_xor (bit_xor r b) (bit_xor r b % 2 ^ 8)) (bit_xor r b % 2 ^ 8)
       ∙ ap (λ x. bit_xor x (bit_steps p 8 (bit_xor r b % 2 ^ 8)))
-      (ap (bit_steps p 8) whole ∙ bit_steps-shift p high fits 8 (bit_xor r b / 2 ^ 8) ∙ top)
+      (ap (bit_steps p 8) whole ∙ bit_steps-shift p 8 (bit_xor r b / 2 ^ 8) ∙ top)
       ∙ ap (λ x. bit_xor (r / 256) (bit_steps p 8 x)) own
 
 -- ---- a table of what eight steps make of the registers below n

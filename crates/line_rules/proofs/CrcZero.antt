@@ -11,6 +11,7 @@ use Rattle.std.proofs.lemmas.Bool.{cases_eq, eq-eqb, ne_eqb, cond-true, cond-fal
 use Rattle.line_rules.specs.Bytes.{AreBytes, low_first}
 use Rattle.line_rules.specs.Crc.{bit_step, bit_steps, byte_step, crc}
 use Rattle.line_rules.proofs.CrcLaws.{byte_step_lem, crc-nil, crc-cons}
+use Rattle.line_rules.proofs.CrcLaws.{bit_step-even, bit_step-odd, bit_steps-shift}
 
 -- two numbers that differ in no bit
 xor-zero : (a b : ℕ) → bit_xor a b ≡ 0 → a ≡ b
@@ -21,14 +22,6 @@ xor-zero a b none =
     omega arith
 
 module _ (p : ℕ) (high : 2 ^ 15 ≤ p) (fits : p < 2 ^ 16) where
-  pub bit_step-even : (r : ℕ) → r % 2 ≡ 0 → bit_step p r ≡ r / 2
-  unfolding bit_step
-  bit_step-even r even = cond-false (nat_eq (r % 2) 1) _ _ (ne_eqb (r % 2) 1 (λ odd. omega arith))
-
-  pub bit_step-odd : (r : ℕ) → r % 2 ≡ 1 → bit_step p r ≡ bit_xor (r / 2) p
-  unfolding bit_step
-  bit_step-odd r odd = cond-true (nat_eq (r % 2) 1) _ _ (eq-eqb (r % 2) 1 odd)
-
   parity : (r : ℕ) → (r % 2 ≡ 1 → ⊥) → r % 2 ≡ 0
   parity r not_one = omega arith
 
@@ -36,8 +29,8 @@ module _ (p : ℕ) (high : 2 ^ 15 ≤ p) (fits : p < 2 ^ 16) where
   bit_step-fits r small =
       ⊎_elim
       (λ odd. let half : r / 2 < 2 ^ 16 = omega arith in
-      rw (bit_step-odd r odd) (xor_lt 16 (r / 2) p half fits))
-      (λ even. let e = bit_step-even r (parity r even) in omega arith)
+      rw (bit_step-odd p r odd) (xor_lt 16 (r / 2) p half fits))
+      (λ even. let e = bit_step-even p r (parity r even) in omega arith)
       (cases_eq (r % 2) 1)
 
   -- a bit that is shifted out sets the highest one
@@ -48,7 +41,7 @@ module _ (p : ℕ) (high : 2 ^ 15 ≤ p) (fits : p < 2 ^ 16) where
       let top : bit_xor (r / 2) p / 2 ^ 15 ≡ 1 =
       xor_shr (r / 2) p 15 ∙ (ap (λ x. bit_xor x (p / 2 ^ 15)) none
       ∙ (xor_zero_l (p / 2 ^ 15) ∙ one)) in
-      let e = bit_step-odd r odd in
+      let e = bit_step-odd p r odd in
       omega arith
 
   bit_step-above : (k r : ℕ) → k ≤ 15 → r < 2 ^ 16 → 2 ^ suc k ≤ r → 2 ^ k ≤ bit_step p r
@@ -56,7 +49,7 @@ module _ (p : ℕ) (high : 2 ^ 15 ≤ p) (fits : p < 2 ^ 16) where
       ⊎_elim
       (λ odd. let most = odd-high r small odd in
       let power : 2 ^ k ≤ 2 ^ 15 = pow-le-pow_right {n = 2} (omega arith) low in omega arith)
-      (λ even. let e = bit_step-even r (parity r even) in let power = pow-succ' 2 k in omega arith)
+      (λ even. let e = bit_step-even p r (parity r even) in let power = pow-succ' 2 k in omega arith)
       (cases_eq (r % 2) 1)
 
   bit_steps-above : (n k r : ℕ) → n + k ≤ 15 → r < 2 ^ 16 → 2 ^ (n + k) ≤ r
@@ -89,23 +82,11 @@ module _ (p : ℕ) (high : 2 ^ 15 ≤ p) (fits : p < 2 ^ 16) where
       (λ even.
       let none = parity r even in
       let half = bit_steps-low n (bit_step p r) (omega arith) (bit_step-fits r small) low in
-      let e = bit_step-even r none in
+      let e = bit_step-even p r none in
       let twice : r ≡ 2 * bit_step p r = omega arith in
       twice ∙ (ap (λ x. 2 * x) half ∙ (sym (mul_assoc 2 (2 ^ n) (bit_steps p n (bit_step p r)))
       ∙ ap (λ x. x * bit_steps p n (bit_step p r)) (sym (pow-succ' 2 n)))))
       (cases_eq (r % 2) 1)
-
-  pub bit_steps-shift : (n v : ℕ) → bit_steps p n (2 ^ n * v) ≡ v
-  unfolding bit_steps
-  bit_steps-shift zero v = omega arith
-  bit_steps-shift (suc n) v =
-      let e : 2 ^ suc n * v ≡ 2 * (2 ^ n * v) =
-      ap (λ x. x * v) (pow-succ' 2 n) ∙ mul_assoc 2 (2 ^ n) v in
-      let even : 2 * (2 ^ n * v) % 2 ≡ 0 = omega arith in
-      let half : 2 * (2 ^ n * v) / 2 ≡ 2 ^ n * v = omega arith in
-      ap (λ x. bit_steps p n (bit_step p x)) e
-      ∙ (ap (λ x. bit_steps p n x) (bit_step-even (2 * (2 ^ n * v)) even ∙ half)
-      ∙ bit_steps-shift n v)
 
   -- The register's own low byte shifts it right by a byte,
   pub byte_step-own : (r : ℕ) → r < 2 ^ 16 → byte_step p r (r % 256) ≡ r / 256
@@ -117,7 +98,7 @@ module _ (p : ℕ) (high : 2 ^ 15 ≤ p) (fits : p < 2 ^ 16) where
       let top : bit_xor r (r % 256) / 2 ^ 8 ≡ r / 256 =
       xor_shr r (r % 256) 8 ∙ (ap (λ x. bit_xor (r / 2 ^ 8) x) none ∙ xor_zero_r (r / 2 ^ 8)) in
       let whole : bit_xor r (r % 256) ≡ 2 ^ 8 * (r / 256) = omega arith in
-      byte_step_lem p r (r % 256) ∙ (ap (λ x. bit_steps p 8 x) whole ∙ bit_steps-shift 8 (r / 256))
+      byte_step_lem p r (r % 256) ∙ (ap (λ x. bit_steps p 8 x) whole ∙ bit_steps-shift p 8 (r / 256))
 
   -- and no other byte leaves it below 256.
   pub byte_step-low : (r b : ℕ) → r < 2 ^ 16 → b < 256 → byte_step p r b < 256

@@ -1,5 +1,7 @@
 pub mod CrcLaws
 pub mod CrcLinear
+pub mod CrcSlices
+pub mod CrcTableChecks
 pub mod CrcZero
 pub mod EndingLaws
-mod Taking
+pub mod Taking

@@ -1,7 +1,9 @@
 -- Bytes of a part that are appended one after the other, as long as there is room.
+use Rattle.std.proofs.Common.{◌-◌, drop}
 use Rattle.std.proofs.Common.{◌≡◌, ℕ, ◌+◌, ◌<◌, false, List, [], ◌∷◌, ◌++◌, length, take, get_or}
 use Rattle.std.proofs.Common.{arith, sym, ◌∙◌, ap, subst, append_assoc, append-nil, ⊎_elim}
-use Rattle.std.proofs.lemmas.Bool.{cases_eq}
+use Rattle.std.proofs.Math.Seq.{take-add}
+use Rattle.std.proofs.lemmas.Bool.{cases_eq, cases_lt}
 use Rattle.std.proofs.lemmas.List.{take_more}
 use Rattle.line_rules.specs.Rules.{Rules, fills_room}
 
@@ -35,3 +37,29 @@ module _ {V : Type 0} (rules : Rules) (stands : V → List ℕ → Type 0) (old 
         (λ other. taken.had_room x k before (omega arith))
         (cases_eq k n);
   }
+
+  -- some more of the part, which are the first k of what is left of it
+  pub taken-more : (value next : V) (n k : ℕ) (rest : List ℕ) → rest ≡ drop n part
+      → HasTaken value n
+      → ((x : List ℕ) → stands value x → stands next (x ++ take k rest))
+      → ((x : List ℕ) (j : ℕ) → stands value x → j < k
+      → fills_room rules (x ++ take j rest) ≡ false)
+      → HasTaken next (n + k)
+  taken-more value next n k rest rest_is taken takes has_room =
+      let joined : (x : List ℕ) (j : ℕ)
+      → (x ++ take n part) ++ take j rest ≡ x ++ take (n + j) part =
+      λ x j. append_assoc x (take n part) (take j rest)
+      ∙ ap (λ y. x ++ y) (ap (λ y. take n part ++ take j y) rest_is ∙ sym (take-add n j part)) in
+      record {
+        stands_for = λ x before. subst (stands next) (joined x k)
+            (takes (x ++ take n part) (taken.stands_for x before));
+        had_room = λ x j before below.
+            ⊎_elim
+            (λ earlier. taken.had_room x j before earlier)
+            (λ later.
+            let place : n + (j - n) ≡ j = omega arith in
+            ap (λ i. fills_room rules (x ++ take i part)) (sym place)
+            ∙ (ap (fills_room rules) (sym (joined x (j - n)))
+            ∙ has_room (x ++ take n part) (j - n) (taken.stands_for x before) (omega arith)))
+            (cases_lt j n);
+      }

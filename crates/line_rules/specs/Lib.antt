@@ -1,5 +1,6 @@
 pub mod Bytes
 pub mod Crc
+pub mod CrcTables
 pub mod Endings
 pub mod Rules
 pub mod RulesLaws

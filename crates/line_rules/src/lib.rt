@@ -2,10 +2,19 @@
 //! protocol.
 #![tactic(auto)]
 
+mod crc_bits;
+mod crc_table;
+mod crc_tables;
 mod four_bytes;
 mod head;
 mod line_rules;
 
+pub use crc_bits::crc_by_bits;
+pub use crc_table::CrcTable;
+pub use crc_tables::{CrcTables, crc_by_tables, step_by_table};
 pub use four_bytes::FourBytes;
 pub use head::Head;
 pub use line_rules::LineRules;
+
+#[cfg(test)]
+mod tests;

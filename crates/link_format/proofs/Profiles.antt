@@ -1,14 +1,16 @@
--- Words and lengths of trailers, and the profile y18.
+-- Words and lengths of trailers, and the profiles y18 and y24.
 use Rattle.std.proofs.Common.{◌≡◌, ◌∙◌, ℕ, ◌%◌, zero, suc, List, length, refl, ap, arith, lit≤}
 use Rattle.std.proofs.Common.{length-append}
 use Rattle.std.specs.Int.{bytes_high_first}
 use Rattle.byteorder.specs.Numbers.{big_from-bytes}
 use Rattle.sha1.specs.Sha1.{sha1}
+use Rattle.sha2.specs.Sha256.{sha256}
 use Rattle.hmac_tag.specs.Tag.{tag_text}
-use Rattle.hmac_tag.specs.Digests.{length-sha1, length-hmac_cut}
+use Rattle.hmac_tag.specs.Digests.{length-sha1, length-sha256, length-hmac_cut}
 use Rattle.link_format.specs.Profile.{Profile, HasTags, trailer, trailer_len, delay, words, word_of}
 use Rattle.link_format.specs.Setup.{Setup}
 use Rattle.link_format.specs.Y18.{y18}
+use Rattle.link_format.specs.Y24.{y24}
 
 length-word : (k n : ℕ) → length (bytes_high_first k n) ≡ k
 length-word zero n = refl
@@ -36,8 +38,27 @@ y18-tags label limit setup = record {
       (tag_text label setup.direction frame number);
 }
 
+pub y24-tags : (label limit : ℕ) (setup : Setup) → HasTags (y24 label limit setup)
+y24-tags label limit setup = record {
+  sized = λ number frame.
+      length-hmac_cut sha256 32 16 length-sha256 (lit≤ tt) setup.key
+      (tag_text label setup.direction frame number);
+}
+
 y18-trailer : (label limit : ℕ) (setup : Setup) → trailer_len (y18 label limit setup) ≡ 14
 y18-trailer label limit setup = refl
 
 y18-delay : (label limit : ℕ) (setup : Setup) → delay (y18 label limit setup) ≡ 18
 y18-delay label limit setup = refl
+
+y24-trailer : (label limit : ℕ) (setup : Setup) → trailer_len (y24 label limit setup) ≡ 20
+y24-trailer label limit setup = refl
+
+y24-delay : (label limit : ℕ) (setup : Setup) → delay (y24 label limit setup) ≡ 24
+y24-delay label limit setup = refl
+
+y18-words : (label limit : ℕ) (setup : Setup) → words (y18 label limit setup) ≡ 65536
+y18-words label limit setup = refl
+
+y24-words : (label limit : ℕ) (setup : Setup) → words (y24 label limit setup) ≡ 4294967296
+y24-words label limit setup = refl

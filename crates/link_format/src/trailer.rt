@@ -2,7 +2,7 @@ ghost use Rattle.link_format.specs.Profile.{IsWordLen};
 
 use arrayvec::ArrayVec;
 use hmac_tag::TagBytes;
-use yasir_ticks::Tick;
+use yasir_ticks::{LineBytes, Tick};
 
 /// How many bytes a trailer has at most: a word of 4 and a tag of 16.
 const ROOM: usize = 20;
@@ -20,7 +20,8 @@ pub struct Trailer<const B: usize> {
 }
 
 impl<const B: usize> Trailer<B> {
-    ghost use Rattle.std.specs.Prelude.{◌≡◌, [], ◌∷◌, ◌++◌, drop, IfSome, IfNone};
+    ghost use Rattle.std.specs.Prelude.{◌≡◌, ◌≤◌, [], ◌∷◌, ◌++◌, drop, take, length, IfSome};
+    ghost use Rattle.std.specs.Prelude.{IfNone};
     ghost use Rattle.std.specs.Int.{bytes_high_first};
     ghost use Rattle.link_format.specs.Trailers.{bytes_left, first_of};
 
@@ -58,6 +59,31 @@ impl<const B: usize> Trailer<B> {
             self.sent += 1;
         }
         next
+    }
+
+    /// The bytes that are still to be sent.
+    #[inline]
+    pub fn left(&self) -> &[u8]
+        ensures left { result.now ≡ bytes_left self.now }
+        ensures within { length result.now ≤ 20 }
+    {
+        let bytes = self.bytes.as_slice();
+        &bytes[self.sent.min(bytes.len())..]
+    }
+
+    /// Sends so many bytes, one a tick; there are as many.
+    #[inline]
+    pub fn send_some(&mut self, count: usize) -> LineBytes
+        requires { count ≤ length (bytes_left self.old) }
+        ensures sent { result.items ≡ take count (bytes_left self.old) }
+        ensures left { bytes_left self.new ≡ drop count (bytes_left self.old) }
+    {
+        let left = self.left();
+        let mut sent = LineBytes::new();
+        let _ = sent.try_extend_from_slice(&left[..count]);
+        let behind = left.len() - count;
+        self.sent = self.bytes.len() - behind;
+        sent
     }
 
     /// The tick of the next byte to be sent; silence where all are.

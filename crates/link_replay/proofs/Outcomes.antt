@@ -6,6 +6,7 @@ use Rattle.yasir_io.specs.declared.sink.Sink.{Ghosts as Sink}
 use Rattle.yasir_io.specs.declared.disk.SlotDisk.{Ghosts as SlotDisk}
 use Rattle.yasir_io.specs.Causes.{Rose}
 use Rattle.yasir_io.specs.Disks.{Slots}
+use Rattle.yasir_io.specs.Flushed.{IsNotFlushed}
 use Rattle.sequence_journal.specs.Slots.{floor_of}
 use Rattle.replay_status.specs.Outside.{Outside}
 use Rattle.replay_status.specs.Causes.{SinkCause, DiskCause, NoneRose}
@@ -22,6 +23,7 @@ use Rattle.replay_status.specs.declared.status.Status.TheVariants.{HasJournal}
 use Rattle.link_replay.specs.declared.words.Command.{Command}
 use Rattle.link_replay.specs.declared.words.Command.TheVariants.{Init, Read, Vectors, Seal, Check}
 use Rattle.replay_status.proofs.Logging.{sinks_after}
+use Rattle.replay_status.proofs.FlushLaws.{flushes_after}
 use Rattle.device_replay.proofs.Readable.{readable_done}
 use Rattle.box_replay.proofs.Replayable.{replayable_done}
 
@@ -59,8 +61,8 @@ module _ {K S O L D : Type 0} (k : Source K) (s : Source S) (o : Sink O) (l : Si
       (status : Status)
       → HasOwnCauses k s o l d asked before (record after { log = noted }) status
       → HasOwnCauses k s o l d asked before after status
-  own-after (Some (Seal proto dir)) before after noted status h = h
-  own-after (Some (Check proto dir)) before after noted status h = h
+  own-after (Some (Seal proto profile dir)) before after noted status h = h
+  own-after (Some (Check proto profile dir)) before after noted status h = h
   own-after None before after noted status h = h
   own-after (Some Init) before after noted status h = h
   own-after (Some (Read proto)) before after noted status h = h
@@ -70,13 +72,16 @@ module _ {K S O L D : Type 0} (k : Source K) (s : Source S) (o : Sink O) (l : Si
   pub causes_after : (asked : Option Command) (before after : Outside K S O L D) (noted : L)
       (status : Status) → HasCauses k s o l d asked before (record after { log = noted }) status
       → l.faults noted ≤ l.faults after.log → (fault_line status ≡ [] → after.log ≡ noted)
+      → IsNotFlushed l noted after.log
       → HasCauses k s o l d asked before after status
-  causes_after asked before after noted status h rises same = record {
+  causes_after asked before after noted status h rises same not_flushed = record {
     reads = h.reads;
     sinks = sinks_after (o.faults before.out) (o.faults after.out) (l.faults before.log)
         (l.faults noted) (l.faults after.log) status h.sinks rises
         (λ empty. ap l.faults (same empty));
     own = own-after asked before after noted status h.own;
+    flushes = flushes_after o l before.out after.out before.log noted after.log status h.flushes
+        same not_flushed;
   }
 
   -- no count had risen before the fault line
@@ -105,9 +110,9 @@ module _ {K S O L D : Type 0} (k : Source K) (s : Source S) (o : Sink O) (l : Si
       does.frames causes.own.0 causes.sinks
   asked_done (Some Vectors) before after status may calm does causes =
       tables_done _ _ _ _ _ _ _ _ _ _ calm _ _ status does.tables causes.sinks
-  asked_done (Some (Seal proto dir)) before after status may calm does causes =
-      replayable_done k s o l d (seal_boxed proto) dir seal_rest before after may calm status
-      does causes.reads causes.own causes.sinks
-  asked_done (Some (Check proto dir)) before after status may calm does causes =
-      replayable_done k s o l d (check_boxed proto) dir check_rest before after may calm status
+  asked_done (Some (Seal proto profile dir)) before after status may calm does causes =
+      replayable_done k s o l d (seal_boxed proto profile) dir (seal_rest profile) before after may calm
+      status does causes.reads causes.own causes.sinks
+  asked_done (Some (Check proto profile dir)) before after status may calm does causes =
+      replayable_done k s o l d (check_boxed proto profile) dir check_rest before after may calm status
       does causes.reads causes.own causes.sinks

@@ -37,8 +37,12 @@ fn perform<K: Source, S: Source, O: Sink, L: Sink, D: SlotDisk>(
         Command::Init => make_journal(out, log, disk),
         Command::Read(proto) => read_line(proto, input, out, log),
         Command::Vectors => print_tables(out, log),
-        Command::Seal(proto, dir) => seal(proto, dir, key, input, out, log, disk),
-        Command::Check(proto, dir) => check(proto, dir, key, input, out, log, disk),
+        Command::Seal(proto, profile, dir) => {
+            seal(proto, profile, dir, key, input, out, log, disk)
+        }
+        Command::Check(proto, profile, dir) => {
+            check(proto, profile, dir, key, input, out, log, disk)
+        }
     }
 }
 

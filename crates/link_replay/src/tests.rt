@@ -1,4 +1,4 @@
-use crate::{Command, Dir, Proto, journal_word, key_word, makes_journal, read_words, run};
+use crate::{Command, Dir, Profile, Proto, journal_word, key_word, makes_journal, read_words, run};
 use replay_status::Status;
 use std::alloc::{AllocError, Global};
 use std::process::Abort;
@@ -12,7 +12,7 @@ const REQUEST: &[u8] = b"+01030000000ac5cd\n-4\n";
 
 const REQUEST_LINE: &[u8] = b"read at 0 01030000000ac5cd\n";
 
-const KEY: &[u8] = b"000102030405060708090a0b0c0d0e0f";
+pub const KEY: &[u8] = b"000102030405060708090a0b0c0d0e0f";
 
 /// A slot that holds number 0, one that holds number 1, and one that holds none.
 const NUMBER_0: [u8; 16] = [
@@ -33,13 +33,13 @@ struct Ran {
     log: MemSink,
 }
 
-fn plan(calls: &[u32]) -> Plan {
+pub fn plan(calls: &[u32]) -> Plan {
     let mut plan = Plan::new();
     let _ = plan.try_extend_from_slice(calls);
     plan
 }
 
-fn strings(alloc: Global, words: &[&str]) -> Result<Vec<String>, AllocError> {
+pub fn strings(alloc: Global, words: &[&str]) -> Result<Vec<String>, AllocError> {
     let mut strings = Vec::new(alloc);
     for word in words {
         strings.push(String::from_str(alloc, *word)?)?;
@@ -75,11 +75,13 @@ fn run_over<D: SlotDisk>(
 
 #[test]
 fn refuses_words_of_no_command(rt: HostRuntime) -> Result<(), Fail> {
-    let rows: [&[&str]; 21] = [
+    let rows: [&[&str]; 24] = [
         &[],
         &["read"],
         &["read", "dnp"],
         &["read", "rtu", "x"],
+        &["read", "rtu24"],
+        &["read", "dnp24"],
         &["read", "RTU"],
         &["rtu", "read"],
         &["seal", "rtu"],
@@ -88,6 +90,7 @@ fn refuses_words_of_no_command(rt: HostRuntime) -> Result<(), Fail> {
         &["seal", "rtu", "ab", "key", ""],
         &["seal", "rtu", "AB", "key", "journal"],
         &["seal", "dnp", "ab", "key", "journal"],
+        &["seal", "dnp324", "ab", "key", "journal"],
         &["seal", "rtu", "ab", "key", "journal", "x"],
         &["check", "rtu", "ab", "key"],
         &["check", "rtu", "ab", "", "journal"],
@@ -137,35 +140,35 @@ fn finds_the_paths_among_the_words(rt: HostRuntime) -> Result<(), Fail> {
         (&["vectors"], Command::Vectors, None, None, false),
         (
             &["seal", "rtu", "ab", "key", "journal"],
-            Command::Seal(Proto::Rtu, Dir::Ab),
+            Command::Seal(Proto::Rtu, Profile::Y18, Dir::Ab),
             Some(3),
             Some(4),
             false,
         ),
         (
             &["seal", "rtu", "ba", "key", "journal"],
-            Command::Seal(Proto::Rtu, Dir::Ba),
+            Command::Seal(Proto::Rtu, Profile::Y18, Dir::Ba),
             Some(3),
             Some(4),
             false,
         ),
         (
             &["seal", "dnp3", "ba", "key", "journal"],
-            Command::Seal(Proto::Dnp3, Dir::Ba),
+            Command::Seal(Proto::Dnp3, Profile::Y18, Dir::Ba),
             Some(3),
             Some(4),
             false,
         ),
         (
             &["check", "dnp3", "ab", "key", "journal"],
-            Command::Check(Proto::Dnp3, Dir::Ab),
+            Command::Check(Proto::Dnp3, Profile::Y18, Dir::Ab),
             Some(3),
             Some(4),
             false,
         ),
         (
             &["check", "rtu", "ba", "key", "journal"],
-            Command::Check(Proto::Rtu, Dir::Ba),
+            Command::Check(Proto::Rtu, Profile::Y18, Dir::Ba),
             Some(3),
             Some(4),
             false,
@@ -184,20 +187,20 @@ fn finds_the_paths_among_the_words(rt: HostRuntime) -> Result<(), Fail> {
 /// Words, the slots before, and what comes of them over the key and the input below, where calls of
 /// the output and the disk fail.
 #[derive(Clone, Copy, Drop)]
-struct Row {
-    words: &'static [&'static str],
-    text: &'static [u8],
-    slots: ([u8; 16], [u8; 16]),
-    out_fails: &'static [u32],
-    disk_fails: &'static [u32],
-    status: Status,
-    code: u8,
-    out: &'static [u8],
-    log: &'static [u8],
-    slots_now: ([u8; 16], [u8; 16]),
+pub struct Row {
+    pub words: &'static [&'static str],
+    pub text: &'static [u8],
+    pub slots: ([u8; 16], [u8; 16]),
+    pub out_fails: &'static [u32],
+    pub disk_fails: &'static [u32],
+    pub status: Status,
+    pub code: u8,
+    pub out: &'static [u8],
+    pub log: &'static [u8],
+    pub slots_now: ([u8; 16], [u8; 16]),
 }
 
-const READ: Row = Row {
+pub const READ: Row = Row {
     words: &["read", "rtu"],
     text: REQUEST,
     slots: (NO_NUMBER, NO_NUMBER),
@@ -210,13 +213,13 @@ const READ: Row = Row {
     slots_now: (NO_NUMBER, NO_NUMBER),
 };
 
-const VECTORS: Row = Row {
+pub const VECTORS: Row = Row {
     words: &["vectors"],
-    out: b"crc 4 ok\nhmac 5 ok\nframes 7 ok\nuser 2 ok\n",
+    out: b"crc 4 ok\nhmac 7 ok\nframes 7 ok\nuser 2 ok\n",
     ..READ
 };
 
-const INIT: Row = Row {
+pub const INIT: Row = Row {
     words: &["init", "journal"],
     out: b"",
     slots_now: (NUMBER_0, NO_NUMBER),
@@ -314,7 +317,7 @@ const ROWS: [Row; 14] = [
 // The tag is that of the transmitter's rows in `replay_tests`.
 const SEALED_REQUEST: &[u8] = b"+01030000000ac5cd\n-3\n+0001014c5b8d33c6d29a347013b0\n-11\n";
 
-const SEAL: Row = Row {
+pub const SEAL: Row = Row {
     words: &["seal", "rtu", "ab", "key", "journal"],
     slots: (NUMBER_0, NO_NUMBER),
     out: SEALED_REQUEST,
@@ -324,7 +327,7 @@ const SEAL: Row = Row {
 };
 
 // What `seal` has made of the request, checked.
-const CHECK: Row = Row {
+pub const CHECK: Row = Row {
     words: &["check", "rtu", "ab", "key", "journal"],
     text: SEALED_REQUEST,
     out: b"-18\n+01030000000ac5cd\n-330\n",
@@ -354,7 +357,46 @@ const CHECK_DNP3: Row = Row {
     ..CHECK
 };
 
-const BOXES: [Row; 7] = [
+// By the profile y24; the tags as those of its rows in `replay_tests`.
+const SEAL_RTU24: Row = Row {
+    words: &["seal", "rtu24", "ab", "key", "journal"],
+    out: b"+01030000000ac5cd\n-3\n+0000000165d245ba109509aa6c32ac3cfa228fd6\n-11\n",
+    ..SEAL
+};
+
+const CHECK_RTU24: Row = Row {
+    words: &["check", "rtu24", "ab", "key", "journal"],
+    text: b"+01030000000ac5cd\n-3\n+0000000165d245ba109509aa6c32ac3cfa228fd6\n-11\n",
+    out: b"-24\n+01030000000ac5cd\n-330\n",
+    ..CHECK
+};
+
+const SEAL_DNP24: Row = Row {
+    words: &["seal", "dnp24", "ab", "key", "journal"],
+    out: b"+056405c001000004e921\n-3\n+00000001cd525d6a6c119047d45db5ba9f9e4290\n-11\n",
+    ..SEAL_DNP3
+};
+
+const CHECK_DNP24: Row = Row {
+    words: &["check", "dnp24", "ab", "key", "journal"],
+    text: b"+056405c001000004e921\n-3\n+00000001cd525d6a6c119047d45db5ba9f9e4290\n-11\n",
+    out: b"-24\n+056405c001000004e921\n-330\n",
+    ..CHECK_DNP3
+};
+
+const BOXES: [Row; 12] = [
+    SEAL_RTU24,
+    CHECK_RTU24,
+    SEAL_DNP24,
+    CHECK_DNP24,
+    // A link of the other profile.
+    Row {
+        text: SEALED_REQUEST,
+        out: b"-24\n+01030000000ac5cc\n-324\n",
+        log: b"refused at 0 trailer\n",
+        slots_now: (NUMBER_0, NO_NUMBER),
+        ..CHECK_RTU24
+    },
     SEAL_DNP3,
     CHECK_DNP3,
     SEAL,

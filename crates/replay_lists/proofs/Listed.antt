@@ -1,6 +1,6 @@
 -- How a listing of two recordings ends.
 use Rattle.std.proofs.Common.{◌≡◌, ℕ, ◌+◌, ◌≤◌, true, false, List, [], ◌++◌, length, Option, Ok, Err}
-use Rattle.std.proofs.Common.{refl, ap, subst, arith}
+use Rattle.std.proofs.Common.{◌∙◌, refl, ap, subst, arith}
 use Rattle.yasir_io.specs.declared.sink.Sink.{Ghosts as Sink}
 use Rattle.yasir_io.specs.declared.disk.SlotDisk.{Ghosts as SlotDisk}
 use Rattle.yasir_ticks.specs.Ticks.{Item, ticks_in, silent}
@@ -119,10 +119,10 @@ module _ {S C V O L D : Type 0} (s : FrameBox S) (c : FrameBox C) (v : Device V)
 
   -- an input that isn't listed to its end
   pub ends-listing : (end : End) → (end ≡ Whole → ⊥) → HasDriven end
-      → ListsRecordings s c v old new before now end
-  ends-listing Whole other driven = absurd (other refl)
-  ends-listing (Refused bad) other driven = record { items = driven.items; takes = driven.takes }
-  ends-listing (TooLong what count) other driven =
+      → (device_rest : ℕ) → ListsRecordings s c v device_rest old new before now end
+  ends-listing Whole other driven rest = absurd (other refl)
+  ends-listing (Refused bad) other driven rest = record { items = driven.items; takes = driven.takes }
+  ends-listing (TooLong what count) other driven rest =
       record { items = driven.items; takes = driven.takes }
-  ends-listing ReadFault other driven = record { items = driven.items; takes = driven.takes }
-  ends-listing (Stopped stop) other driven = record { items = driven.items; takes = driven.takes }
+  ends-listing ReadFault other driven rest = record { items = driven.items; takes = driven.takes }
+  ends-listing (Stopped stop) other driven rest = record { items = driven.items; takes = driven.takes }

@@ -175,4 +175,5 @@ module _ {S C V O L D : Type 0} (s : FrameBox S) (c : FrameBox C) (v : Device V)
       out_same = λ _. refl;
       log_same = λ _. refl;
     };
+    flushes = record { out = refl; log = refl };
   }

@@ -6,21 +6,23 @@ use Rattle.std.proofs.Common.{slice_index_or}
 use Rattle.std.proofs.lemmas.List.{take-append-le, drop-append-le, take_all, get_or_default}
 use Rattle.std.proofs.Math.Seq.{drop-append_seam}
 use Rattle.replay_lists.specs.FrameList.{Kept, Holds, IsWhole, frames_from, AreEnds}
+use Rattle.replay_lists.specs.FrameList.{longest_frame}
 use Rattle.replay_lists.specs.declared.frame_list.Entry.{Entry}
 use Rattle.replay_lists.specs.declared.frame_list.FrameList.{FrameList}
 
 module _ {K : Type 0} where
   ends-rise : (start end : ℕ) (entries : List (Entry K)) → AreEnds start entries end → start ≤ end
   ends-rise start end [] ends = omega (arith, ends)
-  ends-rise start end (e ∷ entries) ends = omega (arith, ends.0, ends-rise e.end end entries ends.1)
+  ends-rise start end (e ∷ entries) ends = omega (arith, ends.0, ends-rise e.end end entries ends.2)
 
   -- ---- one more
 
   ends-more : (start end m : ℕ) (entries : List (Entry K)) (e : Entry K) → AreEnds start entries end
-      → end ≤ m → e.end ≡ m → AreEnds start (entries ++ e ∷ []) m
-  ends-more start end m [] e ends later is = (omega (arith, ends, later, is), is)
-  ends-more start end m (d ∷ entries) e ends later is =
-      (ends.0, ends-more d.end end m entries e ends.1 later is)
+      → end ≤ m → m ≤ end + longest_frame → e.end ≡ m → AreEnds start (entries ++ e ∷ []) m
+  ends-more start end m [] e ends later short is =
+      (omega (arith, ends, later, is), omega (arith, ends, short, is), is)
+  ends-more start end m (d ∷ entries) e ends later short is =
+      (ends.0, ends.1, ends-more d.end end m entries e ends.2 later short is)
 
   frames-more : (start : ℕ) (entries : List (Entry K)) (e : Entry K) (x y : List ℕ)
       → AreEnds start entries (length x) → e.end ≡ length x + length y
@@ -33,20 +35,21 @@ module _ {K : Type 0} where
       let all : take (length y) y ≡ y = take_all (length y) y (omega arith) in
       rw (long, rest, all) refl
   frames-more start (d ∷ entries) e x y ends is =
-      let within = ends-rise d.end (length x) entries ends.1 in
+      let within = ends-rise d.end (length x) entries ends.2 in
       let back : drop start (x ++ y) ≡ drop start x ++ y =
       drop-append-le start x y (omega (arith, ends.0, within)) in
       let front : take (d.end - start) (drop start x ++ y) ≡ take (d.end - start) (drop start x) =
       take-append-le (d.end - start) (drop start x) y
       (omega (arith, ends.0, within, length-drop start x)) in
       let first : Kept K = record { head = d.head; frame = take (d.end - start) (drop start x) } in
-      rw (back, front) (ap (λ l. first ∷ l) (frames-more d.end entries e x y ends.1 is))
+      rw (back, front) (ap (λ l. first ∷ l) (frames-more d.end entries e x y ends.2 is))
 
   pub holds-more : (old new : FrameList K) (e : Entry K) (y : List ℕ)
       → new.entries.items ≡ old.entries.items ++ e ∷ [] → new.bytes.items ≡ old.bytes.items ++ y
-      → e.end ≡ length old.bytes.items + length y → (frames : List (Kept K)) → Holds old frames
+      → e.end ≡ length old.bytes.items + length y → length y ≤ longest_frame
+      → (frames : List (Kept K)) → Holds old frames
       → Holds new (frames ++ record { head = e.head; frame = y } ∷ [])
-  holds-more old new e y entries bytes end frames holds =
+  holds-more old new e y entries bytes end short frames holds =
       let long : length (old.bytes.items ++ y) ≡ length old.bytes.items + length y =
       length-append old.bytes.items y in
       record {
@@ -54,7 +57,8 @@ module _ {K : Type 0} where
             (frames-more 0 old.entries.items e old.bytes.items y holds.whole end
             ∙ ap (λ l. l ++ record { head = e.head; frame = y } ∷ []) holds.is);
         whole = rw (entries, bytes, long) (ends-more 0 (length old.bytes.items)
-            (length old.bytes.items + length y) old.entries.items e holds.whole (omega arith) end);
+            (length old.bytes.items + length y) old.entries.items e holds.whole (omega arith)
+            (omega (arith, short)) end);
       }
 
   -- ---- the one at a place
@@ -99,14 +103,15 @@ module _ {K : Type 0} where
   pub ends-at : (start end : ℕ) (entries : List (Entry K)) (i : ℕ) (e : Entry K)
       → AreEnds start entries end → i < length entries
       → (start_at start entries e i ≤ (slice_index_or entries i e).end)
+      × ((slice_index_or entries i e).end ≤ start_at start entries e i + longest_frame)
       × ((slice_index_or entries i e).end ≤ end)
   ends-at start end [] i e ends within = absurd (omega arith)
   ends-at start end (d ∷ entries) zero e ends within =
-      (ends.0, ends-rise d.end end entries ends.1)
+      (ends.0, ends.1, ends-rise d.end end entries ends.2)
   ends-at start end (d ∷ entries) (suc zero) e ends within =
-      ends-at d.end end entries zero e ends.1 (omega arith)
+      ends-at d.end end entries zero e ends.2 (omega arith)
   ends-at start end (d ∷ entries) (suc (suc i)) e ends within =
-      ends-at d.end end entries (suc i) e ends.1 (omega arith)
+      ends-at d.end end entries (suc i) e ends.2 (omega arith)
 
   pub holds-head : (list : FrameList K) (i : ℕ) (e : Entry K) (frames : List (Kept K))
       (other : Kept K) → i < length list.entries.items → Holds list frames
@@ -159,10 +164,22 @@ module _ {K : Type 0} where
       subst P next (ends-at 0 (length list.bytes.items) list.entries.items (suc before) e whole
       (omega (arith, is, within))).0
 
+  -- no frame is longer than the longest one
+  short-later : (list : FrameList K) (i before : ℕ) (e : Entry K) → before + 1 ≡ i
+      → i < length list.entries.items → IsWhole list
+      → (slice_index_or list.entries.items i e).end
+      ≤ (slice_index_or list.entries.items before e).end + longest_frame
+  short-later list i before e is within whole =
+      let P : ℕ → Type 0 = λ n. (slice_index_or list.entries.items n e).end
+      ≤ (slice_index_or list.entries.items before e).end + longest_frame in
+      let next : suc before ≡ i = omega (arith, is) in
+      subst P next (ends-at 0 (length list.bytes.items) list.entries.items (suc before) e whole
+      (omega (arith, is, within))).1
+
   pub ends-within : (list : FrameList K) (i : ℕ) (e : Entry K) → i < length list.entries.items
       → IsWhole list → (slice_index_or list.entries.items i e).end ≤ length list.bytes.items
   ends-within list i e within whole =
-      (ends-at 0 (length list.bytes.items) list.entries.items i e whole within).1
+      (ends-at 0 (length list.bytes.items) list.entries.items i e whole within).2
 
   -- the entry at a place, and the one before it, as they were looked up
   module _ (list : FrameList K) (i : ℕ) (last before d e : Entry K) (some : i ≡ 0 → ⊥)
@@ -182,6 +199,16 @@ module _ {K : Type 0} where
         omega (
           arith,
           rise,
+          ap (λ (x : Entry K). x.end) before_as,
+          ap (λ (x : Entry K). x.end) last_is,
+        )
+
+    pub short-by : IsWhole list → last.end ≤ before.end + longest_frame
+    short-by whole =
+        let short = short-later list i (i - 1) d next within whole in
+        omega (
+          arith,
+          short,
           ap (λ (x : Entry K). x.end) before_as,
           ap (λ (x : Entry K). x.end) last_is,
         )

@@ -1,5 +1,5 @@
 -- Two recordings, and one item more.
-use Rattle.std.proofs.Common.{◌≡◌, true, false, List, [], ◌∷◌, ◌++◌, refl, ap}
+use Rattle.std.proofs.Common.{◌≡◌, ℕ, zero, suc, true, false, List, [], ◌∷◌, ◌++◌, refl, ap}
 use Rattle.yasir_ticks.specs.Ticks.{Item, ticks_in, marks_in, silent}
 use Rattle.yasir_ticks.specs.declared.tick.Tick.TheVariants.{Silent}
 use Rattle.tick_drive.specs.Items.{silent_items}

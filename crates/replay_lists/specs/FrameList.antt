@@ -1,5 +1,5 @@
 -- A list of frames in memory.
-use Rattle.std.specs.Prelude.{◌≡◌, ℕ, ◌-◌, ◌≤◌, List, [], ◌∷◌, length, take, drop}
+use Rattle.std.specs.Prelude.{◌≡◌, ℕ, ◌+◌, ◌-◌, ◌≤◌, List, [], ◌∷◌, length, take, drop}
 use Rattle.replay_lists.specs.declared.frame_list.Entry.{Entry}
 use Rattle.replay_lists.specs.declared.frame_list.FrameList.{FrameList}
 
@@ -15,10 +15,16 @@ frames_from start (e ∷ entries) bytes =
     record { head = e.head; frame = take (e.end - start) (drop start bytes) }
     ∷ frames_from e.end entries bytes
 
--- Each frame ends where it starts or behind it, and the last one at this place.
+-- as many bytes as the longest frame of a protocol has
+abbrev pub longest_frame : ℕ
+longest_frame = 292
+
+-- Each frame ends where it starts or behind it, as far as a frame is long, and the last one at this
+-- place.
 abbrev pub AreEnds : {K : Type 0} → ℕ → List (Entry K) → ℕ → Type 0
 AreEnds start [] end = start ≡ end
-AreEnds start (e ∷ entries) end = (start ≤ e.end) × AreEnds e.end entries end
+AreEnds start (e ∷ entries) end =
+    (start ≤ e.end) × (e.end ≤ start + longest_frame) × AreEnds e.end entries end
 
 -- the bytes of the list are those of its frames
 abbrev pub IsWhole : {K : Type 0} → FrameList K → Type 0

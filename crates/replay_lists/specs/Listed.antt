@@ -11,10 +11,8 @@ use Rattle.replay_lists.specs.ReplayLists.{HasListed, IsReady, lists_taken}
 use Rattle.replay_lists.specs.declared.frame_box.FrameBox.{Ghosts as FrameBox}
 use Rattle.replay_lists.specs.declared.replay_lists.ReplayLists.{ReplayLists}
 
--- silence behind the recording before the mark, and behind the one behind it
-abbrev pub device_rest : ℕ
-device_rest = 24
-
+-- So many silent ticks stand behind the recording behind the mark: the last verdict falls in them,
+-- and all that the receiver holds back leaves and is read.
 abbrev pub link_rest : ℕ
 link_rest = 320
 
@@ -27,9 +25,10 @@ module _ {S C V : Type 0} (s : FrameBox S) (c : FrameBox C) (v : Device V) where
     pub setup : Setup
     pub listed : HasListed s c v lists setup [] []
 
-  -- The input is a whole text with one mark. The lists are those of the recording before it and of
-  -- the one behind it, with so much silence behind each.
-  pub record ListsBoth (old new : ReplayLists S C V) (before now : Option (List ℕ)) : Type 0 where
+  -- The input is a whole text with one mark. The lists are those of the recording before it, with
+  -- so many silent ticks behind it, and of the one behind it, with the silence of a link.
+  pub record ListsBoth (device_rest : ℕ) (old new : ReplayLists S C V)
+      (before now : Option (List ℕ)) : Type 0 where
     pub items : List Item
     pub takes : IsWhole 1 link_rest before now items
     pub listed : (setup : Setup) → HasListed s c v old setup [] []
@@ -42,7 +41,7 @@ module _ {S C V : Type 0} (s : FrameBox S) (c : FrameBox C) (v : Device V) where
     pub items : List Item
     pub takes : Takes 1 link_rest before now items end
 
-  abbrev pub ListsRecordings : ReplayLists S C V → ReplayLists S C V → Option (List ℕ)
+  abbrev pub ListsRecordings : ℕ → ReplayLists S C V → ReplayLists S C V → Option (List ℕ)
       → Option (List ℕ) → End → Type 0
-  ListsRecordings old new before now Whole = ListsBoth old new before now
-  ListsRecordings old new before now end = EndsListing before now end
+  ListsRecordings device_rest old new before now Whole = ListsBoth device_rest old new before now
+  ListsRecordings device_rest old new before now end = EndsListing before now end

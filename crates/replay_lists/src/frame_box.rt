@@ -1,8 +1,9 @@
-ghost use Rattle.std.specs.Prelude.{◌≡◌, ℕ, ◌+◌, ◌<◌, ◌≤◌, List, [], ◌∷◌, ◌++◌};
+ghost use Rattle.std.specs.Prelude.{◌≡◌, ℕ, ◌+◌, ◌<◌, ◌≤◌, List, [], ◌∷◌, ◌++◌, length};
 ghost use Rattle.yasir_ticks.specs.declared.tick.Tick.{Tick};
 ghost use Rattle.link_format.specs.NumberedFrame.{NumberedFrame};
 ghost use Rattle.link_format.specs.Setup.{Setup, setup_of};
 ghost use Rattle.replay_lists.specs.FrameBox.{Numbering, AnswersFrame};
+ghost use Rattle.replay_lists.specs.FrameList.{longest_frame};
 
 use hmac_tag::Dir;
 use yasir_ticks::{MAX_TICKS, Tick};
@@ -65,5 +66,6 @@ pub trait FrameBox: Drop {
 
     /// The bytes of the frame of the step before, where it had one.
     fn bytes(&self) -> &[u8]
-        ensures { result.now ≡ shown self.now };
+        ensures bytes { result.now ≡ shown self.now }
+        ensures short { length result.now ≤ longest_frame };
 }

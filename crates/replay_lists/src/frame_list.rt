@@ -1,6 +1,6 @@
-ghost use Rattle.std.specs.Prelude.{◌≡◌, ◌<◌, ◌≤◌, ◌-◌, take, drop, List, [], ◌∷◌, ◌++◌};
+ghost use Rattle.std.specs.Prelude.{◌≡◌, ◌+◌, ◌<◌, ◌≤◌, ◌-◌, take, drop, List, [], ◌∷◌, ◌++◌};
 ghost use Rattle.std.specs.Prelude.{length, OnOk, slice_index_or};
-ghost use Rattle.replay_lists.specs.FrameList.{Kept, Holds, IsWhole, list_len};
+ghost use Rattle.replay_lists.specs.FrameList.{Kept, Holds, IsWhole, list_len, longest_frame};
 
 use std::alloc::Global;
 
@@ -41,9 +41,10 @@ impl<K: Copy + Drop> FrameList<K> {
         }
     }
 
-    /// Adds a frame behind the others.
+    /// Adds a frame behind the others, of no more bytes than the longest frame has.
     #[inline(never)]
     pub fn push(&mut self, head: K, bytes: &[u8]) -> Result<(), NoMemory>
+        requires { length bytes.now ≤ longest_frame }
         ensures { OnOk result ((frames : List (Kept K)) → Holds self.old frames
             → Holds self.new (frames ++ record { head = head; frame = bytes.now } ∷ [])) }
     {
@@ -81,8 +82,9 @@ impl<K: Copy + Drop> FrameList<K> {
     pub fn bytes(&self, index: usize) -> &[u8]
         requires within { index < list_len self.now }
         requires whole { IsWhole self.now }
-        ensures { (frames : List (Kept K)) (other : Kept K) → Holds self.now frames
+        ensures frame { (frames : List (Kept K)) (other : Kept K) → Holds self.now frames
             → result.now ≡ (slice_index_or frames index other).frame }
+        ensures short { length result.now ≤ longest_frame }
     {
         let Bounds { start, end } = self.bounds(index);
         &self.bytes.as_slice()[start..end]
@@ -94,6 +96,7 @@ impl<K: Copy + Drop> FrameList<K> {
         requires whole { IsWhole self.now }
         ensures rise { result.start ≤ result.end }
         ensures end { result.end ≤ length self.now.bytes.items }
+        ensures short { result.end ≤ result.start + longest_frame }
         ensures frame { (frames : List (Kept K)) (other : Kept K) → Holds self.now frames
             → take (result.end - result.start) (drop result.start self.now.bytes.items)
             ≡ (slice_index_or frames index other).frame }

@@ -1,4 +1,5 @@
 ghost use Rattle.std.specs.Prelude.{◌≡◌, List, []};
+ghost use Rattle.yasir_io.specs.Flushed.{NoneFlushed};
 ghost use Rattle.tick_drive.specs.Input.{IsReadCause, is_read_fault};
 ghost use Rattle.replay_lists.specs.Listed.{ListsRecordings, MayList};
 
@@ -9,35 +10,36 @@ use device_model::Device;
 use tick_drive::{End, Stop, drive_to_rest};
 use yasir_io::{Sink, Source, SteadySlots};
 
-/// How many silent ticks stand behind the recording before the mark, so that its last burst is
-/// judged and its trailer is sent.
-const DEVICE_REST: u32 = 24;
-
-/// How many stand behind the recording behind it, so that what passes is sent and read.
+/// How many silent ticks stand behind the recording behind the mark, so that what passes is sent
+/// and read.
 const LINK_REST: u32 = 320;
 
-/// Lists the frames of two recordings, which a mark parts in the input. Nothing is written.
+/// Lists the frames of two recordings, which a mark parts in the input. Behind the one before it
+/// stand `device_rest` silent ticks, so that its last burst is judged and its trailer is sent.
+/// Nothing is written.
 pub fn list_recordings<S: FrameBox, C: FrameBox, V: Device + Drop, I: Source, O: Sink, L: Sink>(
+    device_rest: u32,
     lists: &mut ReplayLists<S, C, V>,
     input: &mut I,
     out: &mut O,
     log: &mut L,
 ) -> End
     requires { MayList S.FrameBox C.FrameBox V.Device lists.old }
-    ensures listed { ListsRecordings S.FrameBox C.FrameBox V.Device lists.old lists.new
-        (I.left input.old) (I.left input.new) result }
+    ensures listed { ListsRecordings S.FrameBox C.FrameBox V.Device device_rest lists.old
+        lists.new (I.left input.old) (I.left input.new) result }
     ensures out { O.held out.new ≡ O.held out.old }
     ensures log { L.held log.new ≡ L.held log.old }
     ensures read { IsReadCause (I.faults input.old) (I.faults input.new) (is_read_fault result) }
     ensures out_faults { O.faults out.new ≡ O.faults out.old }
     ensures log_faults { L.faults log.new ≡ L.faults log.old }
+    ensures flushes { NoneFlushed O.Sink L.Sink out.old out.new log.old log.new }
 {
     let mut no_disk = SteadySlots::new([0; 16], [0; 16]);
     match drive_to_rest(1, LINK_REST, input, lists, out, log, &mut no_disk) {
         End::Whole => {}
         end => return end,
     }
-    match lists.rest(DEVICE_REST) {
+    match lists.rest(device_rest) {
         Ok(()) => End::Whole,
         Err(NoMemory) => End::Stopped(Stop::NoMemory),
     }

@@ -1,4 +1,5 @@
 pub mod Logging
 pub mod EndCauses
+pub mod FlushLaws
 pub mod Readable
 pub mod Printing

@@ -1,6 +1,7 @@
 ghost use Rattle.std.specs.Prelude.{◌≡◌, ◌⊎◌};
 ghost use Rattle.replay_status.specs.Causes.{SinkCause};
 ghost use Rattle.replay_status.specs.Endings.{status_of};
+ghost use Rattle.replay_status.specs.Flushes.{FlushesAtEnd};
 
 use crate::Status;
 use tick_drive::{End, Stop};
@@ -13,6 +14,7 @@ pub fn flush_both<O: Sink, L: Sink>(out: &mut O, log: &mut L) -> Status
     ensures log { L.held log.new ≡ L.held log.old }
     ensures sinks { SinkCause (O.faults out.old) (O.faults out.new) (L.faults log.old)
         (L.faults log.new) result }
+    ensures flushes { FlushesAtEnd O.Sink L.Sink out.old out.new log.old log.new result }
 {
     if let Err(Failed) = out.flush() {
         return Status::WriteFault;

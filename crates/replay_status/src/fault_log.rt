@@ -121,6 +121,7 @@ pub fn write_fault<L: Sink>(log: &mut L, status: &Status)
     ensures logs { LogsFault (L.held log.old) (L.held log.new) (L.faults log.old) (L.faults log.new)
         status.now }
     ensures never_falls { L.faults log.old ≤ L.faults log.new }
+    ensures flushes { L.flushes log.new ≡ L.flushes log.old }
     ensures same { fault_line status.now ≡ [] → log.new ≡ log.old }
 {
     let line = fault_line(status);

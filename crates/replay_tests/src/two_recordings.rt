@@ -162,7 +162,7 @@ fn check(rt: &impl Abort, alloc: Global, row: &Row) -> Result<(), Fail> {
     let mut out = MemSink::with_room(alloc, 4, 512, plan(&[]))?;
     let mut log = MemSink::with_room(alloc, 4, 512, plan(&[]))?;
     let mut lists = RtuLists::new(alloc, &KEY, Dir::Ab);
-    let end = list_recordings(&mut lists, &mut input, &mut out, &mut log);
+    let end = list_recordings(24, &mut lists, &mut input, &mut out, &mut log);
     assert_eq!(rt; end, row.end);
     assert!(rt; out.held().is_empty());
     assert!(rt; log.held().is_empty());

@@ -1,4 +1,4 @@
-pub mod ByteSteps
 pub mod FrameLaws
 pub mod RtuLaws
 pub mod Rows
+pub mod Tables

@@ -6,10 +6,12 @@ use Rattle.std.proofs.Common.{lit<, lit≤, length-append}
 use Rattle.std.proofs.lemmas.Bool.{and_parts, and_from, eqb-true, eq-eqb, leb-true, le-leb}
 use Rattle.std.proofs.lemmas.Bool.Decides.{same_from_decides}
 use Rattle.std.proofs.lemmas.List.Elements.{All-nil, All-push, All-take, All-get_or, All-head}
+use Rattle.std.proofs.lemmas.List.Elements.{All-append}
+use Rattle.std.proofs.lemmas.List.{length-take}
 use Rattle.std.proofs.Math.Seq.{take-append_seam}
 use Rattle.line_rules.specs.Bytes.{AreBytes, low_first}
-use Rattle.line_rules.specs.Crc.{byte_step}
-use Rattle.line_rules.proofs.CrcLaws.{crc-nil}
+use Rattle.line_rules.specs.Crc.{byte_step, crc}
+use Rattle.line_rules.proofs.CrcLaws.{crc-nil, crc-parts}
 use Rattle.line_rules.proofs.CrcZero.{byte_step-zero, crc-zero, crc-own, crc-append}
 use Rattle.rtu_frame.specs.Crc.{crc_rtu}
 use Rattle.line_rules.specs.Endings.{body_of}
@@ -102,6 +104,24 @@ rtu_take len register register' b room byte next x stands =
           ∙ sym (crc-append 0xA001 (lit≤ tt) (lit< tt) 0xFFFF x b));
       short = omega arith;
       bytes = All-push (λ n. n < 256) x b stands.bytes byte;
+    }
+
+pub rtu_take_some : (len register register' n : ℕ) (part : List ℕ) → n ≤ length part
+    → n ≤ 256 - len → AreBytes part → register' ≡ crc 0xA001 register (take n part)
+    → (x : List ℕ) → RtuStandsFor (record { len = len; register = register }) x
+    → RtuStandsFor (record { len = len + n; register = register' }) (x ++ take n part)
+rtu_take_some len register register' n part there room bytes next x stands =
+    let longer = length-append x (take n part) in
+    let some = length-take n part in
+    let count : len ≡ length x = stands.count in
+    let short : length x ≤ 256 = stands.short in
+    record {
+      count = omega arith;
+      check = next ∙ (ap (λ r. crc 0xA001 r (take n part)) stands.check
+          ∙ sym (crc-parts 0xA001 0xFFFF x (take n part)));
+      short = omega arith;
+      bytes = All-append (λ b. b < 256) x (take n part) stands.bytes
+          (All-take (λ b. b < 256) n part bytes);
     }
 
 pub rtu_good : (value : Rtu) (x : List ℕ) → RtuStandsFor value x

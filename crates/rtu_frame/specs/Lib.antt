@@ -2,4 +2,3 @@ pub mod Crc
 pub mod Frame
 pub mod Rules
 pub mod Rtu
-pub mod WholeBytes

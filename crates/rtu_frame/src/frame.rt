@@ -1,8 +1,8 @@
 ghost use Rattle.std.specs.Prelude.{◌↔◌, IsTrue};
 ghost use Rattle.rtu_frame.specs.Frame.{IsFrame, HasRightEnding};
 
-use crate::crc::crc16;
-use crate::whole_bytes::crc16_by_bytes;
+use crate::crc::{FIRST_REGISTER, crc16};
+use crate::table::after_bytes;
 
 const SHORTEST: usize = 4;
 
@@ -17,7 +17,7 @@ pub fn is_frame(bytes: &[u8]) -> bool
     if length < SHORTEST || length > LONGEST {
         return false;
     }
-    let [low, high] = crc16_by_bytes(&bytes[..length - 2]).to_le_bytes();
+    let [low, high] = after_bytes(FIRST_REGISTER, &bytes[..length - 2]).to_le_bytes();
     bytes[length - 2] == low && bytes[length - 1] == high
 }
 

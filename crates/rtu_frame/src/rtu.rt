@@ -1,5 +1,5 @@
 use crate::crc::FIRST_REGISTER;
-use crate::whole_bytes::after_whole_byte;
+use crate::table::{after_byte, after_bytes};
 use line_rules::{Head, LineRules};
 
 const SHORTEST: u16 = 4;
@@ -79,7 +79,15 @@ impl LineRules for Rtu {
     #[inline]
     fn take(&mut self, b: u8) {
         self.len += 1;
-        self.register = after_whole_byte(self.register, b);
+        self.register = after_byte(self.register, b);
+    }
+
+    fn take_some(&mut self, part: &[u8]) -> usize {
+        let room = usize::from(Self::MAX.saturating_sub(self.len));
+        let taken = part.len().min(room);
+        self.register = after_bytes(self.register, &part[..taken]);
+        self.len += taken as u16;
+        taken
     }
 
     #[inline]
@@ -99,7 +107,7 @@ impl LineRules for Rtu {
 
     #[inline]
     fn spoiled(&self, b: u8) -> u8 {
-        let register = after_whole_byte(self.register, b);
+        let register = after_byte(self.register, b);
         if register == 0 { b ^ 1 } else { b }
     }
 }

@@ -7,3 +7,4 @@ pub mod Advancing
 pub mod Stepping
 pub mod Judging
 pub mod WholeSteps
+pub mod RunSteps

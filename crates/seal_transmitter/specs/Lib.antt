@@ -2,3 +2,4 @@ pub mod Sealing
 pub mod Answers
 pub mod Stands
 pub mod Between
+pub mod Runs

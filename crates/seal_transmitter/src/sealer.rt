@@ -5,7 +5,7 @@ use line_rules::LineRules;
 use link_format::Trailer;
 use sequence_journal::{Journal, JournalFault, LIMIT};
 use yasir_io::SlotDisk;
-use yasir_ticks::{MAX_TICKS, T3_5_TICKS, Tick};
+use yasir_ticks::{LineBytes, MAX_TICKS, T3_5_TICKS, Tick};
 
 /// The transmitter, by the rules `R` of a protocol, with words of `B` bytes and tags by `M`. It
 /// forwards the live bytes of a device's bursts, each in its own tick, and sends a trailer after
@@ -24,10 +24,11 @@ pub struct Sealer<R, M, const B: usize> {
 
 impl<R: LineRules, M: Mac, const B: usize> Sealer<R, M, B> {
     ghost use Rattle.std.specs.Prelude.{◌≡◌, ℕ, ◌+◌, ◌<◌, ◌≤◌, nat_lt, List, [], ◌∷◌, ◌++◌, drop};
-    ghost use Rattle.std.specs.Prelude.{Option};
+    ghost use Rattle.std.specs.Prelude.{Option, length, map, take};
     ghost use Rattle.std.specs.Prelude.{None, OnOk, OnErr, IfOk, IfNone};
+    ghost use Rattle.yasir_ticks.specs.Ticks.{silent};
     ghost use Rattle.yasir_ticks.specs.declared.tick.Tick.{Tick};
-    ghost use Rattle.yasir_ticks.specs.declared.tick.Tick.TheVariants.{Silent};
+    ghost use Rattle.yasir_ticks.specs.declared.tick.Tick.TheVariants.{Silent, Byte};
     ghost use Rattle.frame_ending.specs.declared.cut.Cut.{Cut};
     ghost use Rattle.frame_ending.specs.declared.cut.Cut.TheVariants.{Start, Live, Closed};
     ghost use Rattle.frame_ending.specs.Cuts.{IsPassing};
@@ -42,6 +43,7 @@ impl<R: LineRules, M: Mac, const B: usize> Sealer<R, M, B> {
     ghost use Rattle.seal_transmitter.specs.Sealing.Judgement.{sealed_with, unsealed};
     ghost use Rattle.seal_transmitter.specs.Answers.{SealsWith, KeepsJournal};
     ghost use Rattle.seal_transmitter.specs.Stands.{StandsFor, HasTaken, ticks_taken};
+    ghost use Rattle.seal_transmitter.specs.Runs.{HasTakenRun};
     ghost use Rattle.seal_transmitter.specs.Between.{IsBetween, Judges, judgement_of, noteless};
     ghost use Rattle.seal_transmitter.specs.Between.{IsSealedNote, IsUnsealedNote};
 
@@ -95,6 +97,105 @@ impl<R: LineRules, M: Mac, const B: usize> Sealer<R, M, B> {
             Cut::Closed => self.close(journal, disk),
             Cut::Extra(_) | Cut::Pause(_) | Cut::Quiet => Ok(self.pass()),
         }
+    }
+
+    /// Forwards the first of these bytes, one a tick, as far as each is a further live byte of a
+    /// burst that isn't early, and says how many. The ticks of the link are these bytes. With 0 the
+    /// caller goes on by another call. At most `MAX_TICKS` ticks are taken then.
+    #[inline]
+    pub fn forward(&mut self, bytes: &[u8]) -> usize
+        requires { ticks_taken self.old + length bytes.now ≤ MAX_TICKS }
+        ensures within { result ≤ length bytes.now }
+        ensures taken { ticks_taken self.new ≡ ticks_taken self.old + result }
+        ensures run { (journal : Journal) (setup : Setup) (line : List Tick)
+            → StandsFor R.LineRules M.Mac self.old journal setup line
+            → HasTakenRun R.LineRules M.Mac self.new (journal_floor journal) setup line
+            (map Byte (take result bytes.now)) (map Byte (take result bytes.now)) }
+    {
+        if self.is_early() {
+            return 0;
+        }
+        let count = self.cut.go_on_some(bytes);
+        self.mac.update(&bytes[..count]);
+        count
+    }
+
+    /// Takes the first of these bytes, as far as each is a further live byte of an early burst and
+    /// nothing is left of the trailer, and says how many. The link is silent meanwhile. At most
+    /// `MAX_TICKS` ticks are taken then.
+    #[inline]
+    pub fn hold(&mut self, bytes: &[u8]) -> usize
+        requires { ticks_taken self.old + length bytes.now ≤ MAX_TICKS }
+        ensures within { result ≤ length bytes.now }
+        ensures taken { ticks_taken self.new ≡ ticks_taken self.old + result }
+        ensures run { (journal : Journal) (setup : Setup) (line : List Tick)
+            → StandsFor R.LineRules M.Mac self.old journal setup line
+            → HasTakenRun R.LineRules M.Mac self.new (journal_floor journal) setup line
+            (map Byte (take result bytes.now)) (silent result) }
+    {
+        if self.trailer.left().len() > 0 {
+            return 0;
+        }
+        if !self.is_early() {
+            return 0;
+        }
+        self.cut.go_on_some(bytes)
+    }
+
+    /// Takes the first of these bytes, as far as each is a further live byte of an early burst and
+    /// something is left of the trailer. Answers what is sent of it, a byte for each. At most
+    /// `MAX_TICKS` ticks are taken then.
+    #[inline]
+    pub fn send_over(&mut self, bytes: &[u8]) -> LineBytes
+        requires { ticks_taken self.old + length bytes.now ≤ MAX_TICKS }
+        ensures within { length result.items ≤ length bytes.now }
+        ensures taken { ticks_taken self.new ≡ ticks_taken self.old + length result.items }
+        ensures run { (journal : Journal) (setup : Setup) (line : List Tick)
+            → StandsFor R.LineRules M.Mac self.old journal setup line
+            → HasTakenRun R.LineRules M.Mac self.new (journal_floor journal) setup line
+            (map Byte (take (length result.items) bytes.now)) (map Byte result.items) }
+    {
+        if !self.is_early() {
+            return LineBytes::new();
+        }
+        let most = self.trailer.left().len().min(bytes.len());
+        let count = self.cut.go_on_some(&bytes[..most]);
+        self.trailer.send_some(count)
+    }
+
+    /// Takes so many silent ticks, if no burst runs and nothing is left of the trailer, and says
+    /// how many: all or none. The link is silent too. At most `MAX_TICKS` ticks are taken then.
+    #[inline]
+    pub fn rest(&mut self, ticks: u32) -> u32
+        requires { ticks_taken self.old + ticks ≤ MAX_TICKS }
+        ensures within { result ≤ ticks }
+        ensures taken { ticks_taken self.new ≡ ticks_taken self.old + result }
+        ensures run { (journal : Journal) (setup : Setup) (line : List Tick)
+            → StandsFor R.LineRules M.Mac self.old journal setup line
+            → HasTakenRun R.LineRules M.Mac self.new (journal_floor journal) setup line
+            (silent result) (silent result) }
+    {
+        if self.trailer.left().len() > 0 {
+            return 0;
+        }
+        self.cut.rest(ticks)
+    }
+
+    /// Takes of so many silent ticks as many as something is left of the trailer for, if no burst
+    /// runs. Answers what is sent of it, a byte for each. At most `MAX_TICKS` ticks are taken then.
+    #[inline]
+    pub fn send_some(&mut self, ticks: u32) -> LineBytes
+        requires { ticks_taken self.old + ticks ≤ MAX_TICKS }
+        ensures within { length result.items ≤ ticks }
+        ensures taken { ticks_taken self.new ≡ ticks_taken self.old + length result.items }
+        ensures run { (journal : Journal) (setup : Setup) (line : List Tick)
+            → StandsFor R.LineRules M.Mac self.old journal setup line
+            → HasTakenRun R.LineRules M.Mac self.new (journal_floor journal) setup line
+            (silent (length result.items)) (map Byte result.items) }
+    {
+        let most = ticks.min(self.trailer.left().len() as u32);
+        let count = self.cut.rest(most);
+        self.trailer.send_some(count as usize)
     }
 
     // Whether the burst that is running or was the last is early.

@@ -7,7 +7,7 @@ mod numbers;
 mod slots;
 
 pub use journal::{InitError, Journal, JournalFault, LoadError};
-pub use numbers::{LIMIT, full_number, full_with, number_in, slot_of};
+pub use numbers::{LIMIT, full_number, full_number_wide, full_with, number_in, slot_of};
 
 #[cfg(test)]
 mod tests;

@@ -61,6 +61,17 @@ pub fn full_number(floor: u64, word: u16) -> Option<u64>
     full_with(LIMIT, 65_536, floor, u64::from(word))
 }
 
+/// The same of a word of four bytes: the least above the floor that equals it modulo 4,294,967,296.
+pub fn full_number_wide(floor: u64, word: u32) -> Option<u64>
+    requires { floor ≤ LIMIT }
+    ensures value { result ≡ full_of LIMIT 4294967296 floor word }
+    ensures found { IfSome result (λ n. IsLeastWith 4294967296 floor word n) }
+    ensures within { IfSome result (λ n. n ≤ LIMIT) }
+    ensures none { IfNone result ((n : ℕ) → IsLeastWith 4294967296 floor word n → LIMIT < n) }
+{
+    full_with(LIMIT, 4_294_967_296, floor, u64::from(word))
+}
+
 /// The same of any limit, and of words that are numbers below `words`.
 pub fn full_with(limit: u64, words: u64, floor: u64, word: u64) -> Option<u64>
     requires limit { limit ≤ LIMIT }

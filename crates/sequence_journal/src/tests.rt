@@ -1,5 +1,7 @@
 use crate::laws::{numbers_rise, uptime_ends_at_any_moment};
-use crate::{InitError, Journal, LIMIT, LoadError, full_number, number_in, slot_of};
+use crate::{
+    InitError, Journal, LIMIT, LoadError, full_number, full_number_wide, number_in, slot_of,
+};
 use std::test::Fail;
 use yasir_io::{MemSlots, Plan, Slot};
 
@@ -44,6 +46,18 @@ fn a_word_stands_for_the_next_number_that_has_it(rt: HostRuntime) {
     for (floor, word, want) in rows {
         assert!(rt; floor <= LIMIT);
         assert_eq!(rt; full_number(floor, word), want);
+    }
+    let wide_rows: [(u64, u32, Option<u64>); 6] = [
+        (65_535, 1, Some(4_294_967_297)),
+        (65_535, 65_536, Some(65_536)),
+        (0, 0, Some(4_294_967_296)),
+        (281_474_976_710_655, 0, None),
+        (281_474_976_710_655, 1, None),
+        (281_474_976_710_655, 4_294_967_295, None),
+    ];
+    for (floor, word, want) in wide_rows {
+        assert!(rt; floor <= LIMIT);
+        assert_eq!(rt; full_number_wide(floor, word), want);
     }
 }
 

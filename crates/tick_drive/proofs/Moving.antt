@@ -7,6 +7,7 @@ use Rattle.std.proofs.lemmas.List.{take-append-le}
 use Rattle.yasir_io.specs.Disks.{Slots, LeavesOnly}
 use Rattle.yasir_io.specs.declared.sink.Sink.{Ghosts as Sink}
 use Rattle.yasir_io.specs.declared.disk.SlotDisk.{Ghosts as SlotDisk}
+use Rattle.yasir_io.proofs.FlushLaws.{none_flushed, none_flushed_then}
 use Rattle.yasir_ticks.specs.Ticks.{Item}
 use Rattle.yasir_ticks.specs.Ticks.Item.{mark}
 use Rattle.tick_drive.proofs.ItemLaws.{ticks_with}
@@ -129,6 +130,7 @@ module _ {C O L D : Type 0} (meaning : Consuming C D) (o : Sink O) (l : Sink L)
     images = images_still s now;
     disk = disk_still _;
     sinks = sinks_still _ _;
+    flushes = none_flushed o l _ _;
   }
 
   -- a mark, to which a consumer does nothing
@@ -148,6 +150,7 @@ module _ {C O L D : Type 0} (meaning : Consuming C D) (o : Sink O) (l : Sink L)
     images = images_still s now;
     disk = disk_still _;
     sinks = sinks_still _ _;
+    flushes = none_flushed o l _ _;
   }
 
   -- one call more
@@ -163,6 +166,7 @@ module _ {C O L D : Type 0} (meaning : Consuming C D) (o : Sink O) (l : Sink L)
     images = images_then s0 s1 s2 first.images second.images;
     disk = disk_from _ _ _ _ first.disk second.disk;
     sinks = sinks_from _ _ _ _ _ _ _ first.sinks second.sinks;
+    flushes = none_flushed_then o l _ _ _ _ _ _ first.flushes second.flushes;
   }
   gives_then s0 s1 s2 a b (Err stop) first second = record {
     moved = tt;
@@ -172,6 +176,7 @@ module _ {C O L D : Type 0} (meaning : Consuming C D) (o : Sink O) (l : Sink L)
     images = images_then s0 s1 s2 first.images second.images;
     disk = disk_from _ _ _ _ first.disk second.disk;
     sinks = sinks_from _ _ _ _ _ _ _ first.sinks second.sinks;
+    flushes = none_flushed_then o l _ _ _ _ _ _ first.flushes second.flushes;
   }
 
   pub gives_items : (s0 s1 : State C O L D) (a b : List Item) (result : Result (Unit {0}) Stop)
@@ -200,6 +205,7 @@ module _ {C O L D : Type 0} (meaning : Consuming C D) (o : Sink O) (l : Sink L)
     images = given.images;
     disk = given.disk;
     sinks = given.sinks;
+    flushes = given.flushes;
   }
 
   -- it stopped at an item of several

@@ -4,6 +4,7 @@ use Rattle.std.specs.Prelude.{◌≡◌, ℕ, ◌+◌, ◌≤◌, ◌<◌, ◌�
 use Rattle.std.specs.Prelude.{Ok, Err, OnOk, IfErr, Bool, true, false}
 use Rattle.yasir_io.specs.Causes.{Rose}
 use Rattle.yasir_io.specs.Disks.{Slots, LeavesOnly}
+use Rattle.yasir_io.specs.Flushed.{NoneFlushed}
 use Rattle.yasir_io.specs.declared.sink.Sink.{Ghosts as Sink}
 use Rattle.yasir_io.specs.declared.disk.SlotDisk.{Ghosts as SlotDisk}
 use Rattle.yasir_ticks.specs.Ticks.{Item, ticks_in}
@@ -122,3 +123,5 @@ module _ {C O L D : Type 0} (meaning : Consuming C D) (o : Sink O) (l : Sink L)
     pub disk : IsDiskCause (d.faults old.disk) (d.faults new.disk) (is_journal_fault result)
     pub sinks : IsSinkCause (o.faults old.out) (o.faults new.out) (l.faults old.log)
         (l.faults new.log) (is_write_fault result)
+    -- flushing is for who drives it
+    pub flushes : NoneFlushed o l old.out new.out old.log new.log

@@ -7,6 +7,7 @@ use Rattle.dnp_link_frame.specs.Blocks as dnp
 use Rattle.line_rules.specs.Endings.{ends_in_check}
 use Rattle.hmac_tag.proofs.StandardFacts.{hmac_of_hi_there, hmac_of_jefe, hmac_of_fifty_bytes}
 use Rattle.hmac_tag.proofs.StandardFacts.{tag_of_test_with_truncation, hmac_under_a_long_key}
+use Rattle.hmac_tag.proofs.StandardFacts.{hmac_256_of_hi_there, hmac_256_of_jefe}
 use Rattle.vectors.specs.Cases.{answer}
 use Rattle.vectors.specs.Tables.{crc_cases, hmac_cases, frames_cases, user_cases}
 
@@ -14,7 +15,7 @@ pub crc_rows : (length crc_cases ≡ 4) × (answer crc_cases ≡ Ok tt)
 unfolding bit_step bit_steps byte_step crc answer crc_cases
 crc_rows = (refl, refl)
 
-pub hmac_rows : (length hmac_cases ≡ 5) × (answer hmac_cases ≡ Ok tt)
+pub hmac_rows : (length hmac_cases ≡ 7) × (answer hmac_cases ≡ Ok tt)
 unfolding answer hmac_cases
 hmac_rows = (
   refl,
@@ -24,6 +25,8 @@ hmac_rows = (
     hmac_of_fifty_bytes,
     tag_of_test_with_truncation,
     hmac_under_a_long_key,
+    hmac_256_of_hi_there,
+    hmac_256_of_jefe,
   ),
 )
 

@@ -9,10 +9,11 @@ use Rattle.rtu_frame.specs.Frame.{is_frame}
 use Rattle.dnp_link_frame.specs.Beginnings.{user_in}
 use Rattle.dnp_link_frame.specs.Blocks as dnp
 use Rattle.dnp_link_frame.specs.Crc.{crc_dnp}
-use Rattle.hmac_tag.specs.Tag.{hmac_sha1, hmac_sha1_96}
+use Rattle.hmac_tag.specs.Tag.{hmac_sha1, hmac_sha1_96, hmac_sha256}
 use Rattle.vectors.specs.declared.case.Case.{Case}
 use Rattle.vectors.specs.declared.case.CaseKind.{CaseKind}
 use Rattle.vectors.specs.declared.case.CaseKind.TheVariants.{Crc16, CrcDnp, HmacSha1, HmacSha196}
+use Rattle.vectors.specs.declared.case.CaseKind.TheVariants.{HmacSha256}
 use Rattle.vectors.specs.declared.case.CaseKind.TheVariants.{RtuFrame, DnpFrame, DnpUser}
 use Rattle.vectors.specs.declared.table.Miss.{Miss}
 
@@ -34,13 +35,14 @@ truth holds = (if holds then 1 else 0) ∷ []
 abbrev pub user_of : List ℕ → Option (List ℕ)
 user_of text = if dnp.is_frame text then Some (user_in text) else None
 
--- what the definitions give: a CRC high byte first, a code, a code cut to 12 bytes, 1 or 0 for a
--- frame or none, and the user data of a frame
+-- what the definitions give: a CRC high byte first, a code, a code cut to 12 bytes, a code by the
+-- other hash function, 1 or 0 for a frame or none, and the user data of a frame
 abbrev pub value_by : CaseKind → List ℕ → List ℕ → Option (List ℕ)
 value_by Crc16 key text = Some (to_be_bytes w16 (crc_rtu text))
 value_by CrcDnp key text = Some (to_be_bytes w16 (crc_dnp text))
 value_by HmacSha1 key text = Some (hmac_sha1 key text)
 value_by HmacSha196 key text = Some (hmac_sha1_96 key text)
+value_by HmacSha256 key text = Some (hmac_sha256 key text)
 value_by RtuFrame key text = Some (truth (is_frame text))
 value_by DnpFrame key text = Some (truth (dnp.is_frame text))
 value_by DnpUser key text = user_of text

@@ -2,6 +2,7 @@
 use Rattle.std.specs.Prelude.{List, [], ◌∷◌, codes, replicate}
 use Rattle.vectors.specs.declared.case.Case.{Case}
 use Rattle.vectors.specs.declared.case.CaseKind.TheVariants.{Crc16, CrcDnp, HmacSha1, HmacSha196}
+use Rattle.vectors.specs.declared.case.CaseKind.TheVariants.{HmacSha256}
 use Rattle.vectors.specs.declared.case.CaseKind.TheVariants.{RtuFrame, DnpFrame, DnpUser}
 use Rattle.vectors.specs.Cases.{case_of}
 
@@ -19,7 +20,8 @@ crc_cases =
     (0x21 ∷ 0xE9 ∷ [])
     ∷ []
 
--- test cases of RFC 2202, one of them cut to 12 bytes and one with a key longer than a block
+-- test cases of RFC 2202, one of them cut to 12 bytes and one with a key longer than a block, and
+-- the first two of RFC 4231
 unfoldable pub hmac_cases : List Case
 hmac_cases =
     case_of HmacSha1 (replicate 20 0x0B) (codes "Hi There")
@@ -37,6 +39,14 @@ hmac_cases =
     (codes "Test Using Larger Than Block-Size Key - Hash Key First")
     (0xAA ∷ 0x4A ∷ 0xE5 ∷ 0xE1 ∷ 0x52 ∷ 0x72 ∷ 0xD0 ∷ 0x0E ∷ 0x95 ∷ 0x70 ∷ 0x56 ∷ 0x37 ∷ 0xCE ∷ 0x8A
     ∷ 0x3B ∷ 0x55 ∷ 0xED ∷ 0x40 ∷ 0x21 ∷ 0x12 ∷ [])
+    ∷ case_of HmacSha256 (replicate 20 0x0B) (codes "Hi There")
+    (0xB0 ∷ 0x34 ∷ 0x4C ∷ 0x61 ∷ 0xD8 ∷ 0xDB ∷ 0x38 ∷ 0x53 ∷ 0x5C ∷ 0xA8 ∷ 0xAF ∷ 0xCE ∷ 0xAF ∷ 0x0B
+    ∷ 0xF1 ∷ 0x2B ∷ 0x88 ∷ 0x1D ∷ 0xC2 ∷ 0x00 ∷ 0xC9 ∷ 0x83 ∷ 0x3D ∷ 0xA7 ∷ 0x26 ∷ 0xE9 ∷ 0x37
+    ∷ 0x6C ∷ 0x2E ∷ 0x32 ∷ 0xCF ∷ 0xF7 ∷ [])
+    ∷ case_of HmacSha256 (codes "Jefe") (codes "what do ya want for nothing?")
+    (0x5B ∷ 0xDC ∷ 0xC1 ∷ 0x46 ∷ 0xBF ∷ 0x60 ∷ 0x75 ∷ 0x4E ∷ 0x6A ∷ 0x04 ∷ 0x24 ∷ 0x26 ∷ 0x08 ∷ 0x95
+    ∷ 0x75 ∷ 0xC7 ∷ 0x5A ∷ 0x00 ∷ 0x3F ∷ 0x08 ∷ 0x9D ∷ 0x27 ∷ 0x39 ∷ 0x83 ∷ 0x9D ∷ 0xEC ∷ 0x58
+    ∷ 0xB9 ∷ 0x64 ∷ 0xEC ∷ 0x38 ∷ 0x43 ∷ [])
     ∷ []
 
 -- frames of Modbus RTU, and one with a wrong CRC; and frames of DNP3, a reset of a link and a read

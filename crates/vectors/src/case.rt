@@ -5,7 +5,7 @@ ghost use Rattle.vectors.specs.Cases.{truth, user_of};
 use crate::frame::is_frame;
 use arrayvec::ArrayVec;
 use dnp_link_frame::{Dnp, dnp_crc, user_data};
-use hmac_tag::{HmacSha1, Mac};
+use hmac_tag::{HmacSha1, HmacSha256, Mac};
 use rtu_frame::{Rtu, crc16};
 
 /// What is computed for a case.
@@ -19,6 +19,8 @@ pub enum CaseKind {
     HmacSha1,
     /// Its first 12 bytes, by the stream.
     HmacSha196,
+    /// The HMAC-SHA-256 of the text under the key, 32 bytes.
+    HmacSha256,
     /// One byte: 1 where the text is a frame of Modbus RTU, else 0.
     RtuFrame,
     /// One byte: 1 where the text is a frame of the DNP3 link layer, else 0.
@@ -96,6 +98,7 @@ impl Case {
                 mac.update(text);
                 Some(bytes_of(mac.finish().as_slice()))
             }
+            CaseKind::HmacSha256 => Some(bytes_of(&HmacSha256::digest(key, text))),
             CaseKind::RtuFrame => Some(truth(is_frame::<Rtu>(text))),
             CaseKind::DnpFrame => Some(truth(is_frame::<Dnp>(text))),
             CaseKind::DnpUser => user_of(text),

@@ -79,6 +79,12 @@ pub fn hmac_table() -> (u32, Result<(), Miss>)
             \x4C\x1A\x03\x42\x4B\x55\xE0\x7F\xE7\xF2\x7B\xE1";
         HmacSha1: &[0xAA; 80], b"Test Using Larger Than Block-Size Key - Hash Key First" => b"\
             \xAA\x4A\xE5\xE1\x52\x72\xD0\x0E\x95\x70\x56\x37\xCE\x8A\x3B\x55\xED\x40\x21\x12";
+        HmacSha256: &[0x0B; 20], b"Hi There" => b"\
+            \xB0\x34\x4C\x61\xD8\xDB\x38\x53\x5C\xA8\xAF\xCE\xAF\x0B\xF1\x2B\x88\x1D\xC2\x00\
+            \xC9\x83\x3D\xA7\x26\xE9\x37\x6C\x2E\x32\xCF\xF7";
+        HmacSha256: b"Jefe", b"what do ya want for nothing?" => b"\
+            \x5B\xDC\xC1\x46\xBF\x60\x75\x4E\x6A\x04\x24\x26\x08\x95\x75\xC7\x5A\x00\x3F\x08\
+            \x9D\x27\x39\x83\x9D\xEC\x58\xB9\x64\xEC\x38\x43";
     }
 }
 
@@ -121,7 +127,7 @@ mod tests {
     #[test]
     fn known_tables(rt: HostRuntime) {
         assert_eq!(rt; crc_table(), (4, Ok(())));
-        assert_eq!(rt; hmac_table(), (5, Ok(())));
+        assert_eq!(rt; hmac_table(), (7, Ok(())));
         assert_eq!(rt; frames_table(), (7, Ok(())));
         assert_eq!(rt; user_table(), (2, Ok(())));
         let right = Case::new(CaseKind::Crc16, b"", b"\x01\x03", b"\x21\x40");

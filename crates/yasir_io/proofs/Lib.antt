@@ -1,4 +1,5 @@
 pub mod FileLemmas
+pub mod FlushLaws
 pub mod Images
 pub mod Moments
 pub mod OutputLemmas

@@ -1,6 +1,6 @@
 -- What the readers, writers and files at the edge of the program are, and how often they have
 -- failed.
-use Rattle.std.specs.Prelude.{ℕ, Option}
+use Rattle.std.specs.Prelude.{ℕ, Option, Bool}
 use Rattle.yasir_io.specs.declared.edge.StdinSource.{StdinSource}
 use Rattle.yasir_io.specs.declared.edge.WriterSink.{WriterSink}
 use Rattle.yasir_io.specs.declared.files.FileSource.{FileSource}
@@ -22,6 +22,14 @@ writer_of sink = sink.writer
 -- how often a write or a flush has failed
 abbrev pub writer_faults : {W : Type 0} → WriterSink W → ℕ
 writer_faults sink = sink.faults.count
+
+-- how often a flush has ended well
+abbrev pub writer_flushes : {W : Type 0} → WriterSink W → ℕ
+writer_flushes sink = sink.flushes.count
+
+-- whether bytes were written since
+abbrev pub writer_unflushed : {W : Type 0} → WriterSink W → Bool
+writer_unflushed sink = sink.flushes.unflushed
 
 -- the file, once it stands open
 abbrev pub file_of : {R F D : Type 0} → FileSource R F D → Option F

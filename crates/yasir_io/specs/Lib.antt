@@ -2,6 +2,8 @@ pub mod Calls
 pub mod Causes
 pub mod Disks
 pub mod Edge
+pub mod Flushed
+pub mod Flushing
 pub mod MemSink
 pub mod MemSlots
 pub mod MemSlotsLaws

@@ -1,5 +1,5 @@
 -- What a sink in memory is.
-use Rattle.std.specs.Prelude.{ℕ, ◌<◌, ◌≤◌, ◌⊎◌, List, length}
+use Rattle.std.specs.Prelude.{ℕ, ◌<◌, ◌≤◌, ◌⊎◌, List, length, Bool}
 use Rattle.yasir_io.specs.declared.mem_sink.MemSink.{MemSink}
 use Rattle.yasir_io.specs.Calls.{IsPlanned}
 
@@ -22,6 +22,14 @@ sink_calls sink = sink.calls.made
 -- the most bytes that a call moves
 abbrev pub sink_piece : MemSink → ℕ
 sink_piece sink = sink.piece
+
+-- how often a flush has ended well
+abbrev pub sink_flushes : MemSink → ℕ
+sink_flushes sink = sink.flushes.count
+
+-- whether bytes were written since
+abbrev pub sink_unflushed : MemSink → Bool
+sink_unflushed sink = sink.flushes.unflushed
 
 -- the next call fails
 abbrev pub SinkFails : MemSink → Type 0

@@ -1,10 +1,12 @@
 //! The edge of the program: the runtime's readers and writers. What they move isn't told; their
 //! faults are counted.
-ghost use Rattle.std.specs.Prelude.{◌≡◌, ◌≤◌, ◌<◌, length, None, IfOk};
+ghost use Rattle.std.specs.Prelude.{◌≡◌, ◌≤◌, ◌<◌, length, None, IfOk, true};
 ghost use Rattle.std.specs.Io.KnownBytes.{Keeps, ReadConsumes, WriteAppends};
 ghost use Rattle.yasir_io.specs.Causes.{HasCause};
+ghost use Rattle.yasir_io.specs.Flushing.{IsCounted};
 
 use crate::faults::Faults;
+use crate::flushes::Flushes;
 use crate::{Failed, Sink, Source};
 use std::io::{Read, Write};
 
@@ -55,6 +57,7 @@ impl<I: Read + Drop> Source for StdinSource<I> {
 pub struct WriterSink<W: Write + Drop> {
     writer: W,
     faults: Faults,
+    flushes: Flushes,
 }
 
 /// Standard output as a sink.
@@ -64,25 +67,34 @@ pub type StdoutSink<W> = WriterSink<W>;
 pub type StderrSink<W> = WriterSink<W>;
 
 impl<W: Write + Drop> WriterSink<W> {
-    ghost use Rattle.yasir_io.specs.Edge.{writer_faults};
+    ghost use Rattle.std.specs.Prelude.{false};
+    ghost use Rattle.yasir_io.specs.Edge.{writer_faults, writer_flushes, writer_unflushed};
 
     /// A sink that hands pieces to the writer.
     pub fn new(writer: W) -> WriterSink<W>
-        ensures { writer_faults result ≡ 0 }
+        ensures faults { writer_faults result ≡ 0 }
+        ensures flushes { writer_flushes result ≡ 0 }
+        ensures unflushed { writer_unflushed result ≡ false }
     {
         WriterSink {
             writer,
             faults: Faults::none(),
+            flushes: Flushes::none(),
         }
     }
 }
 
 impl<W: Write + Drop> Sink for WriterSink<W> {
     ghost use Rattle.yasir_io.specs.Edge.{writer_of, writer_faults};
+    ghost use Rattle.yasir_io.specs.Edge.{writer_flushes, writer_unflushed};
 
     ghost held = { λ _. None };
 
     ghost faults = { λ sink. writer_faults sink };
+
+    ghost flushes = { λ sink. writer_flushes sink };
+
+    ghost unflushed = { λ sink. writer_unflushed sink };
 
     fn write(&mut self, piece: &[u8]) -> Result<usize, Failed>
         ensures within { IfOk result (λ n. n ≤ length piece.now) }
@@ -90,22 +102,32 @@ impl<W: Write + Drop> Sink for WriterSink<W> {
         ensures writes { WriteAppends (W.contents (writer_of self.old))
             (W.contents (writer_of self.new)) result piece.now }
         ensures cause { HasCause (writer_faults self.old) (writer_faults self.new) result }
+        ensures flushes { writer_flushes self.new ≡ writer_flushes self.old }
+        ensures unflushed { IfOk result (λ n. 0 < n → writer_unflushed self.new ≡ true) }
     {
         if piece.is_empty() {
             return Ok(0);
         }
         match self.writer.write(piece) {
             Ok(0) | Err(_) => Err(self.faults.add()),
-            Ok(n) => Ok(n),
+            Ok(n) => {
+                self.flushes.wait(n);
+                Ok(n)
+            }
         }
     }
 
     fn flush(&mut self) -> Result<(), Failed>
         ensures writes { Keeps (W.contents (writer_of self.old)) (W.contents (writer_of self.new)) }
         ensures cause { HasCause (writer_faults self.old) (writer_faults self.new) result }
+        ensures counted { IsCounted (writer_flushes self.old) (writer_flushes self.new)
+            (writer_unflushed self.new) result }
     {
         match self.writer.flush() {
-            Ok(()) => Ok(()),
+            Ok(()) => {
+                self.flushes.add();
+                Ok(())
+            }
             Err(_) => Err(self.faults.add()),
         }
     }

@@ -8,6 +8,7 @@ mod faults;
 #[cfg(test)]
 mod file_tests;
 mod files;
+mod flushes;
 mod mem_sink;
 mod mem_slots;
 mod mem_source;

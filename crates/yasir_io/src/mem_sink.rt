@@ -1,6 +1,7 @@
 ghost use Rattle.std.specs.Prelude.{◌≤◌, vec_len, vec_capacity};
 
 use crate::calls::{Calls, NoMemory, Plan};
+use crate::flushes::Flushes;
 use crate::{Failed, Sink};
 use std::alloc::Global;
 
@@ -11,15 +12,16 @@ pub struct MemSink {
     room: usize,
     piece: usize,
     calls: Calls,
+    flushes: Flushes,
     ghost some: { 1 ≤ piece },
     ghost held: { vec_len bytes ≤ room },
     ghost reserved: { room ≤ vec_capacity bytes },
 }
 
 impl MemSink {
-    ghost use Rattle.std.specs.Prelude.{◌≡◌, ◌≤◌, [], IfOk};
+    ghost use Rattle.std.specs.Prelude.{◌≡◌, ◌≤◌, [], IfOk, false};
     ghost use Rattle.yasir_io.specs.MemSink.{sink_bytes, sink_room, sink_plan, sink_calls};
-    ghost use Rattle.yasir_io.specs.MemSink.{sink_piece};
+    ghost use Rattle.yasir_io.specs.MemSink.{sink_piece, sink_flushes, sink_unflushed};
 
     /// An empty sink with room for so many bytes, which is taken at once. A call moves at most
     /// `piece` bytes; those in `fail`, counted from 1, fail.
@@ -36,6 +38,8 @@ impl MemSink {
         ensures piece { IfOk result (λ sink. sink_piece sink ≡ piece) }
         ensures plan { IfOk result (λ sink. sink_plan sink ≡ fail.items) }
         ensures calls { IfOk result (λ sink. sink_calls sink ≡ 0) }
+        ensures flushes { IfOk result (λ sink. sink_flushes sink ≡ 0) }
+        ensures unflushed { IfOk result (λ sink. sink_unflushed sink ≡ false) }
     {
         let Ok(bytes) = Vec::with_capacity(alloc, room) else {
             return Err(NoMemory);
@@ -45,6 +49,7 @@ impl MemSink {
             room,
             piece: usize::from(piece),
             calls: Calls::new(fail),
+            flushes: Flushes::none(),
         })
     }
 
@@ -54,19 +59,32 @@ impl MemSink {
     {
         self.bytes.as_slice()
     }
+
+    /// How often a flush has ended well. It doesn't count as a call.
+    pub fn flushes(&self) -> u64
+        ensures { result ≡ sink_flushes self.now }
+    {
+        self.flushes.count
+    }
 }
 
 impl Sink for MemSink {
     ghost use Rattle.std.specs.Prelude.{◌≡◌, ◌+◌, ◌-◌, ◌^◌, ◌<◌, ◌≤◌, ◌↔◌, min, take, length, Some};
-    ghost use Rattle.std.specs.Prelude.{IsErr, IfOk, OnErr};
+    ghost use Rattle.std.specs.Prelude.{true, IsErr, IfOk, OnErr};
     ghost use Rattle.std.specs.Io.KnownBytes.{append_known};
     ghost use Rattle.yasir_io.specs.Causes.{HasCause};
+    ghost use Rattle.yasir_io.specs.Flushing.{IsCounted};
     ghost use Rattle.yasir_io.specs.MemSink.{sink_bytes, sink_room, sink_plan, sink_calls};
-    ghost use Rattle.yasir_io.specs.MemSink.{sink_piece, SinkFails, WriteFails};
+    ghost use Rattle.yasir_io.specs.MemSink.{sink_piece, sink_flushes, sink_unflushed};
+    ghost use Rattle.yasir_io.specs.MemSink.{SinkFails, WriteFails};
 
     ghost held = { λ sink. Some (sink_bytes sink) };
 
     ghost faults = { λ sink. sink.calls.faults.count };
+
+    ghost flushes = { λ sink. sink_flushes sink };
+
+    ghost unflushed = { λ sink. sink_unflushed sink };
 
     fn write(&mut self, piece: &[u8]) -> Result<usize, Failed>
         ensures within { IfOk result (λ n. n ≤ length piece.now) }
@@ -75,6 +93,11 @@ impl Sink for MemSink {
             ≡ append_known (Some (sink_bytes self.old)) (take n piece.now)) }
         ensures err { OnErr result (Some (sink_bytes self.new) ≡ Some (sink_bytes self.old)) }
         ensures cause { HasCause self.old.calls.faults.count self.new.calls.faults.count result }
+        ensures flushes { sink_flushes self.new ≡ sink_flushes self.old }
+        ensures unflushed { IfOk result (λ n. 0 < n → sink_unflushed self.new ≡ true) }
+        ensures as_it_was { IfOk result (λ n. n ≡ 0
+            → sink_unflushed self.new ≡ sink_unflushed self.old) }
+        ensures err_as_it_was { OnErr result (sink_unflushed self.new ≡ sink_unflushed self.old) }
 
         // Exactly a planned call fails, and one that finds no room; any other moves as much as it
         // may.
@@ -96,18 +119,24 @@ impl Sink for MemSink {
             return Err(self.calls.faults.add());
         }
         self.bytes.extend_from_slice(&piece[..n]).unwrap();
+        self.flushes.wait(n);
         Ok(n)
     }
 
     fn flush(&mut self) -> Result<(), Failed>
         ensures same { Some (sink_bytes self.new) ≡ Some (sink_bytes self.old) }
         ensures cause { HasCause self.old.calls.faults.count self.new.calls.faults.count result }
+        ensures counted { IsCounted (sink_flushes self.old) (sink_flushes self.new)
+            (sink_unflushed self.new) result }
+        ensures err_as_it_was { OnErr result (sink_unflushed self.new ≡ sink_unflushed self.old) }
         ensures fails { IsErr result ↔ SinkFails self.old }
         ensures calls { sink_calls self.new ≡ min (sink_calls self.old + 1) (2 ^ 64 - 1) }
         ensures plan { sink_plan self.new ≡ sink_plan self.old }
         ensures piece { sink_piece self.new ≡ sink_piece self.old }
         ensures room { sink_room self.new ≡ sink_room self.old }
     {
-        self.calls.begin()
+        self.calls.begin()?;
+        self.flushes.add();
+        Ok(())
     }
 }

@@ -1,7 +1,8 @@
 ghost use Rattle.std.specs.Prelude.{◌≡◌, ℕ, ◌≤◌, ◌<◌, Option, List, take, length, IfOk, OnOk};
-ghost use Rattle.std.specs.Prelude.{OnErr};
+ghost use Rattle.std.specs.Prelude.{OnErr, Bool, true};
 ghost use Rattle.std.specs.Io.KnownBytes.{append_known};
 ghost use Rattle.yasir_io.specs.Causes.{HasCause};
+ghost use Rattle.yasir_io.specs.Flushing.{IsCounted};
 ghost use Rattle.yasir_io.specs.Output.{GotPrefix};
 
 use crate::Failed;
@@ -14,6 +15,12 @@ pub trait Sink {
     /// How often a write or a flush has failed.
     ghost faults: { Self → ℕ };
 
+    /// How often a flush has ended well.
+    ghost flushes: { Self → ℕ };
+
+    /// Whether bytes were written since a flush has ended well.
+    ghost unflushed: { Self → Bool };
+
     /// Appends the first bytes of the piece, and answers how many: at least one, unless the piece
     /// is empty.
     fn write(&mut self, piece: &[u8]) -> Result<usize, Failed>
@@ -22,19 +29,24 @@ pub trait Sink {
         ensures bytes { IfOk result (λ n. held self.new
             ≡ append_known (held self.old) (take n piece.now)) }
         ensures err { OnErr result (held self.new ≡ held self.old) }
-        ensures cause { HasCause (faults self.old) (faults self.new) result };
+        ensures cause { HasCause (faults self.old) (faults self.new) result }
+        ensures flushes { flushes self.new ≡ flushes self.old }
+        ensures unflushed { IfOk result (λ n. 0 < n → unflushed self.new ≡ true) };
 
     /// Hands on what is held.
     fn flush(&mut self) -> Result<(), Failed>
         ensures same { held self.new ≡ held self.old }
-        ensures cause { HasCause (faults self.old) (faults self.new) result };
+        ensures cause { HasCause (faults self.old) (faults self.new) result }
+        ensures counted { IsCounted (flushes self.old) (flushes self.new) (unflushed self.new)
+            result };
 }
 
-/// Appends the whole piece. After an error a front of it was appended.
+/// Appends the whole piece. After an error a front of it was appended. Nothing is flushed.
 pub fn write_all<S: Sink>(sink: &mut S, piece: &[u8]) -> Result<(), Failed>
     ensures ok { OnOk result (S.held sink.new ≡ append_known (S.held sink.old) piece.now) }
     ensures err { OnErr result (GotPrefix (S.held sink.old) (S.held sink.new) piece.now) }
     ensures cause { HasCause (S.faults sink.old) (S.faults sink.new) result }
+    ensures flushes { S.flushes sink.new ≡ S.flushes sink.old }
 {
     let mut rest = piece;
     while !rest.is_empty() {

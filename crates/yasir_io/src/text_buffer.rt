@@ -50,6 +50,7 @@ impl TextBuffer {
             → Buffered start (S.held sink.old) (waiting_bytes self.old) text
             → GotPrefix start (S.held sink.new) (text ++ piece.now)) }
         ensures cause { HasCause (S.faults sink.old) (S.faults sink.new) result }
+        ensures flushes { S.flushes sink.new ≡ S.flushes sink.old }
     {
         match self.text.try_extend_from_slice(piece) {
             Ok(()) => Ok(()),
@@ -67,6 +68,7 @@ impl TextBuffer {
             → Buffered start (S.held sink.old) (waiting_bytes self.old) text
             → GotPrefix start (S.held sink.new) (text ++ piece.now)) }
         ensures cause { HasCause (S.faults sink.old) (S.faults sink.new) result }
+        ensures flushes { S.flushes sink.new ≡ S.flushes sink.old }
     {
         self.drain(sink)?;
         match self.text.try_extend_from_slice(piece) {
@@ -85,6 +87,7 @@ impl TextBuffer {
             → Buffered start (S.held sink.old) (waiting_bytes self.old) text
             → GotPrefix start (S.held sink.new) text) }
         ensures cause { HasCause (S.faults sink.old) (S.faults sink.new) result }
+        ensures flushes { S.flushes sink.new ≡ S.flushes sink.old }
     {
         write_all(sink, self.text.as_slice())?;
         self.text.clear();

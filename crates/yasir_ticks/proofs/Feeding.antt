@@ -11,7 +11,7 @@ use Rattle.yasir_ticks.specs.TickText.{Lines, lines_of, line_items, all_items, e
 use Rattle.yasir_ticks.specs.TickText.{line_after, fault_after, fault_at_end, IsTickText}
 use Rattle.yasir_ticks.specs.TickText.{BeginsTickText, IsRefusedAfter}
 use Rattle.yasir_ticks.specs.Reader.{items_of_content, marks_at, IsAt, StandsFor}
-use Rattle.yasir_ticks.specs.ReaderStep.{Accepts, Refuses, LacksMark, Steps, Stops}
+use Rattle.yasir_ticks.specs.ReaderStep.{Accepts, Refuses, LacksMark, Steps, Stops, line_with}
 use Rattle.yasir_ticks.specs.declared.fault.BadTicks.{BadTicks}
 use Rattle.yasir_ticks.specs.declared.fault.TickFault.{TickFault}
 use Rattle.yasir_ticks.specs.declared.run.Run.{Run}
@@ -29,38 +29,38 @@ use Rattle.yasir_ticks.proofs.Completions.{begins_at}
 
 module _ (text : List ℕ) where
   -- the last line goes on, or ends
-  pub items_more : (b : ℕ) (run : Run) → b ≢ 10 → items_of_run run ≡ []
-      → ended_items (text ++ b ∷ []) ≡ ended_items text ++ items_of_run run
-  items_more b run n e = rw (lines_of-more text b n, e) (sym (append-nil (ended_items text)))
+  pub items_more : (b : ℕ) (own : List Item) → b ≢ 10 → own ≡ []
+      → ended_items (text ++ b ∷ []) ≡ ended_items text ++ own
+  items_more b own n e = rw (lines_of-more text b n, e) (sym (append-nil (ended_items text)))
 
-  items_lf : (run : Run) → line_items (lines_of text).last ≡ Some (items_of_run run)
-      → ended_items (text ++ 10 ∷ []) ≡ ended_items text ++ items_of_run run
-  items_lf run stands =
+  pub items_lf : (own : List Item) → line_items (lines_of text).last ≡ Some (own)
+      → ended_items (text ++ 10 ∷ []) ≡ ended_items text ++ own
+  items_lf own stands =
       let items : List ℕ → List Item = λ l. unwrap_or (line_items l) [] in
       let whole : flat_map items ((lines_of text).ended ++ (lines_of text).last ∷ [])
-      ≡ ended_items text ++ items_of_run run =
+      ≡ ended_items text ++ own =
       flat_map-append items (lines_of text).ended ((lines_of text).last ∷ [])
       ∙ ap (λ o. ended_items text ++ (unwrap_or o [] ++ [])) stands
-      ∙ ap (λ x. ended_items text ++ x) (append-nil (items_of_run run)) in
+      ∙ ap (λ x. ended_items text ++ x) (append-nil (own)) in
       rw (lines_of-lf text) whole
 
   -- all lines, where the last one has a right form
-  items_whole : (run : Run) → line_items (lines_of text).last ≡ Some (items_of_run run)
+  pub items_whole : (own : List Item) → line_items (lines_of text).last ≡ Some (own)
       → all_items (lines_of text).ended ≡ Some (ended_items text)
-      → all_items (all_lines text) ≡ Some (ended_items text ++ items_of_run run)
-  items_whole run stands ended =
+      → all_items (all_lines text) ≡ Some (ended_items text ++ own)
+  items_whole own stands ended =
       all_items_both (lines_of text).ended ((lines_of text).last ∷ []) (ended_items text)
-      (items_of_run run ++ []) ended
-      (all_items_cons (lines_of text).last [] (items_of_run run) [] stands refl)
-      ∙ ap (λ x. Some (ended_items text ++ x)) (append-nil (items_of_run run))
+      (own ++ []) ended
+      (all_items_cons (lines_of text).last [] (own) [] stands refl)
+      ∙ ap (λ x. Some (ended_items text ++ x)) (append-nil (own))
 
 module _ (place new_place : Place) (bytes new_bytes : List ℕ) (line left new_left marks : ℕ)
     (text : List ℕ) (at : IsAt place bytes line left marks text) where
   -- a byte within a line
-  pub at_more : (b : ℕ) (run : Run) → b ≢ 10
-      → Accepts place bytes left b (items_of_run run) new_place new_bytes new_left
+  pub at_more : (b : ℕ) (own : List Item) → b ≢ 10
+      → Accepts place bytes left b (own) new_place new_bytes new_left
       → IsAt new_place new_bytes line new_left marks (text ++ b ∷ [])
-  at_more b run n a = record {
+  at_more b own n a = record {
     ended = rw (lines_of-more text b n) at.ended;
     marked = rw (lines_of-more text b n) (omega (
       arith,
@@ -73,17 +73,17 @@ module _ (place new_place : Place) (bytes new_bytes : List ℕ) (line left new_l
   }
 
   -- the LF of a line
-  at_lf : (run : Run) → Accepts place bytes left 10 (items_of_run run) new_place new_bytes new_left
+  at_lf : (own : List Item) → Accepts place bytes left 10 (own) new_place new_bytes new_left
       → IsAt new_place new_bytes (line + 1) new_left marks (text ++ 10 ∷ [])
-  at_lf run a =
+  at_lf own a =
       let stands = a.stands refl (lines_of text).last at.last in
-      let same = items_lf text run stands in
+      let same = items_lf text own stands in
       record {
         ended = ap (λ (x : Lines). all_items x.ended) (lines_of-lf text)
-            ∙ items_whole text run stands at.ended ∙ ap Some (sym same);
+            ∙ items_whole text own stands at.ended ∙ ap Some (sym same);
         marked = rw same (omega (
           arith,
-          marks_in-append (ended_items text) (items_of_run run),
+          marks_in-append (ended_items text) (own),
           a.marked,
           at.marked,
         ));
@@ -150,7 +150,7 @@ middle text b more line left marks items s ended marked it =
 module _ (place : Place) (bytes : List ℕ) (line left marks : ℕ) (text : List ℕ)
     (at : IsAt place bytes line left marks text) where
   -- no text goes on so
-  refused_at : (b : ℕ) (why : TickFault) → Refuses place bytes left b why
+  pub refused_at : (b : ℕ) (why : TickFault) → Refuses place bytes left b why
       → ¬ BeginsTickText marks (text ++ b ∷ [])
   refused_at b why r (more, items, it) =
       let whole : IsTickText marks (text ++ b ∷ more) items =
@@ -171,19 +171,35 @@ module _ (place : Place) (bytes : List ℕ) (line left marks : ℕ) (text : List
 
 module _ (old new : TickReader) (b marks : ℕ) (text : List ℕ)
     (stood : StandsFor old marks text) where
-  fed_at : (run : Run) → Steps old b (Ok run) new
+  -- a byte that goes on with the line, or ends it
+  pub accepted_at : (own : List Item)
+      → Accepts old.place old.bytes.items old.left b own new.place new.bytes.items new.left
+      → new.line ≡ line_with old.line b
       → IsAt new.place new.bytes.items new.line new.left marks (text ++ b ∷ [])
-  fed_at run s =
+  accepted_at own a l =
       elim (cases_eq b 10) [
         | inl e ↦
-            let counted : new.line ≡ old.line + 1 = s.case.1 ∙ rw (ap (λ x. x == 10) e) refl in
+            let counted : new.line ≡ old.line + 1 = l ∙ rw (ap (λ x. x == 10) e) refl in
             rw (counted, e) (at_lf old.place new.place old.bytes.items new.bytes.items old.line
-            old.left new.left marks text stood.at run (rw e at s.case.0))
+            old.left new.left marks text stood.at own (rw e at a))
         | inr n ↦
-            let counted : new.line ≡ old.line = s.case.1 ∙ rw (test_of b 10 n) refl in
+            let counted : new.line ≡ old.line = l ∙ rw (test_of b 10 n) refl in
             rw counted (at_more old.place new.place old.bytes.items new.bytes.items old.line
-            old.left new.left marks text stood.at b run n s.case.0)
+            old.left new.left marks text stood.at b own n a)
       ]
+
+  pub accepted_items : (own : List Item)
+      → Accepts old.place old.bytes.items old.left b own new.place new.bytes.items new.left
+      → ended_items (text ++ b ∷ []) ≡ ended_items text ++ own
+  accepted_items own a =
+      elim (cases_eq b 10) [
+        | inl e ↦ rw e (items_lf text own (a.stands e (lines_of text).last stood.at.last))
+        | inr n ↦ items_more text b own n (a.nothing n)
+      ]
+
+  fed_at : (run : Run) → Steps old b (Ok run) new
+      → IsAt new.place new.bytes.items new.line new.left marks (text ++ b ∷ [])
+  fed_at run s = accepted_at (items_of_run run) s.case.0 s.case.1
 
   pub fed_stands : (result : Result Run BadTicks) → Steps old b result new
       → OnOk result (StandsFor new marks (text ++ b ∷ []))
@@ -197,11 +213,7 @@ module _ (old new : TickReader) (b marks : ℕ) (text : List ℕ)
 
   pub fed_run : (result : Result Run BadTicks) → Steps old b result new
       → IfOk result (λ run. ended_items (text ++ b ∷ []) ≡ ended_items text ++ items_of_run run)
-  fed_run (Ok run) s =
-      elim (cases_eq b 10) [
-        | inl e ↦ rw e (items_lf text run (s.case.0.stands e (lines_of text).last stood.at.last))
-        | inr n ↦ items_more text b run n (s.case.0.nothing n)
-      ]
+  fed_run (Ok run) s = accepted_items (items_of_run run) s.case.0
   fed_run (Err bad) s = tt
 
   pub fed_refused : (result : Result Run BadTicks) → Steps old b result new
@@ -229,7 +241,7 @@ module _ (reader : TickReader) (marks : ℕ) (text : List ℕ)
   pub ended_right : (result : Result Run BadTicks) → Stops reader result
       → IfOk result (λ run. IsTickText marks text (ended_items text ++ items_of_run run))
   ended_right (Ok run) s = record {
-    lines = items_whole text run (s.case.0 (lines_of text).last stood.at.last) stood.at.ended;
+    lines = items_whole text (items_of_run run) (s.case.0 (lines_of text).last stood.at.last) stood.at.ended;
     marked = omega (
       arith,
       marks_in-append (ended_items text) (items_of_run run),

@@ -35,7 +35,7 @@ table_agrees = refl
 pub hex_value_at : (b i d : ℕ) → i ≡ b → b < 256 → get_or HEX_VALUES i d ≡ value_or_16 b
 hex_value_at b i d e h = agrees_at 0 HEX_VALUES table_agrees i b d (omega arith) (omega arith)
 
-digit_small : (b v : ℕ) → hex_digit_value b ≡ Some v → v < 16
+pub digit_small : (b v : ℕ) → hex_digit_value b ≡ Some v → v < 16
 digit_small b v h = grind arith
 
 pub digit_found : (b v : ℕ) → v ≡ value_or_16 b → v < 16 → Some v ≡ hex_digit_value b

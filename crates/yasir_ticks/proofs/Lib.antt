@@ -8,6 +8,8 @@ pub mod Readers
 pub mod Completions
 pub mod Feeding
 pub mod ManyBytes
+pub mod PairLanes
+pub mod WholeLines
 pub mod BurstsOfLaws
 pub mod SilenceLaws
 pub mod HexValues

@@ -5,14 +5,13 @@ use Rattle.std.proofs.Common.{refl, ap, sym, subst, arith, append_assoc, append-
 use Rattle.std.proofs.Common.{length-drop}
 use Rattle.hex.specs.Hex.{hex_digit_value}
 use Rattle.std.proofs.lemmas.List.{take_more, get_or-take, length-take, take_all}
-use Rattle.std.proofs.lemmas.Bool.{eq-eqb}
+use Rattle.std.proofs.lemmas.Bool.{eq-eqb, eqb-true}
 use Rattle.std.proofs.Math.Seq.{take-add}
 use Rattle.memchr.specs.Find.{IsFirstByte, is_byte}
 use Rattle.yasir_ticks.specs.TickText.{ended_items}
 use Rattle.yasir_ticks.specs.Reader.{IsAt, StandsFor}
 use Rattle.yasir_ticks.specs.ReaderStep.{Accepts}
 use Rattle.yasir_ticks.specs.Slices.{GoesOn}
-use Rattle.yasir_ticks.specs.declared.run.Run.TheVariants.{Nothing}
 use Rattle.yasir_ticks.specs.declared.place.Place.TheVariants.{Comment, Pairs, HalfPair}
 use Rattle.yasir_ticks.specs.declared.reader.TickReader.{TickReader}
 use Rattle.yasir_ticks.proofs.Lines.{lines_of-more}
@@ -50,11 +49,11 @@ goes_on_pair old new h l high low p q e m first second room kept = record {
   stands = λ marks text s.
       let at : IsAt Pairs old.bytes.items old.line old.left marks text = rw p at s.at in
       let half = at_more Pairs (HalfPair high) old.bytes.items old.bytes.items old.line
-      old.left old.left marks text at h Nothing not_first
+      old.left old.left marks text at h [] not_first
       (accepts_high old.bytes.items old.left h high (sym first) room) in
       let whole = at_more (HalfPair high) Pairs old.bytes.items
       (old.bytes.items ++ (high * 16 + low) ∷ []) old.line old.left old.left marks
-      (text ++ h ∷ []) half l Nothing not_second
+      (text ++ h ∷ []) half l [] not_second
       (accepts_low old.bytes.items old.left l high low (sym second)) in
       record { at = rw (q, e, m, kept, ← append_assoc text (h ∷ []) (l ∷ [])) whole };
   quiet = λ marks text s. rw (← append_assoc text (h ∷ []) (l ∷ []))
@@ -92,7 +91,7 @@ comment_at [] n m bytes line left marks text at free sum within =
     let same : n ≡ m = omega arith in rw (← same, append-nil text) at
 comment_at (b ∷ more) n m bytes line left marks text at free sum within =
     let step = at_more (Comment n) (Comment (n + 1)) bytes bytes line left left marks text
-    at b Nothing (free 0 (omega arith))
+    at b [] (free 0 (omega arith))
     (accepts_comment n bytes left b (free 0 (omega arith)) (omega arith)) in
     rw (← append_assoc text (b ∷ []) more)
     (comment_at more (n + 1) m bytes line left marks (text ++ b ∷ []) step
@@ -198,3 +197,13 @@ within_slice bytes n m h k other = omega (
   length-take (length bytes - n) (drop n bytes),
   length-drop n bytes,
 )
+
+-- and of the LF that it found
+pub feed_found : (bytes : List ℕ) (room place : ℕ) → room ≤ length bytes
+    → IsFirstByte (is_byte 10) (take room bytes) (Some place)
+    → (place < room) × (get_or bytes place 0 ≡ 10)
+feed_found bytes room place fits first =
+    let inside : place < room = omega (arith, first.0.high, length-take room bytes) in (
+      inside,
+      sym (get_or-take room bytes place 0 inside) ∙ eqb-true _ 10 first.1,
+    )

@@ -120,3 +120,7 @@ reader_line reader = reader.line
 pub record HasRefused (reader : TickReader) (bad : BadTicks) : Type 0 where
   pub place : reader.place ≡ Refused bad.why
   pub line : reader.line ≡ bad.line
+
+-- the bytes of the line that the reader ended last, where it was one of bytes
+abbrev pub lent_bytes : TickReader → List ℕ
+lent_bytes reader = reader.bytes.items

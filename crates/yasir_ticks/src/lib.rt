@@ -3,6 +3,7 @@
 
 mod digit;
 mod fault;
+mod pairs;
 mod place;
 mod reader;
 mod run;
@@ -10,13 +11,16 @@ mod slices;
 #[cfg(test)]
 mod tests;
 mod tick;
+mod whole_lines;
 mod writer;
 
 pub use fault::{BadTicks, TickFault};
+pub use place::Content;
 pub use reader::TickReader;
 pub use run::{LineBytes, Run};
 pub use slices::Fed;
 pub use tick::Tick;
+pub use whole_lines::FedLine;
 pub use writer::{LineText, TickWriter};
 
 /// How many ticks may be taken at most by whatever counts its ticks: 2^62.

@@ -15,7 +15,7 @@ pub(crate) const MAX_COMMENT: u8 = 120;
 const MAX_SILENCE: u64 = 1_000_000;
 
 /// What a byte of a line comes to: the content of the line that it ends, or why it is refused.
-type Advance = Result<Option<Content>, TickFault>;
+pub(crate) type Advance = Result<Option<Content>, TickFault>;
 
 /// A reader of tick text, byte by byte. Each line that ends is answered as a run.
 #[derive(Drop)]
@@ -271,7 +271,7 @@ impl TickReader {
 
     /// Moves past one byte, unless the text is refused.
     #[inline]
-    fn advance(&mut self, b: u8) -> Advance
+    pub(crate) fn advance(&mut self, b: u8) -> Advance
         requires { reader_line self.old < 2 ^ 32 - 1 }
         ensures step { Advances self.old b result self.new }
         ensures for_good { (why : TickFault) → self.old.place ≡ Place.Refused why

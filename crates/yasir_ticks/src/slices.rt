@@ -73,7 +73,7 @@ impl TickReader {
 
     // Takes bytes from the front that one loop can take, or none. Answers how many these are.
     #[inline]
-    fn take_many(&mut self, bytes: &[u8]) -> usize
+    pub(crate) fn take_many(&mut self, bytes: &[u8]) -> usize
         ensures within { result ≤ length bytes.now }
         ensures goes { GoesOn self.old (take result bytes.now) self.new }
         ensures for_good { (bad : BadTicks) → HasRefused self.old bad

@@ -4,6 +4,7 @@ ghost use Rattle.yasir_io.specs.Disks.{LeavesOnly};
 ghost use Rattle.sequence_journal.specs.Journal.{IsBeside};
 ghost use Rattle.link_replay.specs.InitCommand.{MakesJournal, LeavesSinks};
 ghost use Rattle.replay_status.specs.Causes.{SinkCause, DiskCause};
+ghost use Rattle.replay_status.specs.Flushes.{FlushesAtEnd};
 
 use replay_status::{Status, flush_both};
 use sequence_journal::{InitError, Journal};
@@ -18,6 +19,7 @@ pub fn make_journal<O: Sink, L: Sink, D: SlotDisk>(out: &mut O, log: &mut L, dis
     ensures untouched { LeavesSinks O.Sink L.Sink out.old out.new log.old log.new result }
     ensures sinks { SinkCause (O.faults out.old) (O.faults out.new) (L.faults log.old)
         (L.faults log.new) result }
+    ensures flushes { FlushesAtEnd O.Sink L.Sink out.old out.new log.old log.new result }
     ensures disk { DiskCause (D.faults disk.old) (D.faults disk.new) result }
 {
     match Journal::init(disk) {

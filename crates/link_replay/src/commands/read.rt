@@ -2,6 +2,7 @@ ghost use Rattle.std.specs.Prelude.{◌≡◌};
 ghost use Rattle.device_replay.specs.PrintsFrames.{PrintsFrames};
 ghost use Rattle.link_replay.specs.ReadCommand.{device_reads};
 ghost use Rattle.replay_status.specs.Causes.{InputCause, SinkCause};
+ghost use Rattle.replay_status.specs.Flushes.{FlushesAtEnd};
 
 use crate::Proto;
 use device_model::{DnpDevice, RtuDevice};
@@ -22,6 +23,7 @@ pub fn read_line<S: Source, O: Sink, L: Sink>(
     ensures input { InputCause (S.faults input.old) (S.faults input.new) result }
     ensures sinks { SinkCause (O.faults out.old) (O.faults out.new)
         (L.faults log.old) (L.faults log.new) result }
+    ensures flushes { FlushesAtEnd O.Sink L.Sink out.old out.new log.old log.new result }
 {
     match proto {
         Proto::Rtu => read_frames::<RtuDevice, S, O, L>(input, out, log),

@@ -1,6 +1,7 @@
 ghost use Rattle.std.specs.Prelude.{◌≡◌, ◌+◌, ◌≤◌, ◌++◌, length, codes};
 ghost use Rattle.link_replay.specs.VectorsCommand.{table_line, table_lines, PrintsTables};
 ghost use Rattle.replay_status.specs.Causes.{SinkCause};
+ghost use Rattle.replay_status.specs.Flushes.{FlushesAtEnd};
 
 use replay_status::{Line, Status, flush_both, push_decimal};
 use vectors::{Miss, crc_table, frames_table, hmac_table, user_table};
@@ -50,6 +51,7 @@ pub fn print_tables<O: Sink, L: Sink>(out: &mut O, log: &mut L) -> Status
     ensures log { L.held log.new ≡ L.held log.old }
     ensures sinks { SinkCause (O.faults out.old) (O.faults out.new) (L.faults log.old)
         (L.faults log.new) result }
+    ensures flushes { FlushesAtEnd O.Sink L.Sink out.old out.new log.old log.new result }
 {
     match write_all(out, table_lines().as_slice()) {
         Ok(()) => flush_both(out, log),

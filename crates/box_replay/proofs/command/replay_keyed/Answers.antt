@@ -1,9 +1,11 @@
-use Rattle.std.proofs.Common.{◌≡◌, ◌∙◌, refl, true, false}
+use Rattle.std.proofs.Common.{◌≡◌, ◌∙◌, inl, refl, true, false}
+use Rattle.yasir_io.proofs.FlushLaws.{none_flushed_then}
 use Rattle.link_format.specs.Setup.{setup_of}
 use Rattle.sequence_journal.specs.Journal.{journal_floor}
 use Rattle.tick_drive.specs.Consumers.{is_write_fault}
 use Rattle.tick_drive.specs.Drive.{answer_of}
 use Rattle.replay_status.proofs.EndCauses.{input_cause, sink_cause_of_end}
+use Rattle.replay_status.proofs.FlushLaws.{flushes_of_whole, flushes_of_end}
 use Rattle.box_replay.specs.ReplaysBox.{around}
 use Rattle.box_replay.proofs.Floors.{told_before, keeps_floor, keeps_throughout, disk_cause_of_end}
 use Rattle.box_replay.proofs.Outcomes.{write_stops, finish_fails, refusal_runs, whole_runs}
@@ -125,4 +127,24 @@ returns-in_default g c =
       sinks = sink_cause_of_end _ _ _ _ c.drive_to_rest-end.result other c.in_default.not-Whole
           (c.in-Ok-finish.ensures.cause.out_same ∙ gives.sinks.out_same other)
           (c.in-Ok-finish.ensures.cause.log_same ∙ gives.sinks.log_same other);
+      flushes = flushes_of_end g.O.Sink g.L.Sink _ _ _ _ c.drive_to_rest-end.result
+          c.in_default.not-Whole
+          (none_flushed_then g.O.Sink g.L.Sink _ _ _ _ _ _ gives.flushes
+          c.in-Ok-finish.ensures.flushes);
     })
+
+pub returns-then-is_write_stop-clause-flushes : goal.returns-then-is_write_stop-clause-flushes
+returns-then-is_write_stop-clause-flushes g c = inl c.drive_to_rest-end.ensures.driven.gives.flushes
+
+pub returns-in-Err-clause-flushes : goal.returns-in-Err-clause-flushes
+returns-in-Err-clause-flushes g c = inl (none_flushed_then g.O.Sink g.L.Sink _ _ _ _ _ _
+    c.drive_to_rest-end.ensures.driven.gives.flushes c.in-Err.ensures.flushes)
+
+pub returns-in-Whole-clause-flushes : goal.returns-in-Whole-clause-flushes
+returns-in-Whole-clause-flushes g c =
+    let other : is_write_fault (answer_of c.drive_to_rest-end.result) ≡ false = cc in
+    let gives = c.drive_to_rest-end.ensures.driven.gives in
+    flushes_of_whole g.O.Sink g.L.Sink _ _ _ _ _ _
+    (none_flushed_then g.O.Sink g.L.Sink _ _ _ _ _ _ gives.flushes c.in-Ok-finish.ensures.flushes)
+    (c.in-Ok-finish.ensures.cause.log_same ∙ gives.sinks.log_same other)
+    c.flush_both.result c.flush_both.ensures.flushes

@@ -3,6 +3,7 @@ use Rattle.device_replay.proofs.ReadEnds.{drain_fails, refusal_prints, whole_pri
 use Rattle.device_replay.proofs.ReadEnds.{no_write_failed}
 use Rattle.replay_status.proofs.EndCauses.{input_cause, input_cause_of_whole, sink_cause_of_end}
 use Rattle.replay_status.proofs.EndCauses.{sink_cause_of_whole}
+use Rattle.replay_status.proofs.FlushLaws.{flushes_of_whole, flushes_of_end}
 use Rattle.device_replay.proofs.command.read_frames.Goals as goal
 
 pub returns-in-Err : goal.returns-in-Err
@@ -15,6 +16,10 @@ returns-in-Err g c =
       log = c.drive_frames-end.ensures.log;
       input = c.drive_frames-end.ensures.read.never_falls;
       sinks = inl (rw (← before.1) c.in-Err.ensures.cause.failed);
+      flushes = inl (record {
+        out = c.in-Err.ensures.flushes ∙ c.drive_frames-end.ensures.flushes.out;
+        log = c.drive_frames-end.ensures.flushes.log;
+      });
     }
 
 pub returns-in-Whole : goal.returns-in-Whole
@@ -31,6 +36,10 @@ returns-in-Whole g c =
           (c.drive_frames-end.ensures.read.same (rw c.in-Whole.is refl));
       sinks = sink_cause_of_whole _ _ _ _ _ _ (c.in-Ok.ensures.cause.same ∙ before.1) before.2
           c.flush_both.result c.flush_both.ensures.sinks;
+      flushes = flushes_of_whole g.O.Sink g.L.Sink _ _ _ _ _ _ (record {
+        out = c.in-Ok.ensures.flushes ∙ c.drive_frames-end.ensures.flushes.out;
+        log = c.drive_frames-end.ensures.flushes.log;
+      }) before.2 c.flush_both.result c.flush_both.ensures.flushes;
     }
 
 pub returns : goal.returns
@@ -46,4 +55,9 @@ returns g c =
       sinks = rw c.status_of.ensures (sink_cause_of_end _ _ _ _ c.drive_frames-end.result before.0
           c.in_default-end.not-Whole
           (c.in-Ok.ensures.cause.same ∙ before.1) before.2);
+      flushes = rw c.status_of.ensures (flushes_of_end g.O.Sink g.L.Sink _ _ _ _
+          c.drive_frames-end.result c.in_default-end.not-Whole (record {
+            out = c.in-Ok.ensures.flushes ∙ c.drive_frames-end.ensures.flushes.out;
+            log = c.drive_frames-end.ensures.flushes.log;
+          }));
     }

@@ -47,7 +47,8 @@ returns-clause-causes g c = λ asked asks.
     c.answer-status.result) same
     (causes_after g.K.Source g.S.Source g.O.Sink g.L.Sink g.D.SlotDisk c.asked_by-asked.result
     before after c.answer-status.new.log c.answer-status.result
-    c.answer-status.ensures.causes c.write_fault.ensures.never_falls c.write_fault.ensures.same)
+    c.answer-status.ensures.causes c.write_fault.ensures.never_falls c.write_fault.ensures.same
+    c.write_fault.ensures.flushes)
 
 pub returns-clause-done : goal.returns-clause-done
 returns-clause-done g c = λ asked asks may calm.

@@ -4,6 +4,6 @@ use Rattle.rtu_frame.proofs.frame.is_frame.Goals as goal
 
 pub returns-then-bytes-length : goal.returns-then-bytes-length
 returns-then-bytes-length c =
-    last_byte_decides c.args.bytes.now c.to_le_bytes.result c.crc16_by_bytes.result (omega arith)
+    last_byte_decides c.args.bytes.now c.to_le_bytes.result c.after_bytes.result (omega arith)
     (omega arith) (omega arith)
-    c.crc16_by_bytes.ensures c.to_le_bytes.ensures c.if-bytes-length.true
+    c.after_bytes.ensures c.to_le_bytes.ensures c.if-bytes-length.true

@@ -6,4 +6,5 @@ pub loop-rest-preserved : goal.loop-rest-preserved
 loop-rest-preserved g c = (
   some_written_of_slice _ _ _ _ _ _ c.loop-rest.invariant.0 c.in_ok-n.ensures.bytes,
   c.in_ok-n.ensures.cause.same ∙ c.loop-rest.invariant.1,
+  c.in_ok-n.ensures.flushes ∙ c.loop-rest.invariant.2,
 )

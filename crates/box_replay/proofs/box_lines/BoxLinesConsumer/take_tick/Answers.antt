@@ -33,6 +33,7 @@ returns-in-Err g c = record {
   };
   disk = search rules;
   sinks = search rules;
+  flushes = search rules;
 }
 
 pub returns-in-Ok-push_step : goal.returns-in-Ok-push_step
@@ -60,6 +61,7 @@ returns-in-Ok-push_step g c = record {
   };
   disk = search rules;
   sinks = search rules;
+  flushes = search rules;
 }
 
 pub returns-in-Err-push_step : goal.returns-in-Err-push_step
@@ -92,4 +94,5 @@ returns-in-Err-push_step g c = record {
   };
   disk = search rules;
   sinks = search rules;
+  flushes = search rules;
 }

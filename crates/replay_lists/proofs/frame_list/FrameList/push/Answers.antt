@@ -7,4 +7,4 @@ returns-in-Ok-push g c =
     let bytes = rw c.in-Ok.is at c.extend_from_slice.ensures.items in
     holds-more _ _ _ c.args.bytes.now (rw c.in-Ok-push.is at c.push.ensures.items) bytes
     (ap length c.as_slice.ensures.value ∙ ap length bytes
-    ∙ length-append _ c.args.bytes.now)
+    ∙ length-append _ c.args.bytes.now) c.requires

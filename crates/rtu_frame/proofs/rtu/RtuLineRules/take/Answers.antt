@@ -4,6 +4,6 @@ use Rattle.rtu_frame.proofs.RtuLaws.{rtu_take}
 use Rattle.rtu_frame.proofs.rtu.RtuLineRules.take.Goals as goal
 
 pub returns : goal.returns
-returns c = rtu_take c.args.self.now.len c.args.self.now.register c.after_whole_byte-self.result
+returns c = rtu_take c.args.self.now.len c.args.self.now.register c.after_byte-self.result
     c.args.b
-    (leb-false 256 c.args.self.now.len c.requires) (omega arith) c.after_whole_byte-self.ensures
+    (leb-false 256 c.args.self.now.len c.requires) (omega arith) c.after_byte-self.ensures

@@ -1,0 +1,21 @@
+use Rattle.std.proofs.Common.{◌<◌, ◌∙◌, refl, ap, arith}
+use Rattle.std.proofs.lemmas.List.Elements.{All-from_get_or}
+use Rattle.line_rules.specs.Crc.{crc}
+use Rattle.dnp_link_frame.specs.BlockLaws.{room_by-most}
+use Rattle.dnp_link_frame.proofs.DnpRuns.{dnp_take_in_block}
+use Rattle.dnp_link_frame.proofs.dnp.Dnp.take_in_block.Goals as goal
+
+pub overflow_add-self : goal.overflow_add-self
+overflow_add-self c =
+    let most = room_by-most c.args.self.now.len_byte (omega arith) in
+    let room = c.requires.room in
+    omega arith
+
+pub returns : goal.returns
+returns c = dnp_take_in_block c.args.self.now _ c.args.run.now c.requires.behind c.requires.some
+    c.requires.block c.requires.room
+    (All-from_get_or (λ b. b < 256) c.args.run.now 0
+    (λ i within. let fits = c.type_inv.run i in omega arith))
+    refl refl
+    (c.after_bytes-self.ensures ∙ ap (λ r. crc 0xA6BC r c.args.run.now) c.register_before.ensures)
+    refl c.blocks_after-self.ensures

@@ -1,0 +1,61 @@
+ghost use Rattle.std.specs.Prelude.{◌≡◌, ℕ, ◌*◌, ◌<◌, ◌≤◌, [], ◌∷◌, slice_index};
+ghost use Rattle.line_rules.specs.Crc.{bit_steps, crc};
+ghost use Rattle.line_rules.specs.CrcTables.{AreCrcTables};
+
+use crate::crc_bits::after_bits;
+use crate::crc_tables::{CrcTables, shifted, step_by_table};
+
+/// What a CRC of 16 bits over the polynomial `POLY` makes of a byte, by tables that are computed.
+/// A program has those of its polynomials as constants.
+#[derive(Drop)]
+pub struct CrcTable<const POLY: u16> {
+    tables: CrcTables,
+    ghost right: { AreCrcTables POLY tables },
+}
+
+impl<const POLY: u16> CrcTable<POLY> {
+    /// The tables of this polynomial.
+    pub fn new() -> CrcTable<POLY> {
+        CrcTable {
+            tables: [
+                Self::after_bytes(1),
+                Self::after_bytes(2),
+                Self::after_bytes(3),
+                Self::after_bytes(4),
+                Self::after_bytes(5),
+                Self::after_bytes(6),
+                Self::after_bytes(7),
+                Self::after_bytes(8),
+            ],
+        }
+    }
+
+    // What the shifts of so many bytes make of each byte.
+    fn after_bytes(count: u8) -> [u16; 256]
+        requires { count ≤ 8 }
+        ensures { (byte : ℕ) → byte < 256
+            → slice_index result byte ≡ bit_steps POLY (8 * count) byte }
+    {
+        let mut entries = [0; 256];
+        for byte in 0..256 {
+            entries[byte] = after_bits::<POLY>(byte as u16, 8 * count);
+        }
+        entries
+    }
+
+    /// What eight single-bit shifts make of `i`.
+    #[inline]
+    pub fn entry(&self, i: u8) -> u16
+        ensures { result ≡ bit_steps POLY 8 i }
+    {
+        shifted::<POLY>(&self.tables, 0, i)
+    }
+
+    /// The register that the byte `b` makes of the register `r`.
+    #[inline]
+    pub fn step(&self, r: u16, b: u8) -> u16
+        ensures { result ≡ crc POLY r (b ∷ []) }
+    {
+        step_by_table::<POLY>(&self.tables, r, b)
+    }
+}

@@ -1,0 +1,67 @@
+-- When the two sinks are flushed, carried over what came before and behind.
+use Rattle.std.proofs.Common.{◌≡◌, inl, inr, refl, sym, subst, [], ◌∙◌}
+use Rattle.yasir_io.specs.Causes.{Rose}
+use Rattle.yasir_io.specs.Flushing.{one_more}
+use Rattle.yasir_io.specs.Flushed.{IsFlushed, IsNotFlushed, NoneFlushed}
+use Rattle.yasir_io.specs.declared.sink.Sink.{Ghosts as Sink}
+use Rattle.yasir_io.proofs.FlushLaws.{none_flushed_then}
+use Rattle.tick_drive.specs.declared.consumer.Stop.TheVariants as stops
+use Rattle.tick_drive.specs.declared.end.End.{End}
+use Rattle.tick_drive.specs.declared.end.End.TheVariants.{Whole, Refused, TooLong, ReadFault}
+use Rattle.tick_drive.specs.declared.end.End.TheVariants.{Stopped}
+use Rattle.replay_status.specs.Endings.{status_of}
+use Rattle.replay_status.specs.Flushes.{FlushesAtEnd}
+use Rattle.replay_status.specs.Statuses.{fault_line}
+use Rattle.replay_status.specs.declared.status.Status.{Status}
+use Rattle.replay_status.specs.declared.status.Status.TheVariants.{Done, WriteFault}
+
+-- a sink that was not flushed before, or is not flushed behind
+flushed_then : {S : Type 0} (sink : Sink S) (s0 s1 s2 : S) → IsNotFlushed sink s0 s1
+    → IsFlushed sink s1 s2 → IsFlushed sink s0 s2
+flushed_then sink s0 s1 s2 before flushed = record {
+  once = subst (λ n. sink.flushes s2 ≡ one_more n) before flushed.once;
+  all = flushed.all;
+}
+
+module _ {O L : Type 0} (o : Sink O) (l : Sink L) where
+  -- nothing had been flushed, and the log had not failed, before the sinks were to be flushed
+  pub flushes_of_whole : (out0 out1 out2 : O) (log0 log1 log2 : L)
+      → NoneFlushed o l out0 out1 log0 log1 → l.faults log1 ≡ l.faults log0
+      → (status : Status) → FlushesAtEnd o l out1 out2 log1 log2 status
+      → FlushesAtEnd o l out0 out2 log0 log2 status
+  flushes_of_whole out0 out1 out2 log0 log1 log2 none calm Done h = record {
+    out = flushed_then o out0 out1 out2 none.out h.out;
+    log = flushed_then l log0 log1 log2 none.log h.log;
+  }
+  flushes_of_whole out0 out1 out2 log0 log1 log2 none calm WriteFault (inl h) =
+      inl (none_flushed_then o l out0 out1 out2 log0 log1 log2 none h)
+  flushes_of_whole out0 out1 out2 log0 log1 log2 none calm WriteFault (inr h) = inr (record {
+    out = flushed_then o out0 out1 out2 none.out h.out;
+    log = h.log ∙ none.log;
+    failed = subst (λ n. Rose n (l.faults log2)) calm h.failed;
+  })
+  flushes_of_whole out0 out1 out2 log0 log1 log2 none calm status h =
+      none_flushed_then o l out0 out1 out2 log0 log1 log2 none h
+
+  -- a run that was refused, or failed, flushes nothing
+  pub flushes_of_end : (out0 out1 : O) (log0 log1 : L) (end : End) → (end ≡ Whole → ⊥)
+      → NoneFlushed o l out0 out1 log0 log1 → FlushesAtEnd o l out0 out1 log0 log1 (status_of end)
+  flushes_of_end out0 out1 log0 log1 Whole partial none = absurd (partial refl)
+  flushes_of_end out0 out1 log0 log1 (Refused bad) partial none = none
+  flushes_of_end out0 out1 log0 log1 (TooLong what count) partial none = none
+  flushes_of_end out0 out1 log0 log1 ReadFault partial none = none
+  flushes_of_end out0 out1 log0 log1 (Stopped stops.JournalFault) partial none = none
+  flushes_of_end out0 out1 log0 log1 (Stopped stops.NoMemory) partial none = none
+  flushes_of_end out0 out1 log0 log1 (Stopped stops.WriteFault) partial none = inl none
+
+  -- the fault line behind a command is not flushed; Done and WriteFault have none
+  pub flushes_after : (out0 out1 : O) (log0 log1 log2 : L) (status : Status)
+      → FlushesAtEnd o l out0 out1 log0 log1 status
+      → (fault_line status ≡ [] → log2 ≡ log1) → IsNotFlushed l log1 log2
+      → FlushesAtEnd o l out0 out1 log0 log2 status
+  flushes_after out0 out1 log0 log1 log2 Done h same not_flushed =
+      subst (λ log. FlushesAtEnd o l out0 out1 log0 log Done) (sym (same refl)) h
+  flushes_after out0 out1 log0 log1 log2 WriteFault h same not_flushed =
+      subst (λ log. FlushesAtEnd o l out0 out1 log0 log WriteFault) (sym (same refl)) h
+  flushes_after out0 out1 log0 log1 log2 status h same not_flushed =
+      record { out = h.out; log = not_flushed ∙ h.log }

@@ -1,6 +1,0 @@
-use Rattle.std.proofs.Common.{arith}
-use Rattle.line_rules.proofs.CrcLaws.{bit_step-masked}
-use Rattle.rtu_frame.proofs.crc.after_bit.Goals as goal
-
-pub returns : goal.returns
-returns c = bit_step-masked _ _ _ (omega arith) (omega arith) c.wrapping_neg-mask.ensures

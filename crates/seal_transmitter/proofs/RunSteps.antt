@@ -1,0 +1,278 @@
+-- A run of ticks of a transmitter: bytes that are forwarded, and ticks over which what is left of
+-- the trailer is sent.
+use Rattle.std.proofs.Common.{◌≡◌, ◌∙◌, ℕ, zero, suc, ◌+◌, ◌<◌, ◌≤◌, List, [], ◌∷◌, ◌++◌, length}
+use Rattle.std.proofs.Common.{take, drop, map, replicate, refl, sym, ap, subst, arith}
+use Rattle.std.proofs.Common.{append-nil, append_assoc}
+use Rattle.yasir_ticks.specs.Ticks.{silent}
+use Rattle.yasir_ticks.specs.declared.tick.Tick.{Tick}
+use Rattle.yasir_ticks.specs.declared.tick.Tick.TheVariants.{Silent, Byte}
+use Rattle.line_rules.specs.Rules.{Rules}
+use Rattle.line_rules.specs.declared.line_rules.LineRules.{Ghosts as LineRules}
+use Rattle.frame_ending.specs.declared.burst_cut.BurstCut.{BurstCut}
+use Rattle.frame_ending.specs.declared.cut.Cut.TheVariants.{Live, Quiet}
+use Rattle.frame_ending.specs.Cuts.{cut_of, cuts_after}
+use Rattle.frame_ending.specs.SoFar.{start_so_far}
+use Rattle.frame_ending.specs.Stands.{StandsFor as CutStandsFor}
+use Rattle.frame_ending.proofs.Runs.{live-start}
+use Rattle.burst_walk.specs.Runs.{AnswersRun}
+use Rattle.burst_walk.proofs.Runs.{run-none, run-joined, run-tick}
+use Rattle.hmac_tag.specs.declared.tag.Mac.{Ghosts as Mac}
+use Rattle.link_format.specs.declared.trailer.Trailer.{Trailer}
+use Rattle.link_format.specs.Profile.{Profile, profile_of}
+use Rattle.link_format.specs.Setup.{Setup}
+use Rattle.link_format.specs.Trailers.{bytes_left, first_of}
+use Rattle.sequence_journal.specs.declared.numbers.TheConstants.{LIMIT}
+use Rattle.seal_transmitter.specs.Answers.{brief_note}
+use Rattle.seal_transmitter.specs.Between.{noteless}
+use Rattle.seal_transmitter.specs.Runs.{HasTakenRun}
+use Rattle.seal_transmitter.specs.Sealing.{sealer, at_floor}
+use Rattle.seal_transmitter.specs.Stands.{Walks, StandsAt}
+use Rattle.seal_transmitter.specs.declared.sealer.Sealer.{Sealer}
+use Rattle.seal_transmitter.proofs.Advancing.{WalksOn, number-is, advance-live, advance-early}
+use Rattle.seal_transmitter.proofs.Advancing.{advance-passing}
+
+-- what goes out in n ticks, of which none is forwarded: what is left of the trailer, then silence
+abbrev pub sent : ℕ → List ℕ → List Tick
+sent zero left = []
+sent (suc n) left = first_of left ∷ sent n (drop 1 left)
+
+pub sent-silent : (n : ℕ) → sent n [] ≡ silent n
+sent-silent zero = refl
+sent-silent (suc n) = ap (λ l. Silent ∷ l) (sent-silent n)
+
+pub sent-bytes : (n : ℕ) (left : List ℕ) → n ≤ length left → sent n left ≡ map Byte (take n left)
+sent-bytes zero left few = refl
+sent-bytes (suc n) [] few = absurd (omega arith)
+sent-bytes (suc n) (b ∷ left) few = ap (λ l. Byte b ∷ l) (sent-bytes n left (omega arith))
+
+drop-one : (n : ℕ) (l : List ℕ) → drop n (drop 1 l) ≡ drop (suc n) l
+drop-one zero [] = refl
+drop-one (suc n) [] = refl
+drop-one n (b ∷ l) = refl
+
+pub drop-none : (n : ℕ) (l : List ℕ) → l ≡ [] → drop n l ≡ l
+drop-none zero l is = refl
+drop-none (suc n) [] is = refl
+drop-none (suc n) (b ∷ l) is = cc
+
+module _ {R M : Type 0} (proto : LineRules R) (code : Mac M) (word_len : ℕ) (setup : Setup) where
+  abbrev rules : Rules
+  rules = proto.rules
+
+  -- the code, with the texts themselves as its values
+  abbrev as_text : Mac (List ℕ)
+  as_text = record {
+    tag_of = code.tag_of;
+    stands = λ value key text. value ≡ text;
+    TAG = code.TAG;
+    tag_size = code.tag_size;
+    tag_len = code.tag_len;
+    tag_bytes = code.tag_bytes;
+  }
+
+  abbrev TextWalks : ℕ → ℕ → List ℕ → List ℕ → List Tick → Type 0
+  TextWalks last earliest left text line =
+      Walks proto as_text word_len last earliest left text setup line
+
+  pub to-text : (last earliest : ℕ) (left : List ℕ) (mac : M) (line : List Tick)
+      (w : Walks proto code word_len last earliest left mac setup line)
+      → TextWalks last earliest left w.text line
+  to-text last earliest left mac line w = record {
+    running = w.running;
+    walked = w.walked;
+    text = w.text;
+    codes = refl;
+    text_is = w.text_is;
+  }
+
+  pub of-text : (last earliest : ℕ) (left text : List ℕ) (mac : M) (line : List Tick)
+      → code.stands mac setup.key text → TextWalks last earliest left text line
+      → Walks proto code word_len last earliest left mac setup line
+  of-text last earliest left text mac line codes w =
+      let P : List ℕ → Type 0 = λ x. code.stands mac setup.key x in
+      record {
+        running = w.running;
+        walked = w.walked;
+        text = w.text;
+        codes = subst P w.codes codes;
+        text_is = w.text_is;
+      }
+
+  -- The walk over a line goes on by a run, with this answer.
+  pub record RunsOn (last earliest : ℕ) (left text : List ℕ) (line run answer : List Tick) :
+      Type 0 where
+    pub walks : TextWalks last earliest left text (line ++ run)
+    pub answers : AnswersRun (sealer (profile_of proto code word_len LIMIT setup) rules) brief_note
+        (at_floor setup.floor) line run answer
+
+  module _ (last earliest : ℕ) where
+    pub none-on : (left text : List ℕ) (line : List Tick) → TextWalks last earliest left text line
+        → RunsOn last earliest left text line [] []
+    none-on left text line w =
+        let P : List Tick → Type 0 = λ l. TextWalks last earliest left text l in
+        record {
+          walks = subst P (sym (append-nil line)) w;
+          answers = run-none (sealer (profile_of proto code word_len LIMIT setup) rules) brief_note
+              (at_floor setup.floor) line;
+        }
+
+    more-on : (left text next to_be : List ℕ) (line : List Tick) (t u : Tick)
+        (run answer : List Tick)
+        → WalksOn proto as_text word_len setup last earliest next to_be line t (noteless u)
+        → RunsOn last earliest left text (line ++ t ∷ []) run answer
+        → RunsOn last earliest left text line (t ∷ run) (u ∷ answer)
+    more-on left text next to_be line t u run answer on rest =
+        let P : List Tick → Type 0 = λ l. TextWalks last earliest left text l in
+        record {
+          walks = subst P (append_assoc line (t ∷ []) run) rest.walks;
+          answers = run-joined (sealer (profile_of proto code word_len LIMIT setup) rules)
+              brief_note (at_floor setup.floor) line (t ∷ []) run (u ∷ []) answer
+              (run-tick (sealer (profile_of proto code word_len LIMIT setup) rules) brief_note
+              (at_floor setup.floor) line t u on.answers) rest.answers;
+        }
+
+    -- live bytes of a burst that isn't early are forwarded
+    pub forwards : (x : List ℕ) (left text : List ℕ) (line : List Tick)
+        → TextWalks last earliest left text line
+        → cuts_after rules line (map Byte x) ≡ map Live x → earliest ≤ start_so_far line
+        → RunsOn last earliest left (text ++ x) line (map Byte x) (map Byte x)
+    forwards [] left text line w live late =
+        let P : List ℕ → Type 0 = λ y. RunsOn last earliest left y line [] [] in
+        subst P (sym (append-nil text)) (none-on left text line w)
+    forwards (b ∷ x) left text line w live late =
+        let first : cut_of rules line (Byte b) ≡ Live b = cc in
+        let others : cuts_after rules (line ++ Byte b ∷ []) (map Byte x) ≡ map Live x = cc in
+        let start = live-start rules line b first in
+        let from : earliest ≤ start_so_far (line ++ Byte b ∷ []) = omega arith in
+        let on = advance-live proto as_text word_len setup line last earliest left text w b
+        (text ++ b ∷ []) first from (λ y is. ap (λ z. z ++ b ∷ []) is) in
+        let P : List ℕ → Type 0 = λ y. RunsOn last earliest left y line (map Byte (b ∷ x))
+        (map Byte (b ∷ x)) in
+        subst P (append_assoc text (b ∷ []) x)
+        (more-on left ((text ++ b ∷ []) ++ x) left (text ++ b ∷ []) line (Byte b) (Byte b)
+        (map Byte x) (map Byte x) on
+        (forwards x left (text ++ b ∷ []) (line ++ Byte b ∷ []) on.walks others from))
+
+    -- while no burst runs, what is left of the trailer is sent
+    pub sends-quiet : (n : ℕ) (left text : List ℕ) (line : List Tick)
+        → TextWalks last earliest left text line
+        → cuts_after rules line (silent n) ≡ replicate n Quiet
+        → RunsOn last earliest (drop n left) text line (silent n) (sent n left)
+    sends-quiet zero left text line w quiet = none-on left text line w
+    sends-quiet (suc n) left text line w quiet =
+        let first : cut_of rules line Silent ≡ Quiet = cc in
+        let others : cuts_after rules (line ++ Silent ∷ []) (silent n) ≡ replicate n Quiet = cc in
+        let on = advance-passing proto as_text word_len setup line last earliest left text w Silent
+        Quiet first tt in
+        let P : List ℕ → Type 0 = λ y. RunsOn last earliest y text line (silent (suc n))
+        (sent (suc n) left) in
+        subst P (drop-one n left)
+        (more-on (drop n (drop 1 left)) text (drop 1 left) text line Silent (first_of left)
+        (silent n) (sent n (drop 1 left)) on
+        (sends-quiet n (drop 1 left) text (line ++ Silent ∷ []) on.walks others))
+
+    -- so it is while an early burst goes on
+    pub sends-early : (x : List ℕ) (left text : List ℕ) (line : List Tick)
+        → TextWalks last earliest left text line
+        → cuts_after rules line (map Byte x) ≡ map Live x → start_so_far line < earliest
+        → RunsOn last earliest (drop (length x) left) text line (map Byte x) (sent (length x) left)
+    sends-early [] left text line w live early = none-on left text line w
+    sends-early (b ∷ x) left text line w live early =
+        let first : cut_of rules line (Byte b) ≡ Live b = cc in
+        let others : cuts_after rules (line ++ Byte b ∷ []) (map Byte x) ≡ map Live x = cc in
+        let start = live-start rules line b first in
+        let soon : start_so_far (line ++ Byte b ∷ []) < earliest = omega arith in
+        let on = advance-early proto as_text word_len setup line last earliest left text w b
+        soon in
+        let P : List ℕ → Type 0 = λ y. RunsOn last earliest y text line (map Byte (b ∷ x))
+        (sent (length (b ∷ x)) left) in
+        subst P (drop-one (length x) left)
+        (more-on (drop (length x) (drop 1 left)) text (drop 1 left) text line (Byte b)
+        (first_of left) (map Byte x) (sent (length x) (drop 1 left)) on
+        (sends-early x (drop 1 left) text (line ++ Byte b ∷ []) on.walks others soon))
+
+-- ---- the transmitter after a run
+
+module _ {R M : Type 0} (proto : LineRules R) (code : Mac M) {B : ℕ} (old : Sealer R M B) (last : ℕ)
+    (setup : Setup) (line : List Tick) (stands : StandsAt proto code old last setup line) where
+  abbrev Takes : Sealer R M B → List Tick → List Tick → Type 0
+  Takes new run answer = HasTakenRun proto code new last setup line run answer
+
+  abbrev left : List ℕ
+  left = bytes_left old.trailer
+
+  walks-text : Walks proto (as_text proto code B setup) B last old.earliest_start left
+      stands.walks.text setup line
+  walks-text = to-text proto code B setup last old.earliest_start left old.mac line stands.walks
+
+  taken : (cut : BurstCut R) (mac : M) (trailer : Trailer B) (text : List ℕ)
+      (run answer : List Tick) → CutStandsFor proto cut (line ++ run)
+      → code.stands mac setup.key text
+      → RunsOn proto code B setup last old.earliest_start (bytes_left trailer) text line run answer
+      → Takes (record old { cut = cut; mac = mac; trailer = trailer }) run answer
+  taken cut mac trailer text run answer cuts codes on =
+      let walks : Walks proto code B last old.earliest_start (bytes_left trailer) mac setup
+      (line ++ run) = of-text proto code B setup last old.earliest_start (bytes_left trailer) text
+      mac (line ++ run) codes on.walks in
+      record {
+        stands = record { direction_is = stands.direction_is; cuts = cuts; walks = walks };
+        floor = number-is proto code B setup (line ++ run) last old.earliest_start
+            (bytes_left trailer) mac walks;
+        answers = on.answers;
+      }
+
+  pub nothing-taken : Takes old [] []
+  nothing-taken =
+      let P : List Tick → Type 0 = λ l. CutStandsFor proto old.cut l in
+      taken old.cut old.mac old.trailer stands.walks.text [] []
+      (subst P (sym (append-nil line)) stands.cuts) stands.walks.codes
+      (none-on proto code B setup last old.earliest_start left stands.walks.text line walks-text)
+
+  pub forward-taken : (cut : BurstCut R) (mac : M) (x : List ℕ)
+      → CutStandsFor proto cut (line ++ map Byte x)
+      → cuts_after proto.rules line (map Byte x) ≡ map Live x
+      → old.earliest_start ≤ start_so_far line
+      → ((text : List ℕ) → code.stands old.mac setup.key text
+      → code.stands mac setup.key (text ++ x))
+      → Takes (record old { cut = cut; mac = mac }) (map Byte x) (map Byte x)
+  forward-taken cut mac x cuts live late more =
+      taken cut mac old.trailer (stands.walks.text ++ x) (map Byte x) (map Byte x) cuts
+      (more stands.walks.text stands.walks.codes)
+      (forwards proto code B setup last old.earliest_start x left stands.walks.text line walks-text
+      live late)
+
+  -- what goes out is told by the bytes that were left
+  module _ (cut : BurstCut R) (trailer : Trailer B) where
+    sends : (n : ℕ) (run answer : List Tick) → CutStandsFor proto cut (line ++ run)
+        → bytes_left trailer ≡ drop n left → sent n left ≡ answer
+        → RunsOn proto code B setup last old.earliest_start (drop n left) stands.walks.text line
+        run (sent n left)
+        → Takes (record old { cut = cut; trailer = trailer }) run answer
+    sends n run answer cuts left_is answer_is on =
+        let P : List ℕ → Type 0 = λ y. RunsOn proto code B setup last old.earliest_start y
+        stands.walks.text line run answer in
+        let Q : List Tick → Type 0 = λ y. RunsOn proto code B setup last old.earliest_start
+        (drop n left) stands.walks.text line run y in
+        taken cut old.mac trailer stands.walks.text run answer cuts stands.walks.codes
+        (subst P (sym left_is) (subst Q answer_is on))
+
+    pub quiet-taken : (n : ℕ) (answer : List Tick) → CutStandsFor proto cut (line ++ silent n)
+        → cuts_after proto.rules line (silent n) ≡ replicate n Quiet
+        → bytes_left trailer ≡ drop n left → sent n left ≡ answer
+        → Takes (record old { cut = cut; trailer = trailer }) (silent n) answer
+    quiet-taken n answer cuts quiet left_is answer_is =
+        sends n (silent n) answer cuts left_is answer_is
+        (sends-quiet proto code B setup last old.earliest_start n left stands.walks.text line
+        walks-text quiet)
+
+    pub early-taken : (n : ℕ) (x : List ℕ) (answer : List Tick) → length x ≡ n
+        → CutStandsFor proto cut (line ++ map Byte x)
+        → cuts_after proto.rules line (map Byte x) ≡ map Live x
+        → start_so_far line < old.earliest_start
+        → bytes_left trailer ≡ drop n left → sent n left ≡ answer
+        → Takes (record old { cut = cut; trailer = trailer }) (map Byte x) answer
+    early-taken n x answer long cuts live early left_is answer_is =
+        sends (length x) (map Byte x) answer cuts (left_is ∙ ap (λ k. drop k left) (sym long))
+        (ap (λ k. sent k left) long ∙ answer_is)
+        (sends-early proto code B setup last old.earliest_start x left stands.walks.text line
+        walks-text live early)

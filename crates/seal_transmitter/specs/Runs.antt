@@ -1,0 +1,24 @@
+-- A run of ticks that a transmitter takes at once.
+use Rattle.std.specs.Prelude.{◌≡◌, ℕ, List, ◌++◌}
+use Rattle.yasir_ticks.specs.declared.tick.Tick.{Tick}
+use Rattle.line_rules.specs.declared.line_rules.LineRules.{Ghosts as LineRules}
+use Rattle.burst_walk.specs.Runs.{AnswersRun}
+use Rattle.hmac_tag.specs.declared.tag.Mac.{Ghosts as Mac}
+use Rattle.link_format.specs.NumberedFrame.{last_number}
+use Rattle.link_format.specs.Profile.{profile_of}
+use Rattle.link_format.specs.Setup.{Setup}
+use Rattle.sequence_journal.specs.declared.numbers.TheConstants.{LIMIT}
+use Rattle.seal_transmitter.specs.Answers.{brief_note}
+use Rattle.seal_transmitter.specs.Sealing.{sealer, at_floor, sealed}
+use Rattle.seal_transmitter.specs.Stands.{StandsAt}
+use Rattle.seal_transmitter.specs.declared.sealer.Sealer.{Sealer}
+
+-- After this line the transmitter has taken this run too: it then stands for both, the last number
+-- used is that of the last sealed frame, and the link's ticks are these, without a note.
+pub record HasTakenRun {R M : Type 0} (proto : LineRules R) (code : Mac M) {B : ℕ}
+    (value : Sealer R M B) (last : ℕ) (setup : Setup) (line run answer : List Tick) : Type 0 where
+  pub stands : StandsAt proto code value last setup (line ++ run)
+  pub floor : last ≡ last_number setup.floor
+      (sealed (profile_of proto code B LIMIT setup) proto.rules setup.floor (line ++ run))
+  pub answers : AnswersRun (sealer (profile_of proto code B LIMIT setup) proto.rules) brief_note
+      (at_floor setup.floor) line run answer

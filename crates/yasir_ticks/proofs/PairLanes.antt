@@ -1,0 +1,283 @@
+-- Vectors that decode pairs of hex digits, lane by lane.
+use Rattle.std.proofs.Common.{◌≡◌, ◌↔◌, ◌∙◌, ◌==◌, ◌&&◌, ℕ, zero, suc, ◌+◌, ◌*◌, ◌-◌, ◌%◌, ◌<◌, ◌≤◌, ◌++◌}
+use Rattle.std.proofs.Common.{inl, inr, Bool, true, false, List, [], ◌∷◌, length, get_or, take, map}
+use Rattle.std.proofs.Common.{replicate, Option, Some, None, unwrap_or, Ok, refl, ap, sym, cond, w64}
+use Rattle.std.proofs.Common.{subst, arith, bit_or, ltb, ◌^◌}
+use Rattle.std.proofs.lemmas.Bool.{and_parts, cases_eq, cases_lt}
+use Rattle.std.proofs.lemmas.List.{take_more, get_or-map, length-map, get_or_past}
+use Rattle.std.proofs.lemmas.List.{get_or_append_left, get_or-append_right}
+use Rattle.std.proofs.lemmas.Nat.Bits.{bit_at-zero, bit_at-trailing_zeros}
+use Rattle.std.specs.Int.{bit_at, trailing_zeros}
+use Rattle.std.specs.Simd.Lanes.{zip2, sel_l, top}
+use Rattle.hex.specs.Hex.{decode_of, decode_pairs, hex_digit_value}
+use Rattle.memchr.specs.Lanes.{HasLanes}
+use Rattle.memchr.proofs.lemmas.LaneLemmas.{HasLanes-zip2}
+use Rattle.yasir_ticks.specs.Pairs.{lane_value, lane_pair, lane_greater}
+use Rattle.yasir_ticks.proofs.Digits.{decode_of-more}
+use Rattle.yasir_ticks.proofs.HexValues.{digit_small}
+use Rattle.yasir_ticks.proofs.ManyBytes.{take_pair}
+
+-- ---- the values of digits
+
+abbrev sub8 : ℕ → ℕ → ℕ
+sub8 a b = (a + (256 - b)) % 256
+
+abbrev add8 : ℕ → ℕ → ℕ
+add8 a b = (a + b) % 256
+
+abbrev mul8 : ℕ → ℕ → ℕ
+mul8 a b = a * b % 256
+
+abbrev below8 : ℕ → ℕ → ℕ
+below8 a b = cond (ltb a b) 255 0
+
+-- what the operations make of one lane
+abbrev value_by_steps : ℕ → ℕ
+value_by_steps c =
+    cond (top 7 (below8 (sub8 c 48) 10)) (sub8 c 48)
+    (cond (top 7 (below8 (sub8 (bit_or c 32) 97) 6)) (add8 (sub8 (bit_or c 32) 97) 10) 255)
+
+-- and of n lanes
+abbrev values_by_steps : ℕ → List ℕ → List ℕ
+values_by_steps n c =
+    sel_l (map (top 7) (zip2 below8 (zip2 sub8 c (replicate n 48)) (replicate n 10)))
+    (zip2 sub8 c (replicate n 48))
+    (sel_l (map (top 7) (zip2 below8 (zip2 sub8 (zip2 bit_or c (replicate n 32)) (replicate n 97))
+    (replicate n 6)))
+    (zip2 add8 (zip2 sub8 (zip2 bit_or c (replicate n 32)) (replicate n 97)) (replicate n 10))
+    (replicate n 255))
+
+values_are : (n : ℕ) (c : List ℕ) → length c ≡ n → values_by_steps n c ≡ map value_by_steps c
+values_are zero [] h = refl
+values_are zero (b ∷ c) h = absurd (omega arith)
+values_are (suc n) [] h = absurd (omega arith)
+values_are (suc n) (b ∷ c) h = ap (λ l. value_by_steps b ∷ l) (values_are n c (omega arith))
+
+-- whether the steps give the values of all bytes below n
+abbrev agree : ℕ → Bool
+agree zero = true
+agree (suc n) = value_by_steps n == lane_value n && agree n
+
+eq_of : (a b : ℕ) → (a == b) ≡ true → a ≡ b
+eq_of a b h = grind arith
+
+agree_at : (n : ℕ) → agree n ≡ true → (c : ℕ) → c < n → value_by_steps c ≡ lane_value c
+agree_at zero h c l = absurd (omega arith)
+agree_at (suc n) h c l =
+    let parts = and_parts (value_by_steps n == lane_value n) (agree n) h in
+    elim (cases_eq c n) [
+      | inl e ↦ rw e (eq_of (value_by_steps n) (lane_value n) parts.0)
+      | inr other ↦ agree_at n parts.1 c (omega arith)
+    ]
+
+all_agree : agree 256 ≡ true
+all_agree = refl
+
+pub lanes_values : (c : List ℕ) → length c ≡ 32 → ((k : ℕ) → k < 32 → get_or c k 0 < 256)
+    → HasLanes (values_by_steps 32 c) (λ k. lane_value (get_or c k 0))
+lanes_values c long bytes = rw (values_are 32 c long) (record {
+  long = length-map c value_by_steps ∙ long;
+  each = λ k h. get_or-map value_by_steps c k 0 0 (omega arith)
+      ∙ agree_at 256 all_agree (get_or c k 0) (bytes k h);
+})
+
+-- ---- the two bytes of each pair
+
+-- a function at n places from i on, two places apart
+abbrev pub every_other : (ℕ → ℕ) → ℕ → ℕ → List ℕ
+every_other f zero i = []
+every_other f (suc n) i = f i ∷ every_other f n (i + 2)
+
+pub every_other_long : (f : ℕ → ℕ) (n i : ℕ) → length (every_other f n i) ≡ n
+every_other_long f zero i = refl
+every_other_long f (suc n) i = ap suc (every_other_long f n (i + 2))
+
+every_other_at : (f : ℕ → ℕ) (n i k : ℕ) → k < n → get_or (every_other f n i) k 0 ≡ f (2 * k + i)
+every_other_at f zero i k h = absurd (omega arith)
+every_other_at f (suc n) i zero h =
+    let same : i ≡ 2 * 0 + i = omega arith in ap f same
+every_other_at f (suc n) i (suc k) h =
+    let same : 2 * k + (i + 2) ≡ 2 * suc k + i = omega arith in
+    every_other_at f n (i + 2) k (omega arith) ∙ ap f same
+
+pub lanes_of_pairs : (f : ℕ → ℕ) (i : ℕ) (place : ℕ → ℕ) → ((k : ℕ) → 2 * k + i ≡ place k)
+    → HasLanes (every_other f 32 i) (λ k. f (place k))
+lanes_of_pairs f i place same = record {
+  long = every_other_long f 32 i;
+  each = λ k h. every_other_at f 32 i k h ∙ ap f (same k);
+}
+
+-- ---- the bytes of pairs of values
+
+joined_are : (n : ℕ) (high low : List ℕ) → length high ≡ n → length low ≡ n
+    → zip2 add8 (zip2 mul8 high (replicate n 16)) low ≡ zip2 lane_pair high low
+joined_are zero [] [] h l = refl
+joined_are zero (a ∷ high) low h l = absurd (omega arith)
+joined_are zero [] (b ∷ low) h l = refl
+joined_are (suc n) [] low h l = absurd (omega arith)
+joined_are (suc n) (a ∷ high) [] h l = absurd (omega arith)
+joined_are (suc n) (a ∷ high) (b ∷ low) h l =
+    ap (λ x. lane_pair a b ∷ x) (joined_are n high low (omega arith) (omega arith))
+
+pub lanes_joined : (high low : List ℕ) → length high ≡ 32 → length low ≡ 32
+    → HasLanes (zip2 add8 (zip2 mul8 high (replicate 32 16)) low)
+    (λ k. lane_pair (get_or high k 0) (get_or low k 0))
+lanes_joined high low h l = rw (joined_are 32 high low h l) (HasLanes-zip2 lane_pair high low h l)
+
+-- ---- the greater of two values
+
+greater_by_steps : (a b : ℕ) (t : Bool) → cond (top 7 (cond t 255 0)) b a ≡ cond t b a
+greater_by_steps a b true = refl
+greater_by_steps a b false = refl
+
+greater_are : (a b : List ℕ)
+    → sel_l (map (top 7) (zip2 below8 a b)) b a ≡ zip2 lane_greater a b
+greater_are [] b = refl
+greater_are (x ∷ a) [] = refl
+greater_are (x ∷ a) (y ∷ b) =
+    ap (λ g. g ∷ sel_l (map (top 7) (zip2 below8 a b)) b a) (greater_by_steps x y (ltb x y))
+    ∙ ap (λ l. lane_greater x y ∷ l) (greater_are a b)
+
+pub lanes_greater : (a b : List ℕ) → length a ≡ 32 → length b ≡ 32
+    → HasLanes (sel_l (map (top 7) (zip2 below8 a b)) b a)
+    (λ k. lane_greater (get_or a k 0) (get_or b k 0))
+lanes_greater a b p q = rw (greater_are a b) (HasLanes-zip2 lane_greater a b p q)
+
+-- ---- how many lanes are digits
+
+-- a mask of the lanes that are 128 or more
+abbrev pub MarksHigh : ℕ → List ℕ → Type 0
+MarksHigh m v = (k : ℕ) → (bit_at m k ≡ 1) ↔ (128 ≤ get_or v k 0)
+
+unmarked : (v : List ℕ) (m k : ℕ) → MarksHigh m v → bit_at m k ≡ 0 → get_or v k 0 < 128
+unmarked v m k marks none =
+    elim (cases_lt (get_or v k 0) 128) [
+      | inl low ↦ low
+      | inr high ↦ absurd (omega (arith, (marks k).1 high))
+    ]
+
+pub none_high : (v : List ℕ) (m : ℕ) → MarksHigh m v → m ≡ 0 → (k : ℕ) → get_or v k 0 < 128
+none_high v m marks e k = unmarked v m k marks (rw e (bit_at-zero k))
+
+pub first_high : (v : List ℕ) (m : ℕ) → MarksHigh m v → length v ≡ 32 → 0 < m → m < 2 ^ 64
+    → (trailing_zeros w64 m < 32) × ((k : ℕ) → k < trailing_zeros w64 m → get_or v k 0 < 128)
+first_high v m marks long some fits =
+    let h = bit_at-trailing_zeros w64 m some fits in
+    let high = (marks (trailing_zeros w64 m)).0 h.1 in (
+      elim (cases_lt (trailing_zeros w64 m) 32) [
+        | inl within ↦ within
+        | inr out ↦
+            absurd (omega (arith, get_or_past v (trailing_zeros w64 m) 0 (omega arith)))
+      ],
+      λ k before. unmarked v m k marks (h.2 k before),
+    )
+
+-- ---- 64 bytes of text
+
+-- two loads, one behind the other
+pub loaded : (text a b : List ℕ) → HasLanes a (λ k. get_or text (0 + k) 0)
+    → HasLanes b (λ k. get_or text (32 + k) 0) → (j : ℕ) → j < 64
+    → get_or (a ++ b) j 0 ≡ get_or text j 0
+loaded text a b f g j h = elim (cases_lt j 32) [
+  | inl front ↦
+      let fits : j < length a = omega (arith, f.long) in
+      let place : 0 + j ≡ j = omega arith in
+      get_or_append_left a b 0 j fits ∙ f.each j front ∙ ap (λ i. get_or text i 0) place
+  | inr back ↦
+      let place : 32 + (j - 32) ≡ j = omega arith in
+      get_or-append_right a b 32 j 0 f.long back ∙ g.each (j - 32) (omega arith)
+      ∙ ap (λ i. get_or text i 0) place
+]
+
+-- two digits and their byte
+pub record IsPair (first second byte : ℕ) : Type 0 where
+  pub high : ℕ
+  pub low : ℕ
+  pub first_is : hex_digit_value first ≡ Some high
+  pub second_is : hex_digit_value second ≡ Some low
+  pub byte_is : byte ≡ high * 16 + low
+
+found : (o : Option ℕ) → unwrap_or o 255 < 128 → o ≡ Some (unwrap_or o 255)
+found (Some v) h = refl
+found None h = absurd (omega arith)
+
+pair_fits : (high low : ℕ) → high < 16 → low < 16 → lane_pair high low ≡ high * 16 + low
+pair_fits high low h l = omega arith
+
+both_low : (a b : ℕ) → lane_greater a b < 128 → (a < 128) × (b < 128)
+both_low a b h = grind arith
+
+-- where the greater of the values is low, both are digits
+pub is_pair : (first second : ℕ) → lane_greater (lane_value first) (lane_value second) < 128
+    → IsPair first second (lane_pair (lane_value first) (lane_value second))
+is_pair first second h =
+    let low = both_low (lane_value first) (lane_value second) h in
+    let first_is : hex_digit_value first ≡ Some (lane_value first) =
+    found (hex_digit_value first) low.0 in
+    let second_is : hex_digit_value second ≡ Some (lane_value second) =
+    found (hex_digit_value second) low.1 in
+    record {
+      high = lane_value first;
+      low = lane_value second;
+      first_is = first_is;
+      second_is = second_is;
+      byte_is = pair_fits (lane_value first) (lane_value second)
+          (digit_small first (lane_value first) first_is)
+          (digit_small second (lane_value second) second_is);
+    }
+
+-- the bytes of whole pairs
+pub pairs_decoded : (text bytes : List ℕ) (n : ℕ) → 2 * n ≤ length text → n ≤ length bytes
+    → ((k : ℕ) → k < n
+    → IsPair (get_or text (2 * k) 0) (get_or text (2 * k + 1) 0) (get_or bytes k 0))
+    → decode_of (take (2 * n) text) ≡ Ok (take n bytes)
+unfolding decode_pairs
+pairs_decoded text bytes zero h l pairs = refl
+pairs_decoded text bytes (suc n) h l pairs =
+    let before = pairs_decoded text bytes n (omega arith) (omega arith)
+    (λ k small. pairs k (omega arith)) in
+    let pair = pairs n (omega arith) in
+    let more = decode_of-more (take (2 * n) text) (take n bytes) (get_or text (2 * n) 0)
+    (get_or text (2 * n + 1) 0) pair.high pair.low before pair.first_is pair.second_is in
+    let size : 2 * suc n ≡ 2 * n + 2 = omega arith in
+    let one : suc n ≡ n + 1 = omega arith in
+    let front : take (2 * suc n) text
+    ≡ take (2 * n) text ++ get_or text (2 * n) 0 ∷ get_or text (2 * n + 1) 0 ∷ [] =
+    ap (λ k. take k text) size ∙ take_pair text (2 * n) (omega arith) in
+    let whole : take (suc n) bytes ≡ take n bytes ++ (pair.high * 16 + pair.low) ∷ [] =
+    ap (λ k. take k bytes) one ∙ take_more bytes n 0 (omega arith)
+    ∙ ap (λ b. take n bytes ++ b ∷ []) pair.byte_is in
+    rw (front, whole) more
+
+-- what the vectors of a decoding say of the text
+pub pairs_of_lanes : (text a b first second high low worst bytes : List ℕ) (n : ℕ)
+    → HasLanes a (λ k. get_or text (0 + k) 0) → HasLanes b (λ k. get_or text (32 + k) 0)
+    → HasLanes first (λ k. get_or (a ++ b) (2 * k) 0)
+    → HasLanes second (λ k. get_or (a ++ b) (2 * k + 1) 0)
+    → HasLanes high (λ k. lane_value (get_or first k 0))
+    → HasLanes low (λ k. lane_value (get_or second k 0))
+    → HasLanes worst (λ k. lane_greater (get_or high k 0) (get_or low k 0))
+    → HasLanes bytes (λ k. lane_pair (get_or high k 0) (get_or low k 0))
+    → n ≤ 32 → ((k : ℕ) → k < n → get_or worst k 0 < 128) → 64 ≤ length text
+    → decode_of (take (2 * n) text) ≡ Ok (take n bytes)
+pairs_of_lanes text a b first second high low worst bytes n la lb lf ls lh ll lw lj within good h =
+    pairs_decoded text bytes n (omega arith) (omega (arith, lj.long)) (λ k l.
+    let one : get_or first k 0 ≡ get_or text (2 * k) 0 =
+    lf.each k (omega arith) ∙ loaded text a b la lb (2 * k) (omega arith) in
+    let two : get_or second k 0 ≡ get_or text (2 * k + 1) 0 =
+    ls.each k (omega arith) ∙ loaded text a b la lb (2 * k + 1) (omega arith) in
+    let high_is : get_or high k 0 ≡ lane_value (get_or text (2 * k) 0) =
+    lh.each k (omega arith) ∙ ap lane_value one in
+    let low_is : get_or low k 0 ≡ lane_value (get_or text (2 * k + 1) 0) =
+    ll.each k (omega arith) ∙ ap lane_value two in
+    let worst_is : get_or worst k 0
+    ≡ lane_greater (lane_value (get_or text (2 * k) 0)) (lane_value (get_or text (2 * k + 1) 0)) =
+    lw.each k (omega arith) ∙ ap (λ v. lane_greater v (get_or low k 0)) high_is
+    ∙ ap (λ v. lane_greater (lane_value (get_or text (2 * k) 0)) v) low_is in
+    let byte_is : get_or bytes k 0
+    ≡ lane_pair (lane_value (get_or text (2 * k) 0)) (lane_value (get_or text (2 * k + 1) 0)) =
+    lj.each k (omega arith) ∙ ap (λ v. lane_pair v (get_or low k 0)) high_is
+    ∙ ap (λ v. lane_pair (lane_value (get_or text (2 * k) 0)) v) low_is in
+    subst (IsPair (get_or text (2 * k) 0) (get_or text (2 * k + 1) 0)) (sym byte_is)
+    (is_pair (get_or text (2 * k) 0) (get_or text (2 * k + 1) 0)
+    (subst (λ v. v < 128) worst_is (good k l))))

@@ -1,0 +1,451 @@
+-- Whole lines of a text, each at once.
+use Rattle.std.proofs.Common.{◌≡◌, ◌≢◌, ◌∙◌, ◌==◌, ℕ, suc, zero, ◌+◌, ◌-◌, ◌<◌, ◌≤◌, Bool, true}
+use Rattle.std.proofs.Common.{false, List, [], ◌∷◌, ◌++◌, length, take, get_or, Some, None, Ok, Err}
+use Rattle.std.proofs.Common.{Option, Result, inl, inr, refl, ap, sym, subst, arith, append_assoc}
+use Rattle.std.proofs.Common.{append-nil, length-append, not, drop, ◌*◌}
+use Rattle.std.specs.Prelude.{OnOk, IfOk, IfErr}
+use Rattle.std.specs.List.{list_all}
+use Rattle.std.proofs.lemmas.Bool.{cases_eq, and_parts, lt-ltb}
+use Rattle.std.proofs.lemmas.List.{take_more, take_all, length-take}
+use Rattle.hex.specs.Hex.{decode_of, decode_pairs, is_hex_digit, hex_digit_value}
+use Rattle.yasir_ticks.specs.Ticks.{Item, marks_in}
+use Rattle.yasir_ticks.specs.TickText.{Lines, lines_of, line_items, all_items, ended_items}
+use Rattle.yasir_ticks.specs.TickText.{line_after, fault_after, is_decimal_digit, is_plain_decimal}
+use Rattle.yasir_ticks.specs.TickText.{number_after}
+use Rattle.yasir_ticks.specs.TickText.{BeginsTickText, IsRefusedAfter}
+use Rattle.yasir_ticks.specs.Place.{has_ticks}
+use Rattle.yasir_ticks.specs.Reader.{IsAt, StandsFor, HasRefused, items_of_content}
+use Rattle.yasir_ticks.specs.ReaderStep.{Advances, line_with}
+use Rattle.yasir_ticks.specs.Slices.{GoesOn, TakesLine, EndsLine, StopsAt, FeedsLine}
+use Rattle.yasir_ticks.specs.Slices.{FeedsByte, TakesWhole, IsFewPairs}
+use Rattle.yasir_ticks.specs.declared.whole_lines.Whole.{Whole}
+use Rattle.yasir_ticks.specs.declared.fault.BadTicks.{BadTicks}
+use Rattle.yasir_ticks.specs.declared.fault.TickFault.{TickFault}
+use Rattle.yasir_ticks.specs.declared.place.Content.{Content}
+use Rattle.yasir_ticks.specs.declared.place.Content.TheVariants.{NoTick, KeptBytes, SilentTicks}
+use Rattle.yasir_ticks.specs.declared.place.Content.TheVariants.{OneMark}
+use Rattle.yasir_ticks.specs.declared.place.Place.TheVariants.{Start}
+use Rattle.yasir_ticks.specs.declared.reader.TickReader.{TickReader}
+use Rattle.yasir_ticks.proofs.Digits.{hex_digits, is_plain_decimal-more, number_after-append}
+use Rattle.yasir_ticks.proofs.Digits.{decode_of-more}
+use Rattle.yasir_ticks.proofs.Lines.{lines_of-lf, lines_of-more}
+use Rattle.yasir_ticks.proofs.Items.{marks_in-append, marks_in-content}
+use Rattle.yasir_ticks.proofs.Feeding.{items_lf, items_whole, accepted_at, accepted_items}
+use Rattle.yasir_ticks.proofs.Feeding.{refused_at}
+use Rattle.yasir_ticks.proofs.Steps.{closes_pairs, closes_number, closes_comment}
+use Rattle.yasir_ticks.proofs.Completions.{begins_at}
+use Rattle.yasir_ticks.proofs.ManyBytes.{goes_on_fed, text_more, take_pair}
+
+-- bytes without an LF
+abbrev pub IsFree : List ℕ → Type 0
+IsFree line = (k : ℕ) → k < length line → get_or line k 0 ≢ 10
+
+-- they go on with the last line
+lines_of-free : (more text : List ℕ) → IsFree more → lines_of (text ++ more)
+    ≡ record { ended = (lines_of text).ended; last = (lines_of text).last ++ more }
+lines_of-free [] text free = rw (append-nil text, append-nil (lines_of text).last) refl
+lines_of-free (b ∷ more) text free =
+    let first : b ≢ 10 = free 0 (omega arith) in
+    ap lines_of (sym (append_assoc text (b ∷ []) more))
+    ∙ lines_of-free more (text ++ b ∷ []) (λ k h. free (suc k) (omega arith))
+    ∙ ap (λ (x : Lines). record { ended = x.ended; last = x.last ++ more })
+    (lines_of-more text b first)
+    ∙ ap (λ l. record { ended = (lines_of text).ended; last = l })
+    (append_assoc (lines_of text).last (b ∷ []) more)
+
+-- an LF behind a last line that stands for these items
+line_ends : (text new_bytes : List ℕ) (line left marks : ℕ) (own : List Item)
+    → all_items (lines_of text).ended ≡ Some (ended_items text) → line ≡ line_after text
+    → marks_in (ended_items text) + left ≡ marks → marks_in own ≡ 0
+    → line_items (lines_of text).last ≡ Some own
+    → IsAt Start new_bytes (line + 1) left marks (text ++ 10 ∷ [])
+line_ends text new_bytes line left marks own ended counted marked none stands =
+    let same = items_lf text own stands in
+    record {
+      ended = ap (λ (x : Lines). all_items x.ended) (lines_of-lf text)
+          ∙ items_whole text own stands ended ∙ ap Some (sym same);
+      marked = rw same (omega (arith, marks_in-append (ended_items text) own, none, marked));
+      counted = rw (lines_of-lf text)
+          (omega (
+            arith,
+            length-append (lines_of text).ended ((lines_of text).last ∷ []),
+            counted,
+          ));
+      last = rw (lines_of-lf text) refl;
+    }
+
+module _ (text line : List ℕ) (before : (lines_of text).last ≡ []) (free : IsFree line) where
+  cut : lines_of (text ++ line) ≡ record { ended = (lines_of text).ended; last = line }
+  cut = lines_of-free line text free
+      ∙ ap (λ l. record { ended = (lines_of text).ended; last = l ++ line }) before
+
+  free_quiet : ended_items (text ++ line) ≡ ended_items text
+  free_quiet = rw cut refl
+
+  -- a line and its LF behind whole lines
+  whole_at : (bytes new_bytes : List ℕ) (n left marks : ℕ) (own : List Item)
+      → IsAt Start bytes n left marks text → line_items line ≡ Some own → marks_in own ≡ 0
+      → IsAt Start new_bytes (n + 1) left marks ((text ++ line) ++ 10 ∷ [])
+  whole_at bytes new_bytes n left marks own at stands none =
+      line_ends (text ++ line) new_bytes n left marks own (rw cut at.ended) (rw cut at.counted)
+      (rw cut (omega (arith, at.marked))) none (rw cut stands)
+
+  whole_items : (own : List Item) → line_items line ≡ Some own
+      → ended_items ((text ++ line) ++ 10 ∷ []) ≡ ended_items text ++ own
+  whole_items own stands =
+      items_lf (text ++ line) own (rw cut stands) ∙ ap (λ l. l ++ own) free_quiet
+
+-- a content with ticks isn't nothing
+pub nothing_of : (content : Content) (bytes : List ℕ) → has_ticks content bytes ≡ true
+    → items_of_content content bytes ≡ [] → content ≡ NoTick
+nothing_of NoTick bytes h e = refl
+nothing_of KeptBytes [] h e = cc
+nothing_of KeptBytes (b ∷ bytes) h e = cc
+nothing_of (SilentTicks zero) bytes h e = cc
+nothing_of (SilentTicks (suc n)) bytes h e = cc
+nothing_of OneMark bytes h e = cc
+
+-- a line that was taken at once, of bytes that begin with it and its LF
+pub takes_ends : (old new : TickReader) (content : Content) (bytes : List ℕ) (n m : ℕ)
+    → TakesLine old (take n bytes) content new → n < length bytes → get_or bytes n 0 ≡ 10
+    → n + 1 ≡ m → EndsLine old bytes m content new
+takes_ends old new content bytes n m t within feed sum =
+    let line = take n bytes in
+    let back : m - 1 ≡ n = omega arith in
+    let whole : take m bytes ≡ line ++ 10 ∷ [] =
+    ap (λ k. take k bytes) (sym sum) ∙ take_more bytes n 0 within ∙ ap (λ b. line ++ b ∷ []) feed in
+    let parts : (text : List ℕ) → text ++ take m bytes ≡ (text ++ line) ++ 10 ∷ [] = λ text.
+    ap (λ x. text ++ x) whole ∙ sym (append_assoc text line (10 ∷ [])) in
+    let last : (marks : ℕ) (text : List ℕ) → StandsFor old marks text → (lines_of text).last ≡ [] =
+    λ marks text s. last_of marks text s in
+    record {
+      some = omega arith;
+      within = omega arith;
+      feed = ap (λ k. get_or bytes k 0) back ∙ feed;
+      stands = λ marks text s. record {
+        at = rw (parts text, t.place, t.counted, t.left)
+            (whole_at text line (last marks text s) t.free old.bytes.items new.bytes.items old.line
+            old.left marks (items_of_content content new.bytes.items) (rw t.began at s.at) t.stands
+            (marks_in-content content new.bytes.items ∙ t.no_mark));
+      };
+      items = λ marks text s. ap ended_items (parts text)
+          ∙ whole_items text line (last marks text s) t.free
+          (items_of_content content new.bytes.items) t.stands;
+      quiet = λ marks text s. ap (λ k. ended_items (text ++ take k bytes)) back
+          ∙ free_quiet text line (last marks text s) t.free;
+      nothing = nothing_of content new.bytes.items t.ticks;
+      lines = omega (arith, t.counted);
+    }
+  where
+    last_of : (marks : ℕ) (text : List ℕ) → StandsFor old marks text → (lines_of text).last ≡ []
+    last_of marks text s = (rw t.began at s.at).last
+
+-- ---- one byte
+
+line_one : (line b : ℕ) → line_with line b ≤ line + 1
+line_one line b = grind arith
+
+pub feeds_ok : (old new : TickReader) (b : ℕ) (ended : Option Content)
+    → Advances old b (Ok ended) new → FeedsByte old b (Ok ended) new
+feeds_ok old new b None a =
+    goes_on_fed old new b
+    (λ marks text s. record { at = accepted_at old new b marks text s [] a.case.0 a.case.1 })
+    (λ marks text s. accepted_items old new b marks text s [] a.case.0)
+    (omega (arith, a.case.1, line_one old.line b))
+feeds_ok old new b (Some content) a = record {
+  some = omega arith;
+  within = omega arith;
+  feed = elim (cases_eq b 10) [
+    | inl e ↦ e
+    | inr n ↦ cc (a.case.2 n)
+  ];
+  stands = λ marks text s. record {
+    at = accepted_at old new b marks text s (items_of_content content new.bytes.items) a.case.0
+        a.case.1;
+  };
+  items = λ marks text s. accepted_items old new b marks text s
+      (items_of_content content new.bytes.items) a.case.0;
+  quiet = λ marks text s. rw (append-nil text) refl;
+  nothing = nothing_of content new.bytes.items a.case.3;
+  lines = omega (arith, a.case.1, line_one old.line b);
+}
+
+pub feeds_err : (old new : TickReader) (b : ℕ) (why : TickFault) → Advances old b (Err why) new
+    → FeedsByte old b (Err (record { line = new.line; why = why })) new
+feeds_err old new b why a = record {
+  within = omega arith;
+  refused = λ marks text s. rw (append-nil text) (
+    record {
+      begins = begins_at s.at;
+      refused = refused_at old.place old.bytes.items old.line old.left marks text s.at b why
+          a.case.0;
+    },
+    a.case.1 ∙ s.at.counted,
+    sym (a.case.0.cause (lines_of text).last s.at.last),
+    refl,
+  );
+  lines = omega (arith, a.case.1);
+  remembered = record { place = a.case.2; line = refl };
+}
+
+-- ---- one byte behind some that went on
+
+module _ (a b c : TickReader) (bytes : List ℕ) (n : ℕ) (within : n < length bytes)
+    (goes : GoesOn a (take n bytes) b) where
+  lines_so_far : b.line ≤ a.line + n
+  lines_so_far = omega (arith, goes.lines, length-take n bytes)
+
+  pub ends_after : (content : Content) → EndsLine b (get_or bytes n 0 ∷ []) 1 content c
+      → EndsLine a bytes (n + 1) content c
+  ends_after content e =
+      let back : n + 1 - 1 ≡ n = omega arith in
+      record {
+        some = omega arith;
+        within = omega arith;
+        feed = ap (λ k. get_or bytes k 0) back ∙ e.feed;
+        stands = λ marks text s. subst (StandsFor c marks) (text_more text bytes n within)
+            (e.stands marks (text ++ take n bytes) (goes.stands marks text s));
+        items = λ marks text s. ap ended_items (sym (text_more text bytes n within))
+            ∙ e.items marks (text ++ take n bytes) (goes.stands marks text s)
+            ∙ ap (λ l. l ++ items_of_content content c.bytes.items) (goes.quiet marks text s);
+        quiet = λ marks text s. ap (λ k. ended_items (text ++ take k bytes)) back
+            ∙ goes.quiet marks text s;
+        nothing = e.nothing;
+        lines = omega (arith, e.lines, lines_so_far);
+      }
+
+  pub stops_after : (bad : BadTicks) → StopsAt b (get_or bytes n 0 ∷ []) 0 bad c
+      → StopsAt a bytes n bad c
+  stops_after bad e = record {
+    within = within;
+    refused = λ marks text s.
+        let told = rw (append-nil (text ++ take n bytes)) at
+        (e.refused marks (text ++ take n bytes) (goes.stands marks text s)) in
+        (told.0, told.1, told.2, goes.quiet marks text s);
+    lines = omega (arith, e.lines, lines_so_far);
+    remembered = e.remembered;
+  }
+
+-- ---- what the clauses of a line that was fed say
+
+module _ (old new : TickReader) (bytes : List ℕ) (taken : ℕ) where
+  pub line_within : (result : Result Content BadTicks) → FeedsLine old bytes taken result new
+      → taken ≤ length bytes
+  line_within (Ok content) (inl e) = e.within
+  line_within (Ok content) (inr t) = omega (arith, t.all)
+  line_within (Err bad) s = omega (arith, s.within)
+
+  pub line_stands : (result : Result Content BadTicks) → FeedsLine old bytes taken result new
+      → (marks : ℕ) (text : List ℕ) → StandsFor old marks text
+      → OnOk result (StandsFor new marks (text ++ take taken bytes))
+  line_stands (Ok content) (inl e) marks text s = e.stands marks text s
+  line_stands (Ok content) (inr t) marks text s = t.goes.stands marks text s
+  line_stands (Err bad) f marks text s = tt
+
+  pub line_begins : (result : Result Content BadTicks) → FeedsLine old bytes taken result new
+      → (marks : ℕ) (text : List ℕ) → StandsFor old marks text
+      → OnOk result (BeginsTickText marks (text ++ take taken bytes))
+  line_begins (Ok content) f marks text s = begins_at (line_stands (Ok content) f marks text s).at
+  line_begins (Err bad) f marks text s = tt
+
+  pub line_items_are : (result : Result Content BadTicks) → FeedsLine old bytes taken result new
+      → (marks : ℕ) (text : List ℕ) → StandsFor old marks text
+      → IfOk result (λ content. ended_items (text ++ take taken bytes)
+      ≡ ended_items text ++ items_of_content content new.bytes.items)
+  line_items_are (Ok content) (inl e) marks text s = e.items marks text s
+  line_items_are (Ok content) (inr t) marks text s = rw t.none (t.goes.quiet marks text s
+      ∙ sym (append-nil (ended_items text)))
+  line_items_are (Err bad) f marks text s = tt
+
+  pub line_nothing : (result : Result Content BadTicks) → FeedsLine old bytes taken result new
+      → IfOk result (λ content. items_of_content content new.bytes.items ≡ []
+      → content ≡ NoTick)
+  line_nothing (Ok content) (inl e) = e.nothing
+  line_nothing (Ok content) (inr t) = λ _. t.none
+  line_nothing (Err bad) f = tt
+
+  pub line_last : (result : Result Content BadTicks) → FeedsLine old bytes taken result new
+      → (marks : ℕ) (text : List ℕ) → StandsFor old marks text
+      → IfOk result (λ content. content ≢ NoTick → (0 < taken)
+      × (ended_items (text ++ take (taken - 1) bytes) ≡ ended_items text))
+  line_last (Ok content) (inl e) marks text s = λ _. (e.some, e.quiet marks text s)
+  line_last (Ok content) (inr t) marks text s = λ some. absurd (some t.none)
+  line_last (Err bad) f marks text s = tt
+
+  pub line_whole : (result : Result Content BadTicks) → FeedsLine old bytes taken result new
+      → OnOk result (taken < length bytes → get_or bytes (taken - 1) 0 ≡ 10)
+  line_whole (Ok content) (inl e) = λ _. e.feed
+  line_whole (Ok content) (inr t) = λ h. absurd (omega (arith, t.all))
+  line_whole (Err bad) f = tt
+
+  pub line_progress : (result : Result Content BadTicks) → FeedsLine old bytes taken result new
+      → 0 < length bytes → OnOk result (0 < taken)
+  line_progress (Ok content) (inl e) h = e.some
+  line_progress (Ok content) (inr t) h = omega (arith, t.all)
+  line_progress (Err bad) f h = tt
+
+  pub line_refused : (result : Result Content BadTicks) → FeedsLine old bytes taken result new
+      → (marks : ℕ) (text : List ℕ) → StandsFor old marks text
+      → IfErr result (λ bad. (taken < length bytes)
+      × IsRefusedAfter marks (text ++ take taken bytes) (get_or bytes taken 0)
+      × (bad.line ≡ line_after (text ++ take taken bytes))
+      × (bad.why ≡ fault_after (text ++ take taken bytes) (get_or bytes taken 0))
+      × (ended_items (text ++ take taken bytes) ≡ ended_items text))
+  line_refused (Ok content) f marks text s = tt
+  line_refused (Err bad) f marks text s =
+      let told = f.refused marks text s in (f.within, told.0, told.1, told.2, told.3)
+
+  pub line_lines : (result : Result Content BadTicks) → FeedsLine old bytes taken result new
+      → new.line ≤ old.line + taken
+  line_lines (Ok content) (inl e) = e.lines
+  line_lines (Ok content) (inr t) = omega (arith, t.goes.lines, t.all, length-take taken bytes)
+  line_lines (Err bad) f = f.lines
+
+  pub line_remembered : (result : Result Content BadTicks) → FeedsLine old bytes taken result new
+      → IfErr result (λ bad. HasRefused new bad)
+  line_remembered (Ok content) f = tt
+  line_remembered (Err bad) f = f.remembered
+
+-- ---- the usual lines
+
+-- bytes that pass a test which an LF doesn't have none
+pub free_passing : (test : ℕ → Bool) (line : List ℕ) → test 10 ≡ false
+    → list_all test line ≡ true → IsFree line
+free_passing test [] bad all k h = absurd (omega arith)
+free_passing test (b ∷ line) bad all zero h = λ e.
+    let parts = and_parts (test b) (list_all test line) all in cc (rw e at parts.0, bad)
+free_passing test (b ∷ line) bad all (suc k) h =
+    free_passing test line bad (and_parts (test b) (list_all test line) all).1 k (omega arith)
+
+free_behind : (sign : ℕ) (line : List ℕ) → sign ≢ 10 → IsFree line → IsFree (sign ∷ line)
+free_behind sign line other free zero h = other
+free_behind sign line other free (suc k) h = free k (omega arith)
+
+pub takes_pairs : (old new : TickReader) (digits bytes : List ℕ) → old.place ≡ Start
+    → new.place ≡ Start → new.line ≡ old.line + 1 → new.left ≡ old.left
+    → new.bytes.items ≡ bytes → decode_of digits ≡ Ok bytes → 0 < length bytes
+    → length bytes ≤ 32 → TakesLine old (43 ∷ digits) KeptBytes new
+takes_pairs old new digits bytes p q l m kept decoded some fits = record {
+  began = p;
+  free = free_behind 43 digits (λ e. absurd (omega arith))
+      (free_passing is_hex_digit digits refl (hex_digits digits bytes decoded));
+  stands = rw kept ((closes_pairs bytes some).stands (43 ∷ digits)
+      (record { digits = digits; is = refl; decoded = decoded; fits = fits }));
+  ticks = rw kept (lt-ltb 0 (length bytes) some);
+  no_mark = refl;
+  place = q;
+  counted = l;
+  left = m;
+}
+
+pub takes_number : (old new : TickReader) (digits : List ℕ) (n : ℕ) → old.place ≡ Start
+    → new.place ≡ Start → new.line ≡ old.line + 1 → new.left ≡ old.left
+    → is_plain_decimal digits ≡ true → number_after 0 digits ≡ n → 0 < n → n ≤ 1000000
+    → TakesLine old (45 ∷ digits) (SilentTicks n) new
+takes_number old new digits n p q l m plain number some fits = record {
+  began = p;
+  free = free_behind 45 digits (λ e. absurd (omega arith)) (free_number digits plain);
+  stands = (closes_number n new.bytes.items).stands (45 ∷ digits)
+      (record { digits = digits; is = refl; plain = plain; number = number; fits = fits });
+  ticks = lt-ltb 0 n some;
+  no_mark = refl;
+  place = q;
+  counted = l;
+  left = m;
+}
+  where
+    free_number : (digits : List ℕ) → is_plain_decimal digits ≡ true → IsFree digits
+    free_number [] h = λ k l. absurd (omega arith)
+    free_number (d ∷ digits) h = free_passing is_decimal_digit (d ∷ digits) refl
+        (and_parts (not (d == 48)) (list_all is_decimal_digit (d ∷ digits)) h).1
+
+pub takes_comment : (old new : TickReader) (after : List ℕ) → old.place ≡ Start
+    → new.place ≡ Start → new.line ≡ old.line + 1 → new.left ≡ old.left
+    → IsFree after → length after ≤ 120 → TakesLine old (35 ∷ after) NoTick new
+takes_comment old new after p q l m free fits = record {
+  began = p;
+  free = free_behind 35 after (λ e. absurd (omega arith)) free;
+  stands = (closes_comment (length after) new.bytes.items).stands (35 ∷ after)
+      (record { after = after; is = refl; long = refl; fits = fits });
+  ticks = refl;
+  no_mark = refl;
+  place = q;
+  counted = l;
+  left = m;
+}
+
+-- a line of this first byte and then of bytes that a slice begins with
+pub whole_ends : (old new : TickReader) (sign : ℕ) (rest : List ℕ) (whole : Whole)
+    → TakesWhole old sign rest new whole
+    → EndsLine old (sign ∷ rest) (whole.len + 2) whole.content new
+whole_ends old new sign rest whole t =
+    let one : suc whole.len ≡ whole.len + 1 = omega arith in
+    takes_ends old new whole.content (sign ∷ rest) (suc whole.len) (whole.len + 2)
+    t.takes (omega (arith, t.within)) t.ends (omega arith)
+
+-- a slice cut behind its first byte
+pub line_behind : (old new : TickReader) (bytes : List ℕ) (whole : Whole)
+    → TakesWhole old (get_or bytes 0 0) (take (length bytes - 1) (drop 1 bytes)) new whole
+    → EndsLine old bytes (whole.len + 2) whole.content new
+line_behind old new [] whole t = absurd (omega (arith, t.within))
+line_behind old new (b ∷ rest) whole t =
+    let all : take (length (b ∷ rest) - 1) rest ≡ rest =
+    take_all (length (b ∷ rest) - 1) rest (omega arith) in
+    whole_ends old new b rest whole (subst (λ l. TakesWhole old b l new whole) all t)
+
+-- one digit more of a number
+pub digit_more : (bytes : List ℕ) (n number d m : ℕ) → n < length bytes → get_or bytes n 0 ≡ d
+    → 48 ≤ d → d ≤ 57 → is_plain_decimal (take n bytes) ≡ true
+    → number_after 0 (take n bytes) ≡ number → 10 * number + (d - 48) ≡ m
+    → (is_plain_decimal (take (n + 1) bytes) ≡ true) × (number_after 0 (take (n + 1) bytes) ≡ m)
+digit_more bytes n number d m within is low high plain told sum =
+    let whole : take (n + 1) bytes ≡ take n bytes ++ d ∷ [] =
+    take_more bytes n 0 within ∙ ap (λ b. take n bytes ++ b ∷ []) is in (
+      ap is_plain_decimal whole ∙ is_plain_decimal-more (take n bytes) d plain (digit d low high),
+      ap (number_after 0) whole ∙ number_after-append 0 (take n bytes) d []
+          ∙ ap (λ k. 10 * k + (d - 48)) told ∙ sum,
+    )
+  where
+    digit : (d : ℕ) → 48 ≤ d → d ≤ 57 → is_decimal_digit d ≡ true
+    digit d low high = grind arith
+
+-- one pair more of a few
+pub pair_more : (bytes line new : List ℕ) (at high low : ℕ) → at ≡ 2 * length line
+    → at + 2 < length bytes → decode_of (take at bytes) ≡ Ok line
+    → Some high ≡ hex_digit_value (get_or bytes at 0)
+    → Some low ≡ hex_digit_value (get_or bytes (at + 1) 0)
+    → new ≡ line ++ (high * 16 + low) ∷ []
+    → (decode_of (take (at + 2) bytes) ≡ Ok new) × (at + 2 ≡ 2 * length new)
+pair_more bytes line new at high low is within decoded first second made = (
+  ap decode_of (take_pair bytes at (omega arith))
+      ∙ decode_of-more (take at bytes) line (get_or bytes at 0) (get_or bytes (at + 1) 0) high low
+      decoded (sym first) (sym second) ∙ ap Ok (sym made),
+  omega (arith, ap length made, length-append line ((high * 16 + low) ∷ []), is),
+)
+
+pub none_decoded : (line : List ℕ) → line ≡ [] → decode_of [] ≡ Ok line
+unfolding decode_pairs
+none_decoded line none = rw none refl
+
+-- a line of a few pairs
+pub takes_few : (old new : TickReader) (bytes items : List ℕ) (len : ℕ) → old.place ≡ Start
+    → new.place ≡ Start → new.line ≡ old.line + 1 → new.left ≡ old.left
+    → new.bytes.items ≡ items → IsFewPairs bytes items → len ≡ 2 * length items
+    → TakesWhole old 43 bytes new (record { len = len; content = KeptBytes })
+takes_few old new bytes items len p q l m kept few sum = rw sum (record {
+  within = few.within;
+  ends = few.ends;
+  takes = takes_pairs old new (take (2 * length items) bytes) items p q l m kept few.decoded
+      few.some few.fits;
+})
+
+pub few_ended : (bytes items : List ℕ) (n : ℕ) → n ≡ 2 * length items → n < length bytes
+    → get_or bytes n 0 ≡ 10 → decode_of (take n bytes) ≡ Ok items → 0 < n → n ≤ 64
+    → IsFewPairs bytes items
+few_ended bytes items n sum within feed decoded some fits = record {
+  within = omega arith;
+  ends = ap (λ k. get_or bytes k 0) (sym sum) ∙ feed;
+  decoded = ap (λ k. decode_of (take k bytes)) (sym sum) ∙ decoded;
+  some = omega arith;
+  fits = omega arith;
+}

@@ -1,0 +1,53 @@
+use Rattle.std.proofs.Common.{◌∙◌, inl, inr, refl, arith}
+use Rattle.yasir_ticks.proofs.ManyBytes.{goes_on_slice, goes_on_byte, within_slice}
+use Rattle.yasir_ticks.proofs.WholeLines.{ends_after, stops_after}
+use Rattle.yasir_ticks.proofs.reader.TickReader.feed_rest.Goals as goal
+
+pub returns-then-taken-bytes-clause-fed : goal.returns-then-taken-bytes-clause-fed
+returns-then-taken-bytes-clause-fed c = inr (record {
+  all = c.if-taken-bytes.true;
+  goes = goes_on_slice _ _ _ c.args.bytes.now _ _ c.loop-taken.invariant.goes
+      c.take_many-taken.ensures.goes;
+  none = refl;
+})
+
+pub loop-taken-preserved : goal.loop-taken-preserved
+loop-taken-preserved c =
+    let goes = goes_on_slice _ _ _ c.args.bytes.now _ _ c.loop-taken.invariant.goes
+    c.take_many-taken.ensures.goes in
+    let inside = within_slice c.args.bytes.now _ _ c.loop-taken.invariant.within
+    c.take_many-taken.ensures.within c.if-taken-bytes.false in
+    record {
+      within = omega arith;
+      goes = goes_on_byte _ _ _ c.args.bytes.now _ inside goes
+          (rw c.in-Ok-None.field-0-is at c.in-Ok-None.ensures.fed);
+      for_good = λ bad was.
+          let none = c.loop-taken.invariant.for_good bad was in
+          let still = c.take_many-taken.ensures.for_good bad (rw none.1 was) in
+          let again = c.in-Ok-None.ensures.for_good bad (rw (still.1, none.1) was) in
+          cc (again.0);
+    }
+
+pub returns-in-Ok-Some-clause-fed : goal.returns-in-Ok-Some-clause-fed
+returns-in-Ok-Some-clause-fed c =
+    let goes = goes_on_slice _ _ _ c.args.bytes.now _ _ c.loop-taken.invariant.goes
+    c.take_many-taken.ensures.goes in
+    let inside = within_slice c.args.bytes.now _ _ c.loop-taken.invariant.within
+    c.take_many-taken.ensures.within c.if-taken-bytes.false in
+    inl (ends_after _ _ _ c.args.bytes.now _ inside goes _
+    (rw c.in-Ok-Some.field-0-is at c.in-Ok-Some.ensures.fed))
+
+pub returns-in-Err-clause-fed : goal.returns-in-Err-clause-fed
+returns-in-Err-clause-fed c =
+    let goes = goes_on_slice _ _ _ c.args.bytes.now _ _ c.loop-taken.invariant.goes
+    c.take_many-taken.ensures.goes in
+    let inside = within_slice c.args.bytes.now _ _ c.loop-taken.invariant.within
+    c.take_many-taken.ensures.within c.if-taken-bytes.false in
+    stops_after _ _ _ c.args.bytes.now _ inside goes _ c.in-Err.ensures.fed
+
+pub returns-in-Err-clause-for_good : goal.returns-in-Err-clause-for_good
+returns-in-Err-clause-for_good c = λ bad was some.
+    let none = c.loop-taken.invariant.for_good bad was in
+    let still = c.take_many-taken.ensures.for_good bad (rw none.1 was) in
+    let again = c.in-Err.ensures.for_good bad (rw (still.1, none.1) was) in
+    (omega (arith, none.0, still.0), cc (again.0), again.1 ∙ still.1 ∙ none.1)

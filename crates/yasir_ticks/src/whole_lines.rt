@@ -1,0 +1,347 @@
+//! A line of tick text at once. Its bytes are lent by the reader, so that none is moved.
+ghost use Rattle.std.specs.Prelude.{◌≡◌, ◌≢◌, ℕ, ◌+◌, ◌-◌, ◌<◌, ◌≤◌, ◌^◌, ◌++◌, List, [], length};
+ghost use Rattle.std.specs.Prelude.{take, slice_index, Err, OnOk, IfOk, IfErr, IfSome, None};
+ghost use Rattle.yasir_ticks.specs.Characters.{line_feed, plus_sign, minus_sign, number_sign};
+ghost use Rattle.yasir_ticks.specs.Slices.{TakesWhole, IsSpelled, IsFewPairs, FeedsByte, FeedsLine};
+
+use crate::digit::hex_value;
+use crate::pairs::{Decoded, decode_front};
+use crate::place::{Content, Place};
+use crate::reader::MAX_COMMENT;
+use crate::{BadTicks, LineBytes, TickReader};
+use memchr::memchr;
+
+/// What a reader took of a slice, and what the line came to that it ended.
+#[derive(Clone, Copy, Debug, PartialEq, Eq)]
+pub struct FedLine {
+    /// How many bytes it took, from the first one on.
+    pub taken: usize,
+    /// What the line stands for that the last of them ended, the bytes of a `+` line being those
+    /// that the reader lends; `NoTick` where none ended. Or the refusal of the byte behind them.
+    pub line: Result<Content, BadTicks>,
+}
+
+// What stands behind the first byte of a line, up to its LF.
+#[derive(Clone, Copy)]
+struct Whole {
+    // how many bytes stand before the LF
+    len: usize,
+    content: Content,
+}
+
+// A number of silent ticks, and how many digits spell it.
+#[derive(Clone, Copy)]
+struct Spelled {
+    digits: usize,
+    number: u32,
+}
+
+// The number that a slice begins with, where an LF ends it and it may be one of silent ticks.
+#[inline]
+fn spelled_number(bytes: &[u8]) -> Option<Spelled>
+    ensures { IfSome result (λ spelled. IsSpelled bytes.now spelled.digits spelled.number) }
+{
+    if bytes.is_empty() || bytes[0] < b'1' || bytes[0] > b'9' {
+        return None;
+    }
+    let mut number = u32::from(bytes[0] - b'0');
+    let mut digits = 1;
+    while digits < bytes.len() && bytes[digits] != b'\n' {
+        if bytes[digits] < b'0' || bytes[digits] > b'9' || number > 99_999 {
+            return None;
+        }
+        number = number * 10 + u32::from(bytes[digits] - b'0');
+        digits += 1;
+    }
+    if digits < bytes.len() {
+        Some(Spelled { digits, number })
+    } else {
+        None
+    }
+}
+
+// The bytes of the one to three pairs of digits that a slice begins with, where an LF stands behind
+// them.
+#[inline]
+fn few_pairs(bytes: &[u8]) -> Option<LineBytes>
+    ensures { IfSome result (λ line. IsFewPairs bytes.now line.items) }
+{
+    let mut line = LineBytes::new();
+    let mut at = 0;
+    while at < 6 && at + 2 < bytes.len() {
+        let high = hex_value(bytes[at])?;
+        let low = hex_value(bytes[at + 1])?;
+        line.push(high * 16 + low);
+        at += 2;
+        if bytes[at] == b'\n' {
+            return Some(line);
+        }
+    }
+    None
+}
+
+impl TickReader {
+    ghost use Rattle.yasir_ticks.specs.declared.fault.BadTicks.{BadTicks};
+    ghost use Rattle.yasir_ticks.specs.declared.place.Place.TheVariants.{Start};
+    ghost use Rattle.yasir_ticks.specs.declared.place.Content.TheVariants.{NoTick};
+    ghost use Rattle.yasir_ticks.specs.TickText.{BeginsTickText, IsRefusedAfter, ended_items};
+    ghost use Rattle.yasir_ticks.specs.TickText.{line_after, fault_after};
+    ghost use Rattle.yasir_ticks.specs.Reader.{StandsFor, HasRefused, reader_line, lent_bytes};
+    ghost use Rattle.yasir_ticks.specs.Reader.{items_of_content};
+
+    /// The bytes of the `+` line that was ended last. They stand until the next byte is fed.
+    #[inline]
+    pub fn line_bytes(&self) -> &[u8]
+        ensures bytes { result.now ≡ lent_bytes self.now }
+        ensures few { length result.now ≤ 32 }
+    {
+        &self.bytes
+    }
+
+    // The bytes of a line behind its `+`, where they are at most three.
+    #[inline]
+    fn take_short_line(&mut self, bytes: &[u8]) -> Option<Whole>
+        requires place { self.old.place ≡ Start }
+        requires line { reader_line self.old < 2 ^ 32 - 1 }
+        ensures whole { IfSome result (TakesWhole self.old plus_sign bytes.now self.new) }
+        ensures none { result ≡ None → self.new ≡ self.old }
+    {
+        let line = few_pairs(bytes)?;
+        let len = 2 * line.len();
+        self.bytes = line;
+        self.line += 1;
+        Some(Whole {
+            len,
+            content: Content::KeptBytes,
+        })
+    }
+
+    // The bytes of a line behind its `+`, where they stand as whole pairs of digits with their LF
+    // in the first 65 bytes.
+    #[inline]
+    fn take_long_line(&mut self, bytes: &[u8]) -> Option<Whole>
+        requires place { self.old.place ≡ Start }
+        requires line { reader_line self.old < 2 ^ 32 - 1 }
+        ensures whole { IfSome result (TakesWhole self.old plus_sign bytes.now self.new) }
+        ensures none { result ≡ None → self.new ≡ self.old }
+    {
+        if bytes.len() < 65 {
+            return None;
+        }
+        let Decoded {
+            pairs,
+            bytes: decoded,
+        } = decode_front(bytes);
+        let len = 2 * pairs;
+        if pairs == 0 || bytes[len] != b'\n' {
+            return None;
+        }
+        self.bytes = LineBytes::from(decoded);
+        self.bytes.truncate(pairs);
+        self.line += 1;
+        Some(Whole {
+            len,
+            content: Content::KeptBytes,
+        })
+    }
+
+    // The bytes of a line behind its `+`. Few are looked up one by one, which costs less than all
+    // lanes of the vectors.
+    #[inline]
+    fn take_bytes_line(&mut self, bytes: &[u8]) -> Option<Whole>
+        requires place { self.old.place ≡ Start }
+        requires line { reader_line self.old < 2 ^ 32 - 1 }
+        ensures whole { IfSome result (TakesWhole self.old plus_sign bytes.now self.new) }
+        ensures none { result ≡ None → self.new ≡ self.old }
+    {
+        if bytes.len() < 7 {
+            return self.take_short_line(bytes);
+        }
+        if bytes[2] == b'\n' || bytes[4] == b'\n' || bytes[6] == b'\n' {
+            return self.take_short_line(bytes);
+        }
+        self.take_long_line(bytes)
+    }
+
+    // The number of a line behind its `-`.
+    #[inline]
+    fn take_silence_line(&mut self, bytes: &[u8]) -> Option<Whole>
+        requires place { self.old.place ≡ Start }
+        requires line { reader_line self.old < 2 ^ 32 - 1 }
+        ensures whole { IfSome result (TakesWhole self.old minus_sign bytes.now self.new) }
+        ensures none { result ≡ None → self.new ≡ self.old }
+    {
+        let Spelled { digits, number } = spelled_number(bytes)?;
+        self.line += 1;
+        Some(Whole {
+            len: digits,
+            content: Content::SilentTicks(number),
+        })
+    }
+
+    // A comment behind its `#`.
+    #[inline]
+    fn take_comment_line(&mut self, bytes: &[u8]) -> Option<Whole>
+        requires place { self.old.place ≡ Start }
+        requires line { reader_line self.old < 2 ^ 32 - 1 }
+        ensures whole { IfSome result (TakesWhole self.old number_sign bytes.now self.new) }
+        ensures none { result ≡ None → self.new ≡ self.old }
+    {
+        let room = bytes.len().min(usize::from(MAX_COMMENT) + 1);
+        let len = memchr(b'\n', &bytes[..room])?;
+        self.line += 1;
+        Some(Whole {
+            len,
+            content: Content::NoTick,
+        })
+    }
+
+    // A line behind its first byte, where it has one of the usual forms.
+    #[inline]
+    fn take_behind(&mut self, sign: u8, bytes: &[u8]) -> Option<Whole>
+        requires place { self.old.place ≡ Start }
+        requires line { reader_line self.old < 2 ^ 32 - 1 }
+        ensures whole { IfSome result (TakesWhole self.old sign bytes.now self.new) }
+        ensures none { result ≡ None → self.new ≡ self.old }
+    {
+        match sign {
+            b'+' => self.take_bytes_line(bytes),
+            b'-' => self.take_silence_line(bytes),
+            b'#' => self.take_comment_line(bytes),
+            _ => None,
+        }
+    }
+
+    // The line at the front, where it has one of the usual forms.
+    #[inline]
+    fn take_line(&mut self, bytes: &[u8]) -> Option<FedLine>
+        requires place { self.old.place ≡ Start }
+        requires line { reader_line self.old + length bytes.now < 2 ^ 32 }
+        ensures fed { IfSome result
+            (λ fed. FeedsLine self.old bytes.now fed.taken fed.line self.new) }
+        ensures none { result ≡ None → self.new ≡ self.old }
+    {
+        if bytes.is_empty() {
+            return None;
+        }
+        match self.take_behind(bytes[0], &bytes[1..]) {
+            Some(whole) => Some(FedLine {
+                taken: whole.len + 2,
+                line: Ok(whole.content),
+            }),
+            None => None,
+        }
+    }
+
+    // One byte, and the content of the line that it ends.
+    #[inline]
+    fn step_line(&mut self, b: u8) -> Result<Option<Content>, BadTicks>
+        requires { reader_line self.old < 2 ^ 32 - 1 }
+        ensures fed { FeedsByte self.old b result self.new }
+        ensures for_good { (bad : BadTicks) → HasRefused self.old bad
+            → (result ≡ Err bad) × (self.new ≡ self.old) }
+    {
+        match self.advance(b) {
+            Ok(ended) => Ok(ended),
+            Err(why) => Err(BadTicks {
+                line: self.line,
+                why,
+            }),
+        }
+    }
+
+    // Bytes up to the end of the line in which the reader stands.
+    #[inline(never)]
+    fn feed_rest(&mut self, bytes: &[u8]) -> FedLine
+        requires { reader_line self.old + length bytes.now < 2 ^ 32 }
+        ensures fed { FeedsLine self.old bytes.now result.taken result.line self.new }
+        ensures for_good { (bad : BadTicks) → HasRefused self.old bad → 0 < length bytes.now
+            → (result.taken ≡ 0) × (result.line ≡ Err bad) × (self.new ≡ self.old) }
+    {
+        let mut taken = 0;
+        loop {
+            taken += self.take_many(&bytes[taken..]);
+            if taken == bytes.len() {
+                return FedLine {
+                    taken,
+                    line: Ok(Content::NoTick),
+                };
+            }
+            match self.step_line(bytes[taken]) {
+                Ok(None) => taken += 1,
+                Ok(Some(content)) => {
+                    return FedLine {
+                        taken: taken + 1,
+                        line: Ok(content),
+                    };
+                }
+                Err(bad) => {
+                    return FedLine {
+                        taken,
+                        line: Err(bad),
+                    };
+                }
+            }
+        }
+    }
+
+    // The same; a usual line goes by at once.
+    #[inline(always)]
+    fn feed_usual(&mut self, bytes: &[u8]) -> FedLine
+        requires { reader_line self.old + length bytes.now < 2 ^ 32 }
+        ensures fed { FeedsLine self.old bytes.now result.taken result.line self.new }
+        ensures for_good { (bad : BadTicks) → HasRefused self.old bad → 0 < length bytes.now
+            → (result.taken ≡ 0) × (result.line ≡ Err bad) × (self.new ≡ self.old) }
+    {
+        if let Place::Start = self.place {
+            if let Some(fed) = self.take_line(bytes) {
+                return fed;
+            }
+        }
+        self.feed_rest(bytes)
+    }
+
+    /// Takes bytes of the text up to and with the LF of the line in which the reader stands, or up
+    /// to a refused one, or all of them. It is as if they were fed one by one; the bytes of a `+`
+    /// line are lent by `line_bytes`.
+    #[inline(always)]
+    pub fn feed_line(&mut self, bytes: &[u8]) -> FedLine
+        requires { reader_line self.old + length bytes.now < 2 ^ 32 }
+        ensures within { result.taken ≤ length bytes.now }
+        ensures stands { (marks : ℕ) (text : List ℕ) → StandsFor self.old marks text
+            → OnOk result.line (StandsFor self.new marks (text ++ take result.taken bytes.now)) }
+        ensures begins { (marks : ℕ) (text : List ℕ) → StandsFor self.old marks text
+            → OnOk result.line (BeginsTickText marks (text ++ take result.taken bytes.now)) }
+        // The content is that of the line that ended.
+        ensures items { (marks : ℕ) (text : List ℕ) → StandsFor self.old marks text
+            → IfOk result.line (λ content. ended_items (text ++ take result.taken bytes.now)
+            ≡ ended_items text ++ items_of_content content (lent_bytes self.new)) }
+        // It is `NoTick` exactly where no line with ticks or a mark ended.
+        ensures nothing { IfOk result.line (λ content.
+            items_of_content content (lent_bytes self.new) ≡ [] → content ≡ NoTick) }
+        // Such a line ended at the last byte that was taken, and none before.
+        ensures last { (marks : ℕ) (text : List ℕ) → StandsFor self.old marks text
+            → IfOk result.line (λ content. content ≢ NoTick → (0 < result.taken)
+            × (ended_items (text ++ take (result.taken - 1) bytes.now) ≡ ended_items text)) }
+        // Where not every byte was taken, the last one that was ended its line.
+        ensures whole { OnOk result.line (result.taken < length bytes.now
+            → slice_index bytes.now (result.taken - 1) ≡ line_feed) }
+        ensures progress { 0 < length bytes.now → OnOk result.line (0 < result.taken) }
+        // It refuses the text at its refused place, and nowhere else; no line with ticks or a mark
+        // ended before.
+        ensures refused { (marks : ℕ) (text : List ℕ) → StandsFor self.old marks text
+            → IfErr result.line (λ bad. (result.taken < length bytes.now)
+            × IsRefusedAfter marks (text ++ take result.taken bytes.now)
+            (slice_index bytes.now result.taken)
+            × (bad.line ≡ line_after (text ++ take result.taken bytes.now))
+            × (bad.why ≡ fault_after (text ++ take result.taken bytes.now)
+            (slice_index bytes.now result.taken))
+            × (ended_items (text ++ take result.taken bytes.now) ≡ ended_items text)) }
+        ensures lines { reader_line self.new ≤ reader_line self.old + result.taken }
+        ensures remembered { IfErr result.line (λ bad. HasRefused self.new bad) }
+        ensures for_good { (bad : BadTicks) → HasRefused self.old bad → 0 < length bytes.now
+            → (result.taken ≡ 0) × (result.line ≡ Err bad) × (self.new ≡ self.old) }
+    {
+        self.feed_usual(bytes)
+    }
+}

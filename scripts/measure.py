@@ -1,0 +1,184 @@
+#!/usr/bin/env python3
+"""Measures `link_replay`: processor time and memory of each command over long recorded lines, which it makes itself.
+
+    python3 scripts/measure.py [PROGRAM] [--beside OTHER] [--rounds N] [--ticks N] [--only WORD] [--work FOLDER]
+
+With OTHER, another build or another program of the same commands, the two run in turn over the same inputs; what they write
+is compared, and the ratio of their times is printed: the median of the rounds' own ratios, and the ratio of the least times.
+FOLDER should be in memory (/dev/shm), since each committed number is synced. The lines are the same at each run.
+It is no part of the gate.
+"""
+import argparse, filecmp, os, random, statistics, subprocess, sys, tempfile
+
+import model
+from killed import KEY
+from model import Y18, Y24, Dnp3, Rtu
+from random_lines import slot_of, some_frame
+
+PROGRAM = "crates/link_replay/out/link_replay"
+
+
+class Text:
+    """A tick text that is made piece by piece."""
+
+    def __init__(self, path):
+        self.file, self.ticks = open(path, "w"), 0
+
+    def add(self, line):
+        self.file.write(model.canonical(line))
+        self.ticks += len(line)
+
+
+def frames(proto, chance, count):
+    return [some_frame(proto, chance) for _ in range(count)]
+
+
+def device_line(path, proto, ticks, chance):
+    """Frames, small and large, as far apart as the transmitter asks, or farther."""
+    text, pool = Text(path), frames(proto, chance, 500)
+    while text.ticks < ticks:
+        text.add(chance.choice(pool) + [None] * chance.choice([21, 27, 60, 300]))
+
+
+def dense_line(path, proto, ticks, chance):
+    """Large frames with no more than the silence that ends a burst, some of them damaged."""
+    text, pool = Text(path), sorted(frames(proto, chance, 500), key=len)[-60:]
+    while text.ticks < ticks:
+        frame = list(chance.choice(pool))
+        if chance.random() < 0.1:
+            frame[chance.randrange(len(frame))] ^= 1
+        text.add(frame + [None] * model.CUT)
+
+
+def thin_line(path, ticks, chance):
+    """Bytes with a silent tick behind each: one tick a line of text."""
+    text = Text(path)
+    while text.ticks < ticks // 4:
+        text.add([chance.randrange(256), None] * 40)
+
+
+def link_line(path, proto, profile, ticks, chance, attacked):
+    """Packets in order; where the link is attacked, one in ten is changed, lost, repeated or cut."""
+    text, pool, number, last = Text(path), frames(proto, chance, 500), 0, []
+    key = bytes.fromhex(KEY.strip())
+    while text.ticks < ticks:
+        frame, number = chance.choice(pool), number + 1
+        packet = frame + [None] * model.PAUSE + model.trailer(proto, key, 0, frame, number, profile)
+        deed = chance.randrange(40) if attacked else 9
+        if deed == 0:
+            packet[chance.randrange(len(frame))] ^= 1
+        elif deed == 1:
+            packet = [None] * len(packet)
+        elif deed == 2:
+            packet = last or packet
+        elif deed == 3:
+            packet = packet[:chance.randrange(1, len(packet))]
+        last = packet
+        text.add(packet + [None] * chance.choice([21, 27, 60, 300]))
+
+
+def session(path, line, link):
+    with open(path, "w") as file:
+        file.write(open(line).read() + "%\n" + open(link).read())
+
+
+def make_inputs(folder, ticks):
+    """Writes the lines, and answers the cases: a name, the input, and the words."""
+    at, cases, chance = lambda name: os.path.join(folder, name), [], random.Random(1)
+    for proto, name, other in ((Rtu, "rtu", "rtu24"), (Dnp3, "dnp3", "dnp24")):
+        device, dense = at("device." + name), at("dense." + name)
+        device_line(device, proto, ticks, chance)
+        dense_line(dense, proto, ticks, chance)
+        cases += [("read " + name, device, ["read", name]), ("read %s, dense" % name, dense, ["read", name]),
+                  ("seal " + name, device, ["seal", name, "ab"]), ("seal %s, dense" % name, dense, ["seal", name, "ab"])]
+        for word, profile, attacked in ((name, Y18, False), (name, Y18, True), (other, Y24, False)):
+            link = at("link.%s.%d" % (word, attacked))
+            link_line(link, proto, profile, ticks, chance, attacked)
+            cases.append(("check %s%s" % (word, ", attacked" * attacked), link, ["check", word, "ab"]))
+        both = at("session." + name)
+        device_line(at("half"), proto, ticks // 2, chance)
+        link_line(at("link"), proto, Y18, ticks // 2, chance, True)
+        session(both, at("half"), at("link"))
+        cases += [("check %s, unsealed" % name, dense, ["check", name, "ab"]), ("replay " + name, both, ["replay", name, "ab"]),
+                  ("trial " + name, os.devnull, ["trial", name, "7", "10000"])]
+    thin_line(at("thin"), ticks, chance)
+    with open(at("comments"), "w") as file:
+        file.write(("# " + "a comment " * 10 + "\n") * (ticks // 50))
+    return cases + [("read rtu, thin", at("thin"), ["read", "rtu"]), ("read rtu, comments", at("comments"), ["read", "rtu"])]
+
+
+def words_of(words, key, journal):
+    """The words of a case, with the key and the journal that its command takes."""
+    named = {"seal": [key, journal], "check": [key, journal], "replay": [key]}
+    return words + named.get(words[0], [])
+
+
+def most_memory(child):
+    """The most memory in MB that a running program has had, as the system tells it until it ends."""
+    most = 0
+    while child.poll() is None:
+        try:
+            with open("/proc/%d/status" % child.pid) as status:
+                most = next((int(line.split()[1]) for line in status if line.startswith("VmHWM")), most)
+        except (FileNotFoundError, ProcessLookupError):
+            break
+    child.wait()
+    return most / 1024
+
+
+def run(program, words, source, written, journal, memory=False):
+    """Seconds of processor time and the status; where it is asked for, the most memory in place of the seconds."""
+    with open(journal, "wb") as file:
+        file.write(slot_of(0) + bytes(16))
+    with open(source) as given, open(written[0], "w") as out, open(written[1], "w") as log:
+        child = subprocess.Popen([program] + words, stdin=given, stdout=out, stderr=log)
+        if memory:
+            return most_memory(child), child.returncode
+        _, status, used = os.wait4(child.pid, 0)
+        child.returncode = os.waitstatus_to_exitcode(status)
+    return used.ru_utime + used.ru_stime, child.returncode
+
+
+def measure(programs, case, rounds, folder):
+    name, source, words = case
+    files = [[os.path.join(folder, "%s.%d" % (kind, place)) for kind in ("out", "log", "journal")] for place in range(len(programs))]
+    key, times, statuses = os.path.join(folder, "key"), [[] for _ in programs], set()
+    given = lambda place: (programs[place], words_of(words, key, files[place][2]), source, files[place][:2], files[place][2])
+    for _ in range(rounds):
+        for place in range(len(programs)):
+            seconds, status = run(*given(place))
+            times[place].append(seconds)
+            statuses.add(status)
+    memory, _ = run(*given(0), memory=True)
+    size = os.path.getsize(source) / 1e6 if source != os.devnull else 0
+    line = "%-22s %7.3f s %8s MB/s %6.1f MB" % (name, min(times[0]), "%.0f" % (size / min(times[0])) if size else "", memory)
+    same = len(statuses) == 1
+    if len(programs) > 1:
+        ratios = [mine / other for mine, other in zip(*times)]
+        same = same and all(filecmp.cmp(a, b, shallow=False) for a, b in zip(*files))
+        line += "   ratio %.2f, least %.2f%s" % (statistics.median(ratios), min(times[0]) / min(times[1]), "" if same else "   DIFFERS")
+    print(line + ("" if statuses == {0} else "   status %s" % sorted(statuses)), flush=True)
+    return same
+
+
+def main():
+    words = argparse.ArgumentParser(description=__doc__, formatter_class=argparse.RawDescriptionHelpFormatter)
+    words.add_argument("program", nargs="?", default=PROGRAM)
+    words.add_argument("--beside")
+    words.add_argument("--rounds", type=int, default=5)
+    words.add_argument("--ticks", type=int, default=4000000)
+    words.add_argument("--only", default="")
+    words.add_argument("--work", default="/dev/shm" if os.path.isdir("/dev/shm") else None)
+    asked = words.parse_args()
+    programs = [os.path.abspath(program) for program in [asked.program] + [asked.beside] * bool(asked.beside)]
+    with tempfile.TemporaryDirectory(prefix="measure.", dir=asked.work) as folder:
+        with open(os.path.join(folder, "key"), "w") as file:
+            file.write(KEY)
+        cases = [case for case in make_inputs(folder, asked.ticks) if asked.only in case[0]]
+        print("%-22s %9s %13s %9s" % ("case", "CPU time", "input read", "memory"), flush=True)
+        same = [measure(programs, case, asked.rounds, folder) for case in cases]
+    return 0 if all(same) else 1
+
+
+if __name__ == "__main__":
+    sys.exit(main())
