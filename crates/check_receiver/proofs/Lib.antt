@@ -14,3 +14,8 @@ pub mod Deciding
 pub mod Taking
 pub mod Journals
 pub mod WholeSteps
+pub mod RunTicks
+pub mod RestRuns
+pub mod LiveRuns
+pub mod RunsTaken
+pub mod Lending

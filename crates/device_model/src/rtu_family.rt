@@ -255,6 +255,7 @@ impl RtuFamily {
     /// `MAX_TICKS` ticks were then taken.
     pub fn wait_some(&mut self, ticks: usize) -> Heard
         requires { ticks_heard self.old + ticks ≤ MAX_TICKS }
+        ensures some { 0 < ticks → 0 < result.taken }
         ensures within { result.taken ≤ ticks }
         ensures whole { result.frame ≡ None → result.taken ≡ ticks }
         ensures taken { ticks_heard self.new ≡ ticks_heard self.old + result.taken }

@@ -3,6 +3,7 @@ ghost use Rattle.yasir_ticks.specs.declared.tick.Tick.{Tick};
 ghost use Rattle.link_format.specs.NumberedFrame.{AreNumberedFrom};
 ghost use Rattle.link_format.specs.Setup.{Setup};
 ghost use Rattle.replay_status.specs.Causes.{InputCause, ReadsCause, SinkCause};
+ghost use Rattle.replay_status.specs.Flushes.{FlushesAtEnd};
 ghost use Rattle.recordings_replay.specs.Keyed.{ReadsKeyFirst, LeavesAll};
 ghost use Rattle.recordings_replay.specs.Listing.{listing_with};
 ghost use Rattle.recordings_replay.specs.Recorded.{PrintsRecorded};
@@ -38,6 +39,7 @@ fn replay_keyed<S: FrameBox, C: FrameBox, V: Device + Drop, I: Source, O: Sink, 
     ensures input { InputCause (I.faults input.old) (I.faults input.new) result }
     ensures sinks { SinkCause (O.faults out.old) (O.faults out.new) (L.faults log.old)
         (L.faults log.new) result }
+    ensures flushes { FlushesAtEnd O.Sink L.Sink out.old out.new log.old log.new result }
 {
     let mut lists = ReplayLists::<S, C, V>::new(alloc, key, dir);
     let end = list_recordings(device_rest, &mut lists, input, out, log);
@@ -85,6 +87,7 @@ pub fn replay_recordings<
         (I.faults input.new) result }
     ensures sinks { SinkCause (O.faults out.old) (O.faults out.new) (L.faults log.old)
         (L.faults log.new) result }
+    ensures flushes { FlushesAtEnd O.Sink L.Sink out.old out.new log.old log.new result }
 {
     match read_key(key) {
         Ok(key) => replay_keyed::<S, C, V, I, O, L>(

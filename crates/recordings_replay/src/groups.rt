@@ -33,6 +33,7 @@ pub fn push_numbered<O: Sink>(
         → BreaksOff (on_the_way (O.held out.old) (waiting_bytes text.old)) (O.held out.new)
         (numbered_lines name.now listed)) }
     ensures cause { HasCause (O.faults out.old) (O.faults out.new) result }
+    ensures flushes { O.flushes out.new ≡ O.flushes out.old }
 {
     for index in 0..frames.len() {
         let line = numbered_line(name, frames.head(index), frames.bytes(index));
@@ -57,6 +58,7 @@ pub fn push_reads<O: Sink>(
         → BreaksOff (on_the_way (O.held out.old) (waiting_bytes text.old)) (O.held out.new)
         (frame_lines listed)) }
     ensures cause { HasCause (O.faults out.old) (O.faults out.new) result }
+    ensures flushes { O.flushes out.new ≡ O.flushes out.old }
 {
     for index in 0..frames.len() {
         let line = read_line(frames.head(index), frames.bytes(index));
@@ -106,6 +108,7 @@ fn push_if_forged<O: Sink>(
         (line_if_forged sealed_ones
         (record { number = head.number; start = head.start; frame = bytes.now }))) }
     ensures cause { HasCause (O.faults out.old) (O.faults out.new) result }
+    ensures flushes { O.flushes out.new ≡ O.flushes out.old }
 {
     if is_sealed(sealed, head.number, bytes) {
         return Ok(());
@@ -139,6 +142,7 @@ pub fn push_forged<O: Sink>(
         → BreaksOff (on_the_way (O.held out.old) (waiting_bytes text.old)) (O.held out.new)
         (numbered_lines (codes "forged") (forged sealed_ones passed_ones))) }
     ensures cause { HasCause (O.faults out.old) (O.faults out.new) result }
+    ensures flushes { O.flushes out.new ≡ O.flushes out.old }
 {
     for index in 0..passed.len() {
         let (head, bytes) = (passed.head(index), passed.bytes(index));

@@ -2,6 +2,7 @@ ghost use Rattle.std.specs.Prelude.{◌≡◌, ◌⊎◌, OnOk, OnErr};
 ghost use Rattle.yasir_io.specs.Causes.{HasCause};
 ghost use Rattle.yasir_io.specs.TextBuffer.{waiting_bytes};
 ghost use Rattle.replay_status.specs.Causes.{SinkCause};
+ghost use Rattle.replay_status.specs.Flushes.{FlushesAtEnd};
 ghost use Rattle.recordings_replay.specs.Listing.{Listing, listing_text};
 ghost use Rattle.recordings_replay.specs.Printing.{AddsText, BreaksOff, on_the_way};
 ghost use Rattle.recordings_replay.specs.Printing.{HoldsListing, AreWhole, PrintsText};
@@ -29,6 +30,7 @@ fn push_listing<O: Sink>(
         → BreaksOff (on_the_way (O.held out.old) (waiting_bytes text.old)) (O.held out.new)
         (listing_text listing)) }
     ensures cause { HasCause (O.faults out.old) (O.faults out.new) result }
+    ensures flushes { O.flushes out.new ≡ O.flushes out.old }
 {
     let Ok(()) = push_numbered(text, out, b"sealed", sealed) else {
         return Err(Failed);
@@ -60,6 +62,7 @@ pub fn print_listing<O: Sink, L: Sink>(
     ensures log { L.held log.new ≡ L.held log.old }
     ensures sinks { SinkCause (O.faults out.old) (O.faults out.new) (L.faults log.old)
         (L.faults log.new) result }
+    ensures flushes { FlushesAtEnd O.Sink L.Sink out.old out.new log.old log.new result }
 {
     let mut text = TextBuffer::new();
     let Ok(()) = push_listing(&mut text, out, sealed, passed, read) else {

@@ -46,7 +46,7 @@ impl Intake {
 
     /// Meets bytes up to the end of a line, or to the last one that was read, and answers what the
     /// line stands for, or `NoTick`; none at the input's end.
-    #[inline]
+    #[inline(always)]
     pub fn step<S: Source>(&mut self, source: &mut S) -> Result<Option<Content>, End>
         ensures answer { (marks : ℕ) (before : Option (List ℕ)) (text : List ℕ)
             → HasMet self.old marks before (S.left source.old) text
@@ -64,7 +64,7 @@ impl Intake {
     }
 
     // Feeds bytes that are kept.
-    #[inline]
+    #[inline(always)]
     fn feed_kept(&mut self) -> Result<Option<Content>, End>
         requires { 0 < length (kept_bytes self.old.pieces) }
         ensures answer { (marks : ℕ) (before now : Option (List ℕ)) (text : List ℕ)

@@ -1,6 +1,7 @@
 use Rattle.std.proofs.Common.{refl, subst}
 use Rattle.link_format.specs.Setup.{setup_of}
 use Rattle.replay_status.proofs.EndCauses.{input_cause_of_whole}
+use Rattle.replay_status.proofs.FlushLaws.{flushes_of_whole}
 use Rattle.recordings_replay.specs.Listing.{listing_with, listing_text}
 use Rattle.recordings_replay.specs.Printing.{PrintsText}
 use Rattle.recordings_replay.specs.Recorded.{device_line, link_ticks}
@@ -33,3 +34,8 @@ returns-in-Whole-clause-prints g c =
 pub returns-in-Whole-clause-input : goal.returns-in-Whole-clause-input
 returns-in-Whole-clause-input g c = input_cause_of_whole _ _ c.print_listing.result
     c.print_listing.ensures.status (c.in-Whole.ensures.read.same refl)
+
+pub returns-in-Whole-clause-flushes : goal.returns-in-Whole-clause-flushes
+returns-in-Whole-clause-flushes g c = flushes_of_whole g.O.Sink g.L.Sink _ _ _ _ _ _
+    c.in-Whole.ensures.flushes c.in-Whole.ensures.log_faults c.print_listing.result
+    c.print_listing.ensures.flushes

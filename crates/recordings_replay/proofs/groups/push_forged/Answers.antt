@@ -22,6 +22,7 @@ returns-in_default-clause-err g c = λ sealed_ones passed_ones sealed passed tur
 pub loop-index-preserved : goal.loop-index-preserved
 loop-index-preserved g c = record {
   calm = c.in-Ok.ensures.cause.same ∙ c.loop-index.invariant.calm;
+  flushes = c.in-Ok.ensures.flushes ∙ c.loop-index.invariant.flushes;
   adds = λ sealed_ones sealed turn kept passed.
       item-added (forged_line sealed_ones) c.args.passed.now c.loop-index.index
       c.len-index-end.result c.head-head.result c.bytes-bytes.result.now c.loop-index-test.true

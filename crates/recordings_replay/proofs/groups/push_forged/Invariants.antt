@@ -11,6 +11,7 @@ use Rattle.recordings_replay.proofs.groups.push_forged.Given as goal
 abbrev pub invariant-loop-index : goal.invariant-loop-index
 invariant-loop-index g l = record {
   calm : g.O.Sink.faults l.out ≡ g.O.Sink.faults l.fn.out;
+  flushes : g.O.Sink.flushes l.out ≡ g.O.Sink.flushes l.fn.out;
   adds : (sealed_ones : List NumberedFrame) → Holds l.fn.sealed (kept_frames sealed_ones)
       → AreNumberedFrom 0 sealed_ones → (kept : List (Kept Numbered)) → Holds l.fn.passed kept
       → AddsText (on_the_way (g.O.Sink.held l.fn.out) l.fn.text.text.items)

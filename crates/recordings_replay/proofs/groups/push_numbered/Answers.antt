@@ -22,6 +22,7 @@ returns-in_default-clause-err g c = λ listed holds.
 pub loop-index-preserved : goal.loop-index-preserved
 loop-index-preserved g c = record {
   calm = c.in-Ok.ensures.cause.same ∙ c.loop-index.invariant.calm;
+  flushes = c.in-Ok.ensures.flushes ∙ c.loop-index.invariant.flushes;
   adds = λ kept holds. item-added (kept_line c.args.name.now) c.args.frames.now c.loop-index.index
       c.len-index-end.result c.head.result c.bytes.result.now c.loop-index-test.true
       c.len-index-end.ensures.frames (λ frames other. c.head.ensures frames other)

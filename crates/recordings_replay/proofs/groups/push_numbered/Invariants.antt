@@ -9,6 +9,7 @@ use Rattle.recordings_replay.proofs.groups.push_numbered.Given as goal
 abbrev pub invariant-loop-index : goal.invariant-loop-index
 invariant-loop-index g l = record {
   calm : g.O.Sink.faults l.out ≡ g.O.Sink.faults l.fn.out;
+  flushes : g.O.Sink.flushes l.out ≡ g.O.Sink.flushes l.fn.out;
   adds : (kept : List (Kept Numbered)) → Holds l.fn.frames kept
       → AddsText (on_the_way (g.O.Sink.held l.fn.out) l.fn.text.text.items)
       (on_the_way (g.O.Sink.held l.out) l.text.text.items)

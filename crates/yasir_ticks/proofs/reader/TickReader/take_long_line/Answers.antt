@@ -1,7 +1,7 @@
 use Rattle.std.proofs.Common.{◌∙◌, Ok, take, refl, ap, sym, arith}
 use Rattle.std.proofs.lemmas.List.{length-take}
 use Rattle.yasir_ticks.proofs.WholeLines.{takes_pairs}
-use Rattle.yasir_ticks.proofs.reader.TickReader.take_bytes_line.Goals as goal
+use Rattle.yasir_ticks.proofs.reader.TickReader.take_long_line.Goals as goal
 
 pub returns-clause-whole : goal.returns-clause-whole
 returns-clause-whole c =
