@@ -11,6 +11,7 @@ use Rattle.link_replay.specs.declared.words.Proto.{Proto}
 use Rattle.link_replay.specs.declared.words.Proto.TheVariants.{Rtu, Dnp3}
 use Rattle.link_replay.specs.declared.words.Command.{Command}
 use Rattle.link_replay.specs.declared.words.Command.TheVariants.{Init, Read, Vectors, Seal, Check}
+use Rattle.link_replay.specs.declared.words.Command.TheVariants.{Replay}
 
 -- A word as one number, so that two words are told apart by a test.
 abbrev number_of : List ℕ → ℕ
@@ -39,7 +40,9 @@ command_by verb first second =
     (cond (is_word (codes "vectors") verb) Vectors
     (cond (is_word (codes "seal") verb)
     (Seal (proto_by first) (profile_by first) (dir_by second))
-    (Check (proto_by first) (profile_by first) (dir_by second)))))
+    (cond (is_word (codes "check") verb)
+    (Check (proto_by first) (profile_by first) (dir_by second))
+    (Replay (proto_by first) (profile_by first) (dir_by second))))))
 
 abbrev word_at : ℕ → List (List ℕ) → List ℕ
 word_at zero [] = []
@@ -81,6 +84,7 @@ command-in words (Read Dnp3) h = ap command_in h
 command-in words Vectors h = ap command_in h
 command-in words (Seal proto profile dir) h = ap command_in h.4 ∙ box-by Seal proto profile dir
 command-in words (Check proto profile dir) h = ap command_in h.4 ∙ box-by Check proto profile dir
+command-in words (Replay proto profile dir) h = ap command_in h.2 ∙ box-by Replay proto profile dir
 
 pub asks-one : (words : List (List ℕ)) (a b : Option Command) → Asks words a → Asks words b → a ≡ b
 asks-one words None None ha hb = refl

@@ -27,7 +27,7 @@ use Rattle.link_replay.specs.declared.words.Command.TheVariants.{Replay}
 -- How a command ends that is given what is right, and where nothing outside fails. Of all commands
 -- `replay` alone takes memory, and there may be none.
 abbrev pub EndsWell : Option Command → Status → Type 0
-EndsWell (Some (Replay proto dir)) status = (status ≡ Done) ⊎ (status ≡ NoMemory)
+EndsWell (Some (Replay proto profile dir)) status = (status ≡ Done) ⊎ (status ≡ NoMemory)
 EndsWell asked status = status ≡ Done
 
 -- What a crash may leave of the disk, at any moment of the run or at its end.
@@ -50,7 +50,8 @@ module _ {K S O L D : Type 0} (k : Source K) (s : Source S) (o : Sink O) (l : Si
       Seals k s o l d proto profile dir before after status
   Does (Some (Check proto profile dir)) before after status =
       Checks k s o l d proto profile dir before after status
-  Does (Some (Replay proto dir)) before after status = Replays k s o l proto dir before after status
+  Does (Some (Replay proto profile dir)) before after status =
+      Replays k s o l proto profile dir before after status
 
   -- What a run does: what was asked for, and then the fault line in the log, where the status has
   -- one.
@@ -72,7 +73,7 @@ module _ {K S O L D : Type 0} (k : Source K) (s : Source S) (o : Sink O) (l : Si
       IsReplayable (k.left before.key) (d.told before.disk) (s.left before.input)
   MayDo (Some (Check proto profile dir)) before =
       IsReplayable (k.left before.key) (d.told before.disk) (s.left before.input)
-  MayDo (Some (Replay proto dir)) before = IsListable (k.left before.key) (s.left before.input)
+  MayDo (Some (Replay proto profile dir)) before = IsListable (k.left before.key) (s.left before.input)
 
   -- Nothing outside failed.
   abbrev pub IsCalm : Outside K S O L D → Outside K S O L D → Type 0
@@ -86,7 +87,7 @@ module _ {K S O L D : Type 0} (k : Source K) (s : Source S) (o : Sink O) (l : Si
       BoxDiskCause (d.faults before.disk) (d.faults after.disk) status
   HasOwnCauses (Some (Check proto profile dir)) before after status =
       BoxDiskCause (d.faults before.disk) (d.faults after.disk) status
-  HasOwnCauses (Some (Replay proto dir)) before after status =
+  HasOwnCauses (Some (Replay proto profile dir)) before after status =
       DiskCause (d.faults before.disk) (d.faults after.disk) status
   HasOwnCauses asked before after status =
       InputCause (s.faults before.input) (s.faults after.input) status

@@ -38,8 +38,8 @@ IsCommand words (Read proto) = words ≡ codes "read" ∷ proto_word proto ∷ [
 IsCommand words Vectors = words ≡ codes "vectors" ∷ []
 IsCommand words (Seal proto profile dir) = AskForBox (codes "seal") proto profile dir words
 IsCommand words (Check proto profile dir) = AskForBox (codes "check") proto profile dir words
-IsCommand words (Replay proto dir) = (key : List ℕ) × (key ≢ [])
-    × (words ≡ codes "replay" ∷ proto_word proto ∷ dir_word dir ∷ key ∷ [])
+IsCommand words (Replay proto profile dir) = (key : List ℕ) × (key ≢ [])
+    × (words ≡ codes "replay" ∷ link_word proto profile ∷ dir_word dir ∷ key ∷ [])
 
 -- what the words ask for: a command, or none where they fit no command
 abbrev pub Asks : List (List ℕ) → Option Command → Type 0
@@ -53,7 +53,7 @@ key_place (Read proto) = None
 key_place Vectors = None
 key_place (Seal proto profile dir) = Some 3
 key_place (Check proto profile dir) = Some 3
-key_place (Replay proto dir) = Some 3
+key_place (Replay proto profile dir) = Some 3
 
 -- the place of the word that is the journal's path
 abbrev pub journal_place : Command → Option ℕ
@@ -62,7 +62,7 @@ journal_place (Read proto) = None
 journal_place Vectors = None
 journal_place (Seal proto profile dir) = Some 4
 journal_place (Check proto profile dir) = Some 4
-journal_place (Replay proto dir) = None
+journal_place (Replay proto profile dir) = None
 
 -- the word at a place, where there is one
 abbrev pub word_in : List (List ℕ) → Option ℕ → Option (List ℕ)

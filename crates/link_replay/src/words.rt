@@ -40,6 +40,8 @@ pub enum Command {
     Seal(Proto, Profile, Dir),
     /// Checks the packets of a link, and hands on what passes.
     Check(Proto, Profile, Dir),
+    /// Lists what is sealed of a device's line, and what passes and is read of a link.
+    Replay(Proto, Profile, Dir),
 }
 
 /// The words name no command.
@@ -130,6 +132,24 @@ fn read_init(first: &str, path: &str) -> Result<Command, Usage>
     }
 }
 
+// The command of four words: two recordings, and the path of a key, which isn't empty.
+fn read_four(first: &str, second: &str, third: &str, key: &str) -> Result<Command, Usage>
+    ensures ok { IfOk result (λ command.
+        IsCommand (first.now ∷ second.now ∷ third.now ∷ key.now ∷ []) command) }
+    ensures usage { OnErr result ((command : Command)
+        → IsCommand (first.now ∷ second.now ∷ third.now ∷ key.now ∷ []) command → ⊥) }
+{
+    if key.is_empty() {
+        return Err(Usage);
+    }
+    if first != "replay" {
+        return Err(Usage);
+    }
+    let (proto, profile) = read_link(second)?;
+    let dir = read_dir(third)?;
+    Ok(Command::Replay(proto, profile, dir))
+}
+
 // The command of five words: a box, and the paths of its key and its journal, which aren't empty.
 fn read_five(
     first: &str,
@@ -167,6 +187,12 @@ pub fn read_words(words: &[String]) -> Result<Command, Usage>
     match words {
         [word] => read_one(word.as_str()),
         [first, second] => read_two(first.as_str(), second.as_str()),
+        [first, second, third, key] => read_four(
+            first.as_str(),
+            second.as_str(),
+            third.as_str(),
+            key.as_str(),
+        ),
         [first, second, third, key, path] => read_five(
             first.as_str(),
             second.as_str(),
@@ -187,7 +213,7 @@ pub fn key_word(words: &[String]) -> Option<usize>
 {
     match read_words(words) {
         Ok(Command::Init | Command::Read(_) | Command::Vectors) => None,
-        Ok(Command::Seal(..) | Command::Check(..)) => Some(3),
+        Ok(Command::Seal(..) | Command::Check(..) | Command::Replay(..)) => Some(3),
         Err(Usage) => None,
     }
 }
@@ -202,7 +228,7 @@ pub fn journal_word(words: &[String]) -> Option<usize>
     match read_words(words) {
         Ok(Command::Init) => Some(1),
         Ok(Command::Seal(..) | Command::Check(..)) => Some(4),
-        Ok(Command::Read(_) | Command::Vectors) => None,
+        Ok(Command::Read(_) | Command::Vectors | Command::Replay(..)) => None,
         Err(Usage) => None,
     }
 }
@@ -215,7 +241,7 @@ pub fn makes_journal(words: &[String]) -> bool
     match read_words(words) {
         Ok(Command::Init) => true,
         Ok(Command::Read(_) | Command::Vectors) => false,
-        Ok(Command::Seal(..) | Command::Check(..)) => false,
+        Ok(Command::Seal(..) | Command::Check(..) | Command::Replay(..)) => false,
         Err(Usage) => false,
     }
 }

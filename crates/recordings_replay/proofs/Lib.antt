@@ -3,3 +3,4 @@ pub mod InTurn
 pub mod InOrder
 pub mod Recording
 pub mod Telling
+pub mod Keying
