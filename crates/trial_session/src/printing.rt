@@ -1,5 +1,6 @@
 ghost use Rattle.std.specs.Prelude.{◌≡◌, ◌+◌, ◌<◌, ◌≤◌, ◌++◌, length};
 ghost use Rattle.replay_status.specs.Causes.{SinkCause};
+ghost use Rattle.replay_status.specs.Flushes.{FlushesAtEnd};
 ghost use Rattle.trial_session.specs.Summaries.{session_summary};
 ghost use Rattle.trial_session.specs.TrialLine.{worded, trial_line, PrintsLine};
 
@@ -62,6 +63,7 @@ pub fn print_session<
     ensures log { L.held log.new ≡ L.held log.old }
     ensures sinks { SinkCause (O.faults out.old) (O.faults out.new) (L.faults log.old)
         (L.faults log.new) result }
+    ensures flushes { FlushesAtEnd O.Sink L.Sink out.old out.new log.old log.new result }
 {
     let counted = try_session::<R, S, C, V>(seed, count, behind);
     match write_all(out, trial_line(name, seed, count, counted).as_slice()) {
