@@ -11,6 +11,8 @@ mod failing;
 mod program;
 #[cfg(test)]
 mod tests;
+#[cfg(test)]
+mod trial_tests;
 mod words;
 
 pub use hmac_tag::Dir;

@@ -41,8 +41,8 @@ fn trial_line(name: &[u8], seed: u32, count: u32, counted: Summary) -> Line
     line
 }
 
-/// Runs the session of so many frames, at most 10,000, from a seed, as `try_session` does, and
-/// prints its line, with the name of its protocol.
+/// Runs the session of so many frames from a seed, as `try_session` does, and prints its line, with
+/// the name of its protocol.
 pub fn print_session<
     R: DrawnFrames,
     S: CountingBox,
@@ -52,7 +52,6 @@ pub fn print_session<
     L: Sink,
 >(name: &[u8], seed: u32, count: u32, behind: usize, out: &mut O, log: &mut L) -> Status
     requires name { length name.now ≤ 10 }
-    requires count { count ≤ 10000 }
     requires some { 0 < behind }
     requires few { behind ≤ 64 }
     requires sealing { S.widths_fit }
