@@ -1,7 +1,9 @@
 -- Words ask for one thing and no other.
 use Rattle.std.proofs.Common.{◌≡◌, ◌∙◌, ℕ, zero, suc, ◌+◌, ◌*◌, Bool, List, [], ◌∷◌, Option, Some}
-use Rattle.std.proofs.Common.{None, cond, nat_eq, refl, sym, ap}
-use Rattle.std.specs.Prelude.{codes}
+use Rattle.std.proofs.Common.{None, cond, nat_eq, refl, sym, ap, arith, ◌^◌, ◌<◌}
+use Rattle.std.proofs.lemmas.Fmt.{decimal_is_IsNumeral}
+use Rattle.std.specs.Prelude.{codes, decimal}
+use Rattle.std.specs.Str.Parse.{digits_value}
 use Rattle.hmac_tag.specs.declared.dir.Dir.{Dir}
 use Rattle.hmac_tag.specs.declared.dir.Dir.TheVariants.{Ab, Ba}
 use Rattle.link_replay.specs.Words.{dir_word, link_word, IsCommand, Asks}
@@ -11,7 +13,7 @@ use Rattle.link_replay.specs.declared.words.Proto.{Proto}
 use Rattle.link_replay.specs.declared.words.Proto.TheVariants.{Rtu, Dnp3}
 use Rattle.link_replay.specs.declared.words.Command.{Command}
 use Rattle.link_replay.specs.declared.words.Command.TheVariants.{Init, Read, Vectors, Seal, Check}
-use Rattle.link_replay.specs.declared.words.Command.TheVariants.{Replay}
+use Rattle.link_replay.specs.declared.words.Command.TheVariants.{Replay, Trial}
 
 -- A word as one number, so that two words are told apart by a test.
 abbrev number_of : List ℕ → ℕ
@@ -32,9 +34,9 @@ profile_by word =
 abbrev dir_by : List ℕ → Dir
 dir_by word = cond (is_word (codes "ab") word) Ab Ba
 
--- the command whose first word this is, with the two words behind it
-abbrev command_by : List ℕ → List ℕ → List ℕ → Command
-command_by verb first second =
+-- the command whose first word this is, with the three words behind it
+abbrev command_by : List ℕ → List ℕ → List ℕ → List ℕ → Command
+command_by verb first second third =
     cond (is_word (codes "init") verb) Init
     (cond (is_word (codes "read") verb) (Read (proto_by first))
     (cond (is_word (codes "vectors") verb) Vectors
@@ -42,7 +44,9 @@ command_by verb first second =
     (Seal (proto_by first) (profile_by first) (dir_by second))
     (cond (is_word (codes "check") verb)
     (Check (proto_by first) (profile_by first) (dir_by second))
-    (Replay (proto_by first) (profile_by first) (dir_by second))))))
+    (cond (is_word (codes "trial") verb)
+    (Trial (proto_by first) (profile_by first) (digits_value 10 second) (digits_value 10 third))
+    (Replay (proto_by first) (profile_by first) (dir_by second)))))))
 
 abbrev word_at : ℕ → List (List ℕ) → List ℕ
 word_at zero [] = []
@@ -51,7 +55,7 @@ word_at (suc n) [] = []
 word_at (suc n) (word ∷ words) = word_at n words
 
 abbrev command_in : List (List ℕ) → Command
-command_in words = command_by (word_at 0 words) (word_at 1 words) (word_at 2 words)
+command_in words = command_by (word_at 0 words) (word_at 1 words) (word_at 2 words) (word_at 3 words)
 
 proto-by : (proto : Proto) (profile : Profile) → proto_by (link_word proto profile) ≡ proto
 proto-by Rtu Y18 = refl
@@ -69,6 +73,9 @@ dir-by : (dir : Dir) → dir_by (dir_word dir) ≡ dir
 dir-by Ab = refl
 dir-by Ba = refl
 
+number-by : (n : ℕ) → n < 2 ^ 64 → digits_value 10 (decimal n) ≡ n
+number-by n within = (decimal_is_IsNumeral n within).1
+
 -- what is asked of a box, by its words
 box-by : (asks : Proto → Profile → Dir → Command) (proto : Proto) (profile : Profile) (dir : Dir)
     → asks (proto_by (link_word proto profile)) (profile_by (link_word proto profile))
@@ -85,6 +92,9 @@ command-in words Vectors h = ap command_in h
 command-in words (Seal proto profile dir) h = ap command_in h.4 ∙ box-by Seal proto profile dir
 command-in words (Check proto profile dir) h = ap command_in h.4 ∙ box-by Check proto profile dir
 command-in words (Replay proto profile dir) h = ap command_in h.2 ∙ box-by Replay proto profile dir
+command-in words (Trial proto profile seed count) h =
+    ap command_in h.3 ∙ rw (proto-by proto profile, profile-by proto profile,
+    number-by seed (omega (arith, h.0)), number-by count (omega (arith, h.2))) refl
 
 pub asks-one : (words : List (List ℕ)) (a b : Option Command) → Asks words a → Asks words b → a ≡ b
 asks-one words None None ha hb = refl

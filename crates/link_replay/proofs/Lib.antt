@@ -3,3 +3,4 @@ pub mod Outcomes
 pub mod Flushing
 pub mod Headlines
 pub mod Listable
+pub mod Trials

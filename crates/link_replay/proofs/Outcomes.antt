@@ -16,6 +16,7 @@ use Rattle.link_replay.specs.Commands.{EndsWell}
 use Rattle.link_replay.specs.InitCommand.{MakesJournal, IsBlank}
 use Rattle.link_replay.specs.ReadCommand.{device_reads}
 use Rattle.link_replay.specs.VectorsCommand.{PrintsTables}
+use Rattle.trial_session.specs.TrialLine.{PrintsLine}
 use Rattle.link_replay.specs.SealCommand.{seal_boxed, seal_rest}
 use Rattle.link_replay.specs.CheckCommand.{check_boxed, check_rest}
 use Rattle.replay_status.specs.declared.status.Status.{Status}
@@ -23,7 +24,7 @@ use Rattle.replay_status.specs.declared.status.Status.TheVariants.{Done, WriteFa
 use Rattle.replay_status.specs.declared.status.Status.TheVariants.{HasJournal}
 use Rattle.link_replay.specs.declared.words.Command.{Command}
 use Rattle.link_replay.specs.declared.words.Command.TheVariants.{Init, Read, Vectors, Seal, Check}
-use Rattle.link_replay.specs.declared.words.Command.TheVariants.{Replay}
+use Rattle.link_replay.specs.declared.words.Command.TheVariants.{Replay, Trial}
 use Rattle.replay_status.proofs.Logging.{sinks_after}
 use Rattle.replay_status.proofs.FlushLaws.{flushes_after}
 use Rattle.device_replay.proofs.Readable.{readable_done}
@@ -55,6 +56,14 @@ module _ (key0 key1 in0 in1 out0 out1 log0 log1 disk0 disk1 : ℕ)
       elim sinks [ inl out ↦ absurd (calm.out out) | inr log ↦ absurd (calm.log log) ]
   tables_done out_before out_now status h sinks = absurd h
 
+  line_done : (out_before out_now : Option (List ℕ)) (line : List ℕ) (status : Status)
+      → PrintsLine out_before out_now line status → SinkCause out0 out1 log0 log1 status
+      → status ≡ Done
+  line_done out_before out_now line Done h sinks = refl
+  line_done out_before out_now line WriteFault h sinks =
+      elim sinks [ inl out ↦ absurd (calm.out out) | inr log ↦ absurd (calm.log log) ]
+  line_done out_before out_now line status h sinks = absurd h
+
 rose-then : (a b c : ℕ) → Rose a b → b ≤ c → Rose a c
 rose-then a b c rose le = omega (arith, rose, le)
 
@@ -67,6 +76,7 @@ module _ {K S O L D : Type 0} (k : Source K) (s : Source S) (o : Sink O) (l : Si
   own-after (Some (Seal proto profile dir)) before after noted status h = h
   own-after (Some (Check proto profile dir)) before after noted status h = h
   own-after (Some (Replay proto profile dir)) before after noted status h = h
+  own-after (Some (Trial proto profile seed count)) before after noted status h = h
   own-after None before after noted status h = h
   own-after (Some Init) before after noted status h = h
   own-after (Some (Read proto)) before after noted status h = h
@@ -120,6 +130,8 @@ module _ {K S O L D : Type 0} (k : Source K) (s : Source S) (o : Sink O) (l : Si
   asked_done (Some (Check proto profile dir)) before after status may calm does causes =
       replayable_done k s o l d (check_boxed proto profile) dir check_rest before after may calm status
       does causes.reads causes.own causes.sinks
+  asked_done (Some (Trial proto profile seed count)) before after status may calm does causes =
+      line_done _ _ _ _ _ _ _ _ _ _ calm _ _ _ status does.line causes.sinks
   asked_done (Some (Replay proto profile dir)) before after status may calm does causes =
       listable_done k s o l d proto profile dir before after may calm status does causes.reads
       causes.sinks

@@ -18,11 +18,12 @@ use Rattle.box_replay.specs.ReplaysBox.{BoxDiskCause, IsReplayable, KeepsFloorTh
 use Rattle.link_replay.specs.SealCommand.{Seals}
 use Rattle.link_replay.specs.CheckCommand.{Checks}
 use Rattle.link_replay.specs.ReplayCommand.{Replays, IsListable}
+use Rattle.link_replay.specs.TrialCommand.{Tries}
 use Rattle.replay_status.specs.declared.status.Status.{Status}
 use Rattle.replay_status.specs.declared.status.Status.TheVariants.{Usage, Done, NoMemory}
 use Rattle.link_replay.specs.declared.words.Command.{Command}
 use Rattle.link_replay.specs.declared.words.Command.TheVariants.{Init, Read, Vectors, Seal, Check}
-use Rattle.link_replay.specs.declared.words.Command.TheVariants.{Replay}
+use Rattle.link_replay.specs.declared.words.Command.TheVariants.{Replay, Trial}
 
 -- How a command ends that is given what is right, and where nothing outside fails. Of all commands
 -- `replay` alone takes memory, and there may be none.
@@ -52,6 +53,8 @@ module _ {K S O L D : Type 0} (k : Source K) (s : Source S) (o : Sink O) (l : Si
       Checks k s o l d proto profile dir before after status
   Does (Some (Replay proto profile dir)) before after status =
       Replays k s o l proto profile dir before after status
+  Does (Some (Trial proto profile seed count)) before after status =
+      Tries o l proto profile seed count before after status
 
   -- What a run does: what was asked for, and then the fault line in the log, where the status has
   -- one.
@@ -73,6 +76,7 @@ module _ {K S O L D : Type 0} (k : Source K) (s : Source S) (o : Sink O) (l : Si
       IsReplayable (k.left before.key) (d.told before.disk) (s.left before.input)
   MayDo (Some (Check proto profile dir)) before =
       IsReplayable (k.left before.key) (d.told before.disk) (s.left before.input)
+  MayDo (Some (Trial proto profile seed count)) before = Unit {0}
   MayDo (Some (Replay proto profile dir)) before = IsListable (k.left before.key) (s.left before.input)
 
   -- Nothing outside failed.

@@ -6,4 +6,5 @@ pub mod VectorsCommand
 pub mod SealCommand
 pub mod CheckCommand
 pub mod ReplayCommand
+pub mod TrialCommand
 pub mod Commands

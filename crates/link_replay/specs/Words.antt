@@ -1,5 +1,5 @@
 -- The words of the program's commands.
-use Rattle.std.specs.Prelude.{◌≡◌, ◌≢◌, ℕ, List, [], ◌∷◌, Option, Some, None, codes, slice_get}
+use Rattle.std.specs.Prelude.{◌≡◌, ◌≢◌, ℕ, ◌^◌, ◌<◌, ◌≤◌, decimal, List, [], ◌∷◌, Option, Some, None, codes, slice_get}
 use Rattle.hmac_tag.specs.declared.dir.Dir.{Dir}
 use Rattle.hmac_tag.specs.declared.dir.Dir.TheVariants.{Ab, Ba}
 use Rattle.link_replay.specs.declared.words.Proto.{Proto}
@@ -8,7 +8,7 @@ use Rattle.link_replay.specs.declared.words.Profile.{Profile}
 use Rattle.link_replay.specs.declared.words.Profile.TheVariants.{Y18, Y24}
 use Rattle.link_replay.specs.declared.words.Command.{Command}
 use Rattle.link_replay.specs.declared.words.Command.TheVariants.{Init, Read, Vectors, Seal, Check}
-use Rattle.link_replay.specs.declared.words.Command.TheVariants.{Replay}
+use Rattle.link_replay.specs.declared.words.Command.TheVariants.{Replay, Trial}
 
 abbrev pub proto_word : Proto → List ℕ
 proto_word Rtu = codes "rtu"
@@ -40,6 +40,8 @@ IsCommand words (Seal proto profile dir) = AskForBox (codes "seal") proto profil
 IsCommand words (Check proto profile dir) = AskForBox (codes "check") proto profile dir words
 IsCommand words (Replay proto profile dir) = (key : List ℕ) × (key ≢ [])
     × (words ≡ codes "replay" ∷ link_word proto profile ∷ dir_word dir ∷ key ∷ [])
+IsCommand words (Trial proto profile seed count) = (seed < 2 ^ 32) × (1 ≤ count) × (count ≤ 10000)
+    × (words ≡ codes "trial" ∷ link_word proto profile ∷ decimal seed ∷ decimal count ∷ [])
 
 -- what the words ask for: a command, or none where they fit no command
 abbrev pub Asks : List (List ℕ) → Option Command → Type 0
@@ -54,6 +56,7 @@ key_place Vectors = None
 key_place (Seal proto profile dir) = Some 3
 key_place (Check proto profile dir) = Some 3
 key_place (Replay proto profile dir) = Some 3
+key_place (Trial proto profile seed count) = None
 
 -- the place of the word that is the journal's path
 abbrev pub journal_place : Command → Option ℕ
@@ -63,6 +66,7 @@ journal_place Vectors = None
 journal_place (Seal proto profile dir) = Some 4
 journal_place (Check proto profile dir) = Some 4
 journal_place (Replay proto profile dir) = None
+journal_place (Trial proto profile seed count) = None
 
 -- the word at a place, where there is one
 abbrev pub word_in : List (List ℕ) → Option ℕ → Option (List ℕ)

@@ -13,6 +13,8 @@ mod program;
 mod recording_tests;
 #[cfg(test)]
 mod tests;
+#[cfg(test)]
+mod trial_tests;
 mod words;
 
 pub use hmac_tag::Dir;

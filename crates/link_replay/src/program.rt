@@ -12,6 +12,7 @@ use crate::commands::read::read_line;
 use crate::commands::replay::replay;
 use crate::commands::seal::seal;
 use crate::commands::tables::print_tables;
+use crate::commands::trial::try_link;
 use crate::{Command, read_words};
 use replay_status::{Status, write_fault};
 use std::alloc::Global;
@@ -48,6 +49,9 @@ fn perform<K: Source, S: Source, O: Sink, L: Sink, D: SlotDisk>(
         }
         Command::Replay(proto, profile, dir) => {
             replay(alloc, proto, profile, dir, key, input, out, log)
+        }
+        Command::Trial(proto, profile, seed, count) => {
+            try_link(proto, profile, seed, count, out, log)
         }
     }
 }

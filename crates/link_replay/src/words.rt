@@ -1,4 +1,5 @@
-ghost use Rattle.std.specs.Prelude.{◌≡◌, ◌↔◌, [], ◌∷◌, None, IfOk, OnErr, IsTrue, map, codes};
+ghost use Rattle.std.specs.Prelude.{◌≡◌, ◌↔◌, ℕ, ◌^◌, ◌<◌, [], ◌∷◌, None, IfOk, OnErr, IsTrue};
+ghost use Rattle.std.specs.Prelude.{map, codes, decimal};
 ghost use Rattle.std.specs.String.{string_bytes};
 ghost use Rattle.hmac_tag.specs.declared.dir.Dir.{Dir};
 ghost use Rattle.link_replay.specs.declared.words.Profile.{Profile};
@@ -8,6 +9,9 @@ ghost use Rattle.link_replay.specs.Words.{IsCommand, Asks, proto_word, link_word
 ghost use Rattle.link_replay.specs.Words.{key_place, journal_place};
 
 use hmac_tag::Dir;
+
+/// A trial has at most so many frames.
+const MOST_FRAMES: u32 = 10_000;
 
 /// The protocol of a line.
 #[derive(Clone, Copy, Debug, PartialEq, Eq)]
@@ -42,6 +46,8 @@ pub enum Command {
     Check(Proto, Profile, Dir),
     /// Lists what is sealed of a device's line, and what passes and is read of a link.
     Replay(Proto, Profile, Dir),
+    /// Tries a link over frames that are drawn from a seed, so many of them.
+    Trial(Proto, Profile, u32, u32),
 }
 
 /// The words name no command.
@@ -132,8 +138,46 @@ fn read_init(first: &str, path: &str) -> Result<Command, Usage>
     }
 }
 
-// The command of four words: two recordings, and the path of a key, which isn't empty.
-fn read_four(first: &str, second: &str, third: &str, key: &str) -> Result<Command, Usage>
+// The number that a word spells, in decimal digits without a leading zero.
+fn read_number(word: &str) -> Result<u32, Usage>
+    ensures ok { IfOk result (λ n. word.now ≡ decimal n) }
+    ensures usage { OnErr result ((n : ℕ) → n < 2 ^ 32 → word.now ≡ decimal n → ⊥) }
+{
+    let Ok(n) = word.parse::<u32>() else {
+        return Err(Usage);
+    };
+    // other texts may stand for the number too
+    let mut digits = itoa::Buffer::new();
+    if digits.format(n) == word {
+        Ok(n)
+    } else {
+        Err(Usage)
+    }
+}
+
+// The command `trial`: a seed, and how many frames.
+fn read_trial(first: &str, second: &str, seed: &str, count: &str) -> Result<Command, Usage>
+    requires { first.now ≡ codes "trial" }
+    ensures ok { IfOk result (λ command.
+        IsCommand (first.now ∷ second.now ∷ seed.now ∷ count.now ∷ []) command) }
+    ensures usage { OnErr result ((command : Command)
+        → IsCommand (first.now ∷ second.now ∷ seed.now ∷ count.now ∷ []) command → ⊥) }
+{
+    let (proto, profile) = read_link(second)?;
+    let seed = read_number(seed)?;
+    let count = read_number(count)?;
+    if count < 1 {
+        return Err(Usage);
+    }
+    if count > MOST_FRAMES {
+        return Err(Usage);
+    }
+    Ok(Command::Trial(proto, profile, seed, count))
+}
+
+// The command `replay`: two recordings, and the path of a key, which isn't empty.
+fn read_replay(first: &str, second: &str, third: &str, key: &str) -> Result<Command, Usage>
+    requires { first.now ≡ codes "replay" }
     ensures ok { IfOk result (λ command.
         IsCommand (first.now ∷ second.now ∷ third.now ∷ key.now ∷ []) command) }
     ensures usage { OnErr result ((command : Command)
@@ -142,12 +186,23 @@ fn read_four(first: &str, second: &str, third: &str, key: &str) -> Result<Comman
     if key.is_empty() {
         return Err(Usage);
     }
-    if first != "replay" {
-        return Err(Usage);
-    }
     let (proto, profile) = read_link(second)?;
     let dir = read_dir(third)?;
     Ok(Command::Replay(proto, profile, dir))
+}
+
+// The command of four words.
+fn read_four(first: &str, second: &str, third: &str, fourth: &str) -> Result<Command, Usage>
+    ensures ok { IfOk result (λ command.
+        IsCommand (first.now ∷ second.now ∷ third.now ∷ fourth.now ∷ []) command) }
+    ensures usage { OnErr result ((command : Command)
+        → IsCommand (first.now ∷ second.now ∷ third.now ∷ fourth.now ∷ []) command → ⊥) }
+{
+    match first {
+        "replay" => read_replay(first, second, third, fourth),
+        "trial" => read_trial(first, second, third, fourth),
+        _ => Err(Usage),
+    }
 }
 
 // The command of five words: a box, and the paths of its key and its journal, which aren't empty.
@@ -187,11 +242,11 @@ pub fn read_words(words: &[String]) -> Result<Command, Usage>
     match words {
         [word] => read_one(word.as_str()),
         [first, second] => read_two(first.as_str(), second.as_str()),
-        [first, second, third, key] => read_four(
+        [first, second, third, fourth] => read_four(
             first.as_str(),
             second.as_str(),
             third.as_str(),
-            key.as_str(),
+            fourth.as_str(),
         ),
         [first, second, third, key, path] => read_five(
             first.as_str(),
@@ -212,7 +267,7 @@ pub fn key_word(words: &[String]) -> Option<usize>
     ensures none { Asks (map string_bytes words.now) None → result ≡ None }
 {
     match read_words(words) {
-        Ok(Command::Init | Command::Read(_) | Command::Vectors) => None,
+        Ok(Command::Init | Command::Read(_) | Command::Vectors | Command::Trial(..)) => None,
         Ok(Command::Seal(..) | Command::Check(..) | Command::Replay(..)) => Some(3),
         Err(Usage) => None,
     }
@@ -228,7 +283,8 @@ pub fn journal_word(words: &[String]) -> Option<usize>
     match read_words(words) {
         Ok(Command::Init) => Some(1),
         Ok(Command::Seal(..) | Command::Check(..)) => Some(4),
-        Ok(Command::Read(_) | Command::Vectors | Command::Replay(..)) => None,
+        Ok(Command::Read(_) | Command::Vectors) => None,
+        Ok(Command::Replay(..) | Command::Trial(..)) => None,
         Err(Usage) => None,
     }
 }
@@ -240,7 +296,7 @@ pub fn makes_journal(words: &[String]) -> bool
 {
     match read_words(words) {
         Ok(Command::Init) => true,
-        Ok(Command::Read(_) | Command::Vectors) => false,
+        Ok(Command::Read(_) | Command::Vectors | Command::Trial(..)) => false,
         Ok(Command::Seal(..) | Command::Check(..) | Command::Replay(..)) => false,
         Err(Usage) => false,
     }

@@ -8,3 +8,5 @@ pub mod SentTicks
 pub mod Periods
 pub mod Placed
 pub mod SealsAll
+pub mod Tellings
+pub mod Worked

@@ -1,5 +1,6 @@
 ghost use Rattle.std.specs.Prelude.{◌≡◌, ◌+◌, ◌<◌, ◌≤◌, ◌++◌, length};
 ghost use Rattle.replay_status.specs.Causes.{SinkCause};
+ghost use Rattle.replay_status.specs.Flushes.{FlushesAtEnd};
 ghost use Rattle.trial_session.specs.Summaries.{session_summary};
 ghost use Rattle.trial_session.specs.TrialLine.{worded, trial_line, PrintsLine};
 
@@ -40,8 +41,8 @@ fn trial_line(name: &[u8], seed: u32, count: u32, counted: Summary) -> Line
     line
 }
 
-/// Runs the session of so many frames, at most 10,000, from a seed, as `try_session` does, and
-/// prints its line, with the name of its protocol.
+/// Runs the session of so many frames from a seed, as `try_session` does, and prints its line, with
+/// the name of its protocol.
 pub fn print_session<
     R: DrawnFrames,
     S: CountingBox,
@@ -51,7 +52,6 @@ pub fn print_session<
     L: Sink,
 >(name: &[u8], seed: u32, count: u32, behind: usize, out: &mut O, log: &mut L) -> Status
     requires name { length name.now ≤ 10 }
-    requires count { count ≤ 10000 }
     requires some { 0 < behind }
     requires few { behind ≤ 64 }
     requires sealing { S.widths_fit }
@@ -62,6 +62,7 @@ pub fn print_session<
     ensures log { L.held log.new ≡ L.held log.old }
     ensures sinks { SinkCause (O.faults out.old) (O.faults out.new) (L.faults log.old)
         (L.faults log.new) result }
+    ensures flushes { FlushesAtEnd O.Sink L.Sink out.old out.new log.old log.new result }
 {
     let counted = try_session::<R, S, C, V>(seed, count, behind);
     match write_all(out, trial_line(name, seed, count, counted).as_slice()) {

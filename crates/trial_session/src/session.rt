@@ -104,14 +104,13 @@ impl<S: CountingBox, C: CountingBox, V: Device + Drop> Session<S, C, V> {
     }
 }
 
-/// Runs the session of so many frames, at most 10,000, from a seed: drawn by the protocol `R`,
-/// sealed by `S`, checked by `C` and read by `V`. So many ticks follow a frame in its packet.
+/// Runs the session of so many frames from a seed: drawn by the protocol `R`, sealed by `S`, checked
+/// by `C` and read by `V`. So many ticks follow a frame in its packet.
 pub fn try_session<R: DrawnFrames, S: CountingBox, C: CountingBox, V: Device + Drop>(
     seed: u32,
     count: u32,
     behind: usize,
 ) -> Summary
-    requires count { count ≤ 10000 }
     requires some { 0 < behind }
     requires few { behind ≤ 64 }
     requires sealing { S.widths_fit }

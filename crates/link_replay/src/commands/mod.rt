@@ -6,3 +6,4 @@ pub mod read;
 pub mod replay;
 pub mod seal;
 pub mod tables;
+pub mod trial;

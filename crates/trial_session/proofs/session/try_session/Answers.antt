@@ -17,7 +17,7 @@ run_period-requires-clause-able g c =
 
 pub run_period-requires-clause-room : goal.run_period-requires-clause-room
 run_period-requires-clause-room g c =
-    omega (arith, c.loop.invariant.0.sealed_ticks, c.loop-test.true, c.requires.count)
+    omega (arith, c.loop.invariant.0.sealed_ticks, c.loop-test.true, c.ranges.count.fits)
 
 pub loop-preserved : goal.loop-preserved
 loop-preserved g c =
@@ -39,7 +39,7 @@ close-requires-clause-able g c =
 
 pub close-requires-clause-room : goal.close-requires-clause-room
 close-requires-clause-room g c =
-    omega (arith, c.loop.invariant.0.sealed_ticks, c.loop.auto.counter-end, c.requires.count)
+    omega (arith, c.loop.invariant.0.sealed_ticks, c.loop.auto.counter-end, c.ranges.count.fits)
 
 pub returns : goal.returns
 returns g c =

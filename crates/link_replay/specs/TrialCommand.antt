@@ -1,0 +1,49 @@
+-- The command `trial`: the line of a session that is made from a number.
+use Rattle.std.specs.Prelude.{◌≡◌, ℕ, ◌^◌, ◌<◌, ◌≤◌, List}
+use Rattle.yasir_io.specs.declared.sink.Sink.{Ghosts as Sink}
+use Rattle.link_format.specs.Profile.{Profile as FormatProfile}
+use Rattle.sequence_journal.specs.declared.numbers.TheConstants.{LIMIT}
+use Rattle.replay_status.specs.Outside.{Outside}
+use Rattle.replay_status.specs.declared.status.Status.{Status}
+use Rattle.trial_session.specs.Boxes.{trial_setup}
+use Rattle.trial_session.specs.DnpDrawn.{dnp_drawing}
+use Rattle.trial_session.specs.DrawnFrames.{Drawing}
+use Rattle.trial_session.specs.RtuDrawn.{rtu_drawing}
+use Rattle.trial_session.specs.Summaries.{trial_summary}
+use Rattle.trial_session.specs.Telling.{Tells}
+use Rattle.trial_session.specs.TrialLine.{trial_line, PrintsLine}
+use Rattle.trial_session.specs.declared.summary.Summary.{Summary}
+use Rattle.link_replay.specs.Protocols.{rules_of, format_of}
+use Rattle.link_replay.specs.ReadCommand.{device_reads}
+use Rattle.link_replay.specs.Words.{link_word}
+use Rattle.link_replay.specs.declared.words.Profile.{Profile}
+use Rattle.link_replay.specs.declared.words.Proto.{Proto}
+use Rattle.link_replay.specs.declared.words.Proto.TheVariants.{Rtu, Dnp3}
+
+-- how the frames of a protocol are drawn
+abbrev pub drawing_of : Proto → Drawing
+drawing_of Rtu = rtu_drawing
+drawing_of Dnp3 = dnp_drawing
+
+-- what follows a frame on the link, where both boxes have the key of sixteen bytes 0, the direction
+-- `ab` and new journals
+abbrev pub trial_format : Proto → Profile → FormatProfile
+trial_format proto profile = format_of profile (rules_of proto).label LIMIT trial_setup
+
+-- what is counted of the session of so many frames from a seed
+abbrev pub trial_counts : Proto → Profile → ℕ → ℕ → Summary
+trial_counts proto profile seed count = trial_summary (drawing_of proto)
+    (trial_format proto profile) (rules_of proto) (device_reads proto) seed count
+
+-- What `trial` does: it prints one line, in which all frames are sealed, and as many are read as
+-- passed. Nothing is read, and the disk is as it was.
+pub record Tries {K S O L D : Type 0} (o : Sink O) (l : Sink L) (proto : Proto) (profile : Profile)
+    (seed count : ℕ) (before after : Outside K S O L D) (status : Status) : Type 0 where
+  pub line : PrintsLine (o.held before.out) (o.held after.out)
+      (trial_line (link_word proto profile) seed count (trial_counts proto profile seed count))
+      status
+  pub tells : Tells (trial_counts proto profile seed count) count
+  pub log : l.held after.log ≡ l.held before.log
+  pub key : after.key ≡ before.key
+  pub input : after.input ≡ before.input
+  pub disk : after.disk ≡ before.disk
