@@ -4,10 +4,10 @@
 """
 import sys
 
-from model import Dnp3, Rtu, check, seal
+from model import Y18, Y24, Dnp3, Rtu, check, seal
 
 PERIOD, HALF, KEY = 640, 320, bytes(16)
-PROTOCOLS = {proto.word: proto for proto in (Rtu, Dnp3)}
+LINKS = {"rtu": (Rtu, Y18), "dnp3": (Dnp3, Y18), "rtu24": (Rtu, Y24), "dnp24": (Dnp3, Y24)}
 
 
 class Draws:
@@ -45,23 +45,23 @@ def alter(ticks, kind, place, value):
     return ticks
 
 
-def counted(proto, seed, count):
+def counted(proto, profile, seed, count):
     draws, line, alterations = Draws(seed), [], []
     for _ in range(count):
         frame = (rtu_frame if proto is Rtu else dnp3_frame)(draws)
-        kind, place, value = draws.below(8), draws.below(len(frame) + 17), 1 + draws.below(255)
+        kind, place, value = draws.below(8), draws.below(len(frame) + profile.delay - 1), 1 + draws.below(255)
         line += frame + [None] * (PERIOD - len(frame))
         alterations.append((kind, place, value))
-    sent, notes, _ = seal(proto, KEY, 0, 0, line)
+    sent, notes, _, _ = seal(proto, KEY, 0, 0, line, profile)
     link = []
     for period, alteration in enumerate(alterations):
         link += alter(sent[period * PERIOD:(period + 1) * PERIOD], *alteration)
-    received, verdicts, _ = check(proto, KEY, 0, 0, link)
+    received, verdicts, _, _ = check(proto, KEY, 0, 0, link, profile)
     words = [note.split()[0] for note in notes + verdicts]
     return [words.count(word) for word in ("sealed", "passed", "refused", "dropped")] + [len(list(proto.reads(received)))]
 
 
 if __name__ == "__main__":
     word, seed, count = sys.argv[1], int(sys.argv[2]), int(sys.argv[3])
-    sealed, passed, refused, dropped, read = counted(PROTOCOLS[word], seed, count)
+    sealed, passed, refused, dropped, read = counted(*LINKS[word], seed, count)
     print(f"trial {word} {seed} {count} sealed {sealed} passed {passed} refused {refused} dropped {dropped} read {read}")

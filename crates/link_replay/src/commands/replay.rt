@@ -1,5 +1,6 @@
 ghost use Rattle.std.specs.Prelude.{◌≡◌};
 ghost use Rattle.replay_status.specs.Causes.{ReadsCause, SinkCause};
+ghost use Rattle.replay_status.specs.Flushes.{FlushesAtEnd};
 ghost use Rattle.recordings_replay.specs.Keyed.{ReadsKeyFirst, LeavesAll};
 ghost use Rattle.link_replay.specs.ReplayCommand.{ReplaysWith};
 
@@ -49,6 +50,7 @@ pub fn replay<K: Source, S: Source, O: Sink, L: Sink>(
         (S.faults input.old) (S.faults input.new) result }
     ensures sinks { SinkCause (O.faults out.old) (O.faults out.new)
         (L.faults log.old) (L.faults log.new) result }
+    ensures flushes { FlushesAtEnd O.Sink L.Sink out.old out.new log.old log.new result }
 {
     match (proto, profile) {
         (Proto::Rtu, Profile::Y18) => {
