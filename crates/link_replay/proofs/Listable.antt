@@ -19,8 +19,7 @@ use Rattle.link_replay.specs.declared.words.Profile.{Profile}
 use Rattle.link_replay.specs.declared.words.Proto.{Proto}
 
 module _ {K S O L D : Type 0} (k : Source K) (s : Source S) (o : Sink O) (l : Sink L)
-    (d : SlotDisk D) (proto : Proto) (profile : Profile) (dir : Dir)
-    (before after : Outside K S O L D)
+    (d : SlotDisk D) (proto : Proto) (profile : Profile) (dir : Dir) (before after : Outside K S O L D)
     (right : IsListable (k.left before.key) (s.left before.input))
     (calm : NoneRose (k.faults before.key) (k.faults after.key) (s.faults before.input)
     (s.faults after.input)

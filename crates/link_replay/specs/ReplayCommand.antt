@@ -5,7 +5,7 @@
 -- reordered, the frames that the stated device reads from the receiver are a subsequence of those
 -- that the transmitter sealed, each number at most once, unless the run names a tag that matched an
 -- unsealed number and frame; an untouched link with frames spaced as stated delivers all, each byte
--- exactly 18 ticks late, by the profile y24 24.
+-- exactly 18 ticks late (24 by the profile of four bytes of number).
 use Rattle.std.specs.Prelude.{◌≡◌, ℕ, List, Option, Some}
 use Rattle.std.specs.Io.KnownBytes.{append_known}
 use Rattle.yasir_io.specs.declared.source.Source.{Ghosts as Source}
@@ -34,7 +34,7 @@ use Rattle.link_replay.specs.declared.words.Profile.{Profile}
 use Rattle.link_replay.specs.declared.words.Proto.{Proto}
 use Rattle.link_replay.specs.Protocols.{rules_of, format_of}
 
--- the profile with this key and direction, from new journals on
+-- the profile of a link with this key and direction, from new journals on
 abbrev pub replay_profile : Proto → Profile → Dir → List ℕ → LinkProfile
 replay_profile proto profile dir key =
     format_of profile (rules_of proto).label LIMIT (setup_of key dir 0)
@@ -59,11 +59,13 @@ pub record Headline (proto : Proto) (profile : Profile) (dir : Dir) (key : List 
   -- `out` has got one line for each frame that was sealed, passed, read and forged, and nothing
   -- else.
   pub printed : out_now ≡ append_known out_before (listing_text
-      (replay_listing proto profile dir key (device_line (seal_rest profile) items) (link_ticks items)))
+      (replay_listing proto profile dir key (device_line (seal_rest profile) items)
+      (link_ticks items)))
   -- And this is what these lines say of one another.
   pub tells : TellsOf (replay_profile proto profile dir key) (rules_of proto) (before_mark items)
       (link_ticks items)
-      (replay_listing proto profile dir key (device_line (seal_rest profile) items) (link_ticks items))
+      (replay_listing proto profile dir key (device_line (seal_rest profile) items)
+      (link_ticks items))
 
 -- What each status says once the key is read.
 abbrev pub ReplaysWith : Proto → Profile → Dir → Option (List ℕ) → Option (List ℕ) → Option (List ℕ)
@@ -71,8 +73,8 @@ abbrev pub ReplaysWith : Proto → Profile → Dir → Option (List ℕ) → Opt
 ReplaysWith proto profile dir in_before in_now out_before out_now key Done =
     Headline proto profile dir key in_before in_now out_before out_now
 ReplaysWith proto profile dir in_before in_now out_before out_now key status =
-    PrintsRecorded (replay_listing proto profile dir key) (seal_rest profile) in_before in_now out_before out_now
-    status
+    PrintsRecorded (replay_listing proto profile dir key) (seal_rest profile) in_before in_now
+    out_before out_now status
 
 module _ {K S O L D : Type 0} (k : Source K) (s : Source S) (o : Sink O) (l : Sink L) where
   -- What `replay` does: notes aren't written, and the journal's disk isn't reached.

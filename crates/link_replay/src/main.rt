@@ -10,6 +10,8 @@ mod commands;
 mod failing;
 mod program;
 #[cfg(test)]
+mod recording_tests;
+#[cfg(test)]
 mod tests;
 mod words;
 

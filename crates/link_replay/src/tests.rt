@@ -27,10 +27,10 @@ const NO_NUMBER: [u8; 16] = [0x11; 16];
 
 /// How a run ended, and what its sinks hold.
 #[derive(Drop)]
-struct Ran {
-    status: Status,
-    out: MemSink,
-    log: MemSink,
+pub struct Ran {
+    pub status: Status,
+    pub out: MemSink,
+    pub log: MemSink,
 }
 
 pub fn plan(calls: &[u32]) -> Plan {
@@ -48,7 +48,7 @@ pub fn strings(alloc: Global, words: &[&str]) -> Result<Vec<String>, AllocError>
 }
 
 // A run with this key and this input, in which these calls of the output fail.
-fn run_over<D: SlotDisk>(
+pub fn run_over<D: SlotDisk>(
     alloc: Global,
     words: &[&str],
     key: &[u8],
@@ -59,7 +59,7 @@ fn run_over<D: SlotDisk>(
     let words = strings(alloc, words)?;
     let mut key = MemSource::new(key, 512, Plan::new());
     let mut input = MemSource::new(text, 512, Plan::new());
-    let mut out = MemSink::with_room(alloc, 300, 512, plan(fail))?;
+    let mut out = MemSink::with_room(alloc, 800, 512, plan(fail))?;
     let mut log = MemSink::with_room(alloc, 100, 512, Plan::new())?;
     let status = run(
         alloc,
@@ -75,7 +75,7 @@ fn run_over<D: SlotDisk>(
 
 #[test]
 fn refuses_words_of_no_command(rt: HostRuntime) -> Result<(), Fail> {
-    let rows: [&[&str]; 24] = [
+    let rows: [&[&str]; 29] = [
         &[],
         &["read"],
         &["read", "dnp"],
@@ -97,6 +97,11 @@ fn refuses_words_of_no_command(rt: HostRuntime) -> Result<(), Fail> {
         &["check", "rtu", "ab", "key", ""],
         &["check", "dnp33", "ab", "key", "journal"],
         &["checks", "rtu", "ab", "key", "journal"],
+        &["replay", "rtu", "ab"],
+        &["replay", "rtu", "ab", ""],
+        &["replay", "dnp", "ab", "key"],
+        &["replay", "rtu", "AB", "key"],
+        &["replay", "rtu", "ab", "key", "journal"],
         &["init"],
         &["init", ""],
         &["vectors", "x"],
@@ -121,7 +126,7 @@ fn refuses_words_of_no_command(rt: HostRuntime) -> Result<(), Fail> {
 #[test]
 fn finds_the_paths_among_the_words(rt: HostRuntime) -> Result<(), Fail> {
     // words, command, place of the key's path, place of the journal's, whether the journal is made
-    let rows: [(&[&str], Command, Option<usize>, Option<usize>, bool); 9] = [
+    let rows: [(&[&str], Command, Option<usize>, Option<usize>, bool); 11] = [
         (&["init", "journal"], Command::Init, None, Some(1), true),
         (
             &["read", "rtu"],
@@ -171,6 +176,20 @@ fn finds_the_paths_among_the_words(rt: HostRuntime) -> Result<(), Fail> {
             Command::Check(Proto::Rtu, Profile::Y18, Dir::Ba),
             Some(3),
             Some(4),
+            false,
+        ),
+        (
+            &["replay", "rtu", "ab", "key"],
+            Command::Replay(Proto::Rtu, Profile::Y18, Dir::Ab),
+            Some(3),
+            None,
+            false,
+        ),
+        (
+            &["replay", "dnp24", "ba", "key"],
+            Command::Replay(Proto::Dnp3, Profile::Y24, Dir::Ba),
+            Some(3),
+            None,
             false,
         ),
     ];

@@ -21,16 +21,24 @@ const Y18_REST: u32 = 24;
 
 const Y24_REST: u32 = 30;
 
-type Y18Sealer<R> = ShownFrames<SealNoting<R, HmacSha1, 2>, R, SteadySlots>;
+type RtuSealer18 = ShownFrames<SealNoting<Rtu, HmacSha1, 2>, Rtu, SteadySlots>;
 
-type Y18Checker<R> = ShownFrames<CheckNoting<R, HmacSha1, 2, 18>, R, SteadySlots>;
+type RtuChecker18 = ShownFrames<CheckNoting<Rtu, HmacSha1, 2, 18>, Rtu, SteadySlots>;
 
-type Y24Sealer<R> = ShownFrames<SealNoting<R, HmacSha256, 4>, R, SteadySlots>;
+type DnpSealer18 = ShownFrames<SealNoting<Dnp, HmacSha1, 2>, Dnp, SteadySlots>;
 
-type Y24Checker<R> = ShownFrames<CheckNoting<R, HmacSha256, 4, 24>, R, SteadySlots>;
+type DnpChecker18 = ShownFrames<CheckNoting<Dnp, HmacSha1, 2, 18>, Dnp, SteadySlots>;
 
-/// Takes the line of a device through the transmitter and a link through the receiver, and
-/// prints what was sealed, passed, read and forged.
+type RtuSealer24 = ShownFrames<SealNoting<Rtu, HmacSha256, 4>, Rtu, SteadySlots>;
+
+type RtuChecker24 = ShownFrames<CheckNoting<Rtu, HmacSha256, 4, 24>, Rtu, SteadySlots>;
+
+type DnpSealer24 = ShownFrames<SealNoting<Dnp, HmacSha256, 4>, Dnp, SteadySlots>;
+
+type DnpChecker24 = ShownFrames<CheckNoting<Dnp, HmacSha256, 4, 24>, Dnp, SteadySlots>;
+
+/// Takes the line of a device through the transmitter and a link through the receiver, and prints
+/// what was sealed, passed, read and forged.
 pub fn replay<K: Source, S: Source, O: Sink, L: Sink>(
     alloc: Global,
     proto: Proto,
@@ -54,22 +62,22 @@ pub fn replay<K: Source, S: Source, O: Sink, L: Sink>(
 {
     match (proto, profile) {
         (Proto::Rtu, Profile::Y18) => {
-            replay_recordings::<Y18Sealer<Rtu>, Y18Checker<Rtu>, RtuDevice, K, S, O, L>(
+            replay_recordings::<RtuSealer18, RtuChecker18, RtuDevice, K, S, O, L>(
                 alloc, dir, Y18_REST, key, input, out, log,
             )
         }
         (Proto::Dnp3, Profile::Y18) => {
-            replay_recordings::<Y18Sealer<Dnp>, Y18Checker<Dnp>, DnpDevice, K, S, O, L>(
+            replay_recordings::<DnpSealer18, DnpChecker18, DnpDevice, K, S, O, L>(
                 alloc, dir, Y18_REST, key, input, out, log,
             )
         }
         (Proto::Rtu, Profile::Y24) => {
-            replay_recordings::<Y24Sealer<Rtu>, Y24Checker<Rtu>, RtuDevice, K, S, O, L>(
+            replay_recordings::<RtuSealer24, RtuChecker24, RtuDevice, K, S, O, L>(
                 alloc, dir, Y24_REST, key, input, out, log,
             )
         }
         (Proto::Dnp3, Profile::Y24) => {
-            replay_recordings::<Y24Sealer<Dnp>, Y24Checker<Dnp>, DnpDevice, K, S, O, L>(
+            replay_recordings::<DnpSealer24, DnpChecker24, DnpDevice, K, S, O, L>(
                 alloc, dir, Y24_REST, key, input, out, log,
             )
         }
