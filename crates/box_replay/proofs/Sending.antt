@@ -17,9 +17,9 @@ use Rattle.yasir_ticks.specs.declared.tick.Tick.{Tick}
 use Rattle.yasir_ticks.specs.declared.writer.TickWriter.{TickWriter}
 use Rattle.yasir_ticks.proofs.Writers.{finished_bytes, finished_silence, finished_nothing}
 use Rattle.replay_status.proofs.Printing.{append_known-nil, printed}
-use Rattle.box_replay.specs.Boxes.{Boxed, IsBoxed, AnswersBox}
+use Rattle.box_replay.specs.Boxes.{Boxed, IsBoxed, AnswersBox, AnswersBoxRun}
 use Rattle.box_replay.specs.Sending.{SinkTexts, sink_texts, Waiting, WritesTicks, NotesFirst}
-use Rattle.box_replay.specs.Sending.{SendsBoxed, HasSent, HasSentFronts, PushesTexts, PushesStep}
+use Rattle.box_replay.specs.Sending.{SendsBoxed, HasSent, HasSentFronts, PushesTexts, PushesTicks}
 
 -- ---- texts on their way
 
@@ -137,6 +137,27 @@ texts_after_note result out0 out2 log0 log1 log2 ticks_wait notes_wait text note
       ];
     }
 
+-- a box answers a run with these ticks, and notes this in it
+pub record AnswersNoted (box : Boxed) (line run answer : List Tick) (note : List ℕ) :
+    Type 0 where
+  pub ticks_are : box.other_line (line ++ run) ≡ box.other_line line ++ answer
+  pub note_is : box.note_lines (line ++ run) ≡ box.note_lines line ++ note
+
+-- so it does in a step
+pub step_noted : (box : Boxed) (line : List Tick) (t answer : Tick) (note : List ℕ)
+    → AnswersBox box line t answer note
+    → AnswersNoted box line (t ∷ []) (answer ∷ []) note
+step_noted box line t answer note answers =
+    record { ticks_are = answers.tick_is; note_is = answers.note_is }
+
+-- and in a run without a note
+pub run_noted : (box : Boxed) (line run answer : List Tick) → AnswersBoxRun box line run answer
+    → AnswersNoted box line run answer []
+run_noted box line run answer answers = record {
+  ticks_are = answers.ticks;
+  note_is = answers.notes ∙ sym (append-nil (box.note_lines line));
+}
+
 -- what a writer has answered begins the text of its ticks
 pub answered-begins : (writer : TickWriter) (ticks : List Tick) (answered : List ℕ)
     → HasWritten writer ticks answered
@@ -190,7 +211,7 @@ notes_all box line front rest are text = record {
   notes = sym (append-nil (box.note_lines line));
 }
 
--- ---- one step
+-- ---- some ticks more
 
 -- a text that is on its way to `out`, and the text of its ticks
 text_on : (writer : TickWriter) (ticks : List Tick) (answered front left : List ℕ)
@@ -201,22 +222,22 @@ text_on writer ticks answered front left has all =
     let rest = answered-begins writer ticks answered has in
     sym rest.1 ∙ ap (λ l. l ++ rest.0) all ∙ append_assoc front left rest.0
 
--- A step has answered a tick and a note, which are added to what waits.
-module _ (box : Boxed) (line : List Tick) (t answer : Tick) (note : List ℕ)
-    (answers : AnswersBox box line t answer note)
+-- The box has answered a run with these ticks and a note, which are added to what waits.
+module _ (box : Boxed) (line run answer : List Tick) (note : List ℕ)
+    (answers : AnswersNoted box line run answer note)
     (old new : Waiting) (before s0 s1 : SinkTexts) (sends : SendsBoxed box old before s0 line) where
   abbrev next : List Tick
-  next = line ++ t ∷ []
+  next = line ++ run
 
   abbrev Pushes : {T E : Type 0} → Result T E → Type 0
-  Pushes result = PushesStep old new s0 s1 answer note result
+  Pushes result = PushesTicks old new s0 s1 answer note result
 
   written_next : (pushed : List ℕ) → ((ticks : List Tick) (answered : List ℕ)
       → HasWritten old.writer ticks answered
-      → HasWritten new.writer (ticks ++ answer ∷ []) (answered ++ pushed))
+      → HasWritten new.writer (ticks ++ answer) (answered ++ pushed))
       → HasWritten new.writer (box.other_line next) (sends.text.answered ++ pushed)
   written_next pushed push = subst
-      (λ ticks. HasWritten new.writer ticks (sends.text.answered ++ pushed)) (sym answers.tick_is)
+      (λ ticks. HasWritten new.writer ticks (sends.text.answered ++ pushed)) (sym answers.ticks_are)
       (push (box.other_line line) sends.text.answered sends.text.written)
 
   all_with : (piece : List ℕ) → sends.text.answered ++ piece
@@ -256,7 +277,7 @@ module _ (box : Boxed) (line : List Tick) (t answer : Tick) (note : List ℕ)
                 ∙ ap (λ l. sends.note_text.front ++ l) goes.all
                 ∙ sym (append_assoc sends.note_text.front goes.front new.notes);
           };
-          notes_first = notes_later box line (t ∷ []) next sends.text.text.front
+          notes_first = notes_later box line run next sends.text.text.front
               sends.note_text.front goes.front refl sends.notes_first;
         }
     | inr logged ↦
@@ -307,7 +328,7 @@ module _ (box : Boxed) (line : List Tick) (t answer : Tick) (note : List ℕ)
                 ∙ ap (λ l. sends.note_text.front ++ l) stops.all
                 ∙ sym (append_assoc sends.note_text.front stops.front stops.rest);
           };
-          notes_first = notes_later box line (t ∷ []) next sends.text.text.front
+          notes_first = notes_later box line run next sends.text.text.front
               sends.note_text.front stops.front refl sends.notes_first;
         }
     | inr logged ↦

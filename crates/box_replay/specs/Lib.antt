@@ -1,4 +1,6 @@
 pub mod Boxes
 pub mod Sending
+pub mod Runs
 pub mod BoxLines
+pub mod Fronts
 pub mod ReplaysBox

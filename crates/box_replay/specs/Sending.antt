@@ -91,13 +91,18 @@ pub record PushesTexts {T E : Type 0} (before now : SinkTexts)
   pub notes_first : ((now.out ≡ before.out) × OnOk result (ticks_wait ≡ text))
       ⊎ ((now.log ≡ append_known before.log notes) × OnOk result (notes_wait ≡ []))
 
--- A step's tick and its note were added: the line that the tick completes, or nothing, goes to the
--- text of the ticks.
-pub record PushesStep {T E : Type 0} (old new : Waiting) (before now : SinkTexts) (tick : Tick)
-    (note : List ℕ)
-    (result : Result T E) : Type 0 where
+-- A run of ticks and a note were added: the lines that the ticks complete go to the text of the
+-- ticks.
+pub record PushesTicks {T E : Type 0} (old new : Waiting) (before now : SinkTexts)
+    (run : List Tick) (note : List ℕ) (result : Result T E) : Type 0 where
   pub line : List ℕ
   pub written : (ticks : List Tick) (answered : List ℕ) → HasWritten old.writer ticks answered
-      → HasWritten new.writer (ticks ++ tick ∷ []) (answered ++ line)
+      → HasWritten new.writer (ticks ++ run) (answered ++ line)
   pub pushes : PushesTexts before now new.ticks new.notes (old.ticks ++ line) (old.notes ++ note)
       result
+
+-- a step's tick and its note were added
+abbrev pub PushesStep : {T E : Type 0} → Waiting → Waiting → SinkTexts → SinkTexts → Tick → List ℕ
+    → Result T E → Type 0
+PushesStep old new before now tick note result =
+    PushesTicks old new before now (tick ∷ []) note result

@@ -13,12 +13,16 @@ ghost use Rattle.box_replay.specs.Sending.{SinkTexts, sink_texts, waiting, Sends
 ghost use Rattle.box_replay.specs.Sending.{HasSentFronts, HaveCause, PushesTexts, PushesStep};
 ghost use Rattle.box_replay.specs.BoxLines.{driving, waiting_in, DrivesBox};
 
-use crate::line_box::LineBox;
+use crate::line_box::{LineBox, RunBytes};
+use crate::runs::{push_answered, push_bytes, push_silence};
 use hmac_tag::Dir;
 use sequence_journal::{Journal, JournalFault};
 use tick_drive::{Consumer, Stop};
 use yasir_io::{Failed, Sink, SlotDisk, TextBuffer};
 use yasir_ticks::{Tick, TickWriter};
+
+// How many bytes a box may answer to a run of bytes at most.
+const MAX_RUN: usize = 64;
 
 /// Drives a box over its journal: writes the other line as canonical tick text, and a line for each
 /// note to the log. Before a byte of the ticks goes out, all notes so far go to the log.
@@ -71,7 +75,7 @@ fn push_note_of_step<B: LineBox, L: Sink>(
 
 // Adds a line to the ticks' text. Where it has no room there, the notes go to the log, and then the
 // ticks go out.
-fn push_line<O: Sink, L: Sink>(
+pub(crate) fn push_line<O: Sink, L: Sink>(
     ticks: &mut TextBuffer,
     notes: &mut TextBuffer,
     out: &mut O,
@@ -200,6 +204,205 @@ impl<B: LineBox> BoxLines<B> {
     }
 }
 
+impl<B: LineBox> BoxLines<B> {
+    ghost use Rattle.std.specs.Prelude.{length, IfOk};
+    ghost use Rattle.tick_drive.specs.Consumers.{MayTake, state_of};
+    ghost use Rattle.tick_drive.specs.Items.{byte_items, silent_items};
+    ghost use Rattle.box_replay.specs.Fronts.{GivesFront, front_bytes};
+
+    // Takes the first of these bytes, as far as the box forwards them, and answers how many.
+    #[inline]
+    fn forward_bytes<O: Sink, L: Sink, D: SlotDisk>(
+        &mut self,
+        out: &mut O,
+        log: &mut L,
+        disk: &D,
+        bytes: &[u8],
+    ) -> Result<usize, Stop>
+        requires { MayTake (driving B.LineBox D.SlotDisk) self.old disk.now
+            (byte_items bytes.now) }
+        ensures within { IfOk result (λ n. n ≤ length bytes.now) }
+        ensures gives { GivesFront (driving B.LineBox D.SlotDisk) O.Sink L.Sink D.SlotDisk
+            (state_of self.old out.old log.old disk.now)
+            (state_of self.new out.new log.new disk.now)
+            (front_bytes bytes.now) (byte_items bytes.now) result }
+    {
+        let count = self.line_box.forward_bytes(bytes);
+        if count == 0 {
+            return Ok(count);
+        }
+        match push_bytes(
+            &mut self.writer,
+            &mut self.ticks,
+            &mut self.notes,
+            out,
+            log,
+            &bytes[..count],
+        ) {
+            Ok(()) => Ok(count),
+            Err(Failed) => Err(Stop::WriteFault),
+        }
+    }
+
+    // Takes the first of these bytes, as far as the box answers them with silence or with other
+    // bytes, and answers how many.
+    fn pass_bytes<O: Sink, L: Sink, D: SlotDisk>(
+        &mut self,
+        out: &mut O,
+        log: &mut L,
+        disk: &D,
+        bytes: &[u8],
+    ) -> Result<usize, Stop>
+        requires { MayTake (driving B.LineBox D.SlotDisk) self.old disk.now
+            (byte_items bytes.now) }
+        ensures within { IfOk result (λ n. n ≤ length bytes.now) }
+        ensures gives { GivesFront (driving B.LineBox D.SlotDisk) O.Sink L.Sink D.SlotDisk
+            (state_of self.old out.old log.old disk.now)
+            (state_of self.new out.new log.new disk.now)
+            (front_bytes bytes.now) (byte_items bytes.now) result }
+    {
+        let mut left = RunBytes::new();
+        let front = &bytes[..bytes.len().min(MAX_RUN)];
+        let count = self.line_box.pass_bytes(front, &mut left);
+        if count == 0 {
+            return Ok(count);
+        }
+        match push_answered(
+            &mut self.writer,
+            &mut self.ticks,
+            &mut self.notes,
+            out,
+            log,
+            count as u32,
+            left.as_slice(),
+        ) {
+            Ok(()) => Ok(count),
+            Err(Failed) => Err(Stop::WriteFault),
+        }
+    }
+
+    // Takes of so many silent ticks as many as the box forwards, and answers how many.
+    #[inline]
+    fn forward_silence<O: Sink, L: Sink, D: SlotDisk>(
+        &mut self,
+        out: &mut O,
+        log: &mut L,
+        disk: &D,
+        ticks: u32,
+    ) -> Result<u32, Stop>
+        requires { MayTake (driving B.LineBox D.SlotDisk) self.old disk.now (silent_items ticks) }
+        ensures within { IfOk result (λ n. n ≤ ticks) }
+        ensures gives { GivesFront (driving B.LineBox D.SlotDisk) O.Sink L.Sink D.SlotDisk
+            (state_of self.old out.old log.old disk.now)
+            (state_of self.new out.new log.new disk.now)
+            silent_items (silent_items ticks) result }
+    {
+        let count = self.line_box.forward_silence(ticks);
+        if count == 0 {
+            return Ok(count);
+        }
+        match push_silence(
+            &mut self.writer,
+            &mut self.ticks,
+            &mut self.notes,
+            out,
+            log,
+            count,
+        ) {
+            Ok(()) => Ok(count),
+            Err(Failed) => Err(Stop::WriteFault),
+        }
+    }
+
+    // Takes of so many silent ticks as many as the box answers with bytes, or with silence, and
+    // answers how many.
+    fn pass_silence<O: Sink, L: Sink, D: SlotDisk>(
+        &mut self,
+        out: &mut O,
+        log: &mut L,
+        disk: &D,
+        ticks: u32,
+    ) -> Result<u32, Stop>
+        requires { MayTake (driving B.LineBox D.SlotDisk) self.old disk.now (silent_items ticks) }
+        ensures within { IfOk result (λ n. n ≤ ticks) }
+        ensures gives { GivesFront (driving B.LineBox D.SlotDisk) O.Sink L.Sink D.SlotDisk
+            (state_of self.old out.old log.old disk.now)
+            (state_of self.new out.new log.new disk.now)
+            silent_items (silent_items ticks) result }
+    {
+        let mut left = RunBytes::new();
+        let count = self.line_box.pass_silence(ticks, &mut left);
+        if count == 0 {
+            return Ok(count);
+        }
+        match push_answered(
+            &mut self.writer,
+            &mut self.ticks,
+            &mut self.notes,
+            out,
+            log,
+            count,
+            left.as_slice(),
+        ) {
+            Ok(()) => Ok(count),
+            Err(Failed) => Err(Stop::WriteFault),
+        }
+    }
+
+    // Takes the first of these bytes as a run, if the box has an answer to one.
+    #[inline]
+    fn run_bytes<O: Sink, L: Sink, D: SlotDisk>(
+        &mut self,
+        out: &mut O,
+        log: &mut L,
+        disk: &D,
+        bytes: &[u8],
+    ) -> Result<usize, Stop>
+        requires { MayTake (driving B.LineBox D.SlotDisk) self.old disk.now
+            (byte_items bytes.now) }
+        ensures within { IfOk result (λ n. n ≤ length bytes.now) }
+        ensures gives { GivesFront (driving B.LineBox D.SlotDisk) O.Sink L.Sink D.SlotDisk
+            (state_of self.old out.old log.old disk.now)
+            (state_of self.new out.new log.new disk.now)
+            (front_bytes bytes.now) (byte_items bytes.now) result }
+    {
+        let count = match self.forward_bytes(out, log, disk, bytes) {
+            Ok(count) => count,
+            Err(stop) => return Err(stop),
+        };
+        if count > 0 {
+            return Ok(count);
+        }
+        self.pass_bytes(out, log, disk, bytes)
+    }
+
+    // The same of silence.
+    #[inline]
+    fn run_silence<O: Sink, L: Sink, D: SlotDisk>(
+        &mut self,
+        out: &mut O,
+        log: &mut L,
+        disk: &D,
+        ticks: u32,
+    ) -> Result<u32, Stop>
+        requires { MayTake (driving B.LineBox D.SlotDisk) self.old disk.now (silent_items ticks) }
+        ensures within { IfOk result (λ n. n ≤ ticks) }
+        ensures gives { GivesFront (driving B.LineBox D.SlotDisk) O.Sink L.Sink D.SlotDisk
+            (state_of self.old out.old log.old disk.now)
+            (state_of self.new out.new log.new disk.now)
+            silent_items (silent_items ticks) result }
+    {
+        let count = match self.forward_silence(out, log, disk, ticks) {
+            Ok(count) => count,
+            Err(stop) => return Err(stop),
+        };
+        if count > 0 {
+            return Ok(count);
+        }
+        self.pass_silence(out, log, disk, ticks)
+    }
+}
+
 impl<B: LineBox, O: Sink, L: Sink, D: SlotDisk> Consumer<O, L, D> for BoxLines<B> {
     ghost meaning = { driving B.LineBox D.SlotDisk };
 
@@ -227,6 +430,59 @@ impl<B: LineBox, O: Sink, L: Sink, D: SlotDisk> Consumer<O, L, D> for BoxLines<B
             Ok(()) => Ok(()),
             Err(Failed) => Err(Stop::WriteFault),
         }
+    }
+
+    // The first of the bytes go as a run where the box has an answer to one, and else one goes
+    // alone.
+    fn take_bytes(
+        &mut self,
+        out: &mut O,
+        log: &mut L,
+        disk: &mut D,
+        bytes: &[u8],
+    ) -> Result<(), Stop> {
+        let mut taken = 0;
+        while taken < bytes.len() {
+            let count = match self.run_bytes(out, log, disk, &bytes[taken..]) {
+                Ok(count) => count,
+                Err(stop) => return Err(stop),
+            };
+            if count > 0 {
+                taken += count;
+                continue;
+            }
+            match self.take_tick(out, log, disk, Tick::Byte(bytes[taken])) {
+                Ok(()) => taken += 1,
+                Err(stop) => return Err(stop),
+            }
+        }
+        Ok(())
+    }
+
+    // The same of silence.
+    fn take_silence(
+        &mut self,
+        out: &mut O,
+        log: &mut L,
+        disk: &mut D,
+        ticks: u32,
+    ) -> Result<(), Stop> {
+        let mut taken = 0;
+        while taken < ticks {
+            let count = match self.run_silence(out, log, disk, ticks - taken) {
+                Ok(count) => count,
+                Err(stop) => return Err(stop),
+            };
+            if count > 0 {
+                taken += count;
+                continue;
+            }
+            match self.take_tick(out, log, disk, Tick::Silent) {
+                Ok(()) => taken += 1,
+                Err(stop) => return Err(stop),
+            }
+        }
+        Ok(())
     }
 
     // A mark is no tick of the line.

@@ -5,6 +5,7 @@
 mod box_lines;
 mod command;
 mod line_box;
+mod runs;
 
 pub use command::replay_box;
-pub use line_box::{BoxStep, LineBox, NoteLine};
+pub use line_box::{BoxStep, LineBox, NoteLine, RunBytes};

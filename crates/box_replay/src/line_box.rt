@@ -8,8 +8,10 @@ ghost use Rattle.yasir_ticks.specs.declared.tick.Tick.TheVariants.{Byte};
 ghost use Rattle.link_format.specs.Setup.{Setup, setup_of};
 ghost use Rattle.sequence_journal.specs.declared.journal.Journal.{Journal};
 ghost use Rattle.sequence_journal.specs.Journal.{journal_floor, Fits, IsCrashSafe, HasFloorAtLeast};
+ghost use Rattle.burst_walk.specs.Answered.{answered};
 ghost use Rattle.box_replay.specs.Boxes.{line_of_note};
 ghost use Rattle.box_replay.specs.Boxes.{Boxed, IsBoxed, AnswersBox, FailsBox, Forwards};
+ghost use Rattle.box_replay.specs.Boxes.{AnswersBoxRun};
 
 use arrayvec::ArrayVec;
 use hmac_tag::Dir;
@@ -19,6 +21,9 @@ use yasir_ticks::{MAX_TICKS, Tick};
 
 /// The line of a note, LF included.
 pub type NoteLine = ArrayVec<u8, 80>;
+
+/// The bytes of a run that a box answers to a run.
+pub type RunBytes = ArrayVec<u8, 64>;
 
 /// What a box answers to a tick: the tick of the other line, and the note that falls into the step.
 /// The note's line is written where it is needed, since few steps have one.
@@ -123,6 +128,42 @@ pub trait LineBox: Drop {
         ensures forwards { (journal : Journal) (setup : Setup) (line : List Tick)
             → stands self.old journal setup line → Forwards (boxed setup) line (silent result) }
     {
+        0
+    }
+
+    /// Takes the first of these bytes, one a tick, as far as the box answers all of them with
+    /// silence or all of them with bytes, without a note and without a number, and answers how many
+    /// it took. Puts the bytes of the answer into `left`, or none for silence. With 0 the caller
+    /// goes on by `step`.
+    fn pass_bytes(&mut self, _bytes: &[u8], left: &mut RunBytes) -> usize
+        requires { taken self.old + length _bytes.now ≤ MAX_TICKS }
+        ensures within { result ≤ length _bytes.now }
+        ensures taken { taken self.new ≡ taken self.old + result }
+        ensures stands { (journal : Journal) (setup : Setup) (line : List Tick)
+            → stands self.old journal setup line
+            → stands self.new journal setup (line ++ map Byte (take result _bytes.now)) }
+        ensures answers { (journal : Journal) (setup : Setup) (line : List Tick)
+            → stands self.old journal setup line
+            → AnswersBoxRun (boxed setup) line (map Byte (take result _bytes.now))
+            (answered result left.new.items) }
+    {
+        left.clear();
+        0
+    }
+
+    /// The same of so many silent ticks.
+    fn pass_silence(&mut self, _ticks: u32, left: &mut RunBytes) -> u32
+        requires { taken self.old + _ticks ≤ MAX_TICKS }
+        ensures within { result ≤ _ticks }
+        ensures taken { taken self.new ≡ taken self.old + result }
+        ensures stands { (journal : Journal) (setup : Setup) (line : List Tick)
+            → stands self.old journal setup line
+            → stands self.new journal setup (line ++ silent result) }
+        ensures answers { (journal : Journal) (setup : Setup) (line : List Tick)
+            → stands self.old journal setup line
+            → AnswersBoxRun (boxed setup) line (silent result) (answered result left.new.items) }
+    {
+        left.clear();
         0
     }
 }

@@ -27,6 +27,10 @@ pub of-ok : {T E : Type 0} (r : Result T E) (P : Type 0) → IsOk r → OnOk r P
 of-ok (Ok x) P ok holds = holds
 of-ok (Err e) P ok holds = absurd cc
 
+pub bytes-long : (x : List ℕ) → length (map {B = Tick} (λ b. Byte b) x) ≡ length x
+bytes-long [] = refl
+bytes-long (b ∷ x) = ap suc (bytes-long x)
+
 pub not-owed : (n : ℕ) → nat_lt 0 n ≡ false → n ≡ 0
 not-owed n none =
     ⊎_elim

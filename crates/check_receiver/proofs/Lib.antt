@@ -16,6 +16,7 @@ pub mod Journals
 pub mod WholeSteps
 pub mod RunTicks
 pub mod RestRuns
+pub mod PauseRuns
 pub mod LiveRuns
 pub mod RunsTaken
 pub mod Lending

@@ -17,7 +17,7 @@ use Rattle.line_rules.specs.declared.head.Head.{Head}
 use Rattle.line_rules.specs.declared.head.Head.TheVariants.{Good, Short}
 use Rattle.line_rules.specs.declared.line_rules.LineRules.{Ghosts as LineRules}
 use Rattle.frame_ending.specs.Cuts.{cuts_after}
-use Rattle.frame_ending.specs.LiveBytes.{live_bytes}
+use Rattle.frame_ending.specs.LiveBytes.{live_bytes, live_end}
 use Rattle.frame_ending.specs.SoFar.{last_of, live_bytes_in, live_bytes_so_far}
 use Rattle.frame_ending.specs.Stands.{StandsFor as CutStandsFor}
 use Rattle.frame_ending.specs.declared.burst_cut.BurstCut.{BurstCut}
@@ -50,6 +50,7 @@ use Rattle.check_receiver.specs.declared.checker.Checker.{Checker}
 use Rattle.check_receiver.proofs.Entering.{nothing-after, arrives-none}
 use Rattle.check_receiver.proofs.LiveRuns.{LiveRun, live-run}
 use Rattle.check_receiver.proofs.Machine.{last_of-more, waiting-none, waiting-some}
+use Rattle.check_receiver.proofs.PauseRuns.{pause-run}
 use Rattle.check_receiver.proofs.RestRuns.{idle-run, flow-run}
 use Rattle.check_receiver.proofs.RunTicks.{front-answered, answered-bytes}
 use Rattle.check_receiver.proofs.Silences.{timely}
@@ -149,6 +150,79 @@ module _ {R M : Type 0} (proto : LineRules R) (code : Mac M) {B D : ℕ} (old : 
       let P : ℕ → Type 0 = λ k. Walked old.passed live k None in
       let O : Option Burst → Type 0 = λ o. Walked old.passed live (owed_by old.outlet) o in
       subst P unowed (subst O waiting stands.walks.walked)
+
+  -- ---- a verdict is open
+
+  opened : old.waits ≡ true → (d : Burst) × (stands.walks.waiting ≡ Some d)
+  opened waits = waiting-some stands.walks.waiting (sym stands.walks.waits_is ∙ waits)
+
+  walked-opened : (waits : old.waits ≡ true)
+      → Walked old.passed live (owed_by old.outlet) (Some (opened waits).0)
+  walked-opened waits =
+      let O : Option Burst → Type 0 = λ o. Walked old.passed live (owed_by old.outlet) o in
+      subst O (opened waits).1 stands.walks.walked
+
+  -- how many live ticks are still to leave of its burst
+  long-opened : (waits : old.waits ≡ true)
+      → length live + length line ≡ live_end rules (opened waits).0 + delay profile
+  long-opened waits =
+      let d : Burst = (opened waits).0 in
+      let walked = walked-opened waits in
+      let may : MayGoOn d (length line) = waiting-may w
+      (causal proto profile time setup.floor line Silent) (at_floor setup.floor) line state
+      walked.emissions d walked.come in
+      live-long profile rules proto.headed some (length line) old.earliest_start d left live
+      may.after walked.opens.0
+
+  more-opened : (waits : old.waits ≡ true) → 1 < length live
+  more-opened waits =
+      let opens = (walked-opened waits).opens.0 in
+      let long = long-opened waits in
+      let near = opens.near in
+      omega arith
+
+  live-opened : (waits : old.waits ≡ true) → Walked false live 0 (Some (opened waits).0)
+  live-opened waits =
+      let d : Burst = (opened waits).0 in
+      let walked = walked-opened waits in
+      let more = more-opened waits in
+      let P : Bool → Type 0 = λ p. Walked p live (owed_by old.outlet) (Some d) in
+      let N : ℕ → Type 0 = λ n. Walked false live n (Some d) in
+      subst N (walked.unowed (omega arith)) (subst P walked.opens.1 walked)
+
+  last-opened : (waits : old.waits ≡ true) → last_of (bursts line) ≡ Some (opened waits).0
+  last-opened waits =
+      let come = (walked-opened waits).come in
+      ap (λ y. last_of y) come.is ∙ last_of-more come.settled (opened waits).0
+
+  head-opened : (waits : old.waits ≡ true)
+      → head_of rules (live_bytes_so_far rules line) ≡ Good
+      → rules.header_len ≤ length (live_bytes rules (opened waits).0)
+  head-opened waits good =
+      let d : Burst = (opened waits).0 in
+      let G : Option Burst → Type 0 = λ o. head_of rules (live_bytes_in rules o) ≡ Good in
+      let here : head_of rules (live_bytes rules d) ≡ Good = subst G (last-opened waits) good in
+      ⊎_elim
+      (λ short.
+      let other : Short ≡ Good = sym (head-short rules (live_bytes rules d) short) ∙ here in
+      absurd cc)
+      (λ there. there)
+      (cases_lt (length (live_bytes rules d)) rules.header_len)
+
+  fits-opened : (waits : old.waits ≡ true)
+      → length (live_bytes rules (opened waits).0)
+      ≤ rules.room (live_bytes rules (opened waits).0)
+  fits-opened waits =
+      let F : Option Burst → Type 0 = λ o. length (live_bytes_in rules o)
+      ≤ rules.room (live_bytes_in rules o) in
+      subst F (last-opened waits) (proto.within _ _ stands.cuts.bytes)
+
+  coded-opened : (waits : old.waits ≡ true)
+      → Codes proto code setup last old.mac old.arriving (opened waits).0
+  coded-opened waits =
+      let C : Option Burst → Type 0 = λ o. IfSome o
+      (λ e. Codes proto code setup last old.mac old.arriving e) in
+      subst C (opened waits).1 stands.walks.coded
 
   -- ---- no verdict is open, and nothing is to leave
 
@@ -280,6 +354,68 @@ module _ {R M : Type 0} (proto : LineRules R) (code : Mac M) {B D : ℕ} (old : 
         subst A long (flow-taken run rests owes (omega arith) (omega arith) cuts begin
         (subst F (sym long) is) (subst G (sym long) ring_is) (omega arith))
 
+    -- ---- silence comes in the pause behind the live bytes of the burst that is open
+
+    pub pause-taken : (n : ℕ) → old.waits ≡ true
+        → head_of rules (live_bytes_so_far rules line) ≡ Good → n ≤ c → D + n ≤ old.until + 3
+        → CutStandsFor proto cut (line ++ silent n) → IsFront (ring_ticks old.ring) n x
+        → ring_ticks ring ≡ drop n (ring_ticks old.ring ++ silent n) → until ≡ old.until - n
+        → HasTakenRun proto code
+        (record old { cut = cut; ring = ring; outlet = outlet; until = until }) last setup line
+        (silent n) (answered n x)
+    pause-taken n waits good few within_pause cuts is ring_is until_is =
+        let d : Burst = (opened waits).0 in
+        let walked = live-opened waits in
+        let long = long-opened waits in
+        let count = stands.walks.until_is in
+        let delay_is = stands.delay_is in
+        let wide = stands.wide in
+        let most = stands.walks.few in
+        let first : take n live ≡ take n Q =
+        sym (ap (λ l. take n l) stands.walks.ring_is
+        ∙ take-append-le n live (silent (D - length live)) (omega arith)) in
+        let leaves = front n few is in
+        let runs = pause-run proto profile time some setup.floor state d (head-opened waits good) n
+        line left live walked (omega arith) (omega arith) in
+        let fewer = length-drop n live in
+        let more = more-opened waits in
+        let Z : ℕ → Type 0 = λ k. HasWalked profile rules setup.floor (length (line ++ silent n))
+        (bursts (line ++ silent n)) state false (left ++ bytes_in (take n live)) (drop n live) k
+        (Some d) in
+        let P : Bool → Type 0 = λ p. HasWalked profile rules setup.floor
+        (length (line ++ silent n)) (bursts (line ++ silent n)) state p
+        (left ++ bytes_in (take n live)) (drop n live) (owed_by outlet) (Some d) in
+        let L : List Tick → Type 0 = λ l. OutletStandsFor proto outlet (left ++ bytes_in l) in
+        let A : List Tick → Type 0 = λ l. HasTakenRun proto code
+        (record old { cut = cut; ring = ring; outlet = outlet; until = until }) last setup line
+        (silent n) l in
+        subst A (first ∙ leaves) (record {
+          stands = record {
+            word_is = stands.word_is;
+            wide = stands.wide;
+            delay_is = stands.delay_is;
+            direction_is = stands.direction_is;
+            cuts = cuts;
+            walks = record {
+              waiting = Some d;
+              left = left ++ bytes_in (take n live);
+              live = drop n live;
+              walked = subst P (sym (walked-opened waits).opens.1)
+                  (subst Z (sym unowed) runs.walked);
+              outlet_is = subst L (sym first) (has-left n leaves (walked.room (omega arith)));
+              ring_is = ring_is
+                  ∙ (ap (λ l. drop n (l ++ silent n)) stands.walks.ring_is
+                  ∙ ring-rest live D n (omega arith) most);
+              few = omega arith;
+              until_is = omega arith;
+              waits_is = waits;
+              code_is = stands.walks.code_is;
+              coded = coded-opened waits;
+            };
+          };
+          answers = runs.answers;
+        })
+
     -- ---- live bytes come of the burst whose verdict is open
 
     module _ (bytes : List ℕ) (mac : M) (waits : old.waits ≡ true) (any : 0 < length bytes)
@@ -299,54 +435,23 @@ module _ {R M : Type 0} (proto : LineRules R) (code : Mac M) {B D : ℕ} (old : 
       abbrev run : List Tick
       run = map (λ b. Byte b) bytes
 
-      open' : (d : Burst) × (stands.walks.waiting ≡ Some d)
-      open' = waiting-some stands.walks.waiting (sym stands.walks.waits_is ∙ waits)
-
       abbrev d : Burst
-      d = open'.0
+      d = (opened waits).0
 
       walked-open : Walked old.passed live (owed_by old.outlet) (Some d)
-      walked-open =
-          let O : Option Burst → Type 0 = λ o. Walked old.passed live (owed_by old.outlet) o in
-          subst O open'.1 stands.walks.walked
+      walked-open = walked-opened waits
 
       has-more : 1 < length live
-      has-more =
-          let opens = walked-open.opens.0 in
-          let may : MayGoOn d (length line) = waiting-may w
-          (causal proto profile time setup.floor line Silent) (at_floor setup.floor) line state
-          walked-open.emissions d walked-open.come in
-          let long = live-long profile rules proto.headed some (length line) old.earliest_start d
-          left live may.after opens in
-          let near = opens.near in
-          omega arith
+      has-more = more-opened waits
 
       walked-live : Walked false live 0 (Some d)
-      walked-live =
-          let more = has-more in
-          let P : Bool → Type 0 = λ p. Walked p live (owed_by old.outlet) (Some d) in
-          let N : ℕ → Type 0 = λ n. Walked false live n (Some d) in
-          subst N (walked-open.unowed (omega arith)) (subst P walked-open.opens.1 walked-open)
-
-      whose : last_of (bursts line) ≡ Some d
-      whose = ap (λ y. last_of y) walked-open.come.is ∙ last_of-more walked-open.come.settled d
+      walked-live = live-opened waits
 
       headed : rules.header_len ≤ length (live_bytes rules d)
-      headed =
-          let G : Option Burst → Type 0 = λ o. head_of rules (live_bytes_in rules o) ≡ Good in
-          let here : head_of rules (live_bytes rules d) ≡ Good = subst G whose good in
-          ⊎_elim
-          (λ short.
-          let other : Short ≡ Good = sym (head-short rules (live_bytes rules d) short) ∙ here in
-          absurd cc)
-          (λ there. there)
-          (cases_lt (length (live_bytes rules d)) rules.header_len)
+      headed = head-opened waits good
 
       fits : length (live_bytes rules d) ≤ rules.room (live_bytes rules d)
-      fits =
-          let F : Option Burst → Type 0 = λ o. length (live_bytes_in rules o)
-          ≤ rules.room (live_bytes_in rules o) in
-          subst F whose (proto.within _ _ stands.cuts.bytes)
+      fits = fits-opened waits
 
       delay-is : D ≡ delay profile
       delay-is = let is = stands.delay_is in omega arith
@@ -361,10 +466,7 @@ module _ {R M : Type 0} (proto : LineRules R) (code : Mac M) {B D : ℕ} (old : 
           (omega arith) walked-live headed fits are_live (omega arith)
 
       coded-before : Codes proto code setup last old.mac old.arriving d
-      coded-before =
-          let C : Option Burst → Type 0 = λ o. IfSome o
-          (λ e. Codes proto code setup last old.mac old.arriving e) in
-          subst C open'.1 stands.walks.coded
+      coded-before = coded-opened waits
 
       none-after : trailer_so_far rules live-runs.burst ≡ []
       none-after =

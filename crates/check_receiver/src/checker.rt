@@ -183,7 +183,7 @@ impl<R: LineRules, M: Mac, const B: usize, const D: usize> Checker<R, M, B, D> {
     {
         left.clear();
         if self.waits {
-            return 0;
+            return self.pause_some(ticks, left);
         }
         if self.outlet.owes() {
             return 0;
@@ -236,6 +236,34 @@ impl<R: LineRules, M: Mac, const B: usize, const D: usize> Checker<R, M, B, D> {
         let whole = D as u8;
         self.until = whole;
         taken
+    }
+
+    // Silence in the pause behind the live bytes of the burst whose verdict is open.
+    fn pause_some(&mut self, ticks: u32, left: &mut RunBytes) -> u32
+        requires room { ticks_taken self.old + ticks ≤ MAX_TICKS }
+        requires waits { self.old.waits ≡ true }
+        requires empty { left.old.items ≡ [] }
+        ensures within { result ≤ ticks }
+        ensures taken { ticks_taken self.new ≡ ticks_taken self.old + result }
+        ensures run { (last : ℕ) (setup : Setup) (line : List Tick)
+            → StandsAt R.LineRules M.Mac self.old last setup line
+            → HasTakenRun R.LineRules M.Mac self.new last setup line
+            (silent result) (answered result left.new.items) }
+    {
+        if !self.has_good_head() {
+            return 0;
+        }
+        let until = usize::from(self.until);
+        if until + PAUSE <= D {
+            return 0;
+        }
+        let most = (ticks as usize).min(until + PAUSE - D).min(until);
+        let count = self.ring.front_alike(most.min(D));
+        lend(&self.ring, &mut self.outlet, count, left);
+        self.ring.pass_silence(count);
+        self.cut.wait_some(count as u32);
+        self.until -= count as u8;
+        count as u32
     }
 
     // Bytes of a burst that is noted, while live ticks still leave, but for the last of them.

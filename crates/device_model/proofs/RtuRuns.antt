@@ -1,15 +1,15 @@
 -- A Modbus RTU device over a run of bytes, or of silent ticks: what it reads in the run, and what
 -- it keeps behind it.
-use Rattle.std.proofs.Common.{◌≡◌, ◌∙◌, ℕ, zero, suc, ◌+◌, ◌<◌, ◌≤◌, ◌-◌, ◌||◌, nat_lt, nat_le, Bool}
-use Rattle.std.proofs.Common.{true, false, List, [], ◌∷◌, ◌++◌, length, map, take, refl, sym, ap}
+use Rattle.std.proofs.Common.{◌≡◌, ◌∙◌, ℕ, zero, suc, ◌+◌, ◌<◌, ◌≤◌, ◌-◌, ◌||◌, nat_lt, Bool}
+use Rattle.std.proofs.Common.{true, false, List, [], ◌∷◌, ◌++◌, length, map, refl, sym, ap}
 use Rattle.std.proofs.Common.{subst, arith, Option, Some, None, IfSome, ◌⊎◌, ⊎_elim, inl, inr}
 use Rattle.std.proofs.Common.{if◌then◌else◌, append_assoc, length-append}
 use Rattle.std.proofs.lemmas.Bool.{ltb-true, lt-ltb, le-ltb, cond-true, cond-false, or_parts}
 use Rattle.std.proofs.lemmas.Bool.{cases_lt}
 use Rattle.std.proofs.lemmas.List.{append-nil, length-replicate, length-map}
-use Rattle.rtu_frame.specs.Rtu.{RtuStandsFor, is_full_rtu}
+use Rattle.rtu_frame.specs.Rtu.{RtuStandsFor}
 use Rattle.yasir_ticks.specs.Ticks.{bytes_in, silent}
-use Rattle.yasir_ticks.specs.Bursts.{Burst, end_of}
+use Rattle.yasir_ticks.specs.Bursts.{Burst}
 use Rattle.yasir_ticks.specs.BurstsOf.{IsContiguous}
 use Rattle.yasir_ticks.specs.declared.tick.Tick.{Tick}
 use Rattle.yasir_ticks.specs.declared.tick.Tick.TheVariants.{Silent, Byte}
@@ -21,7 +21,7 @@ use Rattle.device_model.specs.Parted.{IsParted}
 use Rattle.device_model.specs.RtuReads.{has_silence}
 use Rattle.device_model.specs.RtuFamily.{rtu_family_reads, is_broken, Keeps, RtuFamilyStandsFor}
 use Rattle.device_model.proofs.Broken.{grown-bytes, grown-silence}
-use Rattle.device_model.proofs.Parting.{longer, grown_by, parted-begins, parted-goes_on}
+use Rattle.device_model.proofs.Parting.{grown_by, parted-begins, parted-goes_on}
 use Rattle.device_model.proofs.Parting.{parted-rests, parted-waits}
 use Rattle.device_model.proofs.ReadLaws.{frames_read-later}
 use Rattle.device_model.proofs.RtuFamilyLaws.{reads-parted}
@@ -264,8 +264,11 @@ module _ (cut gap : ℕ) where
             some_cut = heard.some_cut;
             cut_is = ap (λ s. s.cut) silence ∙ heard.cut_is;
             gap_is = gap_is ∙ heard.gap_is;
-            count = omega (arith, length-append line (map (λ b. Byte b) y),
-                length-map {A = ℕ} {B = Tick} y (λ b. Byte b));
+            count = omega (
+              arith,
+              length-append line (map (λ b. Byte b) y),
+              length-map {A = ℕ} {B = Tick} y (λ b. Byte b),
+            );
             closed = heard.closed;
             running = Some (grown_run d y);
             parted = subst (λ q. IsParted cut q (line ++ map (λ b. Byte b) y) heard.closed
@@ -347,15 +350,15 @@ module _ (cut gap : ℕ) (old parted : RtuFamily) (line : List Tick) (left : ℕ
     (stands : RtuFamilyStandsFor cut gap parted (line ++ silent left))
     (is_parted : parted.silence.cut ≤ parted.silence.quiet)
     (none : rtu_family_reads cut gap (line ++ silent left) ≡ rtu_family_reads cut gap line ++ [])
-    where
-  pub later-unread : (n : ℕ)
-      → rtu_family_reads cut gap (line ++ silent n) ≡ rtu_family_reads cut gap line
-  later-unread n =
-      ⊎_elim
-      (λ earlier. silence-unread cut gap old line n (inr (omega arith)) heard)
-      (λ later.
-      ap (rtu_family_reads cut gap)
-      (sym (silent-behind line left (n - left) n (omega arith)))
-      ∙ (silence-unread cut gap parted (line ++ silent left) (n - left) (inl is_parted) stands
-      ∙ (none ∙ append-nil (rtu_family_reads cut gap line))))
-      (cases_lt n left)
+  where
+    pub later-unread : (n : ℕ)
+        → rtu_family_reads cut gap (line ++ silent n) ≡ rtu_family_reads cut gap line
+    later-unread n =
+        ⊎_elim
+        (λ earlier. silence-unread cut gap old line n (inr (omega arith)) heard)
+        (λ later.
+        ap (rtu_family_reads cut gap)
+        (sym (silent-behind line left (n - left) n (omega arith)))
+        ∙ (silence-unread cut gap parted (line ++ silent left) (n - left) (inl is_parted) stands
+        ∙ (none ∙ append-nil (rtu_family_reads cut gap line))))
+        (cases_lt n left)

@@ -29,6 +29,7 @@ impl Device for RtuDevice {
     fn step(&mut self, t: Tick) -> Option<FrameAt> {
         self.family.step(t)
     }
+
     #[inline]
     fn hear_some(&mut self, bytes: &[u8]) -> Heard {
         self.family.hear_some(bytes);

@@ -1,1 +1,2 @@
 pub mod Sealings
+pub mod Runs

@@ -6,7 +6,7 @@ ghost use Rattle.seal_replay.specs.SealBoxed.{sealing_by};
 ghost use Rattle.seal_replay.specs.SealBoxedLaws.{seals-boxed, seals-floor};
 
 use crate::note_lines::note_line;
-use box_replay::{BoxStep, LineBox, NoteLine};
+use box_replay::{BoxStep, LineBox, NoteLine, RunBytes};
 use hmac_tag::{Dir, Mac};
 use line_rules::LineRules;
 use seal_transmitter::{SealNote, SealStep, Sealer};
@@ -58,5 +58,35 @@ impl<R: LineRules, M: Mac, const B: usize> LineBox for SealBox<R, M, B> {
             Ok(SealStep { tick, note }) => Ok(BoxStep { tick, note }),
             Err(JournalFault) => Err(JournalFault),
         }
+    }
+
+    #[inline]
+    fn forward_bytes(&mut self, bytes: &[u8]) -> usize {
+        self.sealer.forward(bytes)
+    }
+
+    #[inline]
+    fn forward_silence(&mut self, ticks: u32) -> u32 {
+        self.sealer.rest(ticks)
+    }
+
+    // An early burst: what is left of the last trailer goes out over it, and then silence.
+    fn pass_bytes(&mut self, bytes: &[u8], left: &mut RunBytes) -> usize {
+        left.clear();
+        let held = self.sealer.hold(bytes);
+        if held > 0 {
+            return held;
+        }
+        let sent = self.sealer.send_over(bytes);
+        let _ = left.try_extend_from_slice(sent.as_slice());
+        sent.len()
+    }
+
+    // What is left of a trailer.
+    fn pass_silence(&mut self, ticks: u32, left: &mut RunBytes) -> u32 {
+        left.clear();
+        let sent = self.sealer.send_some(ticks);
+        let _ = left.try_extend_from_slice(sent.as_slice());
+        sent.len() as u32
     }
 }

@@ -6,3 +6,5 @@ pub mod Counting
 pub mod Fates
 pub mod SentTicks
 pub mod Periods
+pub mod Placed
+pub mod SealsAll

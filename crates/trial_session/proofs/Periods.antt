@@ -59,7 +59,7 @@ module _ (drawing : Drawing) (behind seed : ℕ) where
       ∙ ap (λ x. altered_link drawing behind seed n l
       ++ altered (alteration_in drawing behind (state_at drawing seed n)) x) own
 
-  line-suc : (n : ℕ) → session_line drawing seed (suc n)
+  pub line-suc : (n : ℕ) → session_line drawing seed (suc n)
       ≡ session_line drawing seed n ++ period_line (drawing.frame (state_at drawing seed n))
   unfolding session_line
   line-suc n = refl

@@ -1,5 +1,5 @@
 -- Draws one after the other, and frames that are drawn are frames.
-use Rattle.std.specs.Prelude.{◌≡◌, ℕ, zero, suc, ◌-◌, ◌%◌, ◌<◌, true, List}
+use Rattle.std.specs.Prelude.{◌≤◌, ◌≡◌, ℕ, zero, suc, ◌-◌, ◌%◌, ◌<◌, true, List}
 use Rattle.std.specs.Prelude.{length, map, refl, slice_index_or}
 use Rattle.std.proofs.Common.{arith, ◌∙◌, length-append, lit<}
 use Rattle.std.proofs.lemmas.List.{length-map}
@@ -11,6 +11,7 @@ use Rattle.rtu_frame.specs.Rules.{rtu_rules}
 use Rattle.rtu_frame.proofs.FrameLaws.{is_frame-from}
 use Rattle.dnp_link_frame.specs.Rules.{dnp_rules}
 use Rattle.dnp_link_frame.proofs.FrameLaws.{frame-is_frame}
+use Rattle.dnp_link_frame.proofs.FrameParts.{length-frame_of}
 use Rattle.trial_session.specs.Draws.{next_state, draws, bytes_drawn, state_after, nth_drawn}
 use Rattle.trial_session.specs.RtuDrawn.{rtu_drawing, rtu_body, rtu_frame_len}
 use Rattle.trial_session.specs.DnpDrawn.{dnp_drawing, dnp_header, dnp_user, dnp_user_len}
@@ -58,3 +59,18 @@ dnp_are_frames x =
         is = refl;
       };
     })
+
+-- They have at most 292 bytes.
+pub rtu_are_short : (x : ℕ) → length (rtu_drawing.frame x) ≤ 292
+rtu_are_short x =
+    let few = mod_below (nth_drawn 1 x) 253 (omega arith) in
+    let body_len = length-bytes_drawn (rtu_frame_len x - 2) (state_after 1 x) in
+    let long = length-append (rtu_body x) (low_first (crc_rtu (rtu_body x))) in
+    omega (arith, few, body_len, long)
+
+pub dnp_are_short : (x : ℕ) → length (dnp_drawing.frame x) ≤ 292
+dnp_are_short x =
+    let user_len = length-bytes_drawn (dnp_user_len x) (state_after 3 x) in
+    let few = mod_below (nth_drawn 1 x) 251 (omega arith) in
+    let long = length-frame_of (dnp_header x) (dnp_user x) in
+    omega (arith, user_len, few, long)

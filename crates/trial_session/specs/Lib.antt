@@ -11,3 +11,4 @@ pub mod Summaries
 pub mod Sides
 pub mod Runs
 pub mod TrialLine
+pub mod Telling

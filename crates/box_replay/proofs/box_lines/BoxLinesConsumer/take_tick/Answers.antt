@@ -4,7 +4,7 @@ use Rattle.yasir_ticks.specs.Ticks.Item.{tick}
 use Rattle.box_replay.specs.Boxes.{line_of_note}
 use Rattle.box_replay.specs.BoxLines.{waiting_in, texts_in}
 use Rattle.box_replay.specs.Sending.{SendsBoxed, HasSentFronts}
-use Rattle.box_replay.proofs.Sending.{sends_more, sent_in_part}
+use Rattle.box_replay.proofs.Sending.{step_noted, sends_more, sent_in_part}
 use Rattle.box_replay.proofs.Begun.{one_more, floor_from_less}
 use Rattle.box_replay.proofs.box_lines.BoxLinesConsumer.take_tick.Goals as goal
 
@@ -43,10 +43,11 @@ returns-in-Ok-push_step g c = record {
         steps = subst (g.B.LineBox.stands c.step.new.self c.step.new.journal origin.setup) more
             (c.in-Ok.ensures.stands origin.setup (ticks_in items) before.steps);
         sends = subst (SendsBoxed (g.B.LineBox.boxed origin.setup) _ origin.texts _) more
-            (sends_more (g.B.LineBox.boxed origin.setup) (ticks_in items) c.args.tick
-            c.in-Ok.step.tick
+            (sends_more (g.B.LineBox.boxed origin.setup) (ticks_in items) (c.args.tick ∷ [])
+            (c.in-Ok.step.tick ∷ [])
             (line_of_note g.B.LineBox.line_of c.in-Ok.step.note)
-            (c.in-Ok.ensures.answer origin.setup (ticks_in items) before.steps) _ _ origin.texts
+            (step_noted _ _ _ _ _
+            (c.in-Ok.ensures.answer origin.setup (ticks_in items) before.steps)) _ _ origin.texts
             _ _ before.sends
             c.in-Ok-push_step.field-0 c.in-Ok-push_step.ensures.pushes);
         floor_told = c.in-Ok.ensures.fits.floor;
@@ -73,10 +74,11 @@ returns-in-Err-push_step g c = record {
     at = λ origin items before.
         let more = sym (one_more items c.args.tick) in record {
           sent = subst (HasSentFronts (g.B.LineBox.boxed origin.setup) origin.texts _) more
-              (sent_in_part (g.B.LineBox.boxed origin.setup) (ticks_in items) c.args.tick
-              c.in-Ok.step.tick
+              (sent_in_part (g.B.LineBox.boxed origin.setup) (ticks_in items) (c.args.tick ∷ [])
+              (c.in-Ok.step.tick ∷ [])
               (line_of_note g.B.LineBox.line_of c.in-Ok.step.note)
-              (c.in-Ok.ensures.answer origin.setup (ticks_in items) before.steps) _ _ origin.texts
+              (step_noted _ _ _ _ _
+              (c.in-Ok.ensures.answer origin.setup (ticks_in items) before.steps)) _ _ origin.texts
               _ _ before.sends
               c.in-Err-push_step.field-0 c.in-Err-push_step.ensures.pushes);
           floor = g.B.LineBox.floor_is _ _ origin.setup (ticks_in (items ++ tick c.args.tick ∷ []))

@@ -1,12 +1,12 @@
 use Rattle.std.proofs.Common.{◌≡◌, ◌∙◌, ◌≤◌, ◌++◌, [], sym, ap, subst, arith, length, List, ℕ, take}
 use Rattle.std.proofs.Common.{map}
-use Rattle.std.proofs.lemmas.List.{length-take-le, length-map}
+use Rattle.std.proofs.lemmas.List.{length-take-le}
 use Rattle.yasir_ticks.specs.Ticks.{silent}
 use Rattle.yasir_ticks.specs.declared.tick.Tick.{Tick}
 use Rattle.yasir_ticks.specs.declared.tick.Tick.TheVariants.{Byte}
 use Rattle.burst_walk.specs.Answered.{answered}
 use Rattle.check_receiver.specs.Runs.{HasTakenRun}
-use Rattle.check_receiver.proofs.Lending.{same-taken, not-owed}
+use Rattle.check_receiver.proofs.Lending.{same-taken, not-owed, bytes-long}
 use Rattle.check_receiver.proofs.RunsTaken.{idle-taken}
 use Rattle.check_receiver.proofs.checker.Checker.pass_bytes.Goals as goal
 
@@ -20,7 +20,7 @@ returns-then-self-eq0-clause-run g c = λ last setup line stands.
     let bytes : List ℕ = take c.cut_some.result c.args.bytes.now in
     let run : List Tick = map (λ b. Byte b) bytes in
     let within = c.cut_some.ensures.within in
-    let size : length run ≡ c.cut_some.result = length-map (λ b. Byte b) bytes
+    let size : length run ≡ c.cut_some.result = bytes-long bytes
     ∙ length-take-le c.cut_some.result c.args.bytes.now (omega arith) in
     let new = record c.args.self.now { cut = c.cut_some.new.cut } in
     let Len : ℕ → Type 0 = λ k. HasTakenRun g.R.LineRules g.M.Mac new last setup line run

@@ -1,10 +1,11 @@
 use Rattle.std.proofs.Common.{◌≡◌, ◌∙◌, ◌+◌, ◌-◌, ◌≤◌, ◌<◌, ◌++◌, sym, ap, subst, arith, length, List}
 use Rattle.std.proofs.Common.{ℕ, take, map, min}
-use Rattle.std.proofs.lemmas.List.{take-take, length-take-le, length-map}
+use Rattle.std.proofs.lemmas.List.{take-take, length-take-le}
 use Rattle.yasir_ticks.specs.declared.tick.Tick.{Tick}
 use Rattle.yasir_ticks.specs.declared.tick.Tick.TheVariants.{Byte}
 use Rattle.burst_walk.specs.Answered.{answered}
 use Rattle.check_receiver.specs.Runs.{HasTakenRun}
+use Rattle.check_receiver.proofs.Lending.{bytes-long}
 use Rattle.check_receiver.proofs.RunsTaken.{flow-counted}
 use Rattle.check_receiver.proofs.checker.Checker.pass_over.Goals as goal
 
@@ -22,7 +23,7 @@ returns-clause-run g c = λ last setup line stands.
     let few = c.cut_some-taken.ensures.within in
     let some = c.requires.some in
     let long : length part ≡ count = length-take-le count c.args.bytes.now (omega arith) in
-    let size : length run ≡ taken = length-map (λ b. Byte b) (take taken part)
+    let size : length run ≡ taken = bytes-long (take taken part)
     ∙ length-take-le taken part (omega arith) in
     let items : List ℕ = c.lend.new.left.items in
     let new = record old {

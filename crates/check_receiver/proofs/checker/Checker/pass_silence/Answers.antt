@@ -10,11 +10,6 @@ use Rattle.check_receiver.proofs.RestRuns.{silence-begin_none}
 use Rattle.check_receiver.proofs.RunsTaken.{idle-taken}
 use Rattle.check_receiver.proofs.checker.Checker.pass_silence.Goals as goal
 
-pub returns-then-self-clause-run : goal.returns-then-self-clause-run
-returns-then-self-clause-run g c = λ last setup line stands.
-    same-taken g.R.LineRules g.M.Mac c.args.self.now last setup line stands
-    c.clear.new.self.items c.clear.ensures
-
 pub returns-then-owes-clause-run : goal.returns-then-owes-clause-run
 returns-then-owes-clause-run g c = λ last setup line stands.
     same-taken g.R.LineRules g.M.Mac c.args.self.now last setup line stands

@@ -1,5 +1,4 @@
-use Rattle.std.proofs.Common.{◌≡◌, ◌∙◌, ℕ, List, [], ◌∷◌, ◌++◌, map, take, sym, ap, subst, append_assoc}
-use Rattle.yasir_ticks.specs.declared.tick.Tick.{Tick}
+use Rattle.std.proofs.Common.{◌≡◌, ◌∙◌, [], ◌∷◌, ◌++◌, map, take, sym, ap, subst, append_assoc}
 use Rattle.yasir_ticks.specs.declared.tick.Tick.TheVariants.{Byte}
 use Rattle.device_model.specs.RtuFamily.{RtuFamilyStandsFor}
 use Rattle.device_model.proofs.RtuRuns.{bytes-unread, bytes-kept}

@@ -1,5 +1,5 @@
-use Rattle.std.proofs.Common.{◌≡◌, ◌∙◌, ◌+◌, ◌-◌, ◌≤◌, ◌<◌, ◌++◌, length, take, refl, rules, sym, ap}
-use Rattle.std.proofs.Common.{subst, arith}
+use Rattle.std.proofs.Common.{◌≡◌, ◌∙◌, ◌+◌, ◌-◌, take, refl, rules, sym, ap}
+use Rattle.std.proofs.Common.{arith}
 use Rattle.std.proofs.Common.{ℕ}
 use Rattle.std.proofs.lemmas.List.{length-map}
 use Rattle.tick_drive.specs.Items.{byte_items}
@@ -8,7 +8,6 @@ use Rattle.yasir_ticks.specs.Ticks.Item.{tick}
 use Rattle.yasir_ticks.specs.declared.tick.Tick.TheVariants.{Byte}
 use Rattle.device_replay.proofs.Printing.{ticks_in-bytes}
 use Rattle.yasir_ticks.specs.Ticks.{Item}
-use Rattle.std.proofs.Common.{List}
 use Rattle.device_model.specs.Frames.{frames_of}
 use Rattle.tick_drive.proofs.Moving.{leaves_now}
 use Rattle.device_replay.proofs.Printing.{prints_nothing, prints_line, stops_at_line}
@@ -78,8 +77,8 @@ returns-in_default-push_frame-clause-stops g c = record {
         (stops_at_line g.V.Device c.args.self.now.device c.hear_some-taken.new.self
         (byte_items (take c.hear_some-taken.result.taken c.args.bytes.now)) _
         (stands_by g.V.Device c.args.self.now.device c.hear_some-taken.new.self _ (byte_items (take c.hear_some-taken.result.taken c.args.bytes.now)) (ticks_in-bytes (take c.hear_some-taken.result.taken c.args.bytes.now)) c.hear_some-taken.ensures.stands)
-      (reads_by g.V.Device c.args.self.now.device c.hear_some-taken.new.self _ (byte_items (take c.hear_some-taken.result.taken c.args.bytes.now)) (ticks_in-bytes (take c.hear_some-taken.result.taken c.args.bytes.now))
-      (frames_of c.hear_some-taken.result.frame) c.hear_some-taken.ensures.answer)
+        (reads_by g.V.Device c.args.self.now.device c.hear_some-taken.new.self _ (byte_items (take c.hear_some-taken.result.taken c.args.bytes.now)) (ticks_in-bytes (take c.hear_some-taken.result.taken c.args.bytes.now))
+        (frames_of c.hear_some-taken.result.frame) c.hear_some-taken.ensures.answer)
         began _ _ items before _ (ap frames_of c.in-Some.is) _
         (λ text waits. c.in_default-push_frame.ensures.err began.out text waits) refl);
   };

@@ -1,5 +1,5 @@
-use Rattle.std.proofs.Common.{◌≡◌, ◌∙◌, ◌+◌, ◌-◌, ◌≤◌, ◌<◌, ◌++◌, length, take, refl, rules, sym, ap}
-use Rattle.std.proofs.Common.{subst, arith}
+use Rattle.std.proofs.Common.{◌≡◌, ◌∙◌, ◌+◌, ◌-◌, take, refl, rules, sym, ap}
+use Rattle.std.proofs.Common.{arith}
 use Rattle.std.proofs.lemmas.List.{length-replicate}
 use Rattle.tick_drive.specs.Items.{silent_items}
 use Rattle.tick_drive.proofs.ItemLaws.{length-ticks_in-silence}
@@ -7,7 +7,6 @@ use Rattle.yasir_ticks.specs.Ticks.Item.{tick}
 use Rattle.yasir_ticks.specs.declared.tick.Tick.TheVariants.{Silent}
 use Rattle.device_replay.proofs.Printing.{ticks_in-silence}
 use Rattle.yasir_ticks.specs.Ticks.{Item}
-use Rattle.std.proofs.Common.{List}
 use Rattle.device_model.specs.Frames.{frames_of}
 use Rattle.tick_drive.proofs.Moving.{leaves_now}
 use Rattle.device_replay.proofs.Printing.{prints_nothing, prints_line, stops_at_line}
@@ -75,8 +74,8 @@ returns-in_default-push_frame-clause-stops g c = record {
         (stops_at_line g.V.Device c.args.self.now.device c.wait_some-taken.new.self
         (silent_items c.wait_some-taken.result.taken) _
         (stands_by g.V.Device c.args.self.now.device c.wait_some-taken.new.self _ (silent_items c.wait_some-taken.result.taken) (ticks_in-silence c.wait_some-taken.result.taken) c.wait_some-taken.ensures.stands)
-      (reads_by g.V.Device c.args.self.now.device c.wait_some-taken.new.self _ (silent_items c.wait_some-taken.result.taken) (ticks_in-silence c.wait_some-taken.result.taken)
-      (frames_of c.wait_some-taken.result.frame) c.wait_some-taken.ensures.answer)
+        (reads_by g.V.Device c.args.self.now.device c.wait_some-taken.new.self _ (silent_items c.wait_some-taken.result.taken) (ticks_in-silence c.wait_some-taken.result.taken)
+        (frames_of c.wait_some-taken.result.frame) c.wait_some-taken.ensures.answer)
         began _ _ items before _ (ap frames_of c.in-Some.is) _
         (λ text waits. c.in_default-push_frame.ensures.err began.out text waits) refl);
   };

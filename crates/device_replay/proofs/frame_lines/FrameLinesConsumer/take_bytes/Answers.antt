@@ -1,4 +1,4 @@
-use Rattle.std.proofs.Common.{◌≡◌, ◌∙◌, ◌+◌, ◌-◌, ◌≤◌, ◌++◌, take, drop, length, ap, sym, arith, []}
+use Rattle.std.proofs.Common.{◌≡◌, ◌-◌, ◌≤◌, take, drop, length, ap, arith, []}
 use Rattle.std.proofs.lemmas.List.{take_all, length-drop, length-take}
 use Rattle.tick_drive.specs.Items.{byte_items}
 use Rattle.tick_drive.proofs.ItemLaws.{length-ticks_in-bytes, length-ticks_in-take}

@@ -1,4 +1,4 @@
-use Rattle.std.proofs.Common.{◌≡◌, ◌∙◌, ◌+◌, ◌-◌, ◌≤◌, ◌++◌, take, drop, length, ap, sym, arith, []}
+use Rattle.std.proofs.Common.{◌≡◌, ◌∙◌, ◌+◌, ◌-◌, ap, sym, arith, []}
 use Rattle.std.proofs.lemmas.List.{replicate-append-replicate}
 use Rattle.tick_drive.specs.Items.{silent_items}
 use Rattle.tick_drive.proofs.ItemLaws.{length-ticks_in-silence}

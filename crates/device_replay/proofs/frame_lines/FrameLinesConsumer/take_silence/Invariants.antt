@@ -1,4 +1,4 @@
-use Rattle.std.proofs.Common.{◌≤◌, ◌-◌, Ok, take, length}
+use Rattle.std.proofs.Common.{◌≤◌, ◌-◌, Ok}
 use Rattle.tick_drive.specs.Consumers.{Gives, state_of}
 use Rattle.tick_drive.specs.Items.{silent_items}
 use Rattle.device_replay.specs.FrameLines.{printing}

@@ -1,0 +1,51 @@
+-- A run that the transmitter takes, as the box takes it.
+use Rattle.std.proofs.Common.{◌≡◌, ◌∙◌, ℕ, List, [], ◌∷◌, ◌++◌, length, map, refl, sym, ap, subst}
+use Rattle.std.proofs.Common.{append-nil}
+use Rattle.std.specs.List.{flat_map}
+use Rattle.yasir_ticks.specs.declared.tick.Tick.{Tick}
+use Rattle.yasir_ticks.specs.declared.tick.Tick.TheVariants.{Byte}
+use Rattle.line_rules.specs.declared.line_rules.LineRules.{Ghosts as LineRules}
+use Rattle.burst_walk.specs.Answered.{answered}
+use Rattle.hmac_tag.specs.declared.tag.Mac.{Ghosts as Mac}
+use Rattle.link_format.specs.Setup.{Setup}
+use Rattle.sequence_journal.specs.declared.journal.Journal.{Journal}
+use Rattle.sequence_journal.specs.Journal.{journal_floor}
+use Rattle.seal_transmitter.specs.Runs.{HasTakenRun}
+use Rattle.seal_transmitter.specs.Stands.{StandsFor}
+use Rattle.seal_transmitter.specs.declared.sealer.Sealer.{Sealer}
+use Rattle.box_replay.specs.Boxes.{AnswersBoxRun, Forwards}
+use Rattle.seal_replay.specs.NoteLines.{seal_line}
+use Rattle.seal_replay.specs.SealBoxed.{sealing_by}
+use Rattle.seal_replay.specs.SealBoxedLaws.{seals-floor}
+
+-- as many bytes as there are ticks are answered as they are
+pub answered-bytes : (x : List ℕ) → answered (length x) x ≡ map Byte x
+answered-bytes [] = refl
+answered-bytes (b ∷ x) = refl
+
+module _ {R M : Type 0} (proto : LineRules R) (code : Mac M) {B : ℕ} (old new : Sealer R M B)
+    (journal : Journal) (setup : Setup) (line : List Tick)
+    (stands : StandsFor proto code old journal setup line) where
+  abbrev Takes : List Tick → List Tick → Type 0
+  Takes run answer = HasTakenRun proto code new (journal_floor journal) setup line run answer
+
+  pub answers-run : (run answer : List Tick) → Takes run answer
+      → AnswersBoxRun (sealing_by proto code B setup) line run answer
+  answers-run run answer taken = record {
+    ticks = taken.answers.ticks;
+    notes = ap (λ notes. flat_map (λ n. seal_line n.note) notes) taken.answers.notes;
+    number = sym taken.floor ∙ seals-floor proto code old journal setup line stands;
+  }
+
+  pub forwards-run : (run : List Tick) → Takes run run
+      → Forwards (sealing_by proto code B setup) line run
+  forwards-run run taken =
+      let answers = answers-run run run taken in
+      record { ticks = answers.ticks; notes = answers.notes; number = answers.number }
+
+  -- of a run that begins with another one, which is empty
+  pub after-nothing : (run : List Tick) → run ≡ [] → Takes run run
+      → StandsFor proto code new journal setup line
+  after-nothing run none taken =
+      subst (λ l. StandsFor proto code new journal setup l)
+      (ap (λ r. line ++ r) none ∙ append-nil line) taken.stands
