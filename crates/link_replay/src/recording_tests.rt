@@ -144,6 +144,61 @@ const ROWS: [Row; 10] = [
     },
 ];
 
+/// The same polls by the profile y24.
+const POLLS_Y24: Row = Row {
+    proto: "rtu24",
+    text: b"+01030000000ac5cd\n-92\n\
+      +010300000001840a\n-92\n\
+      +1103006b00037687\n-92\n\
+      +01030000000ac5cd\n-92\n\
+      +010300000001840a\n-92\n\
+      +1103006b00037687\n-92\n\
+      %\n\
+      +01030000000ac5cd\n-3\n+0000000165d245ba109509aa6c32ac3cfa228fd6\n-69\n\
+      +010300000001840b\n-3\n+00000002e2eb9489571341cc1bc91db82735400c\n-69\n\
+      +1103006b00037687\n-3\n+000000036d7a1b98a7bf5e9d1f9566d8fd27b148\n-69\n\
+      +1103006b00037687\n-3\n+000000036d7a1b98a7bf5e9d1f9566d8fd27b148\n-69\n\
+      +01030000000ac5cd\n-3\n+000000041f37b6b9804308a69a3fcfb26a2aaa4e\n-69\n\
+      +1103006b00037687\n-3\n+000000068bfc4d1d04d6a4be47878f8aeeb57cfa\n-69\n\
+      +010300000001840a\n-3\n+00000005f7092fd8a3669861eb298b634644bc58\n-69\n",
+    out: b"sealed 1 at 0 01030000000ac5cd\n\
+      sealed 2 at 100 010300000001840a\n\
+      sealed 3 at 200 1103006b00037687\n\
+      sealed 4 at 300 01030000000ac5cd\n\
+      sealed 5 at 400 010300000001840a\n\
+      sealed 6 at 500 1103006b00037687\n\
+      passed 1 at 0 01030000000ac5cd\n\
+      passed 3 at 200 1103006b00037687\n\
+      passed 4 at 400 01030000000ac5cd\n\
+      passed 6 at 500 1103006b00037687\n\
+      read at 24 01030000000ac5cd\n\
+      read at 224 1103006b00037687\n\
+      read at 424 01030000000ac5cd\n\
+      read at 524 1103006b00037687\n",
+    ..POLLS
+};
+
+const ROWS_Y24: [Row; 3] = [
+    POLLS_Y24,
+    // an untouched link by y24, and one of y18 for it
+    Row {
+        text: b"+056405c001000004e921\n-40\n%\n+056405c001000004e921\n-3\n\
+          +00000001cd525d6a6c119047d45db5ba9f9e4290\n-47\n",
+        proto: "dnp24",
+        out: b"sealed 1 at 0 056405c001000004e921\n\
+          passed 1 at 0 056405c001000004e921\n\
+          read at 24 056405c001000004e921\n",
+        ..POLLS
+    },
+    Row {
+        text: b"+01030000000ac5cd\n-40\n%\n+01030000000ac5cd\n-3\n\
+          +0001014c5b8d33c6d29a347013b0\n-47\n",
+        proto: "rtu24",
+        out: b"sealed 1 at 0 01030000000ac5cd\n",
+        ..POLLS
+    },
+];
+
 fn compare(rt: &impl Abort, alloc: Global, row: &Row) -> Result<(), Fail> {
     let mut disk = SteadySlots::new([0; 16], [0; 16]);
     let words = ["replay", row.proto, "ab", "key"];
@@ -157,6 +212,9 @@ fn compare(rt: &impl Abort, alloc: Global, row: &Row) -> Result<(), Fail> {
 #[test]
 fn replays_recordings(rt: HostRuntime) -> Result<(), Fail> {
     for row in ROWS {
+        compare(&rt, rt.alloc(), &row)?;
+    }
+    for row in ROWS_Y24 {
         compare(&rt, rt.alloc(), &row)?;
     }
     Ok(())
