@@ -14,7 +14,7 @@ use yasir_ticks::{Content, Run};
 pub const MAX_INPUT_TICKS: u32 = 16_777_216;
 
 // How many ticks a line of this content has, the bytes of a `+` line being these.
-#[inline]
+#[inline(always)]
 fn ticks_of(content: Content, bytes: &[u8]) -> u32
     requires { length bytes.now ≤ 32 }
     ensures { result ≡ length (ticks_in (items_of_content content bytes.now)) }
@@ -27,7 +27,7 @@ fn ticks_of(content: Content, bytes: &[u8]) -> u32
 }
 
 // Gives a line of this content to the consumer.
-#[inline]
+#[inline(always)]
 fn give<O: Sink, L: Sink, D: SlotDisk, C: Consumer<O, L, D>>(
     content: Content,
     bytes: &[u8],
@@ -51,7 +51,7 @@ fn give<O: Sink, L: Sink, D: SlotDisk, C: Consumer<O, L, D>>(
 }
 
 // Hands one line to the consumer, unless its ticks with those before are too many. Answers the sum.
-#[inline]
+#[inline(always)]
 fn hand_over<O: Sink, L: Sink, D: SlotDisk, C: Consumer<O, L, D>>(
     ticks: u32,
     content: Content,

@@ -37,7 +37,7 @@ struct Spelled {
 }
 
 // The number that a slice begins with, where an LF ends it and it may be one of silent ticks.
-#[inline]
+#[inline(always)]
 fn spelled_number(bytes: &[u8]) -> Option<Spelled>
     ensures { IfSome result (λ spelled. IsSpelled bytes.now spelled.digits spelled.number) }
 {
@@ -62,7 +62,7 @@ fn spelled_number(bytes: &[u8]) -> Option<Spelled>
 
 // The bytes of the one to three pairs of digits that a slice begins with, where an LF stands behind
 // them.
-#[inline]
+#[inline(always)]
 fn few_pairs(bytes: &[u8]) -> Option<LineBytes>
     ensures { IfSome result (λ line. IsFewPairs bytes.now line.items) }
 {
@@ -99,7 +99,7 @@ impl TickReader {
     }
 
     // The bytes of a line behind its `+`, where they are at most three.
-    #[inline]
+    #[inline(always)]
     fn take_short_line(&mut self, bytes: &[u8]) -> Option<Whole>
         requires place { self.old.place ≡ Start }
         requires line { reader_line self.old < 2 ^ 32 - 1 }
@@ -118,7 +118,7 @@ impl TickReader {
 
     // The bytes of a line behind its `+`, where they stand as whole pairs of digits with their LF
     // in the first 65 bytes.
-    #[inline]
+    #[inline(always)]
     fn take_long_line(&mut self, bytes: &[u8]) -> Option<Whole>
         requires place { self.old.place ≡ Start }
         requires line { reader_line self.old < 2 ^ 32 - 1 }
@@ -147,7 +147,7 @@ impl TickReader {
 
     // The bytes of a line behind its `+`. Few are looked up one by one, which costs less than all
     // lanes of the vectors.
-    #[inline]
+    #[inline(always)]
     fn take_bytes_line(&mut self, bytes: &[u8]) -> Option<Whole>
         requires place { self.old.place ≡ Start }
         requires line { reader_line self.old < 2 ^ 32 - 1 }
@@ -164,7 +164,7 @@ impl TickReader {
     }
 
     // The number of a line behind its `-`.
-    #[inline]
+    #[inline(always)]
     fn take_silence_line(&mut self, bytes: &[u8]) -> Option<Whole>
         requires place { self.old.place ≡ Start }
         requires line { reader_line self.old < 2 ^ 32 - 1 }
@@ -197,7 +197,7 @@ impl TickReader {
     }
 
     // A line behind its first byte, where it has one of the usual forms.
-    #[inline]
+    #[inline(always)]
     fn take_behind(&mut self, sign: u8, bytes: &[u8]) -> Option<Whole>
         requires place { self.old.place ≡ Start }
         requires line { reader_line self.old < 2 ^ 32 - 1 }
@@ -213,7 +213,7 @@ impl TickReader {
     }
 
     // The line at the front, where it has one of the usual forms.
-    #[inline]
+    #[inline(always)]
     fn take_line(&mut self, bytes: &[u8]) -> Option<FedLine>
         requires place { self.old.place ≡ Start }
         requires line { reader_line self.old + length bytes.now < 2 ^ 32 }
