@@ -172,7 +172,7 @@ nothing-after [] none = refl
 nothing-after (t ∷ x) none = absurd (omega arith)
 
 -- nothing of a trailer has come, whatever the tags
-arrives-none : {B : ℕ} (tags others : ℕ → List ℕ) (floor : ℕ) (value : Arriving B) → 2 ≤ B
+pub arrives-none : {B : ℕ} (tags others : ℕ → List ℕ) (floor : ℕ) (value : Arriving B) → 2 ≤ B
     → Arrives tags floor value [] → Arrives others floor value []
 arrives-none tags others floor value wide arrived = record {
   word_is = arrived.word_is;

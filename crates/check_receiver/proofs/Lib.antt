@@ -14,3 +14,9 @@ pub mod Deciding
 pub mod Taking
 pub mod Journals
 pub mod WholeSteps
+pub mod RunTicks
+pub mod RestRuns
+pub mod PauseRuns
+pub mod LiveRuns
+pub mod RunsTaken
+pub mod Lending

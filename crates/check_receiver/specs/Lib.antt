@@ -3,3 +3,4 @@ pub mod Arrivals
 pub mod Stands
 pub mod Turning
 pub mod Between
+pub mod Runs

@@ -1,5 +1,6 @@
 use crate::CheckStep;
 use crate::arriving::Arriving;
+use crate::runs::{RunBytes, cut_some, lend};
 use delay_ring::DelayRing;
 use frame_ending::{BurstCut, Cut};
 use hmac_tag::{Dir, Mac};
@@ -72,6 +73,13 @@ impl<R: LineRules, M: Mac, const B: usize, const D: usize> Checker<R, M, B, D> {
     ghost use Rattle.check_receiver.specs.Turning.{Turned, TurnedClear, with_until};
     ghost use Rattle.check_receiver.specs.Between.{IsBetween, IsWhole, IsSilence, IsNoPass};
     ghost use Rattle.check_receiver.specs.Between.{verdict_told};
+    ghost use Rattle.std.specs.Prelude.{map, take};
+    ghost use Rattle.yasir_ticks.specs.Ticks.{silent};
+    ghost use Rattle.line_rules.specs.declared.head.Head.TheVariants.{Good};
+    ghost use Rattle.spoiler.specs.Outlet.{owed_by};
+    ghost use Rattle.burst_walk.specs.Answered.{answered};
+    ghost use Rattle.check_receiver.specs.Stands.{StandsAt};
+    ghost use Rattle.check_receiver.specs.Runs.{HasTakenRun};
 
     /// A receiver that has taken no tick, for a key of any length and a direction. A word has two
     /// bytes at least, so that each header is judged before its first byte leaves.
@@ -134,6 +142,151 @@ impl<R: LineRules, M: Mac, const B: usize, const D: usize> Checker<R, M, B, D> {
             Cut::Extra(byte) => self.hear_extra(byte, journal, disk),
             Cut::Pause(_) | Cut::Closed | Cut::Quiet => Ok(self.wait()),
         }
+    }
+
+    /// Takes the first of these bytes, one a tick, as far as no note falls into their steps and what
+    /// leaves is alike, all bytes or all silence. Answers how many; `left` gets the bytes that
+    /// leave, one for each, or none where silence leaves. With 0 the caller goes on by `step`.
+    #[inline]
+    pub fn pass_bytes(&mut self, bytes: &[u8], left: &mut RunBytes) -> usize
+        requires { ticks_taken self.old + length bytes.now ≤ MAX_TICKS }
+        ensures within { result ≤ length bytes.now }
+        ensures taken { ticks_taken self.new ≡ ticks_taken self.old + result }
+        ensures run { (last : ℕ) (setup : Setup) (line : List Tick)
+            → StandsAt R.LineRules M.Mac self.old last setup line
+            → HasTakenRun R.LineRules M.Mac self.new last setup line
+            (map Byte (take result bytes.now)) (answered result left.new.items) }
+    {
+        left.clear();
+        if self.waits {
+            return self.follow(bytes, left);
+        }
+        if self.outlet.owes() {
+            return 0;
+        }
+        if self.until == 0 {
+            return cut_some(&mut self.cut, bytes);
+        }
+        self.pass_over(bytes, left)
+    }
+
+    /// The same of so many silent ticks.
+    #[inline]
+    pub fn pass_silence(&mut self, ticks: u32, left: &mut RunBytes) -> u32
+        requires { ticks_taken self.old + ticks ≤ MAX_TICKS }
+        ensures within { result ≤ ticks }
+        ensures taken { ticks_taken self.new ≡ ticks_taken self.old + result }
+        ensures run { (last : ℕ) (setup : Setup) (line : List Tick)
+            → StandsAt R.LineRules M.Mac self.old last setup line
+            → HasTakenRun R.LineRules M.Mac self.new last setup line
+            (silent result) (answered result left.new.items) }
+    {
+        left.clear();
+        if self.waits {
+            return self.pause_some(ticks, left);
+        }
+        if self.outlet.owes() {
+            return 0;
+        }
+        if self.until == 0 {
+            self.cut.wait_some(ticks);
+            return ticks;
+        }
+        0
+    }
+
+    // Whether the burst has a whole and good header.
+    #[inline]
+    fn has_good_head(&self) -> bool
+        ensures { result ≡ true → (line : List Tick) → CutStandsFor R.LineRules self.now.cut line
+            → head_of R.rules (live_bytes_so_far R.rules line) ≡ Good }
+    {
+        match self.head() {
+            Head::Good => true,
+            Head::Short | Head::Bad => false,
+        }
+    }
+
+    // Live bytes of the burst whose verdict is open.
+    fn follow(&mut self, bytes: &[u8], left: &mut RunBytes) -> usize
+        requires room { ticks_taken self.old + length bytes.now ≤ MAX_TICKS }
+        requires waits { self.old.waits ≡ true }
+        requires empty { left.old.items ≡ [] }
+        ensures within { result ≤ length bytes.now }
+        ensures taken { ticks_taken self.new ≡ ticks_taken self.old + result }
+        ensures run { (last : ℕ) (setup : Setup) (line : List Tick)
+            → StandsAt R.LineRules M.Mac self.old last setup line
+            → HasTakenRun R.LineRules M.Mac self.new last setup line
+            (map Byte (take result bytes.now)) (answered result left.new.items) }
+    {
+        if !self.has_good_head() {
+            return 0;
+        }
+        let most = bytes.len().min(D);
+        let count = self.ring.front_alike(most);
+        let part = &bytes[..count];
+        let taken = self.cut.go_on_some(part);
+        if taken == 0 {
+            return 0;
+        }
+        let entering = &part[..taken];
+        lend(&self.ring, &mut self.outlet, taken, left);
+        self.mac.update(entering);
+        self.ring.pass_bytes(entering);
+        let whole = D as u8;
+        self.until = whole;
+        taken
+    }
+
+    // Silence in the pause behind the live bytes of the burst whose verdict is open.
+    fn pause_some(&mut self, ticks: u32, left: &mut RunBytes) -> u32
+        requires room { ticks_taken self.old + ticks ≤ MAX_TICKS }
+        requires waits { self.old.waits ≡ true }
+        requires empty { left.old.items ≡ [] }
+        ensures within { result ≤ ticks }
+        ensures taken { ticks_taken self.new ≡ ticks_taken self.old + result }
+        ensures run { (last : ℕ) (setup : Setup) (line : List Tick)
+            → StandsAt R.LineRules M.Mac self.old last setup line
+            → HasTakenRun R.LineRules M.Mac self.new last setup line
+            (silent result) (answered result left.new.items) }
+    {
+        if !self.has_good_head() {
+            return 0;
+        }
+        let until = usize::from(self.until);
+        if until + PAUSE <= D {
+            return 0;
+        }
+        let most = (ticks as usize).min(until + PAUSE - D).min(until);
+        let count = self.ring.front_alike(most.min(D));
+        lend(&self.ring, &mut self.outlet, count, left);
+        self.ring.pass_silence(count);
+        self.cut.wait_some(count as u32);
+        self.until -= count as u8;
+        count as u32
+    }
+
+    // Bytes of a burst that is noted, while live ticks still leave, but for the last of them.
+    fn pass_over(&mut self, bytes: &[u8], left: &mut RunBytes) -> usize
+        requires room { ticks_taken self.old + length bytes.now ≤ MAX_TICKS }
+        requires rests { self.old.waits ≡ false }
+        requires unowed { owed_by self.old.outlet ≡ 0 }
+        requires some { 0 < self.old.until }
+        requires empty { left.old.items ≡ [] }
+        ensures within { result ≤ length bytes.now }
+        ensures taken { ticks_taken self.new ≡ ticks_taken self.old + result }
+        ensures run { (last : ℕ) (setup : Setup) (line : List Tick)
+            → StandsAt R.LineRules M.Mac self.old last setup line
+            → HasTakenRun R.LineRules M.Mac self.new last setup line
+            (map Byte (take result bytes.now)) (answered result left.new.items) }
+    {
+        let most = bytes.len().min(usize::from(self.until) - 1).min(D);
+        let count = self.ring.front_alike(most);
+        let taken = cut_some(&mut self.cut, &bytes[..count]);
+        lend(&self.ring, &mut self.outlet, taken, left);
+        self.ring.pass_silence(taken);
+        self.until -= taken as u8;
+        taken
     }
 
     // What leaves in this step, where the tick `t` enters the ring.

@@ -4,11 +4,13 @@
 
 mod arriving;
 mod checker;
+mod runs;
 mod step;
 
 pub use checker::Checker;
 pub use hmac_tag::Dir;
 pub use link_verdicts::{CheckNote, DroppedWhy, RefusedWhy};
+pub use runs::RunBytes;
 pub use step::CheckStep;
 
 #[cfg(test)]

@@ -1,5 +1,6 @@
 -- The ticks that a ring holds.
-use Rattle.std.specs.Prelude.{ℕ, zero, suc, List, [], ◌∷◌, take, drop}
+use Rattle.std.specs.Prelude.{◌≡◌, ◌⊎◌, ℕ, zero, suc, List, [], ◌∷◌, take, drop, length, map}
+use Rattle.yasir_ticks.specs.Ticks.{silent}
 use Rattle.yasir_ticks.specs.declared.tick.Tick.{Tick}
 use Rattle.yasir_ticks.specs.declared.tick.Tick.TheVariants.{Silent, Byte}
 use Rattle.delay_ring.specs.declared.delay_ring.DelayRing.{DelayRing}
@@ -18,3 +19,7 @@ marked_ticks (b ∷ bytes) (m ∷ marks) = marked b m ∷ marked_ticks bytes mar
 -- the last ticks, in the order in which they leave
 abbrev pub ring_ticks : {D : ℕ} → DelayRing D → List Tick
 ring_ticks {D} ring = take D (drop ring.oldest (marked_ticks ring.bytes ring.marks))
+
+-- all of these ticks are silent, or all are bytes
+abbrev pub AreAlike : List Tick → Type 0
+AreAlike ticks = (ticks ≡ silent (length ticks)) ⊎ ((x : List ℕ) × (ticks ≡ map Byte x))

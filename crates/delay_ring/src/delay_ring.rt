@@ -58,7 +58,7 @@ impl<const D: usize> DelayRing<D> {
     ghost use Rattle.std.specs.Prelude.{take, drop, slice_index_or};
     ghost use Rattle.yasir_ticks.specs.declared.tick.Tick.TheVariants.{Silent, Byte};
     ghost use Rattle.yasir_ticks.specs.Ticks.{silent};
-    ghost use Rattle.delay_ring.specs.DelayRing.{ring_ticks, marked, marked_ticks};
+    ghost use Rattle.delay_ring.specs.DelayRing.{ring_ticks, marked, marked_ticks, AreAlike};
 
     /// A ring of silent ticks.
     pub fn new() -> DelayRing<D>
@@ -216,6 +216,22 @@ impl<const D: usize> DelayRing<D> {
             }
         }
         most
+    }
+
+    /// How many of the ticks that leave next, of so many, are alike: all silent, or all bytes.
+    #[inline]
+    pub fn front_alike(&self, most: usize) -> usize
+        requires { most ≤ D }
+        ensures within { result ≤ most }
+        ensures alike { AreAlike (take result (ring_ticks self.now)) }
+        ensures some { 0 < most → 0 < result }
+    {
+        let silence = self.front_silence(most);
+        if silence > 0 {
+            silence
+        } else {
+            self.front_bytes(most).len()
+        }
     }
 
     /// Makes all ticks silent.

@@ -83,7 +83,7 @@ pub grown-bytes : (body : List Tick) (q b : ℕ)
 grown-bytes body q b =
     bytes_in-append body (silent q ++ Byte b ∷ []) ∙ ap (λ x. bytes_in body ++ x) (bytes-run q b)
 
-grown-silence : (g c : ℕ) (body : List Tick) (q b : ℕ) → IsContiguous c body
+pub grown-silence : (g c : ℕ) (body : List Tick) (q b : ℕ) → IsContiguous c body
     → has_silence (suc g) (body ++ (silent q ++ Byte b ∷ []))
     ≡ (has_silence (suc g) body || nat_lt g q)
 grown-silence g c body q b contiguous =

@@ -11,4 +11,5 @@ mod DnpRows
 pub mod Parting
 pub mod Broken
 pub mod RtuFamilyLaws
+pub mod RtuRuns
 pub mod HuntFamilyLaws

@@ -34,7 +34,7 @@ module _ (cut gap : ℕ) where
   reads line = rtu_family_reads cut gap line
 
   -- the frames of its closed bursts
-  reads-parted : (quiet : ℕ) (line : List Tick) (closed : List Burst) (running : Option Burst)
+  pub reads-parted : (quiet : ℕ) (line : List Tick) (closed : List Burst) (running : Option Burst)
       → IsParted cut quiet line closed running
       → reads line ≡ frames_read cut (suc gap) (length line) closed
   reads-parted quiet line closed None parted =

@@ -56,6 +56,7 @@ pub trait Device {
     /// Takes the next ticks, which have these bytes, up to the first one in which a frame is read.
     fn hear_some(&mut self, bytes: &[u8]) -> Heard
         requires { taken self.old + length bytes.now ≤ MAX_TICKS }
+        ensures some { 0 < length bytes.now → 0 < result.taken }
         ensures within { result.taken ≤ length bytes.now }
         ensures whole { result.frame ≡ None → result.taken ≡ length bytes.now }
         ensures taken { taken self.new ≡ taken self.old + result.taken }
@@ -84,6 +85,7 @@ pub trait Device {
     /// Takes so many silent ticks, up to the first one in which a frame is read.
     fn wait_some(&mut self, ticks: usize) -> Heard
         requires { taken self.old + ticks ≤ MAX_TICKS }
+        ensures some { 0 < ticks → 0 < result.taken }
         ensures within { result.taken ≤ ticks }
         ensures whole { result.frame ≡ None → result.taken ≡ ticks }
         ensures taken { taken self.new ≡ taken self.old + result.taken }

@@ -1,4 +1,4 @@
-use crate::device::{Device, FrameAt};
+use crate::device::{Device, FrameAt, Heard};
 use crate::rtu_family::RtuFamily;
 use yasir_ticks::{T1_5_TICKS, T3_5_TICKS, Tick};
 
@@ -28,5 +28,19 @@ impl Device for RtuDevice {
     #[inline]
     fn step(&mut self, t: Tick) -> Option<FrameAt> {
         self.family.step(t)
+    }
+
+    #[inline]
+    fn hear_some(&mut self, bytes: &[u8]) -> Heard {
+        self.family.hear_some(bytes);
+        Heard {
+            taken: bytes.len(),
+            frame: None,
+        }
+    }
+
+    #[inline]
+    fn wait_some(&mut self, ticks: usize) -> Heard {
+        self.family.wait_some(ticks)
     }
 }

@@ -1,4 +1,4 @@
-use crate::device::FrameAt;
+use crate::device::{FrameAt, Heard};
 use crate::silence::Silence;
 use arrayvec::ArrayVec;
 use line_rules::LineRules;
@@ -24,7 +24,8 @@ pub struct RtuFamily {
 
 impl RtuFamily {
     ghost use Rattle.std.specs.Prelude.{◌≡◌, ℕ, ◌+◌, ◌<◌, ◌≤◌, ◌||◌, nat_lt, false, List};
-    ghost use Rattle.std.specs.Prelude.{[], ◌∷◌, ◌++◌, length};
+    ghost use Rattle.std.specs.Prelude.{[], ◌∷◌, ◌++◌, length, map, take, ◌⊎◌, None, if◌then◌else◌};
+    ghost use Rattle.yasir_ticks.specs.Ticks.{silent};
     ghost use Rattle.yasir_ticks.specs.declared.tick.Tick.{Tick};
     ghost use Rattle.yasir_ticks.specs.declared.tick.Tick.TheVariants.{Silent, Byte};
     ghost use Rattle.rtu_frame.specs.Rtu.{RtuStandsFor, is_full_rtu};
@@ -122,6 +123,30 @@ impl RtuFamily {
         self.ticks += 1;
     }
 
+    // Further bytes of a burst, right behind the last one.
+    #[inline]
+    fn go_on_some(&mut self, bytes: &[u8])
+        requires { self.old.ticks + length bytes.now ≤ MAX_TICKS }
+        ensures ticks { self.new.ticks ≡ self.old.ticks + length bytes.now }
+        ensures silence { self.new.silence ≡ self.old.silence }
+        ensures gap { self.new.gap ≡ self.old.gap }
+        ensures start { self.new.start ≡ self.old.start }
+        ensures broken { (x : List ℕ) → (self.old.broken ≡ false → RtuStandsFor self.old.rules x)
+            → self.new.broken
+            ≡ (self.old.broken || nat_lt 256 (length x + length bytes.now)) }
+        ensures bytes { self.new.broken ≡ false
+            → length self.old.bytes.items + length bytes.now ≤ 292
+            → self.new.bytes.items ≡ self.old.bytes.items ++ bytes.now }
+        ensures rules { self.new.broken ≡ false → (x : List ℕ) → RtuStandsFor self.old.rules x
+            → RtuStandsFor self.new.rules (x ++ bytes.now) }
+    {
+        self.ticks += bytes.len() as u64;
+        if !self.broken {
+            self.broken = self.rules.take_some(bytes) < bytes.len();
+            let _ = self.bytes.try_extend_from_slice(bytes);
+        }
+    }
+
     // The end of a burst.
     #[inline]
     fn close(&mut self) -> Option<FrameAt>
@@ -148,6 +173,7 @@ impl RtuFamily {
     fn hear(&mut self, byte: u8)
         requires { ticks_heard self.old < MAX_TICKS }
         ensures taken { ticks_heard self.new ≡ ticks_heard self.old + 1 }
+        ensures quiet { self.new.silence.quiet ≡ 0 }
         ensures stands { (cut gap : ℕ) (line : List Tick)
             → RtuFamilyStandsFor cut gap self.old line
             → RtuFamilyStandsFor cut gap self.new (line ++ Byte byte ∷ []) }
@@ -167,6 +193,10 @@ impl RtuFamily {
     fn wait(&mut self) -> Option<FrameAt>
         requires { ticks_heard self.old < MAX_TICKS }
         ensures taken { ticks_heard self.new ≡ ticks_heard self.old + 1 }
+        ensures cut { self.new.silence.cut ≡ self.old.silence.cut }
+        ensures quiet { self.new.silence.quiet
+            ≡ (if nat_lt self.old.silence.quiet self.old.silence.cut
+            then self.old.silence.quiet + 1 else self.old.silence.quiet) }
         ensures stands { (cut gap : ℕ) (line : List Tick)
             → RtuFamilyStandsFor cut gap self.old line
             → RtuFamilyStandsFor cut gap self.new (line ++ Silent ∷ []) }
@@ -180,6 +210,93 @@ impl RtuFamily {
             return self.close();
         }
         None
+    }
+
+    // Silent ticks with which the silence doesn't come to part the line.
+    #[inline]
+    fn rest(&mut self, ticks: usize)
+        requires some { ticks_heard self.old + ticks ≤ MAX_TICKS }
+        requires parts { (self.old.silence.cut ≤ self.old.silence.quiet)
+            ⊎ (self.old.silence.quiet + ticks < self.old.silence.cut) }
+        ensures taken { ticks_heard self.new ≡ ticks_heard self.old + ticks }
+        ensures cut { self.new.silence.cut ≡ self.old.silence.cut }
+        ensures quiet { self.new.silence.quiet
+            ≡ (if nat_lt self.old.silence.quiet self.old.silence.cut
+            then self.old.silence.quiet + ticks else self.old.silence.quiet) }
+        ensures stands { (cut gap : ℕ) (line : List Tick)
+            → RtuFamilyStandsFor cut gap self.old line
+            → RtuFamilyStandsFor cut gap self.new (line ++ silent ticks) }
+    {
+        self.ticks += ticks as u64;
+        self.silence.rest(ticks);
+    }
+
+    /// Takes the next ticks, which have these bytes. A frame is read in none of them. At most
+    /// `MAX_TICKS` ticks were then taken.
+    pub fn hear_some(&mut self, bytes: &[u8])
+        requires { ticks_heard self.old + length bytes.now ≤ MAX_TICKS }
+        ensures taken { ticks_heard self.new ≡ ticks_heard self.old + length bytes.now }
+        ensures stands { (cut gap : ℕ) (line : List Tick)
+            → RtuFamilyStandsFor cut gap self.old line
+            → RtuFamilyStandsFor cut gap self.new (line ++ map Byte bytes.now) }
+        ensures answer { (cut gap n : ℕ) (line : List Tick)
+            → RtuFamilyStandsFor cut gap self.old line
+            → rtu_family_reads cut gap (line ++ map Byte (take n bytes.now))
+            ≡ rtu_family_reads cut gap line }
+    {
+        let Some((first, rest)) = bytes.split_first() else {
+            return;
+        };
+        self.hear(*first);
+        self.go_on_some(rest);
+    }
+
+    /// Takes so many silent ticks, up to the first one in which a frame is read. At most
+    /// `MAX_TICKS` ticks were then taken.
+    pub fn wait_some(&mut self, ticks: usize) -> Heard
+        requires { ticks_heard self.old + ticks ≤ MAX_TICKS }
+        ensures some { 0 < ticks → 0 < result.taken }
+        ensures within { result.taken ≤ ticks }
+        ensures whole { result.frame ≡ None → result.taken ≡ ticks }
+        ensures taken { ticks_heard self.new ≡ ticks_heard self.old + result.taken }
+        ensures stands { (cut gap : ℕ) (line : List Tick)
+            → RtuFamilyStandsFor cut gap self.old line
+            → RtuFamilyStandsFor cut gap self.new (line ++ silent result.taken) }
+        ensures answer { (cut gap : ℕ) (line : List Tick)
+            → RtuFamilyStandsFor cut gap self.old line
+            → rtu_family_reads cut gap (line ++ silent result.taken)
+            ≡ rtu_family_reads cut gap line ++ frames_of result.frame }
+        ensures before { (cut gap n : ℕ) → n < result.taken → (line : List Tick)
+            → RtuFamilyStandsFor cut gap self.old line
+            → rtu_family_reads cut gap (line ++ silent n) ≡ rtu_family_reads cut gap line }
+    {
+        let left = usize::from(self.silence.left());
+        if left == 0 {
+            self.rest(ticks);
+            return Heard {
+                taken: ticks,
+                frame: None,
+            };
+        }
+        if ticks < left {
+            self.rest(ticks);
+            return Heard {
+                taken: ticks,
+                frame: None,
+            };
+        }
+        self.rest(left - 1);
+        if let Some(frame) = self.wait() {
+            return Heard {
+                taken: left,
+                frame: Some(frame),
+            };
+        }
+        self.rest(ticks - left);
+        Heard {
+            taken: ticks,
+            frame: None,
+        }
     }
 
     /// Takes the next tick of the line. Answers the frame that is read in this very tick, and

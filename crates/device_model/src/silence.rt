@@ -8,7 +8,8 @@ pub(crate) struct Silence {
 }
 
 impl Silence {
-    ghost use Rattle.std.specs.Prelude.{◌≡◌, ◌+◌, ◌==◌, nat_le, nat_lt, if◌then◌else◌};
+    ghost use Rattle.std.specs.Prelude.{◌≡◌, ◌+◌, ◌-◌, ◌<◌, ◌≤◌, ◌⊎◌, ◌==◌, nat_le, nat_lt};
+    ghost use Rattle.std.specs.Prelude.{if◌then◌else◌};
 
     // The start of a line counts as silence.
     pub(crate) fn new(cut: u8) -> Silence
@@ -47,6 +48,27 @@ impl Silence {
         }
         self.quiet += 1;
         self.quiet == self.cut
+    }
+
+    // How many silent ticks more part the line; 0 where it has been parted.
+    #[inline]
+    pub(crate) fn left(&self) -> u8
+        ensures { result ≡ self.now.cut - self.now.quiet }
+    {
+        self.cut.saturating_sub(self.quiet)
+    }
+
+    // So many silent ticks more, with which the silence doesn't come to part the line.
+    #[inline]
+    pub(crate) fn rest(&mut self, ticks: usize)
+        requires { (self.old.cut ≤ self.old.quiet) ⊎ (self.old.quiet + ticks < self.old.cut) }
+        ensures cut { self.new.cut ≡ self.old.cut }
+        ensures quiet { self.new.quiet
+            ≡ (if nat_lt self.old.quiet self.old.cut then self.old.quiet + ticks else self.old.quiet) }
+    {
+        if self.quiet < self.cut {
+            self.quiet += ticks as u8;
+        }
     }
 
     // A byte ends the silence.

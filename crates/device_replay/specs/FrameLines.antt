@@ -1,5 +1,5 @@
 -- What stands where for a consumer that prints a line for each frame that its device reads.
-use Rattle.std.specs.Prelude.{◌≡◌, ℕ, List, Option, ⊤}
+use Rattle.std.specs.Prelude.{◌≡◌, ℕ, List, Option, ⊤, Result, Ok, Err}
 use Rattle.yasir_io.specs.Output.{Buffered, GotPrefix}
 use Rattle.yasir_io.specs.TextBuffer.{waiting_bytes}
 use Rattle.yasir_ticks.specs.Ticks.{Item, ticks_in}
@@ -41,3 +41,8 @@ printing device = record {
   kept = λ printer disk. ⊤;
   safe = λ printer image. ⊤;
 }
+
+-- the answer of a call that takes a run, where a part of it is taken by this answer
+abbrev pub all_taken : Result ℕ Stop → Result (Unit {0}) Stop
+all_taken (Ok n) = Ok tt
+all_taken (Err stop) = Err stop

@@ -6,10 +6,10 @@ ghost use Rattle.yasir_io.specs.TextBuffer.{waiting_bytes};
 ghost use Rattle.device_replay.specs.Lines.{frame_line, read_at};
 
 use crate::text::frame_line;
-use device_model::{Device, FrameAt};
+use device_model::{Device, FrameAt, Heard};
 use tick_drive::{Consumer, Stop};
 use yasir_io::{Failed, Sink, SlotDisk, TextBuffer};
-use yasir_ticks::Tick;
+use yasir_ticks::{MAX_TICKS, Tick};
 
 /// Prints a line for each frame that a device reads.
 #[derive(Drop)]
@@ -35,6 +35,11 @@ fn push_frame<O: Sink>(lines: &mut TextBuffer, out: &mut O, frame: &FrameAt) -> 
 }
 
 impl<V: Device + Drop> FrameLines<V> {
+    ghost use Rattle.std.specs.Prelude.{◌<◌, take, IfOk, IfErr};
+    ghost use Rattle.tick_drive.specs.Consumers.{Gives, state_of};
+    ghost use Rattle.tick_drive.specs.Items.{byte_items, silent_items};
+    ghost use Rattle.device_replay.specs.FrameLines.{printing, all_taken};
+
     /// A device that has heard nothing, and no line yet.
     pub fn new() -> FrameLines<V>
         ensures stands { V.stands result.device [] }
@@ -46,6 +51,66 @@ impl<V: Device + Drop> FrameLines<V> {
             device: V::fresh(),
             lines: TextBuffer::new(),
         }
+    }
+
+    // Hears the first of these bytes, up to one with which a frame is read, and adds its line. Says
+    // how many it has heard.
+    #[inline]
+    fn hear_part<O: Sink, L: Sink, D: SlotDisk>(
+        &mut self,
+        out: &mut O,
+        log: &L,
+        disk: &D,
+        bytes: &[u8],
+    ) -> Result<usize, Stop>
+        requires room { V.taken self.old.device + length bytes.now ≤ MAX_TICKS }
+        requires some { 0 < length bytes.now }
+        ensures part { IfOk result (λ n. (0 < n) × (n ≤ length bytes.now)) }
+        ensures gives { IfOk result (λ n. Gives (printing V.Device) O.Sink L.Sink D.SlotDisk
+            (state_of self.old out.old log.now disk.now) (state_of self.new out.new log.now disk.now)
+            (byte_items (take n bytes.now)) (all_taken result)) }
+        ensures stops { IfErr result (λ stop. Gives (printing V.Device) O.Sink L.Sink D.SlotDisk
+            (state_of self.old out.old log.now disk.now) (state_of self.new out.new log.now disk.now)
+            (byte_items bytes.now) (all_taken result)) }
+    {
+        let Heard { taken, frame } = self.device.hear_some(bytes);
+        let Some(frame) = frame else {
+            return Ok(taken);
+        };
+        let Ok(()) = push_frame(&mut self.lines, out, &frame) else {
+            return Err(Stop::WriteFault);
+        };
+        Ok(taken)
+    }
+
+    // Waits through the first of so many silent ticks, up to one in which a frame is read, and adds
+    // its line. Says through how many.
+    #[inline]
+    fn wait_part<O: Sink, L: Sink, D: SlotDisk>(
+        &mut self,
+        out: &mut O,
+        log: &L,
+        disk: &D,
+        ticks: usize,
+    ) -> Result<usize, Stop>
+        requires room { V.taken self.old.device + ticks ≤ MAX_TICKS }
+        requires some { 0 < ticks }
+        ensures part { IfOk result (λ n. (0 < n) × (n ≤ ticks)) }
+        ensures gives { IfOk result (λ n. Gives (printing V.Device) O.Sink L.Sink D.SlotDisk
+            (state_of self.old out.old log.now disk.now) (state_of self.new out.new log.now disk.now)
+            (silent_items n) (all_taken result)) }
+        ensures stops { IfErr result (λ stop. Gives (printing V.Device) O.Sink L.Sink D.SlotDisk
+            (state_of self.old out.old log.now disk.now) (state_of self.new out.new log.now disk.now)
+            (silent_items ticks) (all_taken result)) }
+    {
+        let Heard { taken, frame } = self.device.wait_some(ticks);
+        let Some(frame) = frame else {
+            return Ok(taken);
+        };
+        let Ok(()) = push_frame(&mut self.lines, out, &frame) else {
+            return Err(Stop::WriteFault);
+        };
+        Ok(taken)
     }
 
     /// Writes the lines that wait.
@@ -83,6 +148,40 @@ impl<V: Device + Drop, O: Sink, L: Sink, D: SlotDisk> Consumer<O, L, D> for Fram
             Ok(()) => Ok(()),
             Err(Failed) => Err(Stop::WriteFault),
         }
+    }
+
+    fn take_bytes(
+        &mut self,
+        out: &mut O,
+        log: &mut L,
+        disk: &mut D,
+        bytes: &[u8],
+    ) -> Result<(), Stop> {
+        let mut taken = 0;
+        while taken < bytes.len() {
+            match self.hear_part(out, log, disk, &bytes[taken..]) {
+                Ok(n) => taken += n,
+                Err(stop) => return Err(stop),
+            }
+        }
+        Ok(())
+    }
+
+    fn take_silence(
+        &mut self,
+        out: &mut O,
+        log: &mut L,
+        disk: &mut D,
+        ticks: u32,
+    ) -> Result<(), Stop> {
+        let mut left = ticks as usize;
+        while left > 0 {
+            match self.wait_part(out, log, disk, left) {
+                Ok(n) => left -= n,
+                Err(stop) => return Err(stop),
+            }
+        }
+        Ok(())
     }
 
     // A mark is no tick of the line.

@@ -1,18 +1,26 @@
-ghost use Rattle.std.specs.Prelude.{◌≡◌};
+ghost use Rattle.std.specs.Prelude.{◌≡◌, ◌≤◌, length};
 ghost use Rattle.device_replay.specs.Lines.{frame_line, read_at};
 
 use device_model::FrameAt;
 use replay_status::{Line, push_decimal, push_hex};
 
-/// `read at S HEX`: a frame, and the tick of its first byte.
-pub fn frame_line(frame: &FrameAt) -> Line
-    ensures { result.items ≡ frame_line (read_at frame.now) }
+/// `read at S HEX`: the bytes of a frame, and the tick of its first byte.
+pub fn read_line(start: u64, bytes: &[u8]) -> Line
+    requires { length bytes.now ≤ 292 }
+    ensures { result.items ≡ frame_line (record { start = start; frame = bytes.now }) }
 {
     let mut line = Line::new();
     line.try_extend_from_slice(b"read at ").unwrap();
-    push_decimal(&mut line, frame.start);
+    push_decimal(&mut line, start);
     line.push(b' ');
-    push_hex(&mut line, frame.bytes.as_slice());
+    push_hex(&mut line, bytes);
     line.push(b'\n');
     line
+}
+
+/// The line of a frame that a device reads.
+pub fn frame_line(frame: &FrameAt) -> Line
+    ensures { result.items ≡ frame_line (read_at frame.now) }
+{
+    read_line(frame.start, frame.bytes.as_slice())
 }

@@ -63,7 +63,9 @@ impl Dnp {
             return 1;
         }
         let room = room_by(self.len_byte) - self.len;
-        let run = rest.len().min(usize::from(room.min(left_in_block(self.len))));
+        let run = rest
+            .len()
+            .min(usize::from(room.min(left_in_block(self.len))));
         self.take_in_block(&rest[..run]);
         run
     }

@@ -1,4 +1,6 @@
-use crate::{Dnp, Header, NotAFrame, TooMuchData, build, dnp_crc, size_of, user_data};
+ghost use Rattle.std.specs.Prelude.{◌≤◌, length};
+
+use crate::{Dnp, Header, NotAFrame, TooMuchData, UserBytes, build, dnp_crc, size_of, user_data};
 use line_rules::{Head, LineRules};
 use std::mem;
 use std::test::Fail;
@@ -272,4 +274,55 @@ fn refused_places(rt: HostRuntime) {
     let mut wrong = LARGEST;
     wrong[30] ^= 1;
     assert_eq!(rt; refused_at(&wrong), Some(44));
+}
+
+// A byte of a run that looks random.
+fn byte_at(seed: u32, place: u32) -> u8 {
+    let mixed = (seed ^ place.wrapping_mul(0x9E37_79B9)).wrapping_mul(0x85EB_CA6B);
+    (mixed >> 24) as u8
+}
+
+// What the rules say of bytes that come one by one, and of bytes that come in two runs.
+fn same_in_runs<R: LineRules>(bytes: &[u8], cut: usize) -> bool
+    requires { cut ≤ length bytes.now }
+{
+    let mut single = R::fresh();
+    for byte in bytes {
+        if !single.full() {
+            single.take(*byte);
+        }
+    }
+    let mut runs = R::fresh();
+    let first = runs.take_some(&bytes[..cut]);
+    let second = runs.take_some(&bytes[cut..]);
+    first + second == usize::from(single.len())
+        && (runs.len(), runs.full(), runs.good(), runs.left())
+            == (single.len(), single.full(), single.good(), single.left())
+        && runs.head() == single.head()
+}
+
+// Frames, their like with a wrong byte, and what is longer than a frame, at every cut.
+#[test]
+fn runs_of_every_length(rt: HostRuntime) -> Result<(), Fail> {
+    for len in 0..200u32 {
+        let mut user = UserBytes::new();
+        for place in 0..len {
+            assert!(rt; user.try_push(byte_at(len, place)).is_ok());
+        }
+        let mut frame = build(&TO_OUTSTATION, user.as_slice())?;
+        for cut in 0..=frame.len() {
+            assert!(rt; same_in_runs::<Dnp>(&frame, cut));
+        }
+        assert!(rt; judged::<Dnp>(&frame).2);
+        let wrong = usize::from(byte_at(len, 300)) % frame.len().max(1);
+        if let Some(byte) = frame.get_mut(wrong) {
+            *byte ^= 0x10;
+        }
+        let _ = frame.try_push(0);
+        for cut in 0..=frame.len() {
+            assert!(rt; same_in_runs::<Dnp>(&frame, cut));
+        }
+        assert!(rt; !judged::<Dnp>(&frame).2);
+    }
+    Ok(())
 }

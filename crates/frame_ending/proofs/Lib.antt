@@ -7,5 +7,6 @@ pub mod LiveTicks
 pub mod Running
 pub mod Dividing
 pub mod Cutting
+pub mod Passing
 pub mod Runs
 pub mod Rows

@@ -30,7 +30,7 @@ impl<R: LineRules> BurstCut<R> {
     ghost use Rattle.yasir_ticks.specs.declared.tick.Tick.TheVariants.{Silent, Byte};
     ghost use Rattle.frame_ending.specs.SoFar.{start_so_far, live_bytes_so_far, last_live_so_far};
     ghost use Rattle.frame_ending.specs.SoFar.{has_extra_so_far, is_over_so_far};
-    ghost use Rattle.frame_ending.specs.declared.cut.Cut.TheVariants.{Live, Quiet};
+    ghost use Rattle.frame_ending.specs.declared.cut.Cut.TheVariants.{Live, Quiet, Extra};
     ghost use Rattle.frame_ending.specs.Cuts.{cut_of, cuts_after};
     ghost use Rattle.frame_ending.specs.Stands.{StandsFor, ticks_taken};
 
@@ -219,6 +219,63 @@ impl<R: LineRules> BurstCut<R> {
         ticks
     }
 
+    // Whether no further byte is live of a burst that runs.
+    #[inline]
+    fn is_over(&self) -> bool
+        ensures { result ≡ (self.now.paused || R.is_full self.now.rules) }
+    {
+        self.paused || self.rules.full()
+    }
+
+    /// Takes these bytes, one a tick, if a burst runs of which no further byte is live, and says how
+    /// many: all or none.
+    #[inline]
+    pub fn pass_over_some(&mut self, bytes: &[u8]) -> usize
+        requires { ticks_taken self.old + length bytes.now ≤ MAX_TICKS }
+        ensures within { result ≤ length bytes.now }
+        ensures taken { ticks_taken self.new ≡ ticks_taken self.old + result }
+        ensures stands { (line : List Tick) → StandsFor R.LineRules self.old line
+            → StandsFor R.LineRules self.new (line ++ map Byte (take result bytes.now)) }
+        ensures extra { (line : List Tick) → StandsFor R.LineRules self.old line
+            → cuts_after R.rules line (map Byte (take result bytes.now))
+            ≡ map Extra (take result bytes.now) }
+        ensures all { result < length bytes.now → (line : List Tick) (b : ℕ)
+            → StandsFor R.LineRules self.new line → cut_of R.rules line (Byte b) ≡ Extra b → ⊥ }
+    {
+        if self.quiet >= T3_5_TICKS {
+            return 0;
+        }
+        let over = self.is_over();
+        if !over {
+            return 0;
+        }
+        let count = bytes.len();
+        if count == 0 {
+            return 0;
+        }
+        self.extra = true;
+        self.quiet = 0;
+        self.taken += count as u64;
+        count
+    }
+
+    /// Takes so many silent ticks.
+    #[inline]
+    pub fn wait_some(&mut self, ticks: u32)
+        requires { ticks_taken self.old + ticks ≤ MAX_TICKS }
+        ensures taken { ticks_taken self.new ≡ ticks_taken self.old + ticks }
+        ensures stands { (line : List Tick) → StandsFor R.LineRules self.old line
+            → StandsFor R.LineRules self.new (line ++ silent ticks) }
+    {
+        for waited in 0..ticks {
+            if self.quiet >= T3_5_TICKS {
+                self.taken += u64::from(ticks - waited);
+                return;
+            }
+            let _ = self.wait();
+        }
+    }
+
     /// The live bytes.
     #[inline]
     pub fn rules(&self) -> &R
@@ -262,7 +319,7 @@ impl<R: LineRules> BurstCut<R> {
         ensures { (line : List Tick) → StandsFor R.LineRules self.now line
             → result ≡ is_over_so_far R.rules line }
     {
-        self.paused || self.rules.full()
+        self.is_over()
     }
 
     /// How many ticks were taken.

@@ -15,3 +15,6 @@ pub use crc_tables::{CrcTables, crc_by_tables, step_by_table};
 pub use four_bytes::FourBytes;
 pub use head::Head;
 pub use line_rules::LineRules;
+
+#[cfg(test)]
+mod tests;

@@ -4,11 +4,14 @@ use Rattle.std.proofs.Common.{None, cond, nat_eq, refl, sym, ap}
 use Rattle.std.specs.Prelude.{codes}
 use Rattle.hmac_tag.specs.declared.dir.Dir.{Dir}
 use Rattle.hmac_tag.specs.declared.dir.Dir.TheVariants.{Ab, Ba}
-use Rattle.link_replay.specs.Words.{IsCommand, Asks}
+use Rattle.link_replay.specs.Words.{dir_word, link_word, IsCommand, Asks}
+use Rattle.link_replay.specs.declared.words.Profile.{Profile}
+use Rattle.link_replay.specs.declared.words.Profile.TheVariants.{Y18, Y24}
 use Rattle.link_replay.specs.declared.words.Proto.{Proto}
 use Rattle.link_replay.specs.declared.words.Proto.TheVariants.{Rtu, Dnp3}
 use Rattle.link_replay.specs.declared.words.Command.{Command}
 use Rattle.link_replay.specs.declared.words.Command.TheVariants.{Init, Read, Vectors, Seal, Check}
+use Rattle.link_replay.specs.declared.words.Command.TheVariants.{Replay}
 
 -- A word as one number, so that two words are told apart by a test.
 abbrev number_of : List ℕ → ℕ
@@ -19,7 +22,12 @@ abbrev is_word : List ℕ → List ℕ → Bool
 is_word expected word = nat_eq (number_of word) (number_of expected)
 
 abbrev proto_by : List ℕ → Proto
-proto_by word = cond (is_word (codes "dnp3") word) Dnp3 Rtu
+proto_by word =
+    cond (is_word (codes "dnp3") word) Dnp3 (cond (is_word (codes "dnp24") word) Dnp3 Rtu)
+
+abbrev profile_by : List ℕ → Profile
+profile_by word =
+    cond (is_word (codes "rtu24") word) Y24 (cond (is_word (codes "dnp24") word) Y24 Y18)
 
 abbrev dir_by : List ℕ → Dir
 dir_by word = cond (is_word (codes "ab") word) Ab Ba
@@ -30,8 +38,11 @@ command_by verb first second =
     cond (is_word (codes "init") verb) Init
     (cond (is_word (codes "read") verb) (Read (proto_by first))
     (cond (is_word (codes "vectors") verb) Vectors
-    (cond (is_word (codes "seal") verb) (Seal (proto_by first) (dir_by second))
-    (Check (proto_by first) (dir_by second)))))
+    (cond (is_word (codes "seal") verb)
+    (Seal (proto_by first) (profile_by first) (dir_by second))
+    (cond (is_word (codes "check") verb)
+    (Check (proto_by first) (profile_by first) (dir_by second))
+    (Replay (proto_by first) (profile_by first) (dir_by second))))))
 
 abbrev word_at : ℕ → List (List ℕ) → List ℕ
 word_at zero [] = []
@@ -42,20 +53,38 @@ word_at (suc n) (word ∷ words) = word_at n words
 abbrev command_in : List (List ℕ) → Command
 command_in words = command_by (word_at 0 words) (word_at 1 words) (word_at 2 words)
 
+proto-by : (proto : Proto) (profile : Profile) → proto_by (link_word proto profile) ≡ proto
+proto-by Rtu Y18 = refl
+proto-by Rtu Y24 = refl
+proto-by Dnp3 Y18 = refl
+proto-by Dnp3 Y24 = refl
+
+profile-by : (proto : Proto) (profile : Profile) → profile_by (link_word proto profile) ≡ profile
+profile-by Rtu Y18 = refl
+profile-by Rtu Y24 = refl
+profile-by Dnp3 Y18 = refl
+profile-by Dnp3 Y24 = refl
+
+dir-by : (dir : Dir) → dir_by (dir_word dir) ≡ dir
+dir-by Ab = refl
+dir-by Ba = refl
+
+-- what is asked of a box, by its words
+box-by : (asks : Proto → Profile → Dir → Command) (proto : Proto) (profile : Profile) (dir : Dir)
+    → asks (proto_by (link_word proto profile)) (profile_by (link_word proto profile))
+    (dir_by (dir_word dir)) ≡ asks proto profile dir
+box-by asks proto profile dir =
+    rw (proto-by proto profile, profile-by proto profile, dir-by dir)
+
 command-in : (words : List (List ℕ)) (command : Command) → IsCommand words command
     → command_in words ≡ command
 command-in words Init h = ap command_in h.2
 command-in words (Read Rtu) h = ap command_in h
 command-in words (Read Dnp3) h = ap command_in h
 command-in words Vectors h = ap command_in h
-command-in words (Seal Rtu Ab) h = ap command_in h.4
-command-in words (Seal Rtu Ba) h = ap command_in h.4
-command-in words (Seal Dnp3 Ab) h = ap command_in h.4
-command-in words (Seal Dnp3 Ba) h = ap command_in h.4
-command-in words (Check Rtu Ab) h = ap command_in h.4
-command-in words (Check Rtu Ba) h = ap command_in h.4
-command-in words (Check Dnp3 Ab) h = ap command_in h.4
-command-in words (Check Dnp3 Ba) h = ap command_in h.4
+command-in words (Seal proto profile dir) h = ap command_in h.4 ∙ box-by Seal proto profile dir
+command-in words (Check proto profile dir) h = ap command_in h.4 ∙ box-by Check proto profile dir
+command-in words (Replay proto profile dir) h = ap command_in h.2 ∙ box-by Replay proto profile dir
 
 pub asks-one : (words : List (List ℕ)) (a b : Option Command) → Asks words a → Asks words b → a ≡ b
 asks-one words None None ha hb = refl

@@ -1,3 +1,5 @@
 pub mod Asking
 pub mod Outcomes
 pub mod Flushing
+pub mod Headlines
+pub mod Listable

@@ -12,6 +12,7 @@ use Rattle.replay_status.specs.Outside.{Outside}
 use Rattle.replay_status.specs.Causes.{SinkCause, DiskCause, NoneRose}
 use Rattle.replay_status.specs.Statuses.{fault_line}
 use Rattle.link_replay.specs.Commands.{Does, MayDo, IsCalm, HasOwnCauses, HasCauses}
+use Rattle.link_replay.specs.Commands.{EndsWell}
 use Rattle.link_replay.specs.InitCommand.{MakesJournal, IsBlank}
 use Rattle.link_replay.specs.ReadCommand.{device_reads}
 use Rattle.link_replay.specs.VectorsCommand.{PrintsTables}
@@ -22,10 +23,12 @@ use Rattle.replay_status.specs.declared.status.Status.TheVariants.{Done, WriteFa
 use Rattle.replay_status.specs.declared.status.Status.TheVariants.{HasJournal}
 use Rattle.link_replay.specs.declared.words.Command.{Command}
 use Rattle.link_replay.specs.declared.words.Command.TheVariants.{Init, Read, Vectors, Seal, Check}
+use Rattle.link_replay.specs.declared.words.Command.TheVariants.{Replay}
 use Rattle.replay_status.proofs.Logging.{sinks_after}
 use Rattle.replay_status.proofs.FlushLaws.{flushes_after}
 use Rattle.device_replay.proofs.Readable.{readable_done}
 use Rattle.box_replay.proofs.Replayable.{replayable_done}
+use Rattle.link_replay.proofs.Listable.{listable_done}
 
 module _ (key0 key1 in0 in1 out0 out1 log0 log1 disk0 disk1 : ℕ)
     (calm : NoneRose key0 key1 in0 in1 out0 out1 log0 log1 disk0 disk1) where
@@ -61,8 +64,9 @@ module _ {K S O L D : Type 0} (k : Source K) (s : Source S) (o : Sink O) (l : Si
       (status : Status)
       → HasOwnCauses k s o l d asked before (record after { log = noted }) status
       → HasOwnCauses k s o l d asked before after status
-  own-after (Some (Seal proto dir)) before after noted status h = h
-  own-after (Some (Check proto dir)) before after noted status h = h
+  own-after (Some (Seal proto profile dir)) before after noted status h = h
+  own-after (Some (Check proto profile dir)) before after noted status h = h
+  own-after (Some (Replay proto profile dir)) before after noted status h = h
   own-after None before after noted status h = h
   own-after (Some Init) before after noted status h = h
   own-after (Some (Read proto)) before after noted status h = h
@@ -100,7 +104,7 @@ module _ {K S O L D : Type 0} (k : Source K) (s : Source S) (o : Sink O) (l : Si
   pub asked_done : (asked : Option Command) (before after : Outside K S O L D) (status : Status)
       → MayDo k s o l d asked before → IsCalm k s o l d before after
       → Does k s o l d asked before after status → HasCauses k s o l d asked before after status
-      → status ≡ Done
+      → EndsWell asked status
   asked_done None before after status may calm does causes = absurd may
   asked_done (Some Init) before after status may calm does causes =
       journal_done _ _ _ _ _ _ _ _ _ _ calm _ _ _ _ status may does.journal causes.sinks
@@ -110,9 +114,12 @@ module _ {K S O L D : Type 0} (k : Source K) (s : Source S) (o : Sink O) (l : Si
       does.frames causes.own.0 causes.sinks
   asked_done (Some Vectors) before after status may calm does causes =
       tables_done _ _ _ _ _ _ _ _ _ _ calm _ _ status does.tables causes.sinks
-  asked_done (Some (Seal proto dir)) before after status may calm does causes =
-      replayable_done k s o l d (seal_boxed proto) dir seal_rest before after may calm status
+  asked_done (Some (Seal proto profile dir)) before after status may calm does causes =
+      replayable_done k s o l d (seal_boxed proto profile) dir (seal_rest profile) before after may calm
+      status does causes.reads causes.own causes.sinks
+  asked_done (Some (Check proto profile dir)) before after status may calm does causes =
+      replayable_done k s o l d (check_boxed proto profile) dir check_rest before after may calm status
       does causes.reads causes.own causes.sinks
-  asked_done (Some (Check proto dir)) before after status may calm does causes =
-      replayable_done k s o l d (check_boxed proto) dir check_rest before after may calm status
-      does causes.reads causes.own causes.sinks
+  asked_done (Some (Replay proto profile dir)) before after status may calm does causes =
+      listable_done k s o l d proto profile dir before after may calm status does causes.reads
+      causes.sinks

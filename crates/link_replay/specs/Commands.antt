@@ -1,5 +1,5 @@
 -- What the program does for each thing that its words may ask for.
-use Rattle.std.specs.Prelude.{◌≡◌, Option, Some, None}
+use Rattle.std.specs.Prelude.{◌≡◌, ◌⊎◌, Option, Some, None}
 use Rattle.yasir_io.specs.declared.source.Source.{Ghosts as Source}
 use Rattle.yasir_io.specs.declared.sink.Sink.{Ghosts as Sink}
 use Rattle.yasir_io.specs.declared.disk.SlotDisk.{Ghosts as SlotDisk}
@@ -17,17 +17,25 @@ use Rattle.link_replay.specs.VectorsCommand.{Tabulates}
 use Rattle.box_replay.specs.ReplaysBox.{BoxDiskCause, IsReplayable, KeepsFloorThroughout}
 use Rattle.link_replay.specs.SealCommand.{Seals}
 use Rattle.link_replay.specs.CheckCommand.{Checks}
+use Rattle.link_replay.specs.ReplayCommand.{Replays, IsListable}
 use Rattle.replay_status.specs.declared.status.Status.{Status}
-use Rattle.replay_status.specs.declared.status.Status.TheVariants.{Usage}
+use Rattle.replay_status.specs.declared.status.Status.TheVariants.{Usage, Done, NoMemory}
 use Rattle.link_replay.specs.declared.words.Command.{Command}
 use Rattle.link_replay.specs.declared.words.Command.TheVariants.{Init, Read, Vectors, Seal, Check}
+use Rattle.link_replay.specs.declared.words.Command.TheVariants.{Replay}
+
+-- How a command ends that is given what is right, and where nothing outside fails. Of all commands
+-- `replay` alone takes memory, and there may be none.
+abbrev pub EndsWell : Option Command → Status → Type 0
+EndsWell (Some (Replay proto profile dir)) status = (status ≡ Done) ⊎ (status ≡ NoMemory)
+EndsWell asked status = status ≡ Done
 
 -- What a crash may leave of the disk, at any moment of the run or at its end.
 abbrev pub KeepsDisk : {D : Type 0} → SlotDisk D → Option Command → D → D → Type 0
 KeepsDisk d (Some Init) old new =
     LeavesOnly d.moment d.left_since old new (IsBeside B (d.may_leave old))
-KeepsDisk d (Some (Seal proto dir)) old new = KeepsFloorThroughout d old new
-KeepsDisk d (Some (Check proto dir)) old new = KeepsFloorThroughout d old new
+KeepsDisk d (Some (Seal proto profile dir)) old new = KeepsFloorThroughout d old new
+KeepsDisk d (Some (Check proto profile dir)) old new = KeepsFloorThroughout d old new
 KeepsDisk d asked old new = new ≡ old
 
 module _ {K S O L D : Type 0} (k : Source K) (s : Source S) (o : Sink O) (l : Sink L)
@@ -38,9 +46,12 @@ module _ {K S O L D : Type 0} (k : Source K) (s : Source S) (o : Sink O) (l : Si
   Does (Some Init) before after status = Inits o l d before after status
   Does (Some (Read proto)) before after status = Reads s o l proto before after status
   Does (Some Vectors) before after status = Tabulates o l before after status
-  Does (Some (Seal proto dir)) before after status = Seals k s o l d proto dir before after status
-  Does (Some (Check proto dir)) before after status =
-      Checks k s o l d proto dir before after status
+  Does (Some (Seal proto profile dir)) before after status =
+      Seals k s o l d proto profile dir before after status
+  Does (Some (Check proto profile dir)) before after status =
+      Checks k s o l d proto profile dir before after status
+  Does (Some (Replay proto profile dir)) before after status =
+      Replays k s o l proto profile dir before after status
 
   -- What a run does: what was asked for, and then the fault line in the log, where the status has
   -- one.
@@ -58,10 +69,11 @@ module _ {K S O L D : Type 0} (k : Source K) (s : Source S) (o : Sink O) (l : Si
   MayDo (Some Init) before = IsBlank (d.told before.disk)
   MayDo (Some (Read proto)) before = IsReadable (s.left before.input)
   MayDo (Some Vectors) before = Unit {0}
-  MayDo (Some (Seal proto dir)) before =
+  MayDo (Some (Seal proto profile dir)) before =
       IsReplayable (k.left before.key) (d.told before.disk) (s.left before.input)
-  MayDo (Some (Check proto dir)) before =
+  MayDo (Some (Check proto profile dir)) before =
       IsReplayable (k.left before.key) (d.told before.disk) (s.left before.input)
+  MayDo (Some (Replay proto profile dir)) before = IsListable (k.left before.key) (s.left before.input)
 
   -- Nothing outside failed.
   abbrev pub IsCalm : Outside K S O L D → Outside K S O L D → Type 0
@@ -71,10 +83,12 @@ module _ {K S O L D : Type 0} (k : Source K) (s : Source S) (o : Sink O) (l : Si
 
   -- The causes that depend on the command: a box may write after a call of the disk has failed.
   abbrev pub HasOwnCauses : Option Command → Outside K S O L D → Outside K S O L D → Status → Type 0
-  HasOwnCauses (Some (Seal proto dir)) before after status =
+  HasOwnCauses (Some (Seal proto profile dir)) before after status =
       BoxDiskCause (d.faults before.disk) (d.faults after.disk) status
-  HasOwnCauses (Some (Check proto dir)) before after status =
+  HasOwnCauses (Some (Check proto profile dir)) before after status =
       BoxDiskCause (d.faults before.disk) (d.faults after.disk) status
+  HasOwnCauses (Some (Replay proto profile dir)) before after status =
+      DiskCause (d.faults before.disk) (d.faults after.disk) status
   HasOwnCauses asked before after status =
       InputCause (s.faults before.input) (s.faults after.input) status
       × DiskCause (d.faults before.disk) (d.faults after.disk) status

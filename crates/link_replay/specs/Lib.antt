@@ -5,4 +5,5 @@ pub mod ReadCommand
 pub mod VectorsCommand
 pub mod SealCommand
 pub mod CheckCommand
+pub mod ReplayCommand
 pub mod Commands

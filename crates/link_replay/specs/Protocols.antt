@@ -1,7 +1,14 @@
--- The protocols of the program's commands.
+-- The protocols and profiles of the program's commands.
+use Rattle.std.specs.Prelude.{ℕ}
 use Rattle.line_rules.specs.Rules.{Rules}
 use Rattle.rtu_frame.specs.Rules.{rtu_rules}
 use Rattle.dnp_link_frame.specs.Rules.{dnp_rules}
+use Rattle.link_format.specs.Profile.{Profile as LinkProfile}
+use Rattle.link_format.specs.Setup.{Setup}
+use Rattle.link_format.specs.Y18.{y18}
+use Rattle.link_format.specs.Y24.{y24}
+use Rattle.link_replay.specs.declared.words.Profile.{Profile}
+use Rattle.link_replay.specs.declared.words.Profile.TheVariants.{Y18, Y24}
 use Rattle.link_replay.specs.declared.words.Proto.{Proto}
 use Rattle.link_replay.specs.declared.words.Proto.TheVariants.{Rtu, Dnp3}
 
@@ -9,3 +16,13 @@ use Rattle.link_replay.specs.declared.words.Proto.TheVariants.{Rtu, Dnp3}
 abbrev pub rules_of : Proto → Rules
 rules_of Rtu = rtu_rules
 rules_of Dnp3 = dnp_rules
+
+-- what a profile is for the number of a protocol, with numbers up to a limit, as a box is set up
+abbrev pub format_of : Profile → ℕ → ℕ → Setup → LinkProfile
+format_of Y18 = y18
+format_of Y24 = y24
+
+-- how many ticks the receiver of a profile holds a byte back
+abbrev pub delay_of : Profile → ℕ
+delay_of Y18 = 18
+delay_of Y24 = 24

@@ -1,32 +1,32 @@
 -- The command `seal`: the transmitter over a recorded line of a device.
-use Rattle.std.specs.Prelude.{ℕ}
+use Rattle.std.specs.Prelude.{ℕ, ◌+◌}
 use Rattle.yasir_io.specs.declared.source.Source.{Ghosts as Source}
 use Rattle.yasir_io.specs.declared.sink.Sink.{Ghosts as Sink}
 use Rattle.yasir_io.specs.declared.disk.SlotDisk.{Ghosts as SlotDisk}
 use Rattle.hmac_tag.specs.declared.dir.Dir.{Dir}
 use Rattle.link_format.specs.Setup.{Setup}
-use Rattle.link_format.specs.Y18.{y18}
 use Rattle.sequence_journal.specs.declared.numbers.TheConstants.{LIMIT}
 use Rattle.replay_status.specs.Outside.{Outside}
 use Rattle.replay_status.specs.declared.status.Status.{Status}
 use Rattle.box_replay.specs.Boxes.{Boxed}
 use Rattle.box_replay.specs.ReplaysBox.{ReplaysBox}
 use Rattle.seal_replay.specs.SealBoxed.{sealing}
+use Rattle.link_replay.specs.declared.words.Profile.{Profile}
 use Rattle.link_replay.specs.declared.words.Proto.{Proto}
-use Rattle.link_replay.specs.Protocols.{rules_of}
+use Rattle.link_replay.specs.Protocols.{rules_of, format_of, delay_of}
 
 -- How many silent ticks stand behind a whole input: they close its last burst and carry the
 -- trailer.
-abbrev pub seal_rest : ℕ
-seal_rest = 24
+abbrev pub seal_rest : Profile → ℕ
+seal_rest profile = delay_of profile + 6
 
--- what the transmitter of a protocol makes of a line, as it is set up
-abbrev pub seal_boxed : Proto → Setup → Boxed
-seal_boxed proto setup =
-    sealing (y18 (rules_of proto).label LIMIT setup) (rules_of proto) setup.floor
+-- what the transmitter of a protocol and a profile makes of a line, as it is set up
+abbrev pub seal_boxed : Proto → Profile → Setup → Boxed
+seal_boxed proto profile setup =
+    sealing (format_of profile (rules_of proto).label LIMIT setup) (rules_of proto) setup.floor
 
 -- What `seal` does.
 abbrev pub Seals : {K S O L D : Type 0} → Source K → Source S → Sink O → Sink L → SlotDisk D
-    → Proto → Dir → Outside K S O L D → Outside K S O L D → Status → Type 0
-Seals k s o l d proto dir before after status =
-    ReplaysBox k s o l d (seal_boxed proto) dir seal_rest before after status
+    → Proto → Profile → Dir → Outside K S O L D → Outside K S O L D → Status → Type 0
+Seals k s o l d proto profile dir before after status =
+    ReplaysBox k s o l d (seal_boxed proto profile) dir (seal_rest profile) before after status

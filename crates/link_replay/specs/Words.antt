@@ -4,31 +4,42 @@ use Rattle.hmac_tag.specs.declared.dir.Dir.{Dir}
 use Rattle.hmac_tag.specs.declared.dir.Dir.TheVariants.{Ab, Ba}
 use Rattle.link_replay.specs.declared.words.Proto.{Proto}
 use Rattle.link_replay.specs.declared.words.Proto.TheVariants.{Rtu, Dnp3}
+use Rattle.link_replay.specs.declared.words.Profile.{Profile}
+use Rattle.link_replay.specs.declared.words.Profile.TheVariants.{Y18, Y24}
 use Rattle.link_replay.specs.declared.words.Command.{Command}
 use Rattle.link_replay.specs.declared.words.Command.TheVariants.{Init, Read, Vectors, Seal, Check}
+use Rattle.link_replay.specs.declared.words.Command.TheVariants.{Replay}
 
 abbrev pub proto_word : Proto → List ℕ
 proto_word Rtu = codes "rtu"
 proto_word Dnp3 = codes "dnp3"
 
+-- the word of a protocol on a link of a profile
+abbrev pub link_word : Proto → Profile → List ℕ
+link_word proto Y18 = proto_word proto
+link_word Rtu Y24 = codes "rtu24"
+link_word Dnp3 Y24 = codes "dnp24"
+
 abbrev pub dir_word : Dir → List ℕ
 dir_word Ab = codes "ab"
 dir_word Ba = codes "ba"
 
--- These words ask for a box: its name, a protocol, a direction, and the paths of its key and its
--- journal.
-abbrev pub AskForBox : List ℕ → Proto → Dir → List (List ℕ) → Type 0
-AskForBox name proto dir words =
+-- These words ask for a box: its name, a protocol and a profile, a direction, and the paths of its
+-- key and its journal.
+abbrev pub AskForBox : List ℕ → Proto → Profile → Dir → List (List ℕ) → Type 0
+AskForBox name proto profile dir words =
     (key : List ℕ) × (path : List ℕ) × (key ≢ []) × (path ≢ [])
-    × (words ≡ name ∷ proto_word proto ∷ dir_word dir ∷ key ∷ path ∷ [])
+    × (words ≡ name ∷ link_word proto profile ∷ dir_word dir ∷ key ∷ path ∷ [])
 
 -- These words ask for the command.
 abbrev pub IsCommand : List (List ℕ) → Command → Type 0
 IsCommand words Init = (path : List ℕ) × (path ≢ []) × (words ≡ codes "init" ∷ path ∷ [])
 IsCommand words (Read proto) = words ≡ codes "read" ∷ proto_word proto ∷ []
 IsCommand words Vectors = words ≡ codes "vectors" ∷ []
-IsCommand words (Seal proto dir) = AskForBox (codes "seal") proto dir words
-IsCommand words (Check proto dir) = AskForBox (codes "check") proto dir words
+IsCommand words (Seal proto profile dir) = AskForBox (codes "seal") proto profile dir words
+IsCommand words (Check proto profile dir) = AskForBox (codes "check") proto profile dir words
+IsCommand words (Replay proto profile dir) = (key : List ℕ) × (key ≢ [])
+    × (words ≡ codes "replay" ∷ link_word proto profile ∷ dir_word dir ∷ key ∷ [])
 
 -- what the words ask for: a command, or none where they fit no command
 abbrev pub Asks : List (List ℕ) → Option Command → Type 0
@@ -40,16 +51,18 @@ abbrev pub key_place : Command → Option ℕ
 key_place Init = None
 key_place (Read proto) = None
 key_place Vectors = None
-key_place (Seal proto dir) = Some 3
-key_place (Check proto dir) = Some 3
+key_place (Seal proto profile dir) = Some 3
+key_place (Check proto profile dir) = Some 3
+key_place (Replay proto profile dir) = Some 3
 
 -- the place of the word that is the journal's path
 abbrev pub journal_place : Command → Option ℕ
 journal_place Init = Some 1
 journal_place (Read proto) = None
 journal_place Vectors = None
-journal_place (Seal proto dir) = Some 4
-journal_place (Check proto dir) = Some 4
+journal_place (Seal proto profile dir) = Some 4
+journal_place (Check proto profile dir) = Some 4
+journal_place (Replay proto profile dir) = None
 
 -- the word at a place, where there is one
 abbrev pub word_in : List (List ℕ) → Option ℕ → Option (List ℕ)

@@ -6,7 +6,11 @@ ghost use Rattle.std.specs.String.{string_bytes};
 ghost use Rattle.link_replay.specs.Words.{word_in};
 
 mod commands;
+#[cfg(test)]
+mod failing;
 mod program;
+#[cfg(test)]
+mod recording_tests;
 #[cfg(test)]
 mod tests;
 mod words;
@@ -16,7 +20,9 @@ pub use program::run;
 use std::alloc::{AllocError, Global};
 use std::env::Args;
 use std::process::ExitCode;
-pub use words::{Command, Proto, Usage, journal_word, key_word, makes_journal, read_words};
+pub use words::{
+    Command, Profile, Proto, Usage, journal_word, key_word, makes_journal, read_words,
+};
 use yasir_io::{FileSlots, FileSource, StderrSink, StdinSource, StdoutSink};
 
 /// The exit status where no memory is found for a path.

@@ -3,11 +3,13 @@ ghost use Rattle.std.specs.String.{string_bytes};
 ghost use Rattle.replay_status.specs.Outside.{outside};
 ghost use Rattle.link_replay.specs.declared.words.Command.{Command};
 ghost use Rattle.link_replay.specs.Words.{Asks};
-ghost use Rattle.link_replay.specs.Commands.{Does, Runs, KeepsDisk, MayDo, IsCalm, HasCauses};
+ghost use Rattle.link_replay.specs.Commands.{Does, Runs, KeepsDisk, MayDo, IsCalm, EndsWell};
+ghost use Rattle.link_replay.specs.Commands.{HasCauses};
 
 use crate::commands::check::check;
 use crate::commands::init::make_journal;
 use crate::commands::read::read_line;
+use crate::commands::replay::replay;
 use crate::commands::seal::seal;
 use crate::commands::tables::print_tables;
 use crate::{Command, read_words};
@@ -17,6 +19,7 @@ use yasir_io::{Sink, SlotDisk, Source};
 
 // What a command does, but for the fault line.
 fn perform<K: Source, S: Source, O: Sink, L: Sink, D: SlotDisk>(
+    alloc: Global,
     command: Command,
     key: &mut K,
     input: &mut S,
@@ -37,13 +40,21 @@ fn perform<K: Source, S: Source, O: Sink, L: Sink, D: SlotDisk>(
         Command::Init => make_journal(out, log, disk),
         Command::Read(proto) => read_line(proto, input, out, log),
         Command::Vectors => print_tables(out, log),
-        Command::Seal(proto, dir) => seal(proto, dir, key, input, out, log, disk),
-        Command::Check(proto, dir) => check(proto, dir, key, input, out, log, disk),
+        Command::Seal(proto, profile, dir) => {
+            seal(proto, profile, dir, key, input, out, log, disk)
+        }
+        Command::Check(proto, profile, dir) => {
+            check(proto, profile, dir, key, input, out, log, disk)
+        }
+        Command::Replay(proto, profile, dir) => {
+            replay(alloc, proto, profile, dir, key, input, out, log)
+        }
     }
 }
 
 // What was asked for, but for the fault line.
 fn answer<K: Source, S: Source, O: Sink, L: Sink, D: SlotDisk>(
+    alloc: Global,
     asked: Option<Command>,
     key: &mut K,
     input: &mut S,
@@ -61,7 +72,7 @@ fn answer<K: Source, S: Source, O: Sink, L: Sink, D: SlotDisk>(
         (outside key.new input.new out.new log.new disk.new) result }
 {
     match asked {
-        Some(command) => perform(command, key, input, out, log, disk),
+        Some(command) => perform(alloc, command, key, input, out, log, disk),
         None => Status::Usage,
     }
 }
@@ -77,9 +88,10 @@ fn asked_by(words: &[String]) -> Option<Command>
 }
 
 /// The program: reads its words, those after the program's name, and does what they ask for. No
-/// memory is taken.
+/// memory is taken but by `replay`, whose clause in `runs` is the program's headline: the record
+/// `Headline` of `specs/ReplayCommand.antt`.
 pub fn run<K: Source, S: Source, O: Sink, L: Sink, D: SlotDisk>(
-    _alloc: Global,
+    alloc: Global,
     words: &[String],
     key: &mut K,
     input: &mut S,
@@ -100,13 +112,14 @@ pub fn run<K: Source, S: Source, O: Sink, L: Sink, D: SlotDisk>(
     ensures any_moment { (asked : Option Command) → Asks (map string_bytes words.now) asked
         → KeepsDisk D.SlotDisk asked disk.old disk.new }
 
-    // Where all that the command is given is right and nothing outside fails, it is done.
+    // Where all that the command is given is right and nothing outside fails, it is done; or, of
+    // `replay` alone, there is no memory.
     ensures done { (asked : Option Command) → Asks (map string_bytes words.now) asked
         → MayDo K.Source S.Source O.Sink L.Sink D.SlotDisk asked
         (outside key.old input.old out.old log.old disk.old)
         → IsCalm K.Source S.Source O.Sink L.Sink D.SlotDisk
         (outside key.old input.old out.old log.old disk.old)
-        (outside key.new input.new out.new log.new disk.new) → result ≡ Status.Done }
+        (outside key.new input.new out.new log.new disk.new) → EndsWell asked result }
 
     // The causes.
     ensures causes { (asked : Option Command) → Asks (map string_bytes words.now) asked
@@ -115,7 +128,7 @@ pub fn run<K: Source, S: Source, O: Sink, L: Sink, D: SlotDisk>(
         (outside key.new input.new out.new log.new disk.new) result }
 {
     let asked = asked_by(words);
-    let status = answer(asked, key, input, out, log, disk);
+    let status = answer(alloc, asked, key, input, out, log, disk);
     write_fault(log, &status);
     status
 }

@@ -1,4 +1,4 @@
-use crate::{Command, Dir, Proto, journal_word, key_word, makes_journal, read_words, run};
+use crate::{Command, Dir, Profile, Proto, journal_word, key_word, makes_journal, read_words, run};
 use replay_status::Status;
 use std::alloc::{AllocError, Global};
 use std::process::Abort;
@@ -12,7 +12,7 @@ const REQUEST: &[u8] = b"+01030000000ac5cd\n-4\n";
 
 const REQUEST_LINE: &[u8] = b"read at 0 01030000000ac5cd\n";
 
-const KEY: &[u8] = b"000102030405060708090a0b0c0d0e0f";
+pub const KEY: &[u8] = b"000102030405060708090a0b0c0d0e0f";
 
 /// A slot that holds number 0, one that holds number 1, and one that holds none.
 const NUMBER_0: [u8; 16] = [
@@ -27,19 +27,19 @@ const NO_NUMBER: [u8; 16] = [0x11; 16];
 
 /// How a run ended, and what its sinks hold.
 #[derive(Drop)]
-struct Ran {
-    status: Status,
-    out: MemSink,
-    log: MemSink,
+pub struct Ran {
+    pub status: Status,
+    pub out: MemSink,
+    pub log: MemSink,
 }
 
-fn plan(calls: &[u32]) -> Plan {
+pub fn plan(calls: &[u32]) -> Plan {
     let mut plan = Plan::new();
     let _ = plan.try_extend_from_slice(calls);
     plan
 }
 
-fn strings(alloc: Global, words: &[&str]) -> Result<Vec<String>, AllocError> {
+pub fn strings(alloc: Global, words: &[&str]) -> Result<Vec<String>, AllocError> {
     let mut strings = Vec::new(alloc);
     for word in words {
         strings.push(String::from_str(alloc, *word)?)?;
@@ -48,7 +48,7 @@ fn strings(alloc: Global, words: &[&str]) -> Result<Vec<String>, AllocError> {
 }
 
 // A run with this key and this input, in which these calls of the output fail.
-fn run_over<D: SlotDisk>(
+pub fn run_over<D: SlotDisk>(
     alloc: Global,
     words: &[&str],
     key: &[u8],
@@ -59,7 +59,7 @@ fn run_over<D: SlotDisk>(
     let words = strings(alloc, words)?;
     let mut key = MemSource::new(key, 512, Plan::new());
     let mut input = MemSource::new(text, 512, Plan::new());
-    let mut out = MemSink::with_room(alloc, 300, 512, plan(fail))?;
+    let mut out = MemSink::with_room(alloc, 800, 512, plan(fail))?;
     let mut log = MemSink::with_room(alloc, 100, 512, Plan::new())?;
     let status = run(
         alloc,
@@ -75,11 +75,13 @@ fn run_over<D: SlotDisk>(
 
 #[test]
 fn refuses_words_of_no_command(rt: HostRuntime) -> Result<(), Fail> {
-    let rows: [&[&str]; 21] = [
+    let rows: [&[&str]; 29] = [
         &[],
         &["read"],
         &["read", "dnp"],
         &["read", "rtu", "x"],
+        &["read", "rtu24"],
+        &["read", "dnp24"],
         &["read", "RTU"],
         &["rtu", "read"],
         &["seal", "rtu"],
@@ -88,12 +90,18 @@ fn refuses_words_of_no_command(rt: HostRuntime) -> Result<(), Fail> {
         &["seal", "rtu", "ab", "key", ""],
         &["seal", "rtu", "AB", "key", "journal"],
         &["seal", "dnp", "ab", "key", "journal"],
+        &["seal", "dnp324", "ab", "key", "journal"],
         &["seal", "rtu", "ab", "key", "journal", "x"],
         &["check", "rtu", "ab", "key"],
         &["check", "rtu", "ab", "", "journal"],
         &["check", "rtu", "ab", "key", ""],
         &["check", "dnp33", "ab", "key", "journal"],
         &["checks", "rtu", "ab", "key", "journal"],
+        &["replay", "rtu", "ab"],
+        &["replay", "rtu", "ab", ""],
+        &["replay", "dnp", "ab", "key"],
+        &["replay", "rtu", "AB", "key"],
+        &["replay", "rtu", "ab", "key", "journal"],
         &["init"],
         &["init", ""],
         &["vectors", "x"],
@@ -118,7 +126,7 @@ fn refuses_words_of_no_command(rt: HostRuntime) -> Result<(), Fail> {
 #[test]
 fn finds_the_paths_among_the_words(rt: HostRuntime) -> Result<(), Fail> {
     // words, command, place of the key's path, place of the journal's, whether the journal is made
-    let rows: [(&[&str], Command, Option<usize>, Option<usize>, bool); 9] = [
+    let rows: [(&[&str], Command, Option<usize>, Option<usize>, bool); 11] = [
         (&["init", "journal"], Command::Init, None, Some(1), true),
         (
             &["read", "rtu"],
@@ -137,37 +145,51 @@ fn finds_the_paths_among_the_words(rt: HostRuntime) -> Result<(), Fail> {
         (&["vectors"], Command::Vectors, None, None, false),
         (
             &["seal", "rtu", "ab", "key", "journal"],
-            Command::Seal(Proto::Rtu, Dir::Ab),
+            Command::Seal(Proto::Rtu, Profile::Y18, Dir::Ab),
             Some(3),
             Some(4),
             false,
         ),
         (
             &["seal", "rtu", "ba", "key", "journal"],
-            Command::Seal(Proto::Rtu, Dir::Ba),
+            Command::Seal(Proto::Rtu, Profile::Y18, Dir::Ba),
             Some(3),
             Some(4),
             false,
         ),
         (
             &["seal", "dnp3", "ba", "key", "journal"],
-            Command::Seal(Proto::Dnp3, Dir::Ba),
+            Command::Seal(Proto::Dnp3, Profile::Y18, Dir::Ba),
             Some(3),
             Some(4),
             false,
         ),
         (
             &["check", "dnp3", "ab", "key", "journal"],
-            Command::Check(Proto::Dnp3, Dir::Ab),
+            Command::Check(Proto::Dnp3, Profile::Y18, Dir::Ab),
             Some(3),
             Some(4),
             false,
         ),
         (
             &["check", "rtu", "ba", "key", "journal"],
-            Command::Check(Proto::Rtu, Dir::Ba),
+            Command::Check(Proto::Rtu, Profile::Y18, Dir::Ba),
             Some(3),
             Some(4),
+            false,
+        ),
+        (
+            &["replay", "rtu", "ab", "key"],
+            Command::Replay(Proto::Rtu, Profile::Y18, Dir::Ab),
+            Some(3),
+            None,
+            false,
+        ),
+        (
+            &["replay", "dnp24", "ba", "key"],
+            Command::Replay(Proto::Dnp3, Profile::Y24, Dir::Ba),
+            Some(3),
+            None,
             false,
         ),
     ];
@@ -184,20 +206,20 @@ fn finds_the_paths_among_the_words(rt: HostRuntime) -> Result<(), Fail> {
 /// Words, the slots before, and what comes of them over the key and the input below, where calls of
 /// the output and the disk fail.
 #[derive(Clone, Copy, Drop)]
-struct Row {
-    words: &'static [&'static str],
-    text: &'static [u8],
-    slots: ([u8; 16], [u8; 16]),
-    out_fails: &'static [u32],
-    disk_fails: &'static [u32],
-    status: Status,
-    code: u8,
-    out: &'static [u8],
-    log: &'static [u8],
-    slots_now: ([u8; 16], [u8; 16]),
+pub struct Row {
+    pub words: &'static [&'static str],
+    pub text: &'static [u8],
+    pub slots: ([u8; 16], [u8; 16]),
+    pub out_fails: &'static [u32],
+    pub disk_fails: &'static [u32],
+    pub status: Status,
+    pub code: u8,
+    pub out: &'static [u8],
+    pub log: &'static [u8],
+    pub slots_now: ([u8; 16], [u8; 16]),
 }
 
-const READ: Row = Row {
+pub const READ: Row = Row {
     words: &["read", "rtu"],
     text: REQUEST,
     slots: (NO_NUMBER, NO_NUMBER),
@@ -210,13 +232,13 @@ const READ: Row = Row {
     slots_now: (NO_NUMBER, NO_NUMBER),
 };
 
-const VECTORS: Row = Row {
+pub const VECTORS: Row = Row {
     words: &["vectors"],
-    out: b"crc 4 ok\nhmac 5 ok\nframes 7 ok\nuser 2 ok\n",
+    out: b"crc 4 ok\nhmac 7 ok\nframes 7 ok\nuser 2 ok\n",
     ..READ
 };
 
-const INIT: Row = Row {
+pub const INIT: Row = Row {
     words: &["init", "journal"],
     out: b"",
     slots_now: (NUMBER_0, NO_NUMBER),
@@ -314,7 +336,7 @@ const ROWS: [Row; 14] = [
 // The tag is that of the transmitter's rows in `replay_tests`.
 const SEALED_REQUEST: &[u8] = b"+01030000000ac5cd\n-3\n+0001014c5b8d33c6d29a347013b0\n-11\n";
 
-const SEAL: Row = Row {
+pub const SEAL: Row = Row {
     words: &["seal", "rtu", "ab", "key", "journal"],
     slots: (NUMBER_0, NO_NUMBER),
     out: SEALED_REQUEST,
@@ -324,7 +346,7 @@ const SEAL: Row = Row {
 };
 
 // What `seal` has made of the request, checked.
-const CHECK: Row = Row {
+pub const CHECK: Row = Row {
     words: &["check", "rtu", "ab", "key", "journal"],
     text: SEALED_REQUEST,
     out: b"-18\n+01030000000ac5cd\n-330\n",
@@ -354,7 +376,46 @@ const CHECK_DNP3: Row = Row {
     ..CHECK
 };
 
-const BOXES: [Row; 7] = [
+// By the profile y24; the tags as those of its rows in `replay_tests`.
+const SEAL_RTU24: Row = Row {
+    words: &["seal", "rtu24", "ab", "key", "journal"],
+    out: b"+01030000000ac5cd\n-3\n+0000000165d245ba109509aa6c32ac3cfa228fd6\n-11\n",
+    ..SEAL
+};
+
+const CHECK_RTU24: Row = Row {
+    words: &["check", "rtu24", "ab", "key", "journal"],
+    text: b"+01030000000ac5cd\n-3\n+0000000165d245ba109509aa6c32ac3cfa228fd6\n-11\n",
+    out: b"-24\n+01030000000ac5cd\n-330\n",
+    ..CHECK
+};
+
+const SEAL_DNP24: Row = Row {
+    words: &["seal", "dnp24", "ab", "key", "journal"],
+    out: b"+056405c001000004e921\n-3\n+00000001cd525d6a6c119047d45db5ba9f9e4290\n-11\n",
+    ..SEAL_DNP3
+};
+
+const CHECK_DNP24: Row = Row {
+    words: &["check", "dnp24", "ab", "key", "journal"],
+    text: b"+056405c001000004e921\n-3\n+00000001cd525d6a6c119047d45db5ba9f9e4290\n-11\n",
+    out: b"-24\n+056405c001000004e921\n-330\n",
+    ..CHECK_DNP3
+};
+
+const BOXES: [Row; 12] = [
+    SEAL_RTU24,
+    CHECK_RTU24,
+    SEAL_DNP24,
+    CHECK_DNP24,
+    // A link of the other profile.
+    Row {
+        text: SEALED_REQUEST,
+        out: b"-24\n+01030000000ac5cc\n-324\n",
+        log: b"refused at 0 trailer\n",
+        slots_now: (NUMBER_0, NO_NUMBER),
+        ..CHECK_RTU24
+    },
     SEAL_DNP3,
     CHECK_DNP3,
     SEAL,

@@ -1,10 +1,11 @@
 ghost use Rattle.std.specs.Prelude.{◌≡◌, ◌↔◌, [], ◌∷◌, None, IfOk, OnErr, IsTrue, map, codes};
 ghost use Rattle.std.specs.String.{string_bytes};
 ghost use Rattle.hmac_tag.specs.declared.dir.Dir.{Dir};
+ghost use Rattle.link_replay.specs.declared.words.Profile.{Profile};
 ghost use Rattle.link_replay.specs.declared.words.Proto.{Proto};
 ghost use Rattle.link_replay.specs.declared.words.Command.{Command};
-ghost use Rattle.link_replay.specs.Words.{IsCommand, Asks, proto_word, dir_word, key_place};
-ghost use Rattle.link_replay.specs.Words.{journal_place};
+ghost use Rattle.link_replay.specs.Words.{IsCommand, Asks, proto_word, link_word, dir_word};
+ghost use Rattle.link_replay.specs.Words.{key_place, journal_place};
 
 use hmac_tag::Dir;
 
@@ -17,6 +18,15 @@ pub enum Proto {
     Dnp3,
 }
 
+/// What follows a frame on a link.
+#[derive(Clone, Copy, Debug, PartialEq, Eq)]
+pub enum Profile {
+    /// Two bytes of the frame's number, and twelve of its code by HMAC-SHA-1.
+    Y18,
+    /// Four bytes of the frame's number, and sixteen of its code by HMAC-SHA-256.
+    Y24,
+}
+
 /// What the program is asked to do.
 #[derive(Clone, Copy, Debug, PartialEq, Eq)]
 pub enum Command {
@@ -27,9 +37,11 @@ pub enum Command {
     /// Tries the tables of known answers.
     Vectors,
     /// Seals the frames of a line on its way from one end to the other.
-    Seal(Proto, Dir),
+    Seal(Proto, Profile, Dir),
     /// Checks the packets of a link, and hands on what passes.
-    Check(Proto, Dir),
+    Check(Proto, Profile, Dir),
+    /// Lists what is sealed of a device's line, and what passes and is read of a link.
+    Replay(Proto, Profile, Dir),
 }
 
 /// The words name no command.
@@ -45,6 +57,22 @@ fn read_proto(word: &str) -> Result<Proto, Usage>
         "rtu" => Ok(Proto::Rtu),
         "dnp3" => Ok(Proto::Dnp3),
         _ => Err(Usage),
+    }
+}
+
+// The protocol and the profile that a word names.
+fn read_link(word: &str) -> Result<(Proto, Profile), Usage>
+    ensures ok { IfOk result (λ link. word.now ≡ link_word link.0 link.1) }
+    ensures usage { OnErr result ((proto : Proto) (profile : Profile)
+        → word.now ≡ link_word proto profile → ⊥) }
+{
+    match word {
+        "rtu24" => Ok((Proto::Rtu, Profile::Y24)),
+        "dnp24" => Ok((Proto::Dnp3, Profile::Y24)),
+        _ => match read_proto(word) {
+            Ok(proto) => Ok((proto, Profile::Y18)),
+            Err(Usage) => Err(Usage),
+        },
     }
 }
 
@@ -104,6 +132,24 @@ fn read_init(first: &str, path: &str) -> Result<Command, Usage>
     }
 }
 
+// The command of four words: two recordings, and the path of a key, which isn't empty.
+fn read_four(first: &str, second: &str, third: &str, key: &str) -> Result<Command, Usage>
+    ensures ok { IfOk result (λ command.
+        IsCommand (first.now ∷ second.now ∷ third.now ∷ key.now ∷ []) command) }
+    ensures usage { OnErr result ((command : Command)
+        → IsCommand (first.now ∷ second.now ∷ third.now ∷ key.now ∷ []) command → ⊥) }
+{
+    if key.is_empty() {
+        return Err(Usage);
+    }
+    if first != "replay" {
+        return Err(Usage);
+    }
+    let (proto, profile) = read_link(second)?;
+    let dir = read_dir(third)?;
+    Ok(Command::Replay(proto, profile, dir))
+}
+
 // The command of five words: a box, and the paths of its key and its journal, which aren't empty.
 fn read_five(
     first: &str,
@@ -123,11 +169,11 @@ fn read_five(
     if path.is_empty() {
         return Err(Usage);
     }
-    let proto = read_proto(second)?;
+    let (proto, profile) = read_link(second)?;
     let dir = read_dir(third)?;
     match first {
-        "seal" => Ok(Command::Seal(proto, dir)),
-        "check" => Ok(Command::Check(proto, dir)),
+        "seal" => Ok(Command::Seal(proto, profile, dir)),
+        "check" => Ok(Command::Check(proto, profile, dir)),
         _ => Err(Usage),
     }
 }
@@ -141,6 +187,12 @@ pub fn read_words(words: &[String]) -> Result<Command, Usage>
     match words {
         [word] => read_one(word.as_str()),
         [first, second] => read_two(first.as_str(), second.as_str()),
+        [first, second, third, key] => read_four(
+            first.as_str(),
+            second.as_str(),
+            third.as_str(),
+            key.as_str(),
+        ),
         [first, second, third, key, path] => read_five(
             first.as_str(),
             second.as_str(),
@@ -161,7 +213,7 @@ pub fn key_word(words: &[String]) -> Option<usize>
 {
     match read_words(words) {
         Ok(Command::Init | Command::Read(_) | Command::Vectors) => None,
-        Ok(Command::Seal(_, _) | Command::Check(_, _)) => Some(3),
+        Ok(Command::Seal(..) | Command::Check(..) | Command::Replay(..)) => Some(3),
         Err(Usage) => None,
     }
 }
@@ -175,8 +227,8 @@ pub fn journal_word(words: &[String]) -> Option<usize>
 {
     match read_words(words) {
         Ok(Command::Init) => Some(1),
-        Ok(Command::Seal(_, _) | Command::Check(_, _)) => Some(4),
-        Ok(Command::Read(_) | Command::Vectors) => None,
+        Ok(Command::Seal(..) | Command::Check(..)) => Some(4),
+        Ok(Command::Read(_) | Command::Vectors | Command::Replay(..)) => None,
         Err(Usage) => None,
     }
 }
@@ -189,7 +241,7 @@ pub fn makes_journal(words: &[String]) -> bool
     match read_words(words) {
         Ok(Command::Init) => true,
         Ok(Command::Read(_) | Command::Vectors) => false,
-        Ok(Command::Seal(_, _) | Command::Check(_, _)) => false,
+        Ok(Command::Seal(..) | Command::Check(..) | Command::Replay(..)) => false,
         Err(Usage) => false,
     }
 }

@@ -1,4 +1,5 @@
 pub mod Reading
+pub mod Fitting
 pub mod Hunters
 pub mod Standing
 pub mod Untouched

@@ -8,6 +8,7 @@
 
 mod hunting_laws;
 mod laws;
+mod profiles;
 mod recovery;
 mod untouched;
 
@@ -16,5 +17,6 @@ pub use laws::{
     device_reads_what_passed, device_reads_what_was_sealed, longer_links,
     passed_frames_are_accounted_for, passed_frames_stand_on_the_link, whole_packets_pass,
 };
+pub use profiles::stated_profiles_are_fit;
 pub use recovery::{lacking_bytes_are_bounded, untouched_link_recovers};
 pub use untouched::untouched_link_delivers_all;

@@ -1,4 +1,5 @@
 ghost use Rattle.std.specs.Prelude.{◌≡◌, List, []};
+ghost use Rattle.yasir_io.specs.Flushed.{NoneFlushed};
 ghost use Rattle.tick_drive.specs.Input.{IsReadCause, is_read_fault};
 ghost use Rattle.replay_lists.specs.Listed.{ListsRecordings, MayList};
 
@@ -31,6 +32,7 @@ pub fn list_recordings<S: FrameBox, C: FrameBox, V: Device + Drop, I: Source, O:
     ensures read { IsReadCause (I.faults input.old) (I.faults input.new) (is_read_fault result) }
     ensures out_faults { O.faults out.new ≡ O.faults out.old }
     ensures log_faults { L.faults log.new ≡ L.faults log.old }
+    ensures flushes { NoneFlushed O.Sink L.Sink out.old out.new log.old log.new }
 {
     let mut no_disk = SteadySlots::new([0; 16], [0; 16]);
     match drive_to_rest(1, LINK_REST, input, lists, out, log, &mut no_disk) {

@@ -1,7 +1,7 @@
 use check_receiver::Checker;
 use delay_ring::DelayRing;
 use dnp_link_frame::Dnp;
-use hmac_tag::HmacSha1;
+use hmac_tag::{HmacSha1, HmacSha256};
 use rtu_frame::Rtu;
 use seal_transmitter::Sealer;
 use spoiler::Outlet;
@@ -37,6 +37,33 @@ const _: () = prove!(
         <= 2 * size_of::<Dnp>()
             + size_of::<HmacSha1>()
             + size_of::<DelayRing<18>>()
+            + BESIDE_THE_PARTS
+);
+
+// So it is with words of four bytes, and tags by the other hash.
+const _: () = prove!(
+    size_of::<Sealer<Rtu, HmacSha256, 4>>()
+        <= size_of::<Rtu>() + size_of::<HmacSha256>() + BESIDE_THE_PARTS
+);
+
+const _: () = prove!(
+    size_of::<Checker<Rtu, HmacSha256, 4, 24>>()
+        <= 2 * size_of::<Rtu>()
+            + size_of::<HmacSha256>()
+            + size_of::<DelayRing<24>>()
+            + BESIDE_THE_PARTS
+);
+
+const _: () = prove!(
+    size_of::<Sealer<Dnp, HmacSha256, 4>>()
+        <= size_of::<Dnp>() + size_of::<HmacSha256>() + BESIDE_THE_PARTS
+);
+
+const _: () = prove!(
+    size_of::<Checker<Dnp, HmacSha256, 4, 24>>()
+        <= 2 * size_of::<Dnp>()
+            + size_of::<HmacSha256>()
+            + size_of::<DelayRing<24>>()
             + BESIDE_THE_PARTS
 );
 

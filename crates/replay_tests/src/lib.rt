@@ -19,4 +19,6 @@ mod reading;
 #[cfg(test)]
 mod sealing;
 #[cfg(test)]
+mod second_profile;
+#[cfg(test)]
 mod two_recordings;

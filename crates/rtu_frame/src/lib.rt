@@ -121,4 +121,43 @@ mod tests {
         );
         assert_eq!(rt; rules.take_some(b"\x00"), 0);
     }
+
+    // A byte of a run that looks random.
+    fn byte_at(seed: u32, place: u32) -> u8 {
+        let mixed = (seed ^ place.wrapping_mul(0x9E37_79B9)).wrapping_mul(0x85EB_CA6B);
+        (mixed >> 24) as u8
+    }
+
+    // What the rules say of bytes that come in two runs.
+    fn judged_in_runs<R: LineRules>(first: &[u8], second: &[u8]) -> (u16, bool, bool) {
+        let mut rules = R::fresh();
+        rules.take_some(first);
+        rules.take_some(second);
+        (rules.len(), rules.full(), rules.good())
+    }
+
+    // Each body closed with its CRC by single bits, at every cut.
+    #[test]
+    fn runs_of_every_length(rt: HostRuntime) -> Result<(), Fail> {
+        for len in 2..200u32 {
+            let mut frame = RtuBytes::new();
+            for place in 0..len {
+                assert!(rt; frame.try_push(byte_at(len, place)).is_ok());
+            }
+            assert!(rt; close(&mut frame).is_ok());
+            for cut in 0..=frame.len() {
+                assert_eq!(rt;
+                    judged_in_runs::<Rtu>(&frame[..cut], &frame[cut..]),
+                    (len as u16 + 2, false, true)
+                );
+            }
+        }
+        Ok(())
+    }
+
+    // A value keeps none of its bytes, and no table.
+    #[test]
+    fn small_values(rt: HostRuntime) {
+        assert!(rt; std::mem::size_of::<Rtu>() <= 128);
+    }
 }

@@ -1,5 +1,5 @@
 ghost use Rattle.std.specs.Prelude.{◌≡◌, ◌↔◌, ℕ, ◌-◌, List, [], ◌∷◌, ◌++◌, Bool, true, false, ◌||◌};
-ghost use Rattle.std.specs.Prelude.{nat_lt, Some, None};
+ghost use Rattle.std.specs.Prelude.{nat_lt, Some, None, ◌<◌, ◌≤◌, take, length};
 ghost use Rattle.spoiler.specs.Outlet.{StandsFor, owed_by, is_open, emitted, owed_after, filled};
 ghost use Rattle.spoiler.specs.Outlet.{filled_bytes, has_room};
 ghost use Rattle.line_rules.specs.Rules.{fills_room};
@@ -79,6 +79,21 @@ impl<R: LineRules> Outlet<R> {
         if self.owed == 0 { spoiled } else { b }
     }
 
+    /// Lets these bytes of the burst leave as they are, since none of them is its last one, as many
+    /// as there is room for. Answers how many.
+    #[inline]
+    pub fn emit_some(&mut self, bytes: &[u8]) -> usize
+        ensures within { result ≤ length bytes.now }
+        ensures stands { (x : List ℕ) → StandsFor R.LineRules self.old x
+            → StandsFor R.LineRules self.new (x ++ take result bytes.now) }
+        ensures all { result < length bytes.now → has_room R.LineRules self.new ≡ false }
+        ensures owed { owed_by self.new ≡ 0 }
+        ensures open { is_open self.new ≡ is_open self.old }
+    {
+        self.owed = 0;
+        self.rules.take_some(bytes)
+    }
+
     /// The next byte of the fill; none where none is owed.
     #[inline]
     pub fn fill(&mut self) -> Option<u8>
@@ -111,6 +126,14 @@ impl<R: LineRules> Outlet<R> {
             → result ≡ not (fills_room R.rules x) }
     {
         !self.rules.full()
+    }
+
+    /// Whether bytes of a fill are still to leave.
+    #[inline]
+    pub fn owes(&self) -> bool
+        ensures { result ≡ nat_lt 0 (owed_by self.now) }
+    {
+        self.owed > 0
     }
 
     /// Whether a byte is still to leave: the last one of the burst, or one of a fill.

@@ -9,17 +9,17 @@ use Rattle.std.proofs.lemmas.List.{nil_from_length}
 use Rattle.yasir_io.specs.declared.sink.Sink.{Ghosts as Sink}
 use Rattle.yasir_io.specs.declared.disk.SlotDisk.{Ghosts as SlotDisk}
 use Rattle.yasir_ticks.specs.Characters.{line_feed}
-use Rattle.yasir_ticks.specs.Ticks.{Item, ticks_in, items_of_run}
+use Rattle.yasir_ticks.specs.Ticks.{Item, ticks_in}
 use Rattle.yasir_ticks.specs.TickText.{IsTickText, BeginsTickText, ended_items, lines_of}
 use Rattle.yasir_ticks.specs.TickText.{line_items}
-use Rattle.yasir_ticks.specs.declared.run.Run.{Run}
-use Rattle.yasir_ticks.specs.declared.run.Run.TheVariants.{Nothing}
+use Rattle.yasir_ticks.specs.Reader.{items_of_content}
+use Rattle.yasir_ticks.specs.declared.place.Content.{Content}
 use Rattle.yasir_ticks.proofs.Lines.{lines_of-more}
 use Rattle.tick_drive.specs.Consumers.{Consuming, State, Gives}
 use Rattle.tick_drive.specs.Items.{silent_items}
 use Rattle.tick_drive.specs.Input.{IsMetOf, EndsLine, IsWhole, IsReadCause, max_ticks}
 use Rattle.tick_drive.specs.Input.{is_read_fault}
-use Rattle.tick_drive.specs.Intake.{HasMet, MeetsRun, MeetsEnd, StepAnswer, FinishAnswer}
+use Rattle.tick_drive.specs.Intake.{HasMet, MeetsLine, MeetsEnd, StepAnswer, FinishAnswer, lent}
 use Rattle.tick_drive.specs.Drive.{Drives, HandsOver, HandAnswer}
 use Rattle.tick_drive.proofs.ItemLaws.{ticks_with}
 use Rattle.tick_drive.proofs.Moving.{gives_then, gives_front, gives_items}
@@ -50,23 +50,30 @@ ends_by_line_feed text byte line ended some = elim (cases_eq byte line_feed) [
         (lines_of-more text byte other)
 
 -- the LF ends a line behind these bytes, in which no line with ticks ended
-ends_line : (intake : Intake) (marks : ℕ) (before now : Option (List ℕ)) (text : List ℕ) (run : Run)
-    (met : MeetsRun intake marks before now text run)
-    → run ≢ Nothing → items_of_run run ≢ []
-    → EndsLine marks before (text ++ met.front) (ended_items text) (items_of_run run)
-ends_line intake marks before now text run met ticks some =
+ends_line : (intake : Intake) (marks : ℕ) (before now : Option (List ℕ)) (text : List ℕ)
+    (line : List Item) (met : MeetsLine intake marks before now text line) → line ≢ []
+    → EndsLine marks before (text ++ met.front) (ended_items text) line
+ends_line intake marks before now text line met some =
     let byte_is : met.byte ≡ line_feed =
-    ends_by_line_feed (text ++ met.front) met.byte (items_of_run run)
-    (met.ended ∙ ap (λ items. items ++ items_of_run run) (sym (met.quiet ticks))) some in
+    ends_by_line_feed (text ++ met.front) met.byte line
+    (met.ended ∙ ap (λ items. items ++ line) (sym (met.quiet some))) some in
     record {
       met = subst (λ b. IsMetOf before ((text ++ met.front) ++ b ∷ [])) byte_is
           (record { came = (_, met.met.source); within = met.met.within });
       begins = subst (λ b. BeginsTickText marks ((text ++ met.front) ++ b ∷ [])) byte_is
           met.met.begins;
       ended = subst (λ b. ended_items ((text ++ met.front) ++ b ∷ [])
-          ≡ ended_items text ++ items_of_run run) byte_is met.ended;
+          ≡ ended_items text ++ line) byte_is met.ended;
       some = some;
     }
+
+-- a line whose bytes are lent
+pub line_lent : (intake : Intake) (marks : ℕ) (before now : Option (List ℕ)) (text : List ℕ)
+    (content : Content) (bytes : List ℕ) → bytes ≡ lent intake
+    → MeetsLine intake marks before now text (items_of_content content (lent intake))
+    → MeetsLine intake marks before now text (items_of_content content bytes)
+line_lent intake marks before now text content bytes e met =
+    subst (λ b. MeetsLine intake marks before now text (items_of_content content b)) (sym e) met
 
 -- silence behind a whole input
 rested : (marks rest : ℕ) (before now : Option (List ℕ)) (items : List Item)
@@ -128,7 +135,7 @@ module _ {C O L D : Type 0} (meaning : Consuming C D) (o : Sink O) (l : Sink L)
   pub progress_quiet : (marks : ℕ) (before now later : Option (List ℕ)) (intake next : Intake)
       (start state : State C O L D) (ticks : ℕ)
       (p : Progress marks before now intake start state ticks)
-      → MeetsRun next marks before later p.text Nothing
+      → MeetsLine next marks before later p.text []
       → Progress marks before later next start state ticks
   progress_quiet marks before now later intake next start state ticks p met =
       let same : ended_items ((p.text ++ met.front) ++ met.byte ∷ []) ≡ ended_items p.text =
@@ -143,13 +150,13 @@ module _ {C O L D : Type 0} (meaning : Consuming C D) (o : Sink O) (l : Sink L)
 
   -- a line that was handed over
   pub progress_line : (marks : ℕ) (before now later : Option (List ℕ)) (intake next : Intake)
-      (start mid new : State C O L D) (ticks sum : ℕ) (run : Run)
+      (start mid new : State C O L D) (ticks sum : ℕ) (line : List Item)
       (p : Progress marks before now intake start mid ticks)
-      → MeetsRun next marks before later p.text run
-      → HandsOver meaning o l d mid new ticks (items_of_run run) sum
+      → MeetsLine next marks before later p.text line
+      → HandsOver meaning o l d mid new ticks line sum
       → meaning.taken new.consumer ≡ sum
       → Progress marks before later next start new sum
-  progress_line marks before now later intake next start mid new ticks sum run p met handed taken =
+  progress_line marks before now later intake next start mid new ticks sum line p met handed taken =
       record {
         text = (p.text ++ met.front) ++ met.byte ∷ [];
         met = met.met;
@@ -159,7 +166,7 @@ module _ {C O L D : Type 0} (meaning : Consuming C D) (o : Sink O) (l : Sink L)
           arith,
           handed.sum_is,
           p.sum,
-          ticks_with (ended_items p.text) (items_of_run run),
+          ticks_with (ended_items p.text) line,
           ap (λ items. length (ticks_in items)) met.ended,
         );
         few = handed.few;
@@ -246,14 +253,12 @@ module _ {C O L D : Type 0} (meaning : Consuming C D) (o : Sink O) (l : Sink L)
 
   -- a line that was held back, or at one of whose ticks the consumer stopped, ends the run
   pub line_ends : (marks : ℕ) (before now later : Option (List ℕ)) (intake next : Intake)
-      (start mid new : State C O L D) (ticks : ℕ) (run : Run) (end : End)
+      (start mid new : State C O L D) (ticks : ℕ) (line : List Item) (end : End)
       (p : Progress marks before now intake start mid ticks)
-      → MeetsRun next marks before later p.text run → run ≢ Nothing
-      → HandAnswer meaning o l d mid new ticks (items_of_run run) (Err end)
+      → MeetsLine next marks before later p.text line
+      → HandAnswer meaning o l d mid new ticks line (Err end)
       → Drives meaning o l d marks 0 before later start new end × (is_read_fault end ≡ false)
-  line_ends marks before now later intake next start mid new ticks run (TooLong Ticks count) p met
-      ticks_run h =
-      let line = items_of_run run in
+  line_ends marks before now later intake next start mid new ticks line (TooLong Ticks count) p met h =
       let some : line ≢ [] = λ none. let nothing : length (ticks_in line) ≡ 0 =
       ap (λ items. length (ticks_in items)) none in
       omega (arith, nothing, h.sum, h.above, p.few) in (
@@ -262,9 +267,9 @@ module _ {C O L D : Type 0} (meaning : Consuming C D) (o : Sink O) (l : Sink L)
           takes = record {
             text = p.text ++ met.front;
             line = line;
-            ended = inl (ends_line next marks before later p.text run met ticks_run some);
+            ended = inl (ends_line next marks before later p.text line met some);
             few = omega (arith, p.sum, p.few);
-            are = sym (met.quiet ticks_run);
+            are = sym (met.quiet some);
             sum = omega (arith, h.sum, p.sum, ticks_with (ended_items p.text) line);
             above = h.above;
           };
@@ -273,19 +278,17 @@ module _ {C O L D : Type 0} (meaning : Consuming C D) (o : Sink O) (l : Sink L)
         },
         refl,
       )
-  line_ends marks before now later intake next start mid new ticks run (Stopped stop) p met
-      ticks_run h =
-      let line = items_of_run run in
+  line_ends marks before now later intake next start mid new ticks line (Stopped stop) p met h =
       let some : line ≢ [] = λ none. let nothing : length line ≡ 0 = ap length none in
       omega (arith, nothing, h.gives.stopped.within) in
-      let quiet = met.quiet ticks_run in (
+      let quiet = met.quiet some in (
         record {
           items = ended_items p.text ++ line;
           takes = inl (record {
             text = p.text ++ met.front;
             line = line;
             ended = subst (λ items. EndsLine marks before (p.text ++ met.front) items line)
-                (sym quiet) (ends_line next marks before later p.text run met ticks_run some);
+                (sym quiet) (ends_line next marks before later p.text line met some);
             few = omega (arith, h.few, p.sum, ticks_with (ended_items p.text) line);
             are = ap (λ items. items ++ line) (sym quiet);
           });
@@ -294,13 +297,11 @@ module _ {C O L D : Type 0} (meaning : Consuming C D) (o : Sink O) (l : Sink L)
         },
         refl,
       )
-  line_ends marks before now later intake next start mid new ticks run (TooLong Bytes count) p met
-      ticks_run h = absurd h
-  line_ends marks before now later intake next start mid new ticks run (Refused bad) p met ticks_run
-      h = absurd h
-  line_ends marks before now later intake next start mid new ticks run ReadFault p met ticks_run h =
+  line_ends marks before now later intake next start mid new ticks line (TooLong Bytes count) p met h = absurd h
+  line_ends marks before now later intake next start mid new ticks line (Refused bad) p met h = absurd h
+  line_ends marks before now later intake next start mid new ticks line ReadFault p met h =
       absurd h
-  line_ends marks before now later intake next start mid new ticks run Whole p met ticks_run h =
+  line_ends marks before now later intake next start mid new ticks line Whole p met h =
       absurd h
 
   -- the last line was handed over

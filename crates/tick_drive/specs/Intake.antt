@@ -4,12 +4,12 @@ use Rattle.std.specs.Prelude.{Result, Ok, Err, false}
 use Rattle.std.specs.Io.KnownBytes.{prepend_known}
 use Rattle.yasir_io.specs.Pieces.{to_come, has_ended}
 use Rattle.yasir_ticks.specs.Ticks.{Item, items_of_run}
-use Rattle.yasir_ticks.specs.Reader.{StandsFor}
+use Rattle.yasir_ticks.specs.Reader.{StandsFor, items_of_content, lent_bytes}
 use Rattle.yasir_ticks.specs.TickText.{IsTickText, BeginsTickText, ended_items, line_after}
 use Rattle.yasir_ticks.specs.TickText.{fault_at_end}
 use Rattle.yasir_ticks.specs.declared.fault.BadTicks.{BadTicks}
+use Rattle.yasir_ticks.specs.declared.place.Content.{Content}
 use Rattle.yasir_ticks.specs.declared.run.Run.{Run}
-use Rattle.yasir_ticks.specs.declared.run.Run.TheVariants.{Nothing}
 use Rattle.tick_drive.specs.Input.{ComesFirst, IsMetUpTo, IsMetWhole, IsRefusedByte, max_bytes}
 use Rattle.tick_drive.specs.declared.intake.Intake.{Intake}
 use Rattle.tick_drive.specs.declared.end.End.{End}
@@ -31,16 +31,20 @@ pub record HasMet (intake : Intake) (marks : ℕ) (before now : Option (List ℕ
   pub count : intake.bytes ≡ length text
   pub within : length text ≤ max_bytes
 
--- Bytes were met after a text, at least one and none refused, and this run is that of the lines
--- that ended. Where there is one, the last of these bytes ended its line, and no line with ticks or
--- a mark ended before.
-pub record MeetsRun (intake : Intake) (marks : ℕ) (before now : Option (List ℕ)) (text : List ℕ)
-    (run : Run) : Type 0 where
+-- the bytes of the line that was met last, where it was one of bytes
+abbrev pub lent : Intake → List ℕ
+lent intake = lent_bytes intake.reader
+
+-- Bytes were met after a text, at least one and none refused, and these items are those of the
+-- lines that ended. Where there are any, the last of these bytes ended their line, and no line with
+-- ticks or a mark ended before.
+pub record MeetsLine (intake : Intake) (marks : ℕ) (before now : Option (List ℕ)) (text : List ℕ)
+    (items : List Item) : Type 0 where
   pub front : List ℕ
   pub byte : ℕ
   pub met : HasMet intake marks before now ((text ++ front) ++ byte ∷ [])
-  pub ended : ended_items ((text ++ front) ++ byte ∷ []) ≡ ended_items text ++ items_of_run run
-  pub quiet : run ≢ Nothing → ended_items (text ++ front) ≡ ended_items text
+  pub ended : ended_items ((text ++ front) ++ byte ∷ []) ≡ ended_items text ++ items
+  pub quiet : items ≢ [] → ended_items (text ++ front) ≡ ended_items text
 
 -- Bytes were met after a text, in which no line with ticks or a mark ended, and then one that is
 -- refused.
@@ -66,8 +70,9 @@ pub record MeetsEnd (intake : Intake) (marks : ℕ) (before now : Option (List �
 
 -- what the answer to one step says, after a text was met
 abbrev pub StepAnswer : Intake → ℕ → Option (List ℕ) → Option (List ℕ) → List ℕ
-    → Result (Option Run) End → Type 0
-StepAnswer intake marks before now text (Ok (Some run)) = MeetsRun intake marks before now text run
+    → Result (Option Content) End → Type 0
+StepAnswer intake marks before now text (Ok (Some content)) =
+    MeetsLine intake marks before now text (items_of_content content (lent intake))
 StepAnswer intake marks before now text (Ok None) = MeetsEnd intake marks before now text
 StepAnswer intake marks before now text (Err (Refused bad)) = MeetsRefused marks before text bad
 StepAnswer intake marks before now text (Err (TooLong Bytes count)) = MeetsLimit before text count

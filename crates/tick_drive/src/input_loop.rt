@@ -1,31 +1,91 @@
 ghost use Rattle.std.specs.Prelude.{◌≡◌, ℕ, ◌≤◌, length, IfOk};
 ghost use Rattle.yasir_ticks.specs.Ticks.{items_of_run, ticks_in};
+ghost use Rattle.yasir_ticks.specs.Reader.{items_of_content};
 ghost use Rattle.tick_drive.specs.Input.{IsReadCause, is_read_fault, max_ticks};
-ghost use Rattle.tick_drive.specs.Consumers.{state_of};
+ghost use Rattle.tick_drive.specs.Consumers.{state_of, MayTake, Gives};
 ghost use Rattle.tick_drive.specs.Drive.{Drives, IsFresh, HandAnswer};
 
 use crate::intake::Intake;
-use crate::{Consumer, End, TooMuch};
+use crate::{Consumer, End, Stop, TooMuch};
 use yasir_io::{Sink, SlotDisk, Source};
-use yasir_ticks::Run;
+use yasir_ticks::{Content, Run};
 
 /// How many ticks of an input are taken at most.
 pub const MAX_INPUT_TICKS: u32 = 16_777_216;
 
-// How many ticks a run has.
-fn ticks_of(run: &Run) -> u32
-    ensures { result ≡ length (ticks_in (items_of_run run.now)) }
+// How many ticks a line of this content has, the bytes of a `+` line being these.
+#[inline]
+fn ticks_of(content: Content, bytes: &[u8]) -> u32
+    requires { length bytes.now ≤ 32 }
+    ensures { result ≡ length (ticks_in (items_of_content content bytes.now)) }
 {
-    match run {
-        Run::Nothing | Run::Mark => 0,
-        Run::Bytes(bytes) => bytes.len() as u32,
-        Run::Silence(n) => *n,
+    match content {
+        Content::NoTick | Content::OneMark => 0,
+        Content::KeptBytes => bytes.len() as u32,
+        Content::SilentTicks(n) => n,
     }
 }
 
-// Hands one line's run to the consumer, unless its ticks with those before are too many. Answers
-// the sum.
+// Gives a line of this content to the consumer.
+#[inline]
+fn give<O: Sink, L: Sink, D: SlotDisk, C: Consumer<O, L, D>>(
+    content: Content,
+    bytes: &[u8],
+    consumer: &mut C,
+    out: &mut O,
+    log: &mut L,
+    disk: &mut D,
+) -> Result<(), Stop>
+    requires { MayTake C.meaning consumer.old disk.old (items_of_content content bytes.now) }
+    ensures { Gives C.meaning O.Sink L.Sink D.SlotDisk
+        (state_of consumer.old out.old log.old disk.old)
+        (state_of consumer.new out.new log.new disk.new)
+        (items_of_content content bytes.now) result }
+{
+    match content {
+        Content::NoTick => Ok(()),
+        Content::KeptBytes => consumer.take_bytes(out, log, disk, bytes),
+        Content::SilentTicks(ticks) => consumer.take_silence(out, log, disk, ticks),
+        Content::OneMark => consumer.take_mark(out, log, disk),
+    }
+}
+
+// Hands one line to the consumer, unless its ticks with those before are too many. Answers the sum.
+#[inline]
 fn hand_over<O: Sink, L: Sink, D: SlotDisk, C: Consumer<O, L, D>>(
+    ticks: u32,
+    content: Content,
+    bytes: &[u8],
+    consumer: &mut C,
+    out: &mut O,
+    log: &mut L,
+    disk: &mut D,
+) -> Result<u32, End>
+    requires within { ticks ≤ max_ticks }
+    requires short { length bytes.now ≤ 32 }
+    requires taken { C.meaning.taken consumer.old ≡ ticks }
+    requires able { C.meaning.able consumer.old disk.old }
+    ensures handed { HandAnswer C.meaning O.Sink L.Sink D.SlotDisk
+        (state_of consumer.old out.old log.old disk.old)
+        (state_of consumer.new out.new log.new disk.new) ticks
+        (items_of_content content bytes.now) result }
+    ensures taken { IfOk result (λ sum. C.meaning.taken consumer.new ≡ sum) }
+{
+    let sum = u64::from(ticks) + u64::from(ticks_of(content, bytes));
+    if sum > u64::from(MAX_INPUT_TICKS) {
+        return Err(End::TooLong {
+            what: TooMuch::Ticks,
+            count: sum,
+        });
+    }
+    match give(content, bytes, consumer, out, log, disk) {
+        Ok(()) => Ok(sum as u32),
+        Err(stop) => Err(End::Stopped(stop)),
+    }
+}
+
+// Hands the run of a last line to the consumer.
+fn hand_last<O: Sink, L: Sink, D: SlotDisk, C: Consumer<O, L, D>>(
     ticks: u32,
     run: &Run,
     consumer: &mut C,
@@ -39,18 +99,24 @@ fn hand_over<O: Sink, L: Sink, D: SlotDisk, C: Consumer<O, L, D>>(
     ensures handed { HandAnswer C.meaning O.Sink L.Sink D.SlotDisk
         (state_of consumer.old out.old log.old disk.old)
         (state_of consumer.new out.new log.new disk.new) ticks (items_of_run run.now) result }
-    ensures taken { IfOk result (λ sum. C.meaning.taken consumer.new ≡ sum) }
 {
-    let sum = u64::from(ticks) + u64::from(ticks_of(run));
-    if sum > u64::from(MAX_INPUT_TICKS) {
-        return Err(End::TooLong {
-            what: TooMuch::Ticks,
-            count: sum,
-        });
-    }
-    match consumer.take(out, log, disk, run) {
-        Ok(()) => Ok(sum as u32),
-        Err(stop) => Err(End::Stopped(stop)),
+    match run {
+        Run::Nothing => hand_over(ticks, Content::NoTick, &[], consumer, out, log, disk),
+        Run::Bytes(bytes) => {
+            hand_over(ticks, Content::KeptBytes, bytes, consumer, out, log, disk)
+        }
+        Run::Silence(n) => {
+            hand_over(
+                ticks,
+                Content::SilentTicks(*n),
+                &[],
+                consumer,
+                out,
+                log,
+                disk,
+            )
+        }
+        Run::Mark => hand_over(ticks, Content::OneMark, &[], consumer, out, log, disk),
     }
 }
 
@@ -74,15 +140,16 @@ pub fn drive<S: Source, O: Sink, L: Sink, D: SlotDisk, C: Consumer<O, L, D>>(
     let mut intake = Intake::new(marks);
     let mut ticks = 0;
     loop {
-        let run = match intake.step(input) {
-            Ok(Some(run)) => run,
+        let content = match intake.step(input) {
+            Ok(Some(content)) => content,
             Ok(None) => break,
             Err(end) => return end,
         };
-        if let Run::Nothing = run {
+        if let Content::NoTick = content {
             continue;
         }
-        match hand_over(ticks, &run, consumer, out, log, disk) {
+        let bytes = intake.line_bytes();
+        match hand_over(ticks, content, bytes, consumer, out, log, disk) {
             Ok(sum) => ticks = sum,
             Err(end) => return end,
         }
@@ -91,7 +158,7 @@ pub fn drive<S: Source, O: Sink, L: Sink, D: SlotDisk, C: Consumer<O, L, D>>(
         Ok(run) => run,
         Err(end) => return end,
     };
-    match hand_over(ticks, &last, consumer, out, log, disk) {
+    match hand_last(ticks, &last, consumer, out, log, disk) {
         Ok(_) => End::Whole,
         Err(end) => end,
     }

@@ -4,7 +4,7 @@ ghost use Rattle.yasir_ticks.specs.Reader.{reader_line};
 
 use crate::{End, TooMuch};
 use yasir_io::{Failed, Pieces, Source};
-use yasir_ticks::{Fed, Run, TickReader};
+use yasir_ticks::{Content, FedLine, Run, TickReader};
 
 /// How many bytes of an input are read at most.
 pub const MAX_INPUT_BYTES: u32 = 268_435_456;
@@ -20,7 +20,7 @@ pub struct Intake {
 }
 
 impl Intake {
-    ghost use Rattle.tick_drive.specs.Intake.{HasMet, HasFed, StepAnswer, FinishAnswer};
+    ghost use Rattle.tick_drive.specs.Intake.{HasMet, HasFed, StepAnswer, FinishAnswer, lent};
     ghost use Rattle.yasir_io.specs.Pieces.{kept_bytes};
     ghost use Rattle.tick_drive.specs.Input.{is_read_answer, IsReadCause};
 
@@ -35,15 +35,24 @@ impl Intake {
         }
     }
 
-    /// Meets bytes up to the end of the first line with ticks or a mark, and answers its run, or
-    /// `Nothing`; none at the input's end.
+    /// The bytes of the line that a step ended last, where it was one of bytes.
     #[inline]
-    pub fn step<S: Source>(&mut self, source: &mut S) -> Result<Option<Run>, End>
+    pub fn line_bytes(&self) -> &[u8]
+        ensures bytes { result.now ≡ lent self.now }
+        ensures few { length result.now ≤ 32 }
+    {
+        self.reader.line_bytes()
+    }
+
+    /// Meets bytes up to the end of a line, or to the last one that was read, and answers what the
+    /// line stands for, or `NoTick`; none at the input's end.
+    #[inline(always)]
+    pub fn step<S: Source>(&mut self, source: &mut S) -> Result<Option<Content>, End>
         ensures answer { (marks : ℕ) (before : Option (List ℕ)) (text : List ℕ)
             → HasMet self.old marks before (S.left source.old) text
             → StepAnswer self.new marks before (S.left source.new) text result }
         ensures counted { IfOk result (λ next. IfSome next
-            (λ run. self.old.bytes < self.new.bytes)) }
+            (λ content. self.old.bytes < self.new.bytes)) }
         ensures cause { IsReadCause (S.faults source.old) (S.faults source.new)
             (is_read_answer result) }
     {
@@ -55,14 +64,14 @@ impl Intake {
     }
 
     // Feeds bytes that are kept.
-    #[inline]
-    fn feed_kept(&mut self) -> Result<Option<Run>, End>
+    #[inline(always)]
+    fn feed_kept(&mut self) -> Result<Option<Content>, End>
         requires { 0 < length (kept_bytes self.old.pieces) }
         ensures answer { (marks : ℕ) (before now : Option (List ℕ)) (text : List ℕ)
             → HasMet self.old marks before now text
             → StepAnswer self.new marks before now text result }
         ensures counted { IfOk result (λ next. IfSome next
-            (λ run. self.old.bytes < self.new.bytes)) }
+            (λ content. self.old.bytes < self.new.bytes)) }
         ensures no_read { is_read_answer result ≡ false }
     {
         if self.bytes == MAX_INPUT_BYTES {
@@ -73,11 +82,11 @@ impl Intake {
         }
         let kept = self.pieces.kept();
         let within = kept.len().min((MAX_INPUT_BYTES - self.bytes) as usize);
-        let Fed { taken, run } = self.reader.feed_some(&kept[..within]);
+        let FedLine { taken, line } = self.reader.feed_line(&kept[..within]);
         self.bytes += taken as u32;
         self.pieces.skip(taken);
-        match run {
-            Ok(run) => Ok(Some(run)),
+        match line {
+            Ok(content) => Ok(Some(content)),
             Err(bad) => Err(End::Refused(bad)),
         }
     }

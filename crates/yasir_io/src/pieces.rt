@@ -4,7 +4,7 @@ ghost use Rattle.yasir_io.specs.declared.pieces.TheConstants.{PIECE_LEN};
 use crate::{Failed, Source};
 
 /// How many bytes are read at most at once.
-const PIECE_LEN: usize = 16_384;
+const PIECE_LEN: usize = 65_536;
 
 /// The bytes of one source, one after the other; it reads them in pieces, so that there are few
 /// calls of the source.

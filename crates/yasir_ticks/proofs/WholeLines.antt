@@ -7,7 +7,7 @@ use Rattle.std.specs.Prelude.{OnOk, IfOk, IfErr}
 use Rattle.std.specs.List.{list_all}
 use Rattle.std.proofs.lemmas.Bool.{cases_eq, and_parts, lt-ltb}
 use Rattle.std.proofs.lemmas.List.{take_more, take_all, length-take}
-use Rattle.hex.specs.Hex.{decode_of, is_hex_digit}
+use Rattle.hex.specs.Hex.{decode_of, decode_pairs, is_hex_digit, hex_digit_value}
 use Rattle.yasir_ticks.specs.Ticks.{Item, marks_in}
 use Rattle.yasir_ticks.specs.TickText.{Lines, lines_of, line_items, all_items, ended_items}
 use Rattle.yasir_ticks.specs.TickText.{line_after, fault_after, is_decimal_digit, is_plain_decimal}
@@ -17,7 +17,7 @@ use Rattle.yasir_ticks.specs.Place.{has_ticks}
 use Rattle.yasir_ticks.specs.Reader.{IsAt, StandsFor, HasRefused, items_of_content}
 use Rattle.yasir_ticks.specs.ReaderStep.{Advances, line_with}
 use Rattle.yasir_ticks.specs.Slices.{GoesOn, TakesLine, EndsLine, StopsAt, FeedsLine}
-use Rattle.yasir_ticks.specs.Slices.{FeedsByte, TakesWhole}
+use Rattle.yasir_ticks.specs.Slices.{FeedsByte, TakesWhole, IsFewPairs}
 use Rattle.yasir_ticks.specs.declared.whole_lines.Whole.{Whole}
 use Rattle.yasir_ticks.specs.declared.fault.BadTicks.{BadTicks}
 use Rattle.yasir_ticks.specs.declared.fault.TickFault.{TickFault}
@@ -27,13 +27,14 @@ use Rattle.yasir_ticks.specs.declared.place.Content.TheVariants.{OneMark}
 use Rattle.yasir_ticks.specs.declared.place.Place.TheVariants.{Start}
 use Rattle.yasir_ticks.specs.declared.reader.TickReader.{TickReader}
 use Rattle.yasir_ticks.proofs.Digits.{hex_digits, is_plain_decimal-more, number_after-append}
+use Rattle.yasir_ticks.proofs.Digits.{decode_of-more}
 use Rattle.yasir_ticks.proofs.Lines.{lines_of-lf, lines_of-more}
 use Rattle.yasir_ticks.proofs.Items.{marks_in-append, marks_in-content}
 use Rattle.yasir_ticks.proofs.Feeding.{items_lf, items_whole, accepted_at, accepted_items}
 use Rattle.yasir_ticks.proofs.Feeding.{refused_at}
 use Rattle.yasir_ticks.proofs.Steps.{closes_pairs, closes_number, closes_comment}
 use Rattle.yasir_ticks.proofs.Completions.{begins_at}
-use Rattle.yasir_ticks.proofs.ManyBytes.{goes_on_fed, text_more}
+use Rattle.yasir_ticks.proofs.ManyBytes.{goes_on_fed, text_more, take_pair}
 
 -- bytes without an LF
 abbrev pub IsFree : List ℕ → Type 0
@@ -407,3 +408,44 @@ digit_more bytes n number d m within is low high plain told sum =
   where
     digit : (d : ℕ) → 48 ≤ d → d ≤ 57 → is_decimal_digit d ≡ true
     digit d low high = grind arith
+
+-- one pair more of a few
+pub pair_more : (bytes line new : List ℕ) (at high low : ℕ) → at ≡ 2 * length line
+    → at + 2 < length bytes → decode_of (take at bytes) ≡ Ok line
+    → Some high ≡ hex_digit_value (get_or bytes at 0)
+    → Some low ≡ hex_digit_value (get_or bytes (at + 1) 0)
+    → new ≡ line ++ (high * 16 + low) ∷ []
+    → (decode_of (take (at + 2) bytes) ≡ Ok new) × (at + 2 ≡ 2 * length new)
+pair_more bytes line new at high low is within decoded first second made = (
+  ap decode_of (take_pair bytes at (omega arith))
+      ∙ decode_of-more (take at bytes) line (get_or bytes at 0) (get_or bytes (at + 1) 0) high low
+      decoded (sym first) (sym second) ∙ ap Ok (sym made),
+  omega (arith, ap length made, length-append line ((high * 16 + low) ∷ []), is),
+)
+
+pub none_decoded : (line : List ℕ) → line ≡ [] → decode_of [] ≡ Ok line
+unfolding decode_pairs
+none_decoded line none = rw none refl
+
+-- a line of a few pairs
+pub takes_few : (old new : TickReader) (bytes items : List ℕ) (len : ℕ) → old.place ≡ Start
+    → new.place ≡ Start → new.line ≡ old.line + 1 → new.left ≡ old.left
+    → new.bytes.items ≡ items → IsFewPairs bytes items → len ≡ 2 * length items
+    → TakesWhole old 43 bytes new (record { len = len; content = KeptBytes })
+takes_few old new bytes items len p q l m kept few sum = rw sum (record {
+  within = few.within;
+  ends = few.ends;
+  takes = takes_pairs old new (take (2 * length items) bytes) items p q l m kept few.decoded
+      few.some few.fits;
+})
+
+pub few_ended : (bytes items : List ℕ) (n : ℕ) → n ≡ 2 * length items → n < length bytes
+    → get_or bytes n 0 ≡ 10 → decode_of (take n bytes) ≡ Ok items → 0 < n → n ≤ 64
+    → IsFewPairs bytes items
+few_ended bytes items n sum within feed decoded some fits = record {
+  within = omega arith;
+  ends = ap (λ k. get_or bytes k 0) (sym sum) ∙ feed;
+  decoded = ap (λ k. decode_of (take k bytes)) (sym sum) ∙ decoded;
+  some = omega arith;
+  fits = omega arith;
+}

@@ -1,6 +1,7 @@
 -- What several bytes of a tick text do, one after the other.
-use Rattle.std.specs.Prelude.{◌≡◌, ◌≢◌, ◌⊎◌, ℕ, ◌+◌, ◌-◌, ◌<◌, ◌≤◌, List, [], ◌∷◌, ◌++◌, length}
-use Rattle.std.specs.Prelude.{take, true, slice_index, Option, Some, None, Result, Ok, Err}
+use Rattle.std.specs.Prelude.{◌≡◌, ◌≢◌, ◌⊎◌, ℕ, ◌+◌, ◌-◌, ◌*◌, ◌<◌, ◌≤◌, List, [], ◌∷◌, ◌++◌}
+use Rattle.std.specs.Prelude.{length, take, true, slice_index, Option, Some, None, Result, Ok, Err}
+use Rattle.hex.specs.Hex.{decode_of}
 use Rattle.yasir_ticks.specs.Characters.{line_feed}
 use Rattle.yasir_ticks.specs.TickText.{ended_items, line_items, is_plain_decimal, number_after}
 use Rattle.yasir_ticks.specs.TickText.{IsRefusedAfter, line_after, fault_after}
@@ -98,3 +99,11 @@ pub record IsSpelled (bytes : List ℕ) (digits number : ℕ) : Type 0 where
   pub number_is : number_after 0 (take digits bytes) ≡ number
   pub some : 0 < number
   pub fits : number ≤ 1000000
+
+-- Bytes begin with pairs of digits, at least one, that spell these bytes, and an LF.
+pub record IsFewPairs (bytes items : List ℕ) : Type 0 where
+  pub within : 2 * length items < length bytes
+  pub ends : slice_index bytes (2 * length items) ≡ line_feed
+  pub decoded : decode_of (take (2 * length items) bytes) ≡ Ok items
+  pub some : 0 < length items
+  pub fits : length items ≤ 32

@@ -1,4 +1,4 @@
-use crate::{BadTicks, Run, Tick, TickFault, TickReader, TickWriter};
+use crate::{BadTicks, Content, Run, Tick, TickFault, TickReader, TickWriter};
 use std::alloc::Global;
 use std::process::Abort;
 use std::test::Fail;
@@ -96,6 +96,24 @@ struct Seen {
 }
 
 impl Seen {
+    fn none(alloc: Global) -> Seen {
+        Seen {
+            bytes: Vec::new(alloc),
+            silent: 0,
+            marks: 0,
+        }
+    }
+
+    fn take_line(&mut self, content: Content, bytes: &[u8]) -> Result<(), Fail> {
+        match content {
+            Content::NoTick => {}
+            Content::KeptBytes => self.bytes.extend_from_slice(bytes)?,
+            Content::SilentTicks(n) => self.silent = self.silent.wrapping_add(n),
+            Content::OneMark => self.marks = self.marks.wrapping_add(1),
+        }
+        Ok(())
+    }
+
     fn take(&mut self, run: Run) -> Result<(), Fail> {
         match run {
             Run::Nothing => {}
@@ -124,11 +142,7 @@ fn read(
     text: &[u8],
 ) -> Result<Result<Seen, BadTicks>, Fail> {
     let mut reader = TickReader::new(marks);
-    let mut seen = Seen {
-        bytes: Vec::new(alloc),
-        silent: 0,
-        marks: 0,
-    };
+    let mut seen = Seen::none(alloc);
     for b in text {
         assert!(rt; reader.line() < 9);
         match reader.feed(*b) {
@@ -240,11 +254,7 @@ fn takes_runs(rt: HostRuntime) -> Result<(), Fail> {
 /// Feeds a text in slices of so many bytes to a reader and ends it.
 fn read_slices(alloc: Global, marks: u8, text: &[u8], size: usize) -> Result<Seen, Fail> {
     let mut reader = TickReader::new(marks);
-    let mut seen = Seen {
-        bytes: Vec::new(alloc),
-        silent: 0,
-        marks: 0,
-    };
+    let mut seen = Seen::none(alloc);
     let mut rest = text;
     for _ in 0..200 {
         let slice = &rest[..size.min(200).min(rest.len())];
@@ -266,6 +276,106 @@ fn reads_slices_of_each_size(rt: HostRuntime) -> Result<(), Fail> {
             let seen = read_slices(rt.alloc(), 0, text, size)?;
             assert_eq!(rt; seen.bytes.as_slice(), bytes);
             assert_eq!(rt; seen.silent, silent);
+        }
+    }
+    Ok(())
+}
+
+/// Feeds two parts of a text line by line to a reader, and ends it.
+fn read_lines(
+    rt: &impl Abort,
+    alloc: Global,
+    parts: [&[u8]; 2],
+) -> Result<Result<Seen, BadTicks>, Fail> {
+    let mut reader = TickReader::new(0);
+    let mut seen = Seen::none(alloc);
+    for part in parts {
+        let mut rest = part;
+        for _ in 0..9 {
+            if rest.is_empty() {
+                break;
+            }
+            assert!(rt; reader.line() < 9 && rest.len() < 999);
+            let fed = reader.feed_line(rest);
+            match fed.line {
+                Ok(content) => seen.take_line(content, reader.line_bytes())?,
+                Err(bad) => return Ok(Err(refused_for_good(rt, reader, bad))),
+            }
+            rest = &rest[fed.taken..];
+        }
+    }
+    match reader.finish() {
+        Ok(run) => seen.take(run)?,
+        Err(bad) => return Ok(Err(bad)),
+    }
+    Ok(Ok(seen))
+}
+
+/// Reads a text byte by byte, and line by line with a cut at this place.
+fn read_both_ways(rt: &impl Abort, alloc: Global, text: &[u8], cut: usize) -> Result<(), Fail> {
+    let parts = text.split_at(cut.min(text.len()));
+    let by_bytes = read(rt, alloc, 0, text)?;
+    let by_lines = read_lines(rt, alloc, [parts.0, parts.1])?;
+    match (by_bytes, by_lines) {
+        (Ok(a), Ok(b)) => {
+            assert_eq!(rt; a.bytes.as_slice(), b.bytes.as_slice());
+            assert_eq!(rt; a.silent, b.silent);
+            assert_eq!(rt; a.marks, b.marks);
+        }
+        (Err(a), Err(b)) => assert_eq!(rt; a, b),
+        _ => return Err("refused one way only".into()),
+    }
+    Ok(())
+}
+
+/// The next number of a row that looks like chance.
+fn drawn(state: &mut u32) -> usize {
+    *state = state.wrapping_mul(1_664_525).wrapping_add(1_013_904_223);
+    (*state >> 8) as usize
+}
+
+/// A line of so many bytes behind its sign, and two more lines.
+fn drawn_text(alloc: Global, length: usize, state: &mut u32) -> Result<Vec<u8>, Fail> {
+    let mut text = Vec::new(alloc);
+    let sign = b"++-#"[drawn(state) % 4];
+    text.push(sign)?;
+    for _ in 0..length {
+        let usual = match sign {
+            b'-' => b"0123456789"[drawn(state) % 10],
+            _ => b"0123456789abcdefABCDEF"[drawn(state) % 22],
+        };
+        let odd = b"/:@G`g \r%+-#"[drawn(state) % 12];
+        text.push(if drawn(state) % 150 == 0 { odd } else { usual })?;
+    }
+    text.extend_from_slice(if drawn(state) % 4 == 0 {
+        b"\r\n"
+    } else {
+        b"\n"
+    })?;
+    text.extend_from_slice(&WRITTEN_SEVENS)?;
+    text.extend_from_slice(b"-1000\n")?;
+    Ok(text)
+}
+
+#[test]
+fn reads_lines_as_bytes_at_each_length_and_cut(rt: HostRuntime) -> Result<(), Fail> {
+    let mut state = 7;
+    for length in 0..200 {
+        let text = drawn_text(rt.alloc(), length, &mut state)?;
+        for cut in 0..text.len() {
+            read_both_ways(&rt, rt.alloc(), text.as_slice(), cut)?;
+        }
+    }
+    Ok(())
+}
+
+#[test]
+fn refuses_a_byte_at_each_place_of_a_line(rt: HostRuntime) -> Result<(), Fail> {
+    for place in 1..66 {
+        for byte in *b"/:@G`g\r\n\x00\xff" {
+            let mut text = WRITTEN_SEVENS;
+            text[place] = byte;
+            read_both_ways(&rt, rt.alloc(), &text, 0)?;
         }
     }
     Ok(())

@@ -2,8 +2,9 @@
 ghost use Rattle.std.specs.Prelude.{◌≡◌, ◌≢◌, ℕ, ◌+◌, ◌-◌, ◌<◌, ◌≤◌, ◌^◌, ◌++◌, List, [], length};
 ghost use Rattle.std.specs.Prelude.{take, slice_index, Err, OnOk, IfOk, IfErr, IfSome, None};
 ghost use Rattle.yasir_ticks.specs.Characters.{line_feed, plus_sign, minus_sign, number_sign};
-ghost use Rattle.yasir_ticks.specs.Slices.{TakesWhole, IsSpelled, FeedsByte, FeedsLine};
+ghost use Rattle.yasir_ticks.specs.Slices.{TakesWhole, IsSpelled, IsFewPairs, FeedsByte, FeedsLine};
 
+use crate::digit::hex_value;
 use crate::pairs::{Decoded, decode_front};
 use crate::place::{Content, Place};
 use crate::reader::MAX_COMMENT;
@@ -59,6 +60,26 @@ fn spelled_number(bytes: &[u8]) -> Option<Spelled>
     }
 }
 
+// The bytes of the one to three pairs of digits that a slice begins with, where an LF stands behind
+// them.
+#[inline]
+fn few_pairs(bytes: &[u8]) -> Option<LineBytes>
+    ensures { IfSome result (λ line. IsFewPairs bytes.now line.items) }
+{
+    let mut line = LineBytes::new();
+    let mut at = 0;
+    while at < 6 && at + 2 < bytes.len() {
+        let high = hex_value(bytes[at])?;
+        let low = hex_value(bytes[at + 1])?;
+        line.push(high * 16 + low);
+        at += 2;
+        if bytes[at] == b'\n' {
+            return Some(line);
+        }
+    }
+    None
+}
+
 impl TickReader {
     ghost use Rattle.yasir_ticks.specs.declared.fault.BadTicks.{BadTicks};
     ghost use Rattle.yasir_ticks.specs.declared.place.Place.TheVariants.{Start};
@@ -71,15 +92,34 @@ impl TickReader {
     /// The bytes of the `+` line that was ended last. They stand until the next byte is fed.
     #[inline]
     pub fn line_bytes(&self) -> &[u8]
-        ensures { result.now ≡ lent_bytes self.now }
+        ensures bytes { result.now ≡ lent_bytes self.now }
+        ensures few { length result.now ≤ 32 }
     {
         &self.bytes
+    }
+
+    // The bytes of a line behind its `+`, where they are at most three.
+    #[inline]
+    fn take_short_line(&mut self, bytes: &[u8]) -> Option<Whole>
+        requires place { self.old.place ≡ Start }
+        requires line { reader_line self.old < 2 ^ 32 - 1 }
+        ensures whole { IfSome result (TakesWhole self.old plus_sign bytes.now self.new) }
+        ensures none { result ≡ None → self.new ≡ self.old }
+    {
+        let line = few_pairs(bytes)?;
+        let len = 2 * line.len();
+        self.bytes = line;
+        self.line += 1;
+        Some(Whole {
+            len,
+            content: Content::KeptBytes,
+        })
     }
 
     // The bytes of a line behind its `+`, where they stand as whole pairs of digits with their LF
     // in the first 65 bytes.
     #[inline]
-    fn take_bytes_line(&mut self, bytes: &[u8]) -> Option<Whole>
+    fn take_long_line(&mut self, bytes: &[u8]) -> Option<Whole>
         requires place { self.old.place ≡ Start }
         requires line { reader_line self.old < 2 ^ 32 - 1 }
         ensures whole { IfSome result (TakesWhole self.old plus_sign bytes.now self.new) }
@@ -103,6 +143,24 @@ impl TickReader {
             len,
             content: Content::KeptBytes,
         })
+    }
+
+    // The bytes of a line behind its `+`. Few are looked up one by one, which costs less than all
+    // lanes of the vectors.
+    #[inline]
+    fn take_bytes_line(&mut self, bytes: &[u8]) -> Option<Whole>
+        requires place { self.old.place ≡ Start }
+        requires line { reader_line self.old < 2 ^ 32 - 1 }
+        ensures whole { IfSome result (TakesWhole self.old plus_sign bytes.now self.new) }
+        ensures none { result ≡ None → self.new ≡ self.old }
+    {
+        if bytes.len() < 7 {
+            return self.take_short_line(bytes);
+        }
+        if bytes[2] == b'\n' || bytes[4] == b'\n' || bytes[6] == b'\n' {
+            return self.take_short_line(bytes);
+        }
+        self.take_long_line(bytes)
     }
 
     // The number of a line behind its `-`.
@@ -193,6 +251,7 @@ impl TickReader {
     }
 
     // Bytes up to the end of the line in which the reader stands.
+    #[inline(never)]
     fn feed_rest(&mut self, bytes: &[u8]) -> FedLine
         requires { reader_line self.old + length bytes.now < 2 ^ 32 }
         ensures fed { FeedsLine self.old bytes.now result.taken result.line self.new }
@@ -227,7 +286,7 @@ impl TickReader {
     }
 
     // The same; a usual line goes by at once.
-    #[inline]
+    #[inline(always)]
     fn feed_usual(&mut self, bytes: &[u8]) -> FedLine
         requires { reader_line self.old + length bytes.now < 2 ^ 32 }
         ensures fed { FeedsLine self.old bytes.now result.taken result.line self.new }
@@ -245,7 +304,7 @@ impl TickReader {
     /// Takes bytes of the text up to and with the LF of the line in which the reader stands, or up
     /// to a refused one, or all of them. It is as if they were fed one by one; the bytes of a `+`
     /// line are lent by `line_bytes`.
-    #[inline]
+    #[inline(always)]
     pub fn feed_line(&mut self, bytes: &[u8]) -> FedLine
         requires { reader_line self.old + length bytes.now < 2 ^ 32 }
         ensures within { result.taken ≤ length bytes.now }

@@ -5,11 +5,11 @@ ghost use Rattle.replay_status.specs.Flushes.{FlushesAtEnd};
 ghost use Rattle.box_replay.specs.ReplaysBox.{KeepsFloorThroughout, BoxDiskCause};
 ghost use Rattle.link_replay.specs.CheckCommand.{Checks};
 
-use crate::Proto;
+use crate::{Profile, Proto};
 use box_replay::replay_box;
 use check_replay::CheckBox;
 use dnp_link_frame::Dnp;
-use hmac_tag::{Dir, HmacSha1};
+use hmac_tag::{Dir, HmacSha1, HmacSha256};
 use replay_status::Status;
 use rtu_frame::Rtu;
 use yasir_io::{Sink, SlotDisk, Source};
@@ -18,10 +18,11 @@ use yasir_io::{Sink, SlotDisk, Source};
 /// and all that the receiver holds back leaves.
 const REST: u32 = 320;
 
-/// Checks the packets of a recorded line of a link, with words of two bytes and tags by HMAC-SHA-1:
-/// a receiver whose delay is 18 ticks.
+/// Checks the packets of a recorded line of a link, by a receiver whose delay is 18 ticks, or 24
+/// where words have four bytes and tags sixteen.
 pub fn check<K: Source, S: Source, O: Sink, L: Sink, D: SlotDisk>(
     proto: Proto,
+    profile: Profile,
     dir: Dir,
     key: &mut K,
     input: &mut S,
@@ -29,7 +30,7 @@ pub fn check<K: Source, S: Source, O: Sink, L: Sink, D: SlotDisk>(
     log: &mut L,
     disk: &mut D,
 ) -> Status
-    ensures checks { Checks K.Source S.Source O.Sink L.Sink D.SlotDisk proto dir
+    ensures checks { Checks K.Source S.Source O.Sink L.Sink D.SlotDisk proto profile dir
         (outside key.old input.old out.old log.old disk.old)
         (outside key.new input.new out.new log.new disk.new) result }
     ensures any_moment { KeepsFloorThroughout D.SlotDisk disk.old disk.new }
@@ -40,12 +41,20 @@ pub fn check<K: Source, S: Source, O: Sink, L: Sink, D: SlotDisk>(
         (L.faults log.old) (L.faults log.new) result }
     ensures flushes { FlushesAtEnd O.Sink L.Sink out.old out.new log.old log.new result }
 {
-    match proto {
-        Proto::Rtu => replay_box::<CheckBox<Rtu, HmacSha1, 2, 18>, K, S, O, L, D>(
+    match (proto, profile) {
+        (Proto::Rtu, Profile::Y18) => replay_box::<CheckBox<Rtu, HmacSha1, 2, 18>, K, S, O, L, D>(
             dir, REST, key, input, out, log, disk,
         ),
-        Proto::Dnp3 => replay_box::<CheckBox<Dnp, HmacSha1, 2, 18>, K, S, O, L, D>(
+        (Proto::Dnp3, Profile::Y18) => replay_box::<CheckBox<Dnp, HmacSha1, 2, 18>, K, S, O, L, D>(
             dir, REST, key, input, out, log, disk,
         ),
+        (Proto::Rtu, Profile::Y24) => replay_box::<CheckBox<Rtu, HmacSha256, 4, 24>, K, S, O, L, D>(
+            dir, REST, key, input, out, log, disk,
+        ),
+        (Proto::Dnp3, Profile::Y24) => {
+            replay_box::<CheckBox<Dnp, HmacSha256, 4, 24>, K, S, O, L, D>(
+                dir, REST, key, input, out, log, disk,
+            )
+        }
     }
 }

@@ -3,5 +3,6 @@
 pub mod check;
 pub mod init;
 pub mod read;
+pub mod replay;
 pub mod seal;
 pub mod tables;

@@ -16,6 +16,7 @@ returns-in_default g c =
       read = c.drive_to_rest.ensures.read;
       out_faults = still.out_faults;
       log_faults = still.log_faults;
+      flushes = driven.gives.flushes;
     }
 
 pub rest-requires-clause-room : goal.rest-requires-clause-room
@@ -55,3 +56,9 @@ returns-in-Err-clause-out g c = (quiet g.S.FrameBox g.C.FrameBox g.V.Device g.O.
 pub returns-in-Err-clause-log : goal.returns-in-Err-clause-log
 returns-in-Err-clause-log g c = (quiet g.S.FrameBox g.C.FrameBox g.V.Device g.O.Sink g.L.Sink
     _ _ _ _ _ _ _ _ _ _ _ c.requires _ c.in-Whole.ensures.driven).log
+
+pub returns-in-Ok-clause-flushes : goal.returns-in-Ok-clause-flushes
+returns-in-Ok-clause-flushes g c = c.in-Whole.ensures.driven.gives.flushes
+
+pub returns-in-Err-clause-flushes : goal.returns-in-Err-clause-flushes
+returns-in-Err-clause-flushes g c = c.in-Whole.ensures.driven.gives.flushes

@@ -1,11 +1,10 @@
-use Rattle.std.proofs.Common.{sym, ◌∙◌}
+use Rattle.std.proofs.Common.{sym}
 use Rattle.tick_drive.proofs.ItemLaws.{length-ticks_in-bytes, length-ticks_in-silence}
 use Rattle.tick_drive.proofs.input_loop.ticks_of.Goals as goal
 
-pub returns-in-Bytes : goal.returns-in-Bytes
-returns-in-Bytes c = rw c.in-Bytes.is
-    (c.len.ensures.value ∙ sym (length-ticks_in-bytes c.in-Bytes.bytes.items))
+pub returns-in-KeptBytes : goal.returns-in-KeptBytes
+returns-in-KeptBytes c = rw c.in-KeptBytes.is (sym (length-ticks_in-bytes c.args.bytes.now))
 
-pub returns-in-Silence : goal.returns-in-Silence
-returns-in-Silence c = rw c.in-Silence.is
-    (sym (length-ticks_in-silence c.in-Silence.n))
+pub returns-in-SilentTicks : goal.returns-in-SilentTicks
+returns-in-SilentTicks c = rw c.in-SilentTicks.is
+    (sym (length-ticks_in-silence c.in-SilentTicks.n))

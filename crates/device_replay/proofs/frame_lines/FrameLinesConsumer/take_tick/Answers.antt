@@ -1,11 +1,13 @@
-use Rattle.std.proofs.Common.{refl, rules}
+use Rattle.std.proofs.Common.{refl, rules, ◌∷◌, []}
+use Rattle.yasir_ticks.specs.Ticks.Item.{tick}
 use Rattle.tick_drive.proofs.Moving.{leaves_now}
 use Rattle.device_replay.proofs.Printing.{prints_nothing, prints_line, stops_at_line}
 use Rattle.device_replay.proofs.frame_lines.FrameLinesConsumer.take_tick.Goals as goal
 
 pub returns-in-None : goal.returns-in-None
 returns-in-None g c = record {
-  moved = λ began items before. prints_nothing g.V.Device _ _ _ _ c.in-None.ensures.stands
+  moved = λ began items before. prints_nothing g.V.Device _ _ (tick c.args.tick ∷ []) _
+      c.in-None.ensures.stands
       c.in-None.ensures.answer
       began _ _ items before refl;
   stopped = tt;
@@ -23,7 +25,8 @@ returns-in-None g c = record {
 
 pub returns-in-Ok : goal.returns-in-Ok
 returns-in-Ok g c = record {
-  moved = λ began items before. prints_line g.V.Device _ _ _ _ c.in-Some.ensures.stands
+  moved = λ began items before. prints_line g.V.Device _ _ (tick c.args.tick ∷ []) _
+      c.in-Some.ensures.stands
       c.in-Some.ensures.answer
       began _ _ items before _ refl _ _
       (λ text waits. c.in-Ok.ensures.ok began.out text waits) refl;
@@ -46,7 +49,8 @@ returns-in-Err g c = record {
   stopped = record {
     place = 0;
     within = search rules;
-    at = λ began items before. stops_at_line g.V.Device _ _ _ _ c.in-Some.ensures.stands
+    at = λ began items before. stops_at_line g.V.Device _ _ (tick c.args.tick ∷ []) _
+        c.in-Some.ensures.stands
         c.in-Some.ensures.answer
         began _ _ items before _ refl _
         (λ text waits. c.in-Err.ensures.err began.out text waits) refl;

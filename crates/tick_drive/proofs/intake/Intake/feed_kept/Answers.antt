@@ -4,6 +4,7 @@ use Rattle.std.proofs.lemmas.List.{length-take}
 use Rattle.std.specs.Io.KnownBytes.{prepend_known}
 use Rattle.yasir_io.specs.Pieces.{kept_bytes}
 use Rattle.yasir_ticks.specs.TickText.{ended_items}
+use Rattle.yasir_ticks.specs.Reader.{items_of_content, lent_bytes}
 use Rattle.tick_drive.specs.Intake.{HasMet}
 use Rattle.tick_drive.proofs.Known.{text_last, met_slice, met_slice_more, met_first}
 use Rattle.tick_drive.proofs.intake.Intake.feed_kept.Goals as goal
@@ -26,8 +27,8 @@ pub returns-in-Ok-clause-answer : goal.returns-in-Ok-clause-answer
 returns-in-Ok-clause-answer c = λ marks before now text met.
     let kept = c.kept-kept.result.now in
     let slice = take c.min-within.result kept in
-    let n = c.feed_some-taken.result.taken in
-    let fed = c.feed_some-taken.ensures in
+    let n = c.feed_line-taken.result.taken in
+    let fed = c.feed_line-taken.ensures in
     let some : 0 < n = rw c.in-Ok.is at (fed.progress
     (omega (arith, length-take c.min-within.result kept, ap length c.kept-kept.ensures))) in
     let whole = text_last text slice n fed.within some in
@@ -60,17 +61,18 @@ returns-in-Ok-clause-answer c = λ marks before now text met.
           c.min-within.ensures,
         );
       });
-      ended = ap ended_items whole ∙ (rw c.in-Ok.is at (fed.run marks text met.stands));
-      quiet = λ ticks. let last = rw c.in-Ok.is at (fed.last marks text met.stands) in
-          (last ticks).1;
+      ended = ap ended_items whole ∙ (rw c.in-Ok.is at (fed.items marks text met.stands));
+      quiet = λ some. let last = rw c.in-Ok.is at (fed.last marks text met.stands) in
+          (last (λ none. some (ap (λ content. items_of_content content
+          (lent_bytes c.feed_line-taken.new.self)) none))).1;
     }
 
 pub returns-in-Err-clause-answer : goal.returns-in-Err-clause-answer
 returns-in-Err-clause-answer c = λ marks before now text met.
     let kept = c.kept-kept.result.now in
     let slice = take c.min-within.result kept in
-    let n = c.feed_some-taken.result.taken in
-    let refused = rw c.in-Err.is at (c.feed_some-taken.ensures.refused marks text met.stands) in
+    let n = c.feed_line-taken.result.taken in
+    let refused = rw c.in-Err.is at (c.feed_line-taken.ensures.refused marks text met.stands) in
     let source = subst (λ l. before ≡ prepend_known text (prepend_known l now))
     (sym c.kept-kept.ensures) met.source in
     record {

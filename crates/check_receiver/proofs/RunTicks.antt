@@ -1,0 +1,172 @@
+-- Runs of ticks without a note, joined from single ticks, and what they make of a ring.
+use Rattle.std.proofs.Common.{◌≡◌, ◌∙◌, ℕ, zero, suc, ◌+◌, ◌-◌, ◌<◌, ◌≤◌, Bool, List, [], ◌∷◌, ◌++◌}
+use Rattle.std.proofs.Common.{length, length-append, take, drop, get_or, map, refl, sym, ap, subst}
+use Rattle.std.proofs.Common.{arith, append_assoc, ⊎_elim, Option, None, ◌⊎◌}
+use Rattle.std.proofs.lemmas.List.{append-nil, take-append-le, drop-append-le, length-drop}
+use Rattle.std.proofs.lemmas.List.{length-take-le, get_or-take, get_or-map, take_all}
+use Rattle.std.proofs.lemmas.Bool.{cases_lt}
+use Rattle.yasir_ticks.specs.Ticks.{silent, bytes_in}
+use Rattle.yasir_ticks.specs.Bursts.{Burst, bursts}
+use Rattle.yasir_ticks.specs.declared.tick.Tick.{Tick}
+use Rattle.yasir_ticks.specs.declared.tick.Tick.TheVariants.{Silent, Byte}
+use Rattle.yasir_ticks.proofs.SilenceLaws.{bytes_in-append}
+use Rattle.line_rules.specs.Rules.{Rules}
+use Rattle.burst_walk.specs.Answered.{answered}
+use Rattle.burst_walk.specs.Runs.{AnswersRun}
+use Rattle.burst_walk.specs.Walk.{Walker}
+use Rattle.burst_walk.proofs.Runs.{run-none, run-joined, run-tick}
+use Rattle.link_format.specs.Profile.{Profile}
+use Rattle.link_verdicts.specs.Verdicts.{CheckState}
+use Rattle.link_verdicts.specs.Checking.{FullNote, checker, at_floor, brief_note}
+use Rattle.link_verdicts.specs.Going.{Goes}
+use Rattle.link_verdicts.specs.Holding.{HasWalked}
+use Rattle.check_receiver.specs.Runs.{IsFront}
+
+-- ---- what a ring makes of ticks that enter
+
+pub entered-next : (Q : List Tick) (t : Tick) (E : List Tick) (k : ℕ) → 0 < length Q
+    → drop k ((drop 1 Q ++ t ∷ []) ++ E) ≡ drop (suc k) (Q ++ t ∷ E)
+entered-next [] t E k some = absurd (omega arith)
+entered-next (q ∷ Q) t E k some = ap (λ l. drop k l) (append_assoc Q (t ∷ []) E)
+
+pub left-next : (Q : List Tick) (t : Tick) (k : ℕ) → suc k ≤ length Q
+    → get_or Q 0 Silent ∷ take k (drop 1 Q ++ t ∷ []) ≡ take (suc k) Q
+left-next [] t k few = absurd (omega arith)
+left-next (q ∷ Q) t k few = ap (λ l. q ∷ l) (take-append-le k Q (t ∷ []) (omega arith))
+
+pub bytes-next : (left : List ℕ) (Q : List Tick) (t : Tick) (k : ℕ) → suc k ≤ length Q
+    → (left ++ bytes_in (take 1 Q)) ++ bytes_in (take k (drop 1 Q ++ t ∷ []))
+    ≡ left ++ bytes_in (take (suc k) Q)
+bytes-next left [] t k few = absurd (omega arith)
+bytes-next left (q ∷ Q) t k few =
+    append_assoc left (bytes_in (q ∷ [])) (bytes_in (take k (Q ++ t ∷ [])))
+    ∙ ap (λ l. left ++ l) (sym (bytes_in-append (q ∷ []) (take k (Q ++ t ∷ [])))
+    ∙ ap (λ l. bytes_in (q ∷ l)) (take-append-le k Q (t ∷ []) (omega arith)))
+
+-- ---- what leaves, told by its bytes
+
+bytes-silent : (n : ℕ) → bytes_in (silent n) ≡ []
+bytes-silent zero = refl
+bytes-silent (suc n) = bytes-silent n
+
+bytes-bytes : (x : List ℕ) → bytes_in (map (λ b. Byte b) x) ≡ x
+bytes-bytes [] = refl
+bytes-bytes (b ∷ x) = ap (λ l. b ∷ l) (bytes-bytes x)
+
+pub answered-bytes : (n : ℕ) (x : List ℕ) → bytes_in (answered n x) ≡ x
+answered-bytes n [] = bytes-silent n
+answered-bytes n (b ∷ x) = bytes-bytes (b ∷ x)
+
+take-silent : (k n : ℕ) → k ≤ n → take k (silent n) ≡ silent k
+take-silent zero n few = refl
+take-silent (suc k) zero few = absurd (omega arith)
+take-silent (suc k) (suc n) few = ap (λ l. Silent ∷ l) (take-silent k n (omega arith))
+
+take-less : (k n : ℕ) (x : List Tick) → k ≤ n → take k (take n x) ≡ take k x
+take-less zero n x few = refl
+take-less (suc k) zero x few = absurd (omega arith)
+take-less (suc k) (suc n) [] few = refl
+take-less (suc k) (suc n) (t ∷ x) few = ap (λ l. t ∷ l) (take-less k n x (omega arith))
+
+-- the first of ticks that are silent
+front-silence : (Q : List Tick) (c k : ℕ) (x : List ℕ) → k ≤ c → c ≤ length Q
+    → take c Q ≡ silent c → IsFront Q k x → take k Q ≡ answered k x
+front-silence Q c k [] few within is front =
+    sym (take-less k c Q few) ∙ (ap (λ l. take k l) is ∙ take-silent k c few)
+front-silence [] c k (b ∷ x) few within is front = let short = front.within in absurd (omega arith)
+front-silence (q ∷ Q) zero k (b ∷ x) few within is front =
+    let short = front.within in absurd (omega arith)
+front-silence (q ∷ Q) (suc c) k (b ∷ x) few within is front =
+    let first : q ≡ Silent = ap (λ l. get_or l 0 Silent) is in
+    let byte : Byte b ≡ q = ap (λ l. get_or l 0 Silent) front.bytes in
+    let both : Byte b ≡ Silent = byte ∙ first in
+    absurd cc
+
+nothing : (x : List ℕ) → length x ≡ 0 → x ≡ []
+nothing [] none = refl
+nothing (b ∷ x) none = absurd (omega arith)
+
+answered-whole : (x : List ℕ) → map (λ b. Byte b) x ≡ answered (length x) x
+answered-whole [] = refl
+answered-whole (b ∷ x) = refl
+
+byte-at : (y : List ℕ) (j : ℕ) → j < length y → get_or (map (λ b. Byte b) y) j Silent ≡ Silent → ⊥
+byte-at [] j less is = absurd (omega arith)
+byte-at (b ∷ y) zero less is = absurd cc
+byte-at (b ∷ y) (suc j) less is = byte-at y j (omega arith) is
+
+-- the first of ticks that are bytes
+front-bytes : (Q : List Tick) (c k : ℕ) (x y : List ℕ) → k ≤ c → c ≤ length Q
+    → take c Q ≡ map (λ b. Byte b) y → IsFront Q k x → take k Q ≡ answered k x
+front-bytes Q c k x y few within is front =
+    let size : length y ≡ c = sym (map-long y) ∙ (sym (ap length is) ∙ length-take-le c Q within) in
+    let short = front.within in
+    ⊎_elim
+    (λ less.
+    let here : get_or (map (λ b. Byte b) y) (length x) Silent ≡ Silent =
+    ap (λ l. get_or l (length x) Silent) (sym is)
+    ∙ (get_or-take c Q (length x) Silent (omega arith) ∙ front.all less) in
+    absurd (byte-at y (length x) (omega arith) here))
+    (λ all.
+    let same : length x ≡ k = omega arith in
+    ap (λ j. take j Q) (sym same)
+    ∙ (sym front.bytes ∙ (answered-whole x ∙ ap (λ j. answered j x) same)))
+    (cases_lt (length x) k)
+  where
+    map-long : (z : List ℕ) → length (map {B = Tick} (λ b. Byte b) z) ≡ length z
+    map-long [] = refl
+    map-long (b ∷ z) = ap suc (map-long z)
+
+-- What leaves in the next ticks, where those are alike.
+pub front-answered : (Q : List Tick) (c k : ℕ) (x : List ℕ) → k ≤ c → c ≤ length Q
+    → (take c Q ≡ silent (length (take c Q))) ⊎ ((y : List ℕ) × (take c Q ≡ map (λ b. Byte b) y))
+    → IsFront Q k x → take k Q ≡ answered k x
+front-answered Q c k x few within alike front =
+    ⊎_elim
+    (λ silence. front-silence Q c k x few within
+    (silence ∙ ap silent (length-take-le c Q within)) front)
+    (λ bytes. front-bytes Q c k x bytes.0 few within bytes.1 front)
+    alike
+
+-- ---- runs of a walk
+
+module _ (profile : Profile) (rules : Rules) (floor : ℕ) where
+  abbrev w : Walker CheckState FullNote
+  w = checker profile rules
+
+  -- After this line a run comes whose ticks have no note: the walk then stands so, and this is
+  -- answered.
+  pub record RunsTo (line run : List Tick) (s : CheckState) (passes : Bool) (left : List ℕ)
+      (live : List Tick) (owed : ℕ) (waiting : Option Burst) (answer : List Tick) : Type 0 where
+    pub walked : HasWalked profile rules floor (length (line ++ run)) (bursts (line ++ run)) s
+        passes left live owed waiting
+    pub answers : AnswersRun w brief_note (at_floor floor) line run answer
+
+  pub runs-none : (line : List Tick) (s : CheckState) (passes : Bool) (left : List ℕ)
+      (live : List Tick) (owed : ℕ) (waiting : Option Burst)
+      → HasWalked profile rules floor (length line) (bursts line) s passes left live owed waiting
+      → RunsTo line [] s passes left live owed waiting []
+  runs-none line s passes left live owed waiting walked =
+      let P : List Tick → Type 0 = λ l. HasWalked profile rules floor (length l) (bursts l) s
+      passes left live owed waiting in
+      record {
+        walked = subst P (sym (append-nil line)) walked;
+        answers = run-none w brief_note (at_floor floor) line;
+      }
+
+  pub runs-first : (line : List Tick) (t : Tick) (run : List Tick) (s : CheckState)
+      (passes : Bool) (left : List ℕ) (live : List Tick) (owed : ℕ) (waiting : Option Burst)
+      (left' : List ℕ) (live' : List Tick) (owed' : ℕ) (waiting' : Option Burst) (a : Tick)
+      (answer : List Tick)
+      → Goes profile rules floor line t s passes left live owed waiting a None
+      → RunsTo (line ++ t ∷ []) run s passes left' live' owed' waiting' answer
+      → RunsTo line (t ∷ run) s passes left' live' owed' waiting' (a ∷ answer)
+  runs-first line t run s passes left live owed waiting left' live' owed' waiting' a answer goes
+      rest =
+      let P : List Tick → Type 0 = λ l. HasWalked profile rules floor (length l) (bursts l) s
+      passes left' live' owed' waiting' in
+      record {
+        walked = subst P (append_assoc line (t ∷ []) run) rest.walked;
+        answers = run-joined w brief_note (at_floor floor) line (t ∷ []) run (a ∷ []) answer
+            (run-tick w brief_note (at_floor floor) line t a goes.answers) rest.answers;
+      }

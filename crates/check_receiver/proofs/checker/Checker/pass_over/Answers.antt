@@ -1,0 +1,44 @@
+use Rattle.std.proofs.Common.{◌≡◌, ◌∙◌, ◌+◌, ◌-◌, ◌≤◌, ◌<◌, ◌++◌, sym, ap, subst, arith, length, List}
+use Rattle.std.proofs.Common.{ℕ, take, map, min}
+use Rattle.std.proofs.lemmas.List.{take-take, length-take-le}
+use Rattle.yasir_ticks.specs.declared.tick.Tick.{Tick}
+use Rattle.yasir_ticks.specs.declared.tick.Tick.TheVariants.{Byte}
+use Rattle.burst_walk.specs.Answered.{answered}
+use Rattle.check_receiver.specs.Runs.{HasTakenRun}
+use Rattle.check_receiver.proofs.Lending.{bytes-long}
+use Rattle.check_receiver.proofs.RunsTaken.{flow-counted}
+use Rattle.check_receiver.proofs.checker.Checker.pass_over.Goals as goal
+
+pub returns-clause-run : goal.returns-clause-run
+returns-clause-run g c = λ last setup line stands.
+    let count : ℕ = c.front_alike-count.result in
+    let part : List ℕ = take count c.args.bytes.now in
+    let taken : ℕ = c.cut_some-taken.result in
+    let run : List Tick = map (λ b. Byte b) (take taken part) in
+    let old = c.args.self.now in
+    let within = c.front_alike-count.ensures.within in
+    let most = c.min-most.ensures in
+    let first = c.min.ensures in
+    let widened = c.from.ensures in
+    let few = c.cut_some-taken.ensures.within in
+    let some = c.requires.some in
+    let long : length part ≡ count = length-take-le count c.args.bytes.now (omega arith) in
+    let size : length run ≡ taken = bytes-long (take taken part)
+    ∙ length-take-le taken part (omega arith) in
+    let items : List ℕ = c.lend.new.left.items in
+    let new = record old {
+      cut = c.cut_some-taken.new.cut;
+      ring = c.pass_silence.new.self;
+      outlet = c.lend.new.outlet;
+      until = old.until - taken;
+    } in
+    let Ticks : List ℕ → Type 0 = λ y. HasTakenRun g.R.LineRules g.M.Mac new last setup line
+    (map (λ b. Byte b) y) (answered taken items) in
+    subst Ticks (take-take taken count c.args.bytes.now (omega arith))
+    (flow-counted g.R.LineRules g.M.Mac old last setup line stands c.cut_some-taken.new.cut
+    c.pass_silence.new.self c.lend.new.outlet count items (old.until - taken) (omega arith)
+    c.front_alike-count.ensures.alike c.lend.ensures.stands c.lend.ensures.owed run taken size
+    c.requires.rests c.requires.unowed (omega arith) (omega arith)
+    (c.cut_some-taken.ensures.stands line stands.cuts)
+    (c.cut_some-taken.ensures.none line stands.cuts) c.lend.ensures.front c.pass_silence.ensures
+    (omega arith))

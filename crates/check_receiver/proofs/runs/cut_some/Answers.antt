@@ -1,0 +1,23 @@
+use Rattle.std.proofs.Common.{◌≡◌, ◌∙◌, ◌++◌, ap, subst, arith, map, take, List, ℕ}
+use Rattle.std.proofs.lemmas.List.{append-nil}
+use Rattle.yasir_ticks.specs.declared.tick.Tick.{Tick}
+use Rattle.yasir_ticks.specs.declared.tick.Tick.TheVariants.{Byte}
+use Rattle.frame_ending.specs.Stands.{StandsFor as CutStandsFor}
+use Rattle.check_receiver.proofs.RestRuns.{live-begin_none, extra-begin_none}
+use Rattle.check_receiver.proofs.runs.cut_some.Goals as goal
+
+pub returns-then-live-gt0-clause-none : goal.returns-then-live-gt0-clause-none
+returns-then-live-gt0-clause-none g c = λ line old.
+    live-begin_none g.R.LineRules.rules (take c.go_on_some-live.result c.args.bytes.now) line
+    (c.go_on_some-live.ensures.live line old)
+
+pub returns-clause-none : goal.returns-clause-none
+returns-clause-none g c = λ line old.
+    let few = c.if-live-gt0.false in
+    let none : c.go_on_some-live.result ≡ 0 = omega arith in
+    let C : List Tick → Type 0 = λ l. CutStandsFor g.R.LineRules c.go_on_some-live.new.self l in
+    let same : line ++ map (λ b. Byte b) (take c.go_on_some-live.result c.args.bytes.now) ≡ line =
+    ap (λ k. line ++ map (λ b. Byte b) (take k c.args.bytes.now)) none ∙ append-nil line in
+    extra-begin_none g.R.LineRules.rules (take c.pass_over_some.result c.args.bytes.now) line
+    (c.pass_over_some.ensures.extra line
+    (subst C same (c.go_on_some-live.ensures.stands line old)))

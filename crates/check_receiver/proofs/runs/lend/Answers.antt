@@ -1,0 +1,38 @@
+use Rattle.std.proofs.Common.{◌≡◌, ◌∙◌, ◌+◌, ◌≤◌, ◌<◌, ◌++◌, [], sym, ap, subst, arith, length, List}
+use Rattle.std.proofs.Common.{ℕ, take}
+use Rattle.delay_ring.specs.DelayRing.{ring_ticks}
+use Rattle.spoiler.specs.Outlet.{StandsFor as OutletStandsFor, has_room}
+use Rattle.check_receiver.specs.Runs.{IsFront}
+use Rattle.check_receiver.proofs.Lending.{of-ok, all-left}
+use Rattle.check_receiver.proofs.runs.lend.Goals as goal
+
+pub returns-clause-front : goal.returns-clause-front
+returns-clause-front g c =
+    let front : List ℕ = c.front_bytes.result.now in
+    let within = c.front_bytes.ensures.within in
+    let most = c.requires.within in
+    let small = c.args.ring.now.fits in
+    let empty = c.requires.empty in
+    let none = ap length empty in
+    let items : c.try_extend_from_slice.new.self.items ≡ front =
+    of-ok c.try_extend_from_slice.result _
+    (c.try_extend_from_slice.ensures.variant.1 (omega arith)) c.try_extend_from_slice.ensures.ok
+    ∙ ap (λ y. y ++ front) empty in
+    let P : List ℕ → Type 0 = λ y. IsFront (ring_ticks c.args.ring.now) c.args.count y in
+    subst P (sym items) (record {
+      within = within;
+      bytes = c.front_bytes.ensures.bytes;
+      all = c.front_bytes.ensures.all;
+    })
+
+pub returns-clause-stands : goal.returns-clause-stands
+returns-clause-stands g c = λ x stands room.
+    let left : List ℕ = c.try_extend_from_slice.new.self.items in
+    let same = c.as_slice.ensures.value in
+    let long = ap length same in
+    let within = c.emit_some.ensures.within in
+    let P : List ℕ → Type 0 = λ y. OutletStandsFor g.R.LineRules c.emit_some.new.self
+    (x ++ take c.emit_some.result y) in
+    all-left g.R.LineRules c.emit_some.new.self x left c.emit_some.result (omega arith)
+    (subst P same (c.emit_some.ensures.stands x stands))
+    (λ less. c.emit_some.ensures.all (omega arith)) room

@@ -1,0 +1,47 @@
+-- What the receiver's calls for a run of ticks answer.
+use Rattle.std.specs.Prelude.{◌≡◌, ◌⊎◌, ℕ, ◌<◌, ◌≤◌, false, List, [], ◌∷◌, ◌++◌, length, map, take}
+use Rattle.std.specs.Prelude.{slice_index_or}
+use Rattle.yasir_ticks.specs.declared.tick.Tick.{Tick}
+use Rattle.yasir_ticks.specs.declared.tick.Tick.TheVariants.{Silent, Byte}
+use Rattle.line_rules.specs.Rules.{Rules, fills_room}
+use Rattle.line_rules.specs.declared.line_rules.LineRules.{Ghosts as LineRules}
+use Rattle.frame_ending.specs.declared.cut.Cut.TheVariants.{Live, Extra}
+use Rattle.frame_ending.specs.Cuts.{cut_of}
+use Rattle.burst_walk.specs.Runs.{AnswersRun}
+use Rattle.hmac_tag.specs.declared.tag.Mac.{Ghosts as Mac}
+use Rattle.link_format.specs.Profile.{profile_of}
+use Rattle.link_format.specs.Setup.{Setup}
+use Rattle.sequence_journal.specs.declared.numbers.TheConstants.{LIMIT}
+use Rattle.link_verdicts.specs.Checking.{checker, at_floor, brief_note}
+use Rattle.check_receiver.specs.Stands.{StandsAt}
+use Rattle.check_receiver.specs.declared.checker.Checker.{Checker}
+
+-- After these ticks the receiver has taken a run more, none of which has a note: it then stands for
+-- all of them, and it answers as the definitions say.
+pub record HasTakenRun {R M : Type 0} (proto : LineRules R) (code : Mac M) {B D : ℕ}
+    (value : Checker R M B D) (last : ℕ) (setup : Setup) (line run answer : List Tick) : Type 0
+  where
+    pub stands : StandsAt proto code value last setup (line ++ run)
+    pub answers : AnswersRun (checker (profile_of proto code B LIMIT setup) proto.rules) brief_note
+        (at_floor setup.floor) line run answer
+
+-- a tick that begins no burst
+abbrev pub BeginsNone : Rules → List Tick → Tick → Type 0
+BeginsNone rules line Silent = Unit {0}
+BeginsNone rules line (Byte b) =
+    (cut_of rules line (Byte b) ≡ Live b) ⊎ (cut_of rules line (Byte b) ≡ Extra b)
+
+-- None of these ticks, which come after the line, begins a burst.
+abbrev pub BeginNone : Rules → List Tick → List Tick → Type 0
+BeginNone rules line [] = Unit {0}
+BeginNone rules line (t ∷ run) = BeginsNone rules line t × BeginNone rules (line ++ t ∷ []) run
+
+-- These are the bytes at the front of some ticks, so many at most, up to the first silent one.
+pub record IsFront (ticks : List Tick) (most : ℕ) (x : List ℕ) : Type 0 where
+  pub within : length x ≤ most
+  pub bytes : map Byte x ≡ take (length x) ticks
+  pub all : length x < most → slice_index_or ticks (length x) Silent ≡ Silent
+
+-- After these bytes there is room for each of those.
+abbrev pub HaveRoom : Rules → List ℕ → List ℕ → Type 0
+HaveRoom rules x more = (n : ℕ) → n < length more → fills_room rules (x ++ take n more) ≡ false

@@ -1,0 +1,58 @@
+ghost use Rattle.std.specs.Prelude.{◌≡◌, ℕ, ◌+◌, ◌≤◌, List, [], ◌++◌, length, map, take};
+ghost use Rattle.yasir_ticks.specs.declared.tick.Tick.{Tick};
+ghost use Rattle.yasir_ticks.specs.declared.tick.Tick.TheVariants.{Byte};
+ghost use Rattle.yasir_ticks.specs.declared.TheConstants.{MAX_TICKS};
+ghost use Rattle.frame_ending.specs.Stands.{ticks_taken as ticks_cut};
+ghost use Rattle.frame_ending.specs.Stands.{StandsFor as CutStandsFor};
+ghost use Rattle.delay_ring.specs.DelayRing.{ring_ticks};
+ghost use Rattle.spoiler.specs.Outlet.{StandsFor as OutletStandsFor, owed_by};
+ghost use Rattle.check_receiver.specs.Runs.{BeginNone, IsFront, HaveRoom};
+
+use arrayvec::ArrayVec;
+use delay_ring::DelayRing;
+use frame_ending::BurstCut;
+use line_rules::LineRules;
+use spoiler::Outlet;
+
+/// The bytes that leave in a run of ticks, one in each; none where silence leaves.
+pub type RunBytes = ArrayVec<u8, 64>;
+
+// Takes the first of these bytes, one a tick, as far as they are alike, all live or none, and begin
+// no burst. Answers how many.
+#[inline]
+pub fn cut_some<R: LineRules>(cut: &mut BurstCut<R>, bytes: &[u8]) -> usize
+    requires { ticks_cut cut.old + length bytes.now ≤ MAX_TICKS }
+    ensures within { result ≤ length bytes.now }
+    ensures taken { ticks_cut cut.new ≡ ticks_cut cut.old + result }
+    ensures stands { (line : List Tick) → CutStandsFor R.LineRules cut.old line
+        → CutStandsFor R.LineRules cut.new (line ++ map Byte (take result bytes.now)) }
+    ensures none { (line : List Tick) → CutStandsFor R.LineRules cut.old line
+        → BeginNone R.rules line (map Byte (take result bytes.now)) }
+{
+    let live = cut.go_on_some(bytes);
+    if live > 0 {
+        return live;
+    }
+    cut.pass_over_some(bytes)
+}
+
+// Lends the bytes that leave in the next ticks, so many and none of them a burst's last one. The
+// ticks are alike, and where they are silent it lends none.
+#[inline]
+pub fn lend<R: LineRules, const D: usize>(
+    ring: &DelayRing<D>,
+    outlet: &mut Outlet<R>,
+    count: usize,
+    left: &mut RunBytes,
+)
+    requires within { count ≤ D }
+    requires empty { left.old.items ≡ [] }
+    ensures front { IsFront (ring_ticks ring.now) count left.new.items }
+    ensures stands { (x : List ℕ) → OutletStandsFor R.LineRules outlet.old x
+        → HaveRoom R.rules x left.new.items
+        → OutletStandsFor R.LineRules outlet.new (x ++ left.new.items) }
+    ensures owed { owed_by outlet.new ≡ 0 }
+{
+    let _ = left.try_extend_from_slice(ring.front_bytes(count));
+    outlet.emit_some(left.as_slice());
+}

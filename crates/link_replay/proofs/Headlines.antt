@@ -1,0 +1,131 @@
+-- The headline: what the lines of two recordings say of one another, for both protocols.
+use Rattle.std.proofs.Common.{◌≡◌, ℕ, ◌+◌, ◌≤◌, List, ◌++◌, Option, length, refl, arith}
+use Rattle.yasir_ticks.specs.Ticks.{Item, silent}
+use Rattle.yasir_ticks.specs.Bursts.{bursts}
+use Rattle.yasir_ticks.specs.declared.tick.Tick.{Tick}
+use Rattle.line_rules.specs.Rules.{Rules}
+use Rattle.rtu_frame.specs.Rules.{rtu_rules, rtu_lawful, rtu_framed}
+use Rattle.dnp_link_frame.specs.Rules.{dnp_rules}
+use Rattle.dnp_link_frame.specs.RulesLaws.{dnp_lawful, dnp_framed}
+use Rattle.device_model.specs.Frames.{FrameRead}
+use Rattle.device_model.specs.DnpReads.{dnp_reads}
+use Rattle.device_model.specs.RtuReads.{rtu_reads}
+use Rattle.yasir_io.specs.declared.source.Source.{Ghosts as Source}
+use Rattle.yasir_io.specs.declared.sink.Sink.{Ghosts as Sink}
+use Rattle.hmac_tag.specs.declared.dir.Dir.{Dir}
+use Rattle.link_format.specs.Profile.{Profile as LinkProfile, HasTags, delay}
+use Rattle.link_format.specs.Setup.{setup_of}
+use Rattle.link_format.proofs.Profiles.{y18-tags, y24-tags}
+use Rattle.sequence_journal.specs.declared.numbers.TheConstants.{LIMIT}
+use Rattle.seal_transmitter.specs.Sealing.{sealed}
+use Rattle.link_verdicts.specs.Checking.{passed, received_line}
+use Rattle.receiver_laws.specs.Headline.{ReadsWhatWasSealed}
+use Rattle.receiver_laws.proofs.Headline.{reads-sealed}
+use Rattle.receiver_laws.proofs.Settled.{reads_with}
+use Rattle.receiver_laws.proofs.DnpReadings.{dnp_reads_what_passed}
+use Rattle.receiver_laws.proofs.RtuReadings.{rtu_reads_what_passed}
+use Rattle.tick_drive.specs.Input.{AreFew}
+use Rattle.replay_lists.specs.Recordings.{before_mark, behind_mark}
+use Rattle.replay_status.specs.declared.status.Status.{Status}
+use Rattle.replay_status.specs.declared.status.Status.TheVariants.{Done}
+use Rattle.recordings_replay.specs.Keyed.{ReadsKeyFirst}
+use Rattle.recordings_replay.specs.Recorded.{PrintsRecorded, device_line, link_ticks}
+use Rattle.recordings_replay.specs.Listing.{Listing}
+use Rattle.recordings_replay.specs.TellsOf.{TellsOf, device_rest}
+use Rattle.recordings_replay.proofs.Keying.{keyed-so}
+use Rattle.recordings_replay.proofs.Telling.{tells-of, few-bursts, few-before}
+use Rattle.link_replay.specs.Protocols.{rules_of}
+use Rattle.link_replay.specs.ReplayCommand.{ReplaysWith, replay_listing, replay_profile}
+use Rattle.link_replay.specs.SealCommand.{seal_rest}
+use Rattle.link_replay.specs.declared.words.Profile.{Profile}
+use Rattle.link_replay.specs.declared.words.Profile.TheVariants.{Y18, Y24}
+use Rattle.link_replay.specs.declared.words.Proto.{Proto}
+use Rattle.link_replay.specs.declared.words.Proto.TheVariants.{Rtu, Dnp3}
+
+rtu-law : (profile : LinkProfile) (line link : List Tick)
+    → ReadsWhatWasSealed rtu_rules rtu_reads 4 profile 0 0 line link
+rtu-law profile line link = reads-sealed rtu_rules rtu_lawful (reads_with 4 2) 4 profile 0 0 line link
+    (rtu_reads_what_passed profile 4 2 (omega arith) (omega arith) (omega arith) 0 link)
+
+dnp-law : (profile : LinkProfile) (line link : List Tick)
+    → ReadsWhatWasSealed dnp_rules dnp_reads 0 profile 0 0 line link
+dnp-law profile line link = reads-sealed dnp_rules dnp_lawful dnp_reads 0 profile 0 0 line link
+    (dnp_reads_what_passed profile 0 link)
+
+-- an input within the limits has numbers enough for all bursts before the mark
+enough-numbers : (items : List Item) → AreFew items → length (bursts (before_mark items)) ≤ LIMIT
+enough-numbers items few =
+    omega (arith, few, few-before items, few-bursts (before_mark items))
+
+-- what is listed of both recordings, with a profile and a device
+abbrev tells_listing : LinkProfile → Rules → (List Tick → List FrameRead) → List Item → Listing
+tells_listing format rules reads items = record {
+  sealed = sealed format rules 0 (before_mark items ++ silent (device_rest format));
+  passed = passed format rules 0 (link_ticks items);
+  reads = reads (received_line format rules 0 (link_ticks items));
+}
+
+-- the lists of both protocols, with any profile whose delay is short enough
+module _ (format : LinkProfile) (tags : HasTags format) (some : 1 ≤ format.word_len)
+    (enough : delay format + 4 ≤ 320) (limit : format.limit ≡ LIMIT) (items : List Item)
+    (few : AreFew items) where
+  numbers : length (bursts (before_mark items)) ≤ format.limit
+  numbers = omega (arith, limit, enough-numbers items few)
+
+  rtu-tells : TellsOf format rtu_rules (before_mark items) (link_ticks items)
+      (tells_listing format rtu_rules rtu_reads items)
+  rtu-tells = tells-of format tags some rtu_rules rtu_lawful rtu_framed rtu_reads 4
+      (rtu-law format) (before_mark items) (behind_mark items) 320 enough numbers
+
+  dnp-tells : TellsOf format dnp_rules (before_mark items) (link_ticks items)
+      (tells_listing format dnp_rules dnp_reads items)
+  dnp-tells = tells-of format tags some dnp_rules dnp_lawful dnp_framed dnp_reads 0
+      (dnp-law format) (before_mark items) (behind_mark items) 320
+      (omega (arith, enough)) numbers
+
+tells : (proto : Proto) (profile : Profile) (dir : Dir) (key : List ℕ) (items : List Item)
+    → AreFew items
+    → TellsOf (replay_profile proto profile dir key) (rules_of proto) (before_mark items)
+    (link_ticks items)
+    (replay_listing proto profile dir key (device_line (seal_rest profile) items)
+    (link_ticks items))
+tells Rtu Y18 dir key items few = rtu-tells (replay_profile Rtu Y18 dir key)
+    (y18-tags rtu_rules.label LIMIT (setup_of key dir 0)) (omega arith) (omega arith) refl items few
+tells Dnp3 Y18 dir key items few = dnp-tells (replay_profile Dnp3 Y18 dir key)
+    (y18-tags dnp_rules.label LIMIT (setup_of key dir 0)) (omega arith) (omega arith) refl items few
+tells Rtu Y24 dir key items few = rtu-tells (replay_profile Rtu Y24 dir key)
+    (y24-tags rtu_rules.label LIMIT (setup_of key dir 0)) (omega arith) (omega arith) refl items few
+tells Dnp3 Y24 dir key items few = dnp-tells (replay_profile Dnp3 Y24 dir key)
+    (y24-tags dnp_rules.label LIMIT (setup_of key dir 0)) (omega arith) (omega arith) refl items few
+
+pub headline-so : (proto : Proto) (profile : Profile) (dir : Dir)
+    (in_before in_now out_before out_now : Option (List ℕ)) (status : Status) (key : List ℕ)
+    → PrintsRecorded (replay_listing proto profile dir key) (seal_rest profile) in_before in_now
+    out_before out_now status
+    → ReplaysWith proto profile dir in_before in_now out_before out_now key status
+headline-so proto profile dir in_before in_now out_before out_now Done key h = record {
+  items = h.items;
+  recorded = h.recorded;
+  printed = h.printed;
+  tells = tells proto profile dir key h.items h.recorded.few;
+}
+headline-so proto profile dir in_before in_now out_before out_now status key h = h
+
+-- the same behind the key
+module _ {K S O : Type 0} (k : Source K) (s : Source S) (o : Sink O) (proto : Proto)
+    (profile : Profile) (dir : Dir) (key_before key_after : K) (in_before in_after : S)
+    (out_before out_after : O) (Untouched : Type 0) where
+  pub replays-so : (status : Status)
+      → ReadsKeyFirst k key_before key_after
+      (λ key. PrintsRecorded (replay_listing proto profile dir key) (seal_rest profile)
+      (s.left in_before) (s.left in_after) (o.held out_before) (o.held out_after)) Untouched status
+      → ReadsKeyFirst k key_before key_after
+      (ReplaysWith proto profile dir (s.left in_before) (s.left in_after) (o.held out_before)
+      (o.held out_after)) Untouched status
+  replays-so status h = keyed-so k key_before key_after
+      (λ key. PrintsRecorded (replay_listing proto profile dir key) (seal_rest profile)
+      (s.left in_before) (s.left in_after) (o.held out_before) (o.held out_after))
+      (ReplaysWith proto profile dir (s.left in_before) (s.left in_after) (o.held out_before)
+      (o.held out_after)) Untouched status
+      (headline-so proto profile dir (s.left in_before) (s.left in_after) (o.held out_before)
+      (o.held out_after) status) h

@@ -1,0 +1,48 @@
+use Rattle.rtu_frame.specs.Rules.{rtu_rules, rtu_lawful}
+use Rattle.dnp_link_frame.specs.Rules.{dnp_rules}
+use Rattle.dnp_link_frame.specs.RulesLaws.{dnp_lawful}
+use Rattle.seal_transmitter.proofs.Numbers.{sealed-numbered}
+use Rattle.link_replay.specs.declared.words.Profile.TheVariants.{Y18, Y24}
+use Rattle.link_replay.specs.declared.words.Proto.TheVariants.{Rtu, Dnp3}
+use Rattle.link_replay.proofs.Headlines.{replays-so}
+use Rattle.link_replay.proofs.commands.replay.replay.Goals as goal
+
+pub replay_recordings-requires-clause-in_turn :
+    goal.replay_recordings-requires-clause-in_turn
+replay_recordings-requires-clause-in_turn g c = λ setup line.
+    sealed-numbered _ rtu_rules rtu_lawful setup.floor line
+
+pub replay_recordings-requires-in-Dnp3-Y18-clause-in_turn :
+    goal.replay_recordings-requires-in-Dnp3-Y18-clause-in_turn
+replay_recordings-requires-in-Dnp3-Y18-clause-in_turn g c = λ setup line.
+    sealed-numbered _ dnp_rules dnp_lawful setup.floor line
+
+pub replay_recordings-requires-in-Rtu-Y24-clause-in_turn :
+    goal.replay_recordings-requires-in-Rtu-Y24-clause-in_turn
+replay_recordings-requires-in-Rtu-Y24-clause-in_turn g c = λ setup line.
+    sealed-numbered _ rtu_rules rtu_lawful setup.floor line
+
+pub replay_recordings-requires-in-Dnp3-Y24-clause-in_turn :
+    goal.replay_recordings-requires-in-Dnp3-Y24-clause-in_turn
+replay_recordings-requires-in-Dnp3-Y24-clause-in_turn g c = λ setup line.
+    sealed-numbered _ dnp_rules dnp_lawful setup.floor line
+
+pub returns-in-Rtu-Y18-clause-lists : goal.returns-in-Rtu-Y18-clause-lists
+returns-in-Rtu-Y18-clause-lists g c = rw (c.in-Rtu-Y18.is-0, c.in-Rtu-Y18.is-1)
+    (replays-so g.K.Source g.S.Source g.O.Sink Rtu Y18 c.args.dir _ _ _ _ _ _ _
+    c.replay_recordings.result c.replay_recordings.ensures.lists)
+
+pub returns-in-Dnp3-Y18-clause-lists : goal.returns-in-Dnp3-Y18-clause-lists
+returns-in-Dnp3-Y18-clause-lists g c = rw (c.in-Dnp3-Y18.is-0, c.in-Dnp3-Y18.is-1)
+    (replays-so g.K.Source g.S.Source g.O.Sink Dnp3 Y18 c.args.dir _ _ _ _ _ _ _
+    c.replay_recordings-in-Dnp3-Y18.result c.replay_recordings-in-Dnp3-Y18.ensures.lists)
+
+pub returns-in-Rtu-Y24-clause-lists : goal.returns-in-Rtu-Y24-clause-lists
+returns-in-Rtu-Y24-clause-lists g c = rw (c.in-Rtu-Y24.is-0, c.in-Rtu-Y24.is-1)
+    (replays-so g.K.Source g.S.Source g.O.Sink Rtu Y24 c.args.dir _ _ _ _ _ _ _
+    c.replay_recordings-in-Rtu-Y24.result c.replay_recordings-in-Rtu-Y24.ensures.lists)
+
+pub returns-in-Dnp3-Y24-clause-lists : goal.returns-in-Dnp3-Y24-clause-lists
+returns-in-Dnp3-Y24-clause-lists g c = rw (c.in-Dnp3-Y24.is-0, c.in-Dnp3-Y24.is-1)
+    (replays-so g.K.Source g.S.Source g.O.Sink Dnp3 Y24 c.args.dir _ _ _ _ _ _ _
+    c.replay_recordings-in-Dnp3-Y24.result c.replay_recordings-in-Dnp3-Y24.ensures.lists)

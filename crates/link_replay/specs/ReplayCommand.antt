@@ -1,0 +1,96 @@
+-- The command `replay`: a line of a device through the transmitter, a link through the receiver and
+-- a device behind it. What it leaves when it is done is the program's headline:
+--
+-- For every key, device ticks and link ticks, however the link was altered, cut, repeated or
+-- reordered, the frames that the stated device reads from the receiver are a subsequence of those
+-- that the transmitter sealed, each number at most once, unless the run names a tag that matched an
+-- unsealed number and frame; an untouched link with frames spaced as stated delivers all, each byte
+-- exactly 18 ticks late (24 by the profile of four bytes of number).
+use Rattle.std.specs.Prelude.{◌≡◌, ℕ, List, Option, Some}
+use Rattle.std.specs.Io.KnownBytes.{append_known}
+use Rattle.yasir_io.specs.declared.source.Source.{Ghosts as Source}
+use Rattle.yasir_io.specs.declared.sink.Sink.{Ghosts as Sink}
+use Rattle.yasir_ticks.specs.Ticks.{Item}
+use Rattle.yasir_ticks.specs.declared.tick.Tick.{Tick}
+use Rattle.hmac_tag.specs.declared.dir.Dir.{Dir}
+use Rattle.link_format.specs.Profile.{Profile as LinkProfile}
+use Rattle.link_format.specs.Setup.{setup_of}
+use Rattle.sequence_journal.specs.declared.numbers.TheConstants.{LIMIT}
+use Rattle.seal_transmitter.specs.Sealing.{sealed}
+use Rattle.link_verdicts.specs.Checking.{passed, received_line}
+use Rattle.key_text.specs.KeyText.{IsKeyText}
+use Rattle.replay_lists.specs.Recordings.{before_mark}
+use Rattle.replay_status.specs.Outside.{Outside}
+use Rattle.replay_status.specs.Readable.{IsReadableWith}
+use Rattle.replay_status.specs.declared.status.Status.{Status}
+use Rattle.replay_status.specs.declared.status.Status.TheVariants.{Done}
+use Rattle.recordings_replay.specs.Listing.{Listing, listing_text}
+use Rattle.recordings_replay.specs.Keyed.{ReadsKeyFirst, LeavesAll}
+use Rattle.recordings_replay.specs.Recorded.{IsRecorded, PrintsRecorded, device_line, link_ticks}
+use Rattle.recordings_replay.specs.TellsOf.{TellsOf}
+use Rattle.link_replay.specs.ReadCommand.{device_reads}
+use Rattle.link_replay.specs.SealCommand.{seal_rest}
+use Rattle.link_replay.specs.declared.words.Profile.{Profile}
+use Rattle.link_replay.specs.declared.words.Proto.{Proto}
+use Rattle.link_replay.specs.Protocols.{rules_of, format_of}
+
+-- the profile of a link with this key and direction, from new journals on
+abbrev pub replay_profile : Proto → Profile → Dir → List ℕ → LinkProfile
+replay_profile proto profile dir key =
+    format_of profile (rules_of proto).label LIMIT (setup_of key dir 0)
+
+-- what the transmitter seals of a line, the receiver passes of a link, and the stated device reads
+-- behind the receiver
+abbrev pub replay_listing : Proto → Profile → Dir → List ℕ → List Tick → List Tick → Listing
+replay_listing proto profile dir key line link = record {
+  sealed = sealed (replay_profile proto profile dir key) (rules_of proto) 0 line;
+  passed = passed (replay_profile proto profile dir key) (rules_of proto) 0 link;
+  reads = device_reads proto
+      (received_line (replay_profile proto profile dir key) (rules_of proto) 0 link);
+}
+
+-- The headline.
+pub record Headline (proto : Proto) (profile : Profile) (dir : Dir) (key : List ℕ)
+    (in_before in_now out_before out_now : Option (List ℕ)) : Type 0 where
+  -- All of the input was taken. It is a text with one mark: the ticks of a device stand before it,
+  -- and those of a link behind it.
+  pub items : List Item
+  pub recorded : IsRecorded in_before in_now items
+  -- `out` has got one line for each frame that was sealed, passed, read and forged, and nothing
+  -- else.
+  pub printed : out_now ≡ append_known out_before (listing_text
+      (replay_listing proto profile dir key (device_line (seal_rest profile) items)
+      (link_ticks items)))
+  -- And this is what these lines say of one another.
+  pub tells : TellsOf (replay_profile proto profile dir key) (rules_of proto) (before_mark items)
+      (link_ticks items)
+      (replay_listing proto profile dir key (device_line (seal_rest profile) items)
+      (link_ticks items))
+
+-- What each status says once the key is read.
+abbrev pub ReplaysWith : Proto → Profile → Dir → Option (List ℕ) → Option (List ℕ) → Option (List ℕ)
+    → Option (List ℕ) → List ℕ → Status → Type 0
+ReplaysWith proto profile dir in_before in_now out_before out_now key Done =
+    Headline proto profile dir key in_before in_now out_before out_now
+ReplaysWith proto profile dir in_before in_now out_before out_now key status =
+    PrintsRecorded (replay_listing proto profile dir key) (seal_rest profile) in_before in_now
+    out_before out_now status
+
+module _ {K S O L D : Type 0} (k : Source K) (s : Source S) (o : Sink O) (l : Sink L) where
+  -- What `replay` does: notes aren't written, and the journal's disk isn't reached.
+  pub record Replays (proto : Proto) (profile : Profile) (dir : Dir) (before after : Outside K S O L D)
+      (status : Status) : Type 0 where
+    pub lists : ReadsKeyFirst k before.key after.key
+        (ReplaysWith proto profile dir (s.left before.input) (s.left after.input) (o.held before.out)
+        (o.held after.out))
+        (LeavesAll before.input after.input before.out after.out before.log after.log) status
+    pub log : l.held after.log ≡ l.held before.log
+    pub disk : after.disk ≡ before.disk
+
+-- All that the command is given is right: a key text, and a text with one mark within the limits.
+pub record IsListable (key_before in_before : Option (List ℕ)) : Type 0 where
+  pub text : List ℕ
+  pub key : List ℕ
+  pub key_told : key_before ≡ Some text
+  pub key_right : IsKeyText text key
+  pub input : IsReadableWith 1 in_before

@@ -1,0 +1,255 @@
+use crate::run;
+use crate::tests::{KEY, plan, run_over, strings};
+use replay_status::Status;
+use std::alloc::Global;
+use std::process::Abort;
+use std::test::Fail;
+use yasir_io::{MemSink, MemSource, SteadySlots};
+use yasir_ticks::{BadTicks, TickFault};
+
+/// An input of `replay`, and what comes of it.
+#[derive(Clone, Copy, Drop)]
+struct Row {
+    proto: &'static str,
+    text: &'static [u8],
+    status: Status,
+    out: &'static [u8],
+    log: &'static [u8],
+}
+
+/// Six polls of a master, of three requests, and the link of them: the second packet is altered, the
+/// third one comes twice, and the sixth before the fifth. All tags of this file are those of
+/// Python's `hmac`.
+const POLLS: Row = Row {
+    proto: "rtu",
+    text: b"+01030000000ac5cd\n-92\n\
+      +010300000001840a\n-92\n\
+      +1103006b00037687\n-92\n\
+      +01030000000ac5cd\n-92\n\
+      +010300000001840a\n-92\n\
+      +1103006b00037687\n-92\n\
+      %\n\
+      +01030000000ac5cd\n-3\n+0001014c5b8d33c6d29a347013b0\n-75\n\
+      +010300000001840b\n-3\n+0002ee5b1d1d6fc159af2411aeb5\n-75\n\
+      +1103006b00037687\n-3\n+00037f89dbbfa5b4b19474035c96\n-75\n\
+      +1103006b00037687\n-3\n+00037f89dbbfa5b4b19474035c96\n-75\n\
+      +01030000000ac5cd\n-3\n+0004e978a8dacbc39328af15b86d\n-75\n\
+      +1103006b00037687\n-3\n+0006a95674d7227aa3c4c9a7e69d\n-75\n\
+      +010300000001840a\n-3\n+0005ffc67a568388534ed1ce11e1\n-75\n",
+    status: Status::Done,
+    out: b"sealed 1 at 0 01030000000ac5cd\n\
+      sealed 2 at 100 010300000001840a\n\
+      sealed 3 at 200 1103006b00037687\n\
+      sealed 4 at 300 01030000000ac5cd\n\
+      sealed 5 at 400 010300000001840a\n\
+      sealed 6 at 500 1103006b00037687\n\
+      passed 1 at 0 01030000000ac5cd\n\
+      passed 3 at 200 1103006b00037687\n\
+      passed 4 at 400 01030000000ac5cd\n\
+      passed 6 at 500 1103006b00037687\n\
+      read at 18 01030000000ac5cd\n\
+      read at 218 1103006b00037687\n\
+      read at 418 01030000000ac5cd\n\
+      read at 518 1103006b00037687\n",
+    log: b"",
+};
+
+const NO_MARK: Row = Row {
+    text: b"+01",
+    status: Status::BadTicks(BadTicks {
+        line: 1,
+        why: TickFault::Mark,
+    }),
+    out: b"",
+    log: b"fault: line 1 mark\n",
+    ..POLLS
+};
+
+const ROWS: [Row; 10] = [
+    POLLS,
+    // an untouched link
+    Row {
+        text: b"+01030000000ac5cd\n-40\n%\n+01030000000ac5cd\n-3\n\
+          +0001014c5b8d33c6d29a347013b0\n-47\n",
+        out: b"sealed 1 at 0 01030000000ac5cd\n\
+          passed 1 at 0 01030000000ac5cd\n\
+          read at 18 01030000000ac5cd\n",
+        ..POLLS
+    },
+    // a frame where none was sealed
+    Row {
+        text: b"-48\n%\n+01030000000ac5cd\n-3\n+0001014c5b8d33c6d29a347013b0",
+        out: b"passed 1 at 0 01030000000ac5cd\n\
+          read at 18 01030000000ac5cd\n\
+          forged 1 at 0 01030000000ac5cd\n",
+        ..POLLS
+    },
+    // another frame with the number of a sealed one, and then a sealed frame with another number
+    Row {
+        text: b"+01030000000ac5cd\n%\n+010300000001840a\n-3\n\
+          +0001ec3beb0f43a9c825b948c840\n-75\n\
+          +01030000000ac5cd\n-3\n+0002e8d6d9348b893d30b358c222\n",
+        out: b"sealed 1 at 0 01030000000ac5cd\n\
+          passed 1 at 0 010300000001840a\n\
+          passed 2 at 100 01030000000ac5cd\n\
+          read at 18 010300000001840a\n\
+          read at 118 01030000000ac5cd\n\
+          forged 1 at 0 010300000001840a\n\
+          forged 2 at 100 01030000000ac5cd\n",
+        ..POLLS
+    },
+    Row {
+        proto: "dnp3",
+        text: b"+056405c001000004e921\n-40\n%\n+056405c001000004e921\n-3\n\
+          +0001793484b9bdf858bbd82b559e\n-47\n",
+        out: b"sealed 1 at 0 056405c001000004e921\n\
+          passed 1 at 0 056405c001000004e921\n\
+          read at 18 056405c001000004e921\n",
+        ..POLLS
+    },
+    Row {
+        text: b"%",
+        out: b"",
+        ..POLLS
+    },
+    NO_MARK,
+    Row {
+        text: b"+01\n",
+        status: Status::BadTicks(BadTicks {
+            line: 2,
+            why: TickFault::Mark,
+        }),
+        log: b"fault: line 2 mark\n",
+        ..NO_MARK
+    },
+    // one mark more
+    Row {
+        text: b"%\n-4\n%\n",
+        status: Status::BadTicks(BadTicks {
+            line: 3,
+            why: TickFault::Char,
+        }),
+        log: b"fault: line 3 char\n",
+        ..NO_MARK
+    },
+    // what was listed before a refusal isn't printed
+    Row {
+        text: b"+01030000000ac5cd\n-4\n%\nx",
+        status: Status::BadTicks(BadTicks {
+            line: 4,
+            why: TickFault::Char,
+        }),
+        log: b"fault: line 4 char\n",
+        ..NO_MARK
+    },
+];
+
+fn compare(rt: &impl Abort, alloc: Global, row: &Row) -> Result<(), Fail> {
+    let mut disk = SteadySlots::new([0; 16], [0; 16]);
+    let words = ["replay", row.proto, "ab", "key"];
+    let ran = run_over(alloc, &words, KEY, row.text, &[], &mut disk)?;
+    assert_eq!(rt; ran.status, row.status);
+    assert_eq!(rt; ran.out.held(), row.out);
+    assert_eq!(rt; ran.log.held(), row.log);
+    Ok(())
+}
+
+#[test]
+fn replays_recordings(rt: HostRuntime) -> Result<(), Fail> {
+    for row in ROWS {
+        compare(&rt, rt.alloc(), &row)?;
+    }
+    Ok(())
+}
+
+/// Calls of the key, the input and the output that fail, how much room the output has, and what
+/// comes of it.
+#[derive(Clone, Copy, Drop)]
+struct Faulty {
+    key_fails: &'static [u32],
+    input_fails: &'static [u32],
+    out_fails: &'static [u32],
+    room: usize,
+    status: Status,
+    got: usize,
+    log: &'static [u8],
+}
+
+const CALM: Faulty = Faulty {
+    key_fails: &[],
+    input_fails: &[],
+    out_fails: &[],
+    room: 800,
+    status: Status::Done,
+    got: 441,
+    log: b"",
+};
+
+const FAULTY: [Faulty; 6] = [
+    CALM,
+    Faulty {
+        key_fails: &[1],
+        status: Status::ReadFault,
+        got: 0,
+        log: b"fault: read\n",
+        ..CALM
+    },
+    // a read in mid-stream
+    Faulty {
+        input_fails: &[4],
+        status: Status::ReadFault,
+        got: 0,
+        log: b"fault: read\n",
+        ..CALM
+    },
+    Faulty {
+        out_fails: &[1],
+        status: Status::WriteFault,
+        got: 0,
+        ..CALM
+    },
+    // a write in mid-stream
+    Faulty {
+        room: 100,
+        status: Status::WriteFault,
+        got: 100,
+        ..CALM
+    },
+    // the flush
+    Faulty {
+        out_fails: &[2],
+        status: Status::WriteFault,
+        ..CALM
+    },
+];
+
+fn compare_faulty(rt: &impl Abort, alloc: Global, row: &Faulty) -> Result<(), Fail> {
+    let words = strings(alloc, &["replay", "rtu", "ab", "key"])?;
+    let mut key = MemSource::new(KEY, 512, plan(row.key_fails));
+    let mut input = MemSource::new(POLLS.text, 100, plan(row.input_fails));
+    let mut out = MemSink::with_room(alloc, row.room, 512, plan(row.out_fails))?;
+    let mut log = MemSink::with_room(alloc, 100, 512, plan(&[]))?;
+    let mut disk = SteadySlots::new([0; 16], [0; 16]);
+    let status = run(
+        alloc,
+        words.as_slice(),
+        &mut key,
+        &mut input,
+        &mut out,
+        &mut log,
+        &mut disk,
+    );
+    assert_eq!(rt; status, row.status);
+    assert!(rt; row.got <= POLLS.out.len());
+    assert_eq!(rt; out.held(), &POLLS.out[..row.got]);
+    assert_eq!(rt; log.held(), row.log);
+    Ok(())
+}
+
+#[test]
+fn stops_where_the_outside_fails(rt: HostRuntime) -> Result<(), Fail> {
+    for row in FAULTY {
+        compare_faulty(&rt, rt.alloc(), &row)?;
+    }
+    Ok(())
+}

@@ -1,0 +1,68 @@
+-- Frames that are numbered in turn: one is among them exactly where it stands at its place.
+use Rattle.std.proofs.Common.{◌≡◌, ◌∙◌, ℕ, zero, suc, ◌+◌, ◌<◌, ◌≤◌, Bool, true, false, ◌||◌}
+use Rattle.std.proofs.Common.{◌&&◌, List, [], ◌∷◌, length, get_or, refl, ap, arith}
+use Rattle.std.proofs.Common.{ne_eqb, eq-eqb, bytes_eq}
+use Rattle.std.proofs.lemmas.List.{get_or-map}
+use Rattle.link_format.specs.NumberedFrame.{NumberedFrame, AreNumberedFrom}
+use Rattle.receiver_laws.specs.Accounted.{is_among, is_same_pair}
+use Rattle.replay_lists.specs.FrameBox.{kept_frames, kept_numbered}
+
+first-number : (floor : ℕ) (g : NumberedFrame) (frames : List NumberedFrame)
+    → AreNumberedFrom floor (g ∷ frames) → g.number ≡ floor + 1
+first-number floor g frames turn = let numbers = turn.numbers in cc
+
+later-numbers : (floor : ℕ) (g : NumberedFrame) (frames : List NumberedFrame)
+    → AreNumberedFrom floor (g ∷ frames) → AreNumberedFrom (floor + 1) frames
+later-numbers floor g frames turn = let numbers = turn.numbers in record { numbers = cc }
+
+other-pair : (g f : NumberedFrame) (b : Bool) → (g.number ≡ f.number → ⊥)
+    → (is_same_pair g f || b) ≡ b
+other-pair g f b other =
+    ap (λ same. same && bytes_eq g.frame f.frame || b) (ne_eqb g.number f.number other)
+
+or-false : (x : Bool) → (x || false) ≡ x
+or-false true = refl
+or-false false = refl
+
+same-pair : (g f : NumberedFrame) (b : Bool) → g.number ≡ f.number → b ≡ false
+    → (is_same_pair g f || b) ≡ bytes_eq g.frame f.frame
+same-pair g f b same none =
+    ap (λ same. same && bytes_eq g.frame f.frame || b) (eq-eqb g.number f.number same)
+    ∙ ap (λ x. bytes_eq g.frame f.frame || x) none
+    ∙ or-false (bytes_eq g.frame f.frame)
+
+pub among-below : (floor : ℕ) (frames : List NumberedFrame) (f : NumberedFrame)
+    → AreNumberedFrom floor frames → f.number ≤ floor → is_among frames f ≡ false
+among-below floor [] f turn below = refl
+among-below floor (g ∷ frames) f turn below =
+    let first = first-number floor g frames turn in
+    other-pair g f (is_among frames f) (λ same. omega (arith, first, same, below))
+    ∙ among-below (floor + 1) frames f (later-numbers floor g frames turn) (omega (arith, below))
+
+pub among-past : (floor : ℕ) (frames : List NumberedFrame) (f : NumberedFrame)
+    → AreNumberedFrom floor frames → floor + length frames < f.number → is_among frames f ≡ false
+among-past floor [] f turn past = refl
+among-past floor (g ∷ frames) f turn past =
+    let first = first-number floor g frames turn in
+    other-pair g f (is_among frames f) (λ same. omega (arith, first, same, past))
+    ∙ among-past (floor + 1) frames f (later-numbers floor g frames turn) (omega (arith, past))
+
+pub among-at : (floor : ℕ) (frames : List NumberedFrame) (f d : NumberedFrame) (i : ℕ)
+    → AreNumberedFrom floor frames → f.number ≡ floor + i + 1 → i < length frames
+    → is_among frames f ≡ bytes_eq (get_or frames i d).frame f.frame
+among-at floor [] f d i turn at within = absurd (omega arith)
+among-at floor (g ∷ frames) f d zero turn at within =
+    let first = first-number floor g frames turn in
+    same-pair g f (is_among frames f) (omega (arith, first, at))
+    (among-below (floor + 1) frames f (later-numbers floor g frames turn) (omega (arith, at)))
+among-at floor (g ∷ frames) f d (suc i) turn at within =
+    let first = first-number floor g frames turn in
+    other-pair g f (is_among frames f) (λ same. omega (arith, first, at, same))
+    ∙ among-at (floor + 1) frames f d i (later-numbers floor g frames turn) (omega (arith, at))
+    (omega (arith, within))
+
+-- the same of a frame that was kept
+pub kept-at : (frames : List NumberedFrame) (d : NumberedFrame) (i : ℕ) → i < length frames
+    → (get_or (kept_frames frames) i (kept_numbered d)).frame ≡ (get_or frames i d).frame
+kept-at frames d i within =
+    ap (λ k. k.frame) (get_or-map kept_numbered frames i d (kept_numbered d) within)

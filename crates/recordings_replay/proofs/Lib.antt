@@ -1,0 +1,6 @@
+pub mod Pushing
+pub mod InTurn
+pub mod InOrder
+pub mod Recording
+pub mod Telling
+pub mod Keying

@@ -1,0 +1,41 @@
+use Rattle.std.proofs.Common.{refl, subst}
+use Rattle.link_format.specs.Setup.{setup_of}
+use Rattle.replay_status.proofs.FlushLaws.{flushes_of_whole, flushes_of_end}
+use Rattle.replay_status.proofs.EndCauses.{input_cause_of_whole}
+use Rattle.recordings_replay.specs.Listing.{listing_with, listing_text}
+use Rattle.recordings_replay.specs.Printing.{PrintsText}
+use Rattle.recordings_replay.specs.Recorded.{device_line, link_ticks}
+use Rattle.recordings_replay.proofs.Recording.{recorded-prints}
+use Rattle.recordings_replay.proofs.command.replay_keyed.Goals as goal
+
+pub returns-in-Whole-clause-prints : goal.returns-in-Whole-clause-prints
+returns-in-Whole-clause-prints g c =
+    let setup = setup_of c.args.key.now c.args.dir 0 in
+    let both = c.in-Whole.ensures.listed in
+    let takes = both.takes in
+    let line = device_line c.args.device_rest takes.told in
+    let link = link_ticks takes.told in
+    let listed = both.listed setup c.new-lists.ensures.listed in
+    let listing = listing_with g.S.FrameBox g.C.FrameBox g.V.Device c.args.dir c.args.key.now in
+    recorded-prints listing c.args.device_rest (g.I.Source.left c.args.input.now)
+    (g.I.Source.left c.list_recordings-end.new.input) (g.O.Sink.held c.args.out.now)
+    (g.O.Sink.held c.print_listing.new.out) takes.told
+    (record { text = takes.text; met = takes.met; right = takes.right; few = takes.few })
+    c.print_listing.result
+    (subst (λ held. PrintsText (listing_text (listing line link)) held
+    (g.O.Sink.held c.print_listing.new.out) c.print_listing.result) c.in-Whole.ensures.out
+    (c.print_listing.ensures.prints (listing line link) (record {
+      sealed_ones = c.sealed.ensures setup line link listed;
+      passed_ones = c.passed.ensures setup line link listed;
+      read_ones = c.read.ensures setup line link listed;
+      in_turn = c.requires.in_turn setup line;
+    })))
+
+pub returns-in-Whole-clause-input : goal.returns-in-Whole-clause-input
+returns-in-Whole-clause-input g c = input_cause_of_whole _ _ c.print_listing.result
+    c.print_listing.ensures.status (c.in-Whole.ensures.read.same refl)
+
+pub returns-in-Whole-clause-flushes : goal.returns-in-Whole-clause-flushes
+returns-in-Whole-clause-flushes g c = flushes_of_whole g.O.Sink g.L.Sink _ _ _ _ _ _
+    c.in-Whole.ensures.flushes c.in-Whole.ensures.log_faults c.print_listing.result
+    c.print_listing.ensures.flushes

@@ -1,0 +1,20 @@
+use Rattle.std.proofs.Common.{◌≡◌, List, take}
+use Rattle.std.specs.List.{flat_map}
+use Rattle.link_format.specs.NumberedFrame.{NumberedFrame, AreNumberedFrom}
+use Rattle.replay_lists.specs.FrameBox.{kept_frames}
+use Rattle.replay_lists.specs.FrameList.{Kept, Holds}
+use Rattle.replay_lists.specs.declared.frame_box.Numbered.{Numbered}
+use Rattle.recordings_replay.specs.Printing.{AddsText, on_the_way}
+use Rattle.recordings_replay.proofs.Pushing.{forged_line}
+use Rattle.recordings_replay.proofs.groups.push_forged.Given as goal
+
+abbrev pub invariant-loop-index : goal.invariant-loop-index
+invariant-loop-index g l = record {
+  calm : g.O.Sink.faults l.out ≡ g.O.Sink.faults l.fn.out;
+  flushes : g.O.Sink.flushes l.out ≡ g.O.Sink.flushes l.fn.out;
+  adds : (sealed_ones : List NumberedFrame) → Holds l.fn.sealed (kept_frames sealed_ones)
+      → AreNumberedFrom 0 sealed_ones → (kept : List (Kept Numbered)) → Holds l.fn.passed kept
+      → AddsText (on_the_way (g.O.Sink.held l.fn.out) l.fn.text.text.items)
+      (on_the_way (g.O.Sink.held l.out) l.text.text.items)
+      (flat_map (forged_line sealed_ones) (take l.index kept));
+}

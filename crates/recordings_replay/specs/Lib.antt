@@ -1,0 +1,5 @@
+pub mod Listing
+pub mod TellsOf
+pub mod Printing
+pub mod Recorded
+pub mod Keyed

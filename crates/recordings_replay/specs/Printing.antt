@@ -1,0 +1,58 @@
+-- Text that is added to one on its way to a sink.
+use Rattle.std.specs.Prelude.{◌≡◌, ℕ, cond, List, [], ◌++◌, Option, codes}
+use Rattle.std.specs.Io.KnownBytes.{append_known}
+use Rattle.yasir_io.specs.Output.{Buffered, GotPrefix}
+use Rattle.link_format.specs.NumberedFrame.{NumberedFrame, AreNumberedFrom}
+use Rattle.receiver_laws.specs.Accounted.{is_among}
+use Rattle.replay_lists.specs.FrameBox.{kept_frames}
+use Rattle.replay_lists.specs.FrameList.{Holds, IsWhole}
+use Rattle.replay_lists.specs.ReplayLists.{kept_reads}
+use Rattle.replay_lists.specs.declared.frame_box.Numbered.{Numbered}
+use Rattle.replay_lists.specs.declared.frame_list.FrameList.{FrameList}
+use Rattle.replay_status.specs.declared.status.Status.{Status}
+use Rattle.replay_status.specs.declared.status.Status.TheVariants.{Done, WriteFault}
+use Rattle.recordings_replay.specs.Listing.{Listing, numbered_line}
+
+-- what a sink holds, and what waits to be written to it
+pub record OnTheWay : Type 0 where
+  pub held : Option (List ℕ)
+  pub waits : List ℕ
+
+abbrev pub on_the_way : Option (List ℕ) → List ℕ → OnTheWay
+on_the_way held waits = record { held = held; waits = waits }
+
+-- This text was added.
+abbrev pub AddsText : OnTheWay → OnTheWay → List ℕ → Type 0
+AddsText before now more = (start : Option (List ℕ)) (text : List ℕ)
+    → Buffered start before.held before.waits text
+    → Buffered start now.held now.waits (text ++ more)
+
+-- A write failed, and the sink has got a front of all.
+abbrev pub BreaksOff : OnTheWay → Option (List ℕ) → List ℕ → Type 0
+BreaksOff before held more = (start : Option (List ℕ)) (text : List ℕ)
+    → Buffered start before.held before.waits text → GotPrefix start held (text ++ more)
+
+-- the line of a frame that passed and was never sealed with its number; or nothing
+abbrev pub line_if_forged : List NumberedFrame → NumberedFrame → List ℕ
+line_if_forged sealed_ones f =
+    cond (is_among sealed_ones f) [] (numbered_line (codes "forged") f)
+
+-- The lists hold these frames. The sealed ones are numbered in turn.
+pub record HoldsListing (sealed passed : FrameList Numbered) (read : FrameList ℕ)
+    (listing : Listing) : Type 0 where
+  pub sealed_ones : Holds sealed (kept_frames listing.sealed)
+  pub passed_ones : Holds passed (kept_frames listing.passed)
+  pub read_ones : Holds read (kept_reads listing.reads)
+  pub in_turn : AreNumberedFrom 0 listing.sealed
+
+-- the bytes of each list are those of its frames
+pub record AreWhole (sealed passed : FrameList Numbered) (read : FrameList ℕ) : Type 0 where
+  pub sealed_ones : IsWhole sealed
+  pub passed_ones : IsWhole passed
+  pub read_ones : IsWhole read
+
+-- What each status says of a sink that a text is written to.
+abbrev pub PrintsText : List ℕ → Option (List ℕ) → Option (List ℕ) → Status → Type 0
+PrintsText text before now Done = now ≡ append_known before text
+PrintsText text before now WriteFault = GotPrefix before now text
+PrintsText text before now status = ⊥

@@ -1,0 +1,65 @@
+-- What the lists of sealed, passed, read and forged frames say of one another.
+use Rattle.std.specs.Prelude.{◌≡◌, ◌≢◌, ℕ, ◌+◌, List, [], ◌++◌, map}
+use Rattle.std.specs.List.{AllPairs}
+use Rattle.yasir_ticks.specs.Ticks.{silent}
+use Rattle.yasir_ticks.specs.Bursts.{bursts}
+use Rattle.yasir_ticks.specs.declared.tick.Tick.{Tick}
+use Rattle.line_rules.specs.Rules.{Rules}
+use Rattle.sequence_journal.specs.Uptimes.{RiseFrom}
+use Rattle.link_format.specs.NumberedFrame.{numbers_of}
+use Rattle.link_format.specs.Profile.{Profile, delay}
+use Rattle.seal_transmitter.specs.Sealing.{link_line}
+use Rattle.link_verdicts.specs.Checking.{received_line}
+use Rattle.receiver_laws.specs.Accounted.{IsSubsequence, pairs_of, rightly_passed}
+use Rattle.receiver_laws.specs.Headline.{bytes_read, bytes_sealed}
+use Rattle.receiver_laws.specs.Reading.{delivered}
+use Rattle.receiver_laws.specs.Untouched.{AreSpaced, numbered}
+use Rattle.recordings_replay.specs.Listing.{Listing, forged_in}
+
+-- how many silent ticks stand behind the line of a device, so that its last burst is closed and its
+-- trailer sent
+abbrev pub device_rest : Profile → ℕ
+device_rest profile = delay profile + 6
+
+-- No number stands at two places.
+abbrev pub HasNoNumberTwice : List ℕ → Type 0
+HasNoNumberTwice numbers = AllPairs (λ m n. m ≢ n) numbers
+
+-- The link has brought all of the line of a device: each of its frames was sealed and has passed,
+-- none is forged, and the receiver's line is silence for the receiver's delay, then the device's
+-- line, and then silence.
+pub record DeliversLine (profile : Profile) (rules : Rules) (device link : List Tick) (rest : ℕ)
+    (listing : Listing) : Type 0 where
+  pub none_forged : forged_in listing ≡ []
+  pub all_sealed : listing.sealed ≡ numbered rules 0 (bursts device)
+  pub all_passed : listing.passed ≡ listing.sealed
+  pub received : received_line profile rules 0 link
+      ≡ silent (delay profile) ++ (device ++ silent (6 + rest))
+
+-- What the lists of the line of a device and a link say of one another. Nothing ties the link to
+-- the line: it may be the transmitter's, altered, cut, repeated or reordered, or any other.
+pub record TellsOf (profile : Profile) (rules : Rules) (device link : List Tick)
+    (listing : Listing) : Type 0 where
+  -- The device reads the frames that have passed, in their order and no other, each the receiver's
+  -- delay later.
+  pub reads_what_passed : listing.reads ≡ map (delivered profile) listing.passed
+  -- What has passed and isn't forged is a subsequence of what was sealed, each frame with its
+  -- number.
+  pub passes_what_was_sealed :
+      IsSubsequence (pairs_of (rightly_passed listing.sealed listing.passed))
+      (pairs_of listing.sealed)
+  -- So unless a frame is forged, the frames that the device reads are a subsequence of those that
+  -- were sealed.
+  pub reads_what_was_sealed : forged_in listing ≡ []
+      → IsSubsequence (bytes_read listing.reads) (bytes_sealed listing.sealed)
+  -- Each number at most once, among the sealed and among the passed, forged ones included.
+  pub sealed_rise : RiseFrom 0 (numbers_of listing.sealed)
+  pub sealed_once : HasNoNumberTwice (numbers_of listing.sealed)
+  pub passed_rise : RiseFrom 0 (numbers_of listing.passed)
+  pub passed_once : HasNoNumberTwice (numbers_of listing.passed)
+  -- An untouched link, whatever silence stands behind it, brings all of a line whose frames are
+  -- spaced.
+  pub untouched : (rest : ℕ)
+      → link ≡ link_line profile rules 0 (device ++ silent (device_rest profile)) ++ silent rest
+      → AreSpaced profile rules 0 (bursts device)
+      → DeliversLine profile rules device link rest listing

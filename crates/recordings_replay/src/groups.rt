@@ -1,0 +1,154 @@
+ghost use Rattle.std.specs.Prelude.{◌≡◌, ◌≤◌, ℕ, List, length, OnOk, OnErr};
+ghost use Rattle.std.specs.Prelude.{codes};
+ghost use Rattle.yasir_io.specs.Causes.{HasCause};
+ghost use Rattle.yasir_io.specs.TextBuffer.{waiting_bytes};
+ghost use Rattle.device_model.specs.Frames.{FrameRead};
+ghost use Rattle.device_replay.specs.Lines.{frame_lines};
+ghost use Rattle.link_format.specs.NumberedFrame.{NumberedFrame, AreNumberedFrom};
+ghost use Rattle.receiver_laws.specs.Accounted.{forged, is_among};
+ghost use Rattle.replay_lists.specs.FrameBox.{kept_frames};
+ghost use Rattle.replay_lists.specs.FrameList.{Holds, IsWhole};
+ghost use Rattle.replay_lists.specs.ReplayLists.{kept_reads};
+ghost use Rattle.recordings_replay.specs.Listing.{numbered_lines};
+ghost use Rattle.recordings_replay.specs.Printing.{AddsText, BreaksOff, on_the_way, line_if_forged};
+
+use crate::lines::numbered_line;
+use device_replay::read_line;
+use replay_lists::{FrameList, Numbered};
+use yasir_io::{Failed, Sink, TextBuffer};
+
+/// Adds a line for each of these frames, with their numbers.
+pub fn push_numbered<O: Sink>(
+    text: &mut TextBuffer,
+    out: &mut O,
+    name: &[u8],
+    frames: &FrameList<Numbered>,
+) -> Result<(), Failed>
+    requires name { length name.now ≤ 6 }
+    requires whole { IsWhole frames.now }
+    ensures ok { OnOk result ((listed : List NumberedFrame) → Holds frames.now (kept_frames listed)
+        → AddsText (on_the_way (O.held out.old) (waiting_bytes text.old))
+        (on_the_way (O.held out.new) (waiting_bytes text.new)) (numbered_lines name.now listed)) }
+    ensures err { OnErr result ((listed : List NumberedFrame) → Holds frames.now (kept_frames listed)
+        → BreaksOff (on_the_way (O.held out.old) (waiting_bytes text.old)) (O.held out.new)
+        (numbered_lines name.now listed)) }
+    ensures cause { HasCause (O.faults out.old) (O.faults out.new) result }
+    ensures flushes { O.flushes out.new ≡ O.flushes out.old }
+{
+    for index in 0..frames.len() {
+        let line = numbered_line(name, frames.head(index), frames.bytes(index));
+        let Ok(()) = text.push(out, line.as_slice()) else {
+            return Err(Failed);
+        };
+    }
+    Ok(())
+}
+
+/// Adds a line for each of these frames that a device has read.
+pub fn push_reads<O: Sink>(
+    text: &mut TextBuffer,
+    out: &mut O,
+    frames: &FrameList<u64>,
+) -> Result<(), Failed>
+    requires { IsWhole frames.now }
+    ensures ok { OnOk result ((listed : List FrameRead) → Holds frames.now (kept_reads listed)
+        → AddsText (on_the_way (O.held out.old) (waiting_bytes text.old))
+        (on_the_way (O.held out.new) (waiting_bytes text.new)) (frame_lines listed)) }
+    ensures err { OnErr result ((listed : List FrameRead) → Holds frames.now (kept_reads listed)
+        → BreaksOff (on_the_way (O.held out.old) (waiting_bytes text.old)) (O.held out.new)
+        (frame_lines listed)) }
+    ensures cause { HasCause (O.faults out.old) (O.faults out.new) result }
+    ensures flushes { O.flushes out.new ≡ O.flushes out.old }
+{
+    for index in 0..frames.len() {
+        let line = read_line(frames.head(index), frames.bytes(index));
+        let Ok(()) = text.push(out, line.as_slice()) else {
+            return Err(Failed);
+        };
+    }
+    Ok(())
+}
+
+// Whether a frame with this number and these bytes is among frames that are numbered in turn, from
+// 1 on: the one at its place is looked at, and no other.
+fn is_sealed(sealed: &FrameList<Numbered>, number: u64, bytes: &[u8]) -> bool
+    requires { IsWhole sealed.now }
+    ensures { (listed : List NumberedFrame) (f : NumberedFrame)
+        → Holds sealed.now (kept_frames listed) → AreNumberedFrom 0 listed
+        → f.number ≡ number → f.frame ≡ bytes.now → result ≡ is_among listed f }
+{
+    if number == 0 {
+        return false;
+    }
+    let place = (number - 1) as usize;
+    if place >= sealed.len() {
+        return false;
+    }
+    sealed.bytes(place) == bytes
+}
+
+// Adds the line of a frame that passed, unless it was sealed with its number.
+fn push_if_forged<O: Sink>(
+    text: &mut TextBuffer,
+    out: &mut O,
+    sealed: &FrameList<Numbered>,
+    head: Numbered,
+    bytes: &[u8],
+) -> Result<(), Failed>
+    requires whole { IsWhole sealed.now }
+    requires frame { length bytes.now ≤ 292 }
+    ensures ok { OnOk result ((sealed_ones : List NumberedFrame)
+        → Holds sealed.now (kept_frames sealed_ones) → AreNumberedFrom 0 sealed_ones
+        → AddsText (on_the_way (O.held out.old) (waiting_bytes text.old))
+        (on_the_way (O.held out.new) (waiting_bytes text.new)) (line_if_forged sealed_ones
+        (record { number = head.number; start = head.start; frame = bytes.now }))) }
+    ensures err { OnErr result ((sealed_ones : List NumberedFrame)
+        → Holds sealed.now (kept_frames sealed_ones) → AreNumberedFrom 0 sealed_ones
+        → BreaksOff (on_the_way (O.held out.old) (waiting_bytes text.old)) (O.held out.new)
+        (line_if_forged sealed_ones
+        (record { number = head.number; start = head.start; frame = bytes.now }))) }
+    ensures cause { HasCause (O.faults out.old) (O.faults out.new) result }
+    ensures flushes { O.flushes out.new ≡ O.flushes out.old }
+{
+    if is_sealed(sealed, head.number, bytes) {
+        return Ok(());
+    }
+    let line = numbered_line(b"forged", head, bytes);
+    match text.push(out, line.as_slice()) {
+        Ok(()) => Ok(()),
+        Err(Failed) => Err(Failed),
+    }
+}
+
+/// Adds a line for each of the frames that passed and was never sealed with its number. The sealed
+/// ones are numbered in turn.
+pub fn push_forged<O: Sink>(
+    text: &mut TextBuffer,
+    out: &mut O,
+    sealed: &FrameList<Numbered>,
+    passed: &FrameList<Numbered>,
+) -> Result<(), Failed>
+    requires sealed { IsWhole sealed.now }
+    requires passed { IsWhole passed.now }
+    ensures ok { OnOk result ((sealed_ones passed_ones : List NumberedFrame)
+        → Holds sealed.now (kept_frames sealed_ones) → Holds passed.now (kept_frames passed_ones)
+        → AreNumberedFrom 0 sealed_ones
+        → AddsText (on_the_way (O.held out.old) (waiting_bytes text.old))
+        (on_the_way (O.held out.new) (waiting_bytes text.new))
+        (numbered_lines (codes "forged") (forged sealed_ones passed_ones))) }
+    ensures err { OnErr result ((sealed_ones passed_ones : List NumberedFrame)
+        → Holds sealed.now (kept_frames sealed_ones) → Holds passed.now (kept_frames passed_ones)
+        → AreNumberedFrom 0 sealed_ones
+        → BreaksOff (on_the_way (O.held out.old) (waiting_bytes text.old)) (O.held out.new)
+        (numbered_lines (codes "forged") (forged sealed_ones passed_ones))) }
+    ensures cause { HasCause (O.faults out.old) (O.faults out.new) result }
+    ensures flushes { O.flushes out.new ≡ O.flushes out.old }
+{
+    for index in 0..passed.len() {
+        let (head, bytes) = (passed.head(index), passed.bytes(index));
+        let Ok(()) = push_if_forged(text, out, sealed, head, bytes) else {
+            return Err(Failed);
+        };
+    }
+    Ok(())
+}

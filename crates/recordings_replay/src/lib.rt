@@ -1,0 +1,12 @@
+//! Two recordings, a line of a device and a link, and what becomes of their frames: a line of text
+//! for each frame that is sealed of the one, and passed and read of the other, and for each that
+//! has passed and was never sealed.
+#![tactic(auto)]
+
+mod command;
+mod groups;
+mod lines;
+mod printing;
+
+pub use command::replay_recordings;
+pub use lines::numbered_line;

@@ -1,0 +1,280 @@
+//! Both boxes by the profile with words of four bytes and tags of sixteen by HMAC-SHA-256.
+
+use crate::outside::STEADY;
+use crate::over_boxes::{AT_0, AT_1, AT_2, AT_LIMIT, FRESH, KEY, NOTHING, Row, compare, replay};
+use crate::reading::read_by;
+use check_replay::CheckBox;
+use device_model::{Device, DnpDevice, RtuDevice};
+use dnp_link_frame::Dnp;
+use hmac_tag::{Dir, HmacSha256};
+use replay_status::Status;
+use rtu_frame::Rtu;
+use seal_replay::SealBox;
+use std::alloc::Global;
+use std::process::Abort;
+use std::test::Fail;
+
+type RtuSealBox = SealBox<Rtu, HmacSha256, 4>;
+
+type RtuCheckBox = CheckBox<Rtu, HmacSha256, 4, 24>;
+
+type DnpSealBox = SealBox<Dnp, HmacSha256, 4>;
+
+type DnpCheckBox = CheckBox<Dnp, HmacSha256, 4, 24>;
+
+/// The silent ticks behind a whole input, as the program has them.
+const SEAL_REST: u32 = 30;
+
+const CHECK_REST: u32 = 320;
+
+/// Slots that hold these numbers.
+const AT_65535: u128 = 0x000000000000ffff_ffffffffffff0000;
+
+const AT_65536: u128 = 0x0000000000010000_fffffffffffeffff;
+
+const AT_65538: u128 = 0x0000000000010002_fffffffffffefffd;
+
+/// A request with the trailer of number 1.
+const PACKET: &[u8] = b"+01030000000ac5cd\n-3\n+0000000165d245ba109509aa6c32ac3cfa228fd6\n-47\n";
+
+/// The request, and what it is sealed to in direction `ab` with number 1. The tags here are by
+/// openssl:
+///   printf 010001030000000ac5cd0000000000000001 | xxd -r -p
+///     | openssl dgst -sha256 -mac HMAC -macopt hexkey:000102030405060708090a0b0c0d0e0f
+///     | cut -c1-32
+const SEALED: Row = Row {
+    dir: Dir::Ab,
+    key: KEY,
+    slots: FRESH,
+    text: b"+01030000000ac5cd\n-40\n",
+    failing: STEADY,
+    status: Status::Done,
+    code: 0,
+    out: PACKET,
+    log: b"sealed 1 at 0 len 8\n",
+    slots_now: (AT_0, AT_1),
+};
+
+const SEALS: [Row; 7] = [
+    SEALED,
+    Row {
+        dir: Dir::Ba,
+        out: b"+01030000000ac5cd\n-3\n+000000012c6bb201ec629b1b6dee35f68a88e1f3\n-47\n",
+        ..SEALED
+    },
+    // The second frame starts one tick too soon.
+    Row {
+        text: b"+01030000000ac5cd\n-26\n+010300000001840a\n",
+        out: b"+01030000000ac5cd\n-3\n+0000000165d245ba109509aa6c32ac3cfa228fd6\n-41\n",
+        log: b"sealed 1 at 0 len 8\nunsealed at 34 early\n",
+        ..SEALED
+    },
+    Row {
+        text: b"+01030000000ac5cd\n-27\n+010300000001840a\n",
+        out: b"+01030000000ac5cd\n-3\n+0000000165d245ba109509aa6c32ac3cfa228fd6\n-4\n\
+            +010300000001840a\n-3\n+00000002e2eb9489571341cc1bc91db82735400c\n-7\n",
+        log: b"sealed 1 at 0 len 8\nsealed 2 at 35 len 8\n",
+        slots_now: (AT_2, AT_1),
+        ..SEALED
+    },
+    // A number of more than two bytes.
+    Row {
+        slots: (AT_65535, NOTHING),
+        out: b"+01030000000ac5cd\n-3\n+000100004950fac07f27212636e8defb8127898f\n-47\n",
+        log: b"sealed 65536 at 0 len 8\n",
+        slots_now: (AT_65535, AT_65536),
+        ..SEALED
+    },
+    // The greatest number is used.
+    Row {
+        slots: (AT_LIMIT, NOTHING),
+        out: b"+01030000000ac5cd\n-70\n",
+        log: b"unsealed at 0 spent\n",
+        slots_now: (AT_LIMIT, NOTHING),
+        ..SEALED
+    },
+    Row {
+        text: b"",
+        out: b"-30\n",
+        log: b"",
+        slots_now: FRESH,
+        ..SEALED
+    },
+];
+
+const DNP3_PACKET: &[u8] =
+    b"+056405c001000004e921\n-3\n+00000001cd525d6a6c119047d45db5ba9f9e4290\n-47\n";
+
+const SEALED_DNP3: Row = Row {
+    text: b"+056405c001000004e921\n-40\n",
+    out: DNP3_PACKET,
+    log: b"sealed 1 at 0 len 10\n",
+    ..SEALED
+};
+
+/// The packet passes.
+const PASSED: Row = Row {
+    text: PACKET,
+    out: b"-24\n+01030000000ac5cd\n-366\n",
+    log: b"passed 1 at 0 len 8\n",
+    ..SEALED
+};
+
+/// Nothing passes.
+const REFUSED: Row = Row {
+    out: b"-24\n+01030000000ac5cc\n-366\n",
+    log: b"refused at 0 trailer\n",
+    slots_now: FRESH,
+    ..PASSED
+};
+
+// A link, and what a device behind the receiver reads of it. Ticks and notes here were computed from
+// the rules of `docs/LINK.md` by a program in another language, over whole lines.
+const CHECKS: [(Row, &[u8]); 9] = [
+    (PASSED, b"read at 24 01030000000ac5cd\n"),
+    // The last byte of the tag is wrong.
+    (
+        Row {
+            text: b"+01030000000ac5cd\n-3\n+0000000165d245ba109509aa6c32ac3cfa228fd7\n-47\n",
+            log: b"refused at 0 tag\n",
+            ..REFUSED
+        },
+        b"",
+    ),
+    // The last tick of the trailer is silent.
+    (
+        Row {
+            text: b"+01030000000ac5cd\n-3\n+0000000165d245ba109509aa6c32ac3cfa228f\n-48\n",
+            ..REFUSED
+        },
+        b"",
+    ),
+    // A trailer of the other profile is too short.
+    (
+        Row {
+            text: b"+01030000000ac5cd\n-3\n+0001014c5b8d33c6d29a347013b0\n-53\n",
+            ..REFUSED
+        },
+        b"",
+    ),
+    // The packet twice: the second time its word stands for a number that has another tag.
+    (
+        Row {
+            text: b"+01030000000ac5cd\n-3\n+0000000165d245ba109509aa6c32ac3cfa228fd6\n-4\n\
+                +01030000000ac5cd\n-3\n+0000000165d245ba109509aa6c32ac3cfa228fd6\n-47\n",
+            out: b"-24\n+01030000000ac5cd\n-27\n+01030000000ac5cc\n-366\n",
+            log: b"passed 1 at 0 len 8\nrefused at 35 tag\n",
+            ..PASSED
+        },
+        b"read at 24 01030000000ac5cd\n",
+    ),
+    // So many packets were lost that two bytes would not tell.
+    (
+        Row {
+            text: b"+01030000000ac5cd\n-3\n+000100024eb47d60fe5ca0143bf0e199d071f864\n-47\n",
+            log: b"passed 65538 at 0 len 8\n",
+            slots_now: (AT_0, AT_65538),
+            ..PASSED
+        },
+        b"read at 24 01030000000ac5cd\n",
+    ),
+    // No number is left.
+    (
+        Row {
+            slots: (AT_LIMIT, NOTHING),
+            log: b"refused at 0 number\n",
+            slots_now: (AT_LIMIT, NOTHING),
+            ..REFUSED
+        },
+        b"",
+    ),
+    // The last byte of the burst before leaves in the tick in which the second one starts.
+    (
+        Row {
+            text: b"+01030000000ac5cd\n-23\n+010300000001840a\n-40\n",
+            out: b"-24\n+01030000000ac5cc\n-367\n",
+            log: b"refused at 0 trailer\ndropped at 31 busy\n",
+            ..REFUSED
+        },
+        b"",
+    ),
+    (
+        Row {
+            text: b"+01030000000ac5cd\n-24\n+010300000001840a\n-40\n",
+            out: b"-24\n+01030000000ac5cc\n-24\n+010300000001840b\n-336\n",
+            log: b"refused at 0 trailer\nrefused at 32 trailer\n",
+            ..REFUSED
+        },
+        b"",
+    ),
+];
+
+/// Behind the header of a frame of 292 bytes, without the others: a packet as the last of the bytes
+/// leaves that are filled in, and one tick later.
+const TOO_SOON: &[u8] = b"+0564ffc4010000042727\n-305\n+056405c001000004e921\n-3\n\
+        +00000001cd525d6a6c119047d45db5ba9f9e4290\n-47\n";
+
+const SOON_ENOUGH: &[u8] = b"+0564ffc4010000042727\n-306\n+056405c001000004e921\n-3\n\
+        +00000001cd525d6a6c119047d45db5ba9f9e4290\n-47\n";
+
+// A link of DNP3, the notes of it, and what a device behind the receiver reads of it.
+const DNP3_CHECKS: [(&[u8], &[u8], &[u8]); 3] = [
+    (
+        DNP3_PACKET,
+        b"passed 1 at 0 len 10\n",
+        b"read at 24 056405c001000004e921\n",
+    ),
+    (
+        TOO_SOON,
+        b"refused at 0 trailer\ndropped at 315 busy\n",
+        b"",
+    ),
+    (
+        SOON_ENOUGH,
+        b"refused at 0 trailer\npassed 1 at 316 len 10\n",
+        b"read at 340 056405c001000004e921\n",
+    ),
+];
+
+#[test]
+fn seals_with_words_of_four_bytes(rt: HostRuntime) -> Result<(), Fail> {
+    for row in SEALS {
+        compare::<HostRuntime, RtuSealBox>(&rt, rt.alloc(), SEAL_REST, &row)?;
+    }
+    compare::<HostRuntime, DnpSealBox>(&rt, rt.alloc(), SEAL_REST, &SEALED_DNP3)
+}
+
+// What a device reads of a receiver's line.
+fn has_read<D: Device + Drop>(
+    rt: &impl Abort,
+    alloc: Global,
+    line: &[u8],
+    frames: &[u8],
+) -> Result<(), Fail> {
+    let device = read_by::<D>(rt, alloc, line, &STEADY)?;
+    assert_eq!(rt; device.status, Status::Done);
+    assert_eq!(rt; device.out.held(), frames);
+    Ok(())
+}
+
+#[test]
+fn checks_words_of_four_bytes(rt: HostRuntime) -> Result<(), Fail> {
+    for (row, frames) in CHECKS {
+        compare::<HostRuntime, RtuCheckBox>(&rt, rt.alloc(), CHECK_REST, &row)?;
+        has_read::<RtuDevice>(&rt, rt.alloc(), row.out, frames)?;
+    }
+    for (text, notes, frames) in DNP3_CHECKS {
+        let checked = replay::<DnpCheckBox>(
+            rt.alloc(),
+            CHECK_REST,
+            Dir::Ab,
+            KEY,
+            FRESH,
+            text,
+            &STEADY,
+        )?;
+        assert_eq!(rt; checked.log.held(), notes);
+        has_read::<DnpDevice>(&rt, rt.alloc(), checked.out.held(), frames)?;
+    }
+    Ok(())
+}

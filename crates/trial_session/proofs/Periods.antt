@@ -1,0 +1,157 @@
+-- One period more of a session.
+use Rattle.std.proofs.Common.{◌≡◌, ◌∙◌, ℕ, zero, suc, ◌+◌, ◌-◌, ◌*◌, ◌%◌, ◌≤◌, List, [], ◌++◌}
+use Rattle.std.proofs.Common.{length, take, drop, refl, ap, sym, subst, arith, length-drop}
+use Rattle.std.proofs.Common.{length-append, map}
+use Rattle.std.proofs.lemmas.List.{take-append-le, drop-append-le, take_all, length-map, length-replicate}
+use Rattle.std.proofs.Math.Seq.{drop-append_seam}
+use Rattle.yasir_ticks.specs.Ticks.{silent}
+use Rattle.yasir_ticks.specs.declared.tick.Tick.{Tick}
+use Rattle.yasir_ticks.specs.declared.tick.Tick.TheVariants.{Silent, Byte}
+use Rattle.device_model.specs.declared.device.Device.{Ghosts as Device}
+use Rattle.trial_session.specs.Alterations.{alteration_of, altered}
+use Rattle.trial_session.specs.Draws.{draw_state, state_after, nth_drawn}
+use Rattle.trial_session.specs.DrawnFrames.{Drawing}
+use Rattle.trial_session.specs.Runs.{HasRun}
+use Rattle.trial_session.specs.Session.{period_len, period_line, state_at, session_line}
+use Rattle.trial_session.specs.Session.{altered_link, alteration_in, after_frame, ticks_of}
+use Rattle.trial_session.specs.Sides.{HasTaken, HasSent, HasHeard}
+use Rattle.trial_session.specs.declared.alteration.Alteration.{Alteration}
+use Rattle.trial_session.specs.declared.counting_box.CountingBox.{Ghosts as CountingBox}
+use Rattle.trial_session.specs.declared.session.Session.{Session}
+use Rattle.trial_session.specs.declared.summary.Summary.{Summary}
+
+ticks-front : (n : ℕ) (l more : List Tick) → period_len * suc n ≤ length l
+    → take period_len (drop (period_len * n) (l ++ more))
+    ≡ take period_len (drop (period_len * n) l)
+ticks-front n l more long =
+    let left = length-drop (period_len * n) l in
+    ap (take period_len) (drop-append-le (period_len * n) l more (omega arith))
+    ∙ take-append-le period_len (drop (period_len * n) l) more (omega (arith, left, long))
+
+module _ (drawing : Drawing) (behind seed : ℕ) where
+  -- The first periods of a link don't depend on what follows them.
+  altered-front : (n : ℕ) (l more : List Tick) → period_len * n ≤ length l
+      → altered_link drawing behind seed n (l ++ more) ≡ altered_link drawing behind seed n l
+  unfolding altered_link
+  altered-front zero l more long = refl
+  altered-front (suc n) l more long =
+      ap (λ x. x ++ altered (alteration_in drawing behind (state_at drawing seed n))
+      (ticks_of drawing n (l ++ more)))
+      (altered-front n l more (omega arith))
+      ∙ ap (λ x. altered_link drawing behind seed n l
+      ++ altered (alteration_in drawing behind (state_at drawing seed n)) x)
+      (ticks-front n l more long)
+
+  link-suc : (n : ℕ) (l ticks : List Tick) → length l ≡ period_len * n
+      → length ticks ≡ period_len
+      → altered_link drawing behind seed (suc n) (l ++ ticks)
+      ≡ altered_link drawing behind seed n l
+      ++ altered (alteration_in drawing behind (state_at drawing seed n)) ticks
+  unfolding altered_link
+  link-suc n l ticks long whole =
+      let own : ticks_of drawing n (l ++ ticks) ≡ ticks =
+      ap (λ k. take period_len (drop k (l ++ ticks))) (sym long)
+      ∙ ap (take period_len) (drop-append_seam l ticks)
+      ∙ take_all period_len ticks (omega (arith, whole)) in
+      ap (λ x. x ++ altered (alteration_in drawing behind (state_at drawing seed n))
+      (ticks_of drawing n (l ++ ticks)))
+      (altered-front n l ticks (omega (arith, long)))
+      ∙ ap (λ x. altered_link drawing behind seed n l
+      ++ altered (alteration_in drawing behind (state_at drawing seed n)) x) own
+
+  pub line-suc : (n : ℕ) → session_line drawing seed (suc n)
+      ≡ session_line drawing seed n ++ period_line (drawing.frame (state_at drawing seed n))
+  unfolding session_line
+  line-suc n = refl
+
+  state-suc : (n : ℕ) → state_at drawing seed (suc n)
+      ≡ state_after 3 (after_frame drawing (state_at drawing seed n))
+  unfolding state_at
+  state-suc n = refl
+
+  pub line-none : session_line drawing seed 0 ≡ []
+  unfolding session_line
+  line-none = refl
+
+  pub state-none : state_at drawing seed 0 ≡ seed
+  unfolding state_at
+  state-none = refl
+
+  pub link-none : (l : List Tick) → altered_link drawing behind seed 0 l ≡ []
+  unfolding altered_link
+  link-none l = refl
+
+module _ {S C V : Type 0} (seals : CountingBox S) (checks : CountingBox C) (device : Device V)
+    (drawing : Drawing) (behind : ℕ) (old new : Session S C V) (frame : List ℕ) (mid : ℕ)
+    (alteration : Alteration) (sent received : List Tick) where
+  pub run-suc : frame ≡ drawing.frame (draw_state old.draws)
+      → mid ≡ state_after (drawing.draws (draw_state old.draws)) (draw_state old.draws)
+      → draw_state new.draws ≡ state_after 3 mid
+      → alteration ≡ alteration_of (nth_drawn 1 mid % 8)
+      (nth_drawn 2 mid % (length frame + behind)) (1 + nth_drawn 3 mid % 255)
+      → length sent ≡ period_len
+      → ((line : List Tick) → HasTaken seals old.sealing line
+      → HasSent seals new.sealing line (period_line frame) sent)
+      → ((line : List Tick) → HasTaken checks old.checking line
+      → HasSent checks new.checking line (altered alteration sent) received)
+      → ((line : List Tick) → HasHeard device old.listening line
+      → HasHeard device new.listening (line ++ received))
+      → (seed n : ℕ) → HasRun seals checks device drawing behind old seed n
+      → HasRun seals checks device drawing behind new seed (suc n)
+  run-suc frame_is mid_is end_is alteration_is long seal check hear seed n run =
+      let x = state_at drawing seed n in
+      let line = session_line drawing seed n in
+      let link = altered_link drawing behind seed n (seals.counting.other_line line) in
+      let frame_at : frame ≡ drawing.frame x = frame_is ∙ ap drawing.frame run.state_is in
+      let mid_at : mid ≡ after_frame drawing x =
+      mid_is ∙ ap (λ s. state_after (drawing.draws s) s) run.state_is in
+      let alter_at : alteration ≡ alteration_in drawing behind x =
+      alteration_is
+      ∙ ap (λ s. alteration_of (nth_drawn 1 s % 8) (nth_drawn 2 s % (length frame + behind))
+      (1 + nth_drawn 3 s % 255)) mid_at
+      ∙ ap (λ f. alteration_of (nth_drawn 1 (after_frame drawing x) % 8)
+      (nth_drawn 2 (after_frame drawing x) % (length f + behind))
+      (1 + nth_drawn 3 (after_frame drawing x) % 255)) frame_at in
+      let sealed = seal line run.seals_line in
+      let whole : line ++ period_line frame ≡ session_line drawing seed (suc n) =
+      ap (λ f. line ++ period_line f) frame_at ∙ sym (line-suc drawing behind seed n) in
+      let now : seals.counting.other_line (session_line drawing seed (suc n))
+      ≡ seals.counting.other_line line ++ sent =
+      ap seals.counting.other_line (sym whole) ∙ sealed.answered in
+      let linked : link ++ altered alteration sent
+      ≡ altered_link drawing behind seed (suc n)
+      (seals.counting.other_line (session_line drawing seed (suc n))) =
+      ap (λ a. link ++ altered a sent) alter_at
+      ∙ sym (ap (altered_link drawing behind seed (suc n)) now
+      ∙ link-suc drawing behind seed n (seals.counting.other_line line) sent run.link_long long) in
+      let checked = check link run.checks_link in
+      record {
+        state_is = end_is ∙ ap (state_after 3) mid_at ∙ sym (state-suc drawing behind seed n);
+        seals_line = subst (HasTaken seals new.sealing) whole sealed.taken;
+        link_long = ap length now ∙ (omega (
+          arith,
+          length-append (seals.counting.other_line line) sent,
+          run.link_long,
+          long,
+        ));
+        checks_link = subst (HasTaken checks new.checking) linked checked.taken;
+        hears_line = subst (HasHeard device new.listening)
+            (sym checked.answered ∙ ap checks.counting.other_line linked)
+            (hear (checks.counting.other_line link) run.hears_line);
+      }
+
+pub period-long : (frame : List ℕ) → length frame ≤ period_len
+    → length (period_line frame) ≡ period_len
+period-long frame few =
+    length-append (map (λ b. Byte b) frame) (silent (period_len - length frame))
+    ∙ (omega (
+      arith,
+      few,
+      length-map frame (λ b. Byte b),
+      length-replicate (period_len - length frame) Silent,
+    ))
+
+pub same-summary : (a b c d e a' b' c' d' e' : ℕ) → a ≡ a' → b ≡ b' → c ≡ c' → d ≡ d' → e ≡ e'
+    → let now : Summary = record { sealed = a; passed = b; refused = c; dropped = d; read = e } in
+    now ≡ record { sealed = a'; passed = b'; refused = c'; dropped = d'; read = e' }
+same-summary a b c d e a' b' c' d' e' ea eb ec ed ee = cc

@@ -1,0 +1,39 @@
+use Rattle.std.proofs.Common.{◌+◌, arith}
+use Rattle.rtu_frame.specs.Rules.{rtu_rules, rtu_lawful, rtu_framed}
+use Rattle.dnp_link_frame.specs.Rules.{dnp_rules}
+use Rattle.dnp_link_frame.specs.RulesLaws.{dnp_lawful, dnp_framed}
+use Rattle.device_model.specs.DnpReads.{dnp_reads}
+use Rattle.device_model.specs.RtuReads.{rtu_reads}
+use Rattle.link_format.specs.Profile.{pause_len, trailer_len}
+use Rattle.seal_transmitter.specs.Sealing.{link_line}
+use Rattle.receiver_laws.proofs.DnpReadings.{dnp_reads_what_passed}
+use Rattle.receiver_laws.proofs.RtuReadings.{rtu_reads_what_passed}
+use Rattle.trial_session.specs.DrawLaws.{rtu_are_frames, rtu_are_short}
+use Rattle.trial_session.specs.DrawLaws.{dnp_are_frames, dnp_are_short}
+use Rattle.trial_session.specs.DnpDrawn.{dnp_drawing}
+use Rattle.trial_session.specs.RtuDrawn.{rtu_drawing}
+use Rattle.trial_session.specs.Session.{session_line, altered_link}
+use Rattle.trial_session.proofs.SealsAll.{all-sealed, reads-all}
+use Rattle.trial_session.proofs.laws.sessions_tell.Goals as goal
+
+pub returns-clause-rtu : goal.returns-clause-rtu
+returns-clause-rtu c = λ profile tags some short seed count within.
+    let link = altered_link rtu_drawing (pause_len + trailer_len profile) seed count
+    (link_line profile rtu_rules 0 (session_line rtu_drawing seed count)) in
+    record {
+      all_sealed = all-sealed profile tags some short rtu_rules rtu_lawful rtu_framed rtu_drawing
+          rtu_are_frames rtu_are_short seed count within;
+      reads_passed = reads-all profile tags some short rtu_rules rtu_reads 4 link (omega arith)
+          (rtu_reads_what_passed profile 4 2 (omega arith) (omega arith) (omega arith) 0 link);
+    }
+
+pub returns-clause-dnp : goal.returns-clause-dnp
+returns-clause-dnp c = λ profile tags some short seed count within.
+    let link = altered_link dnp_drawing (pause_len + trailer_len profile) seed count
+    (link_line profile dnp_rules 0 (session_line dnp_drawing seed count)) in
+    record {
+      all_sealed = all-sealed profile tags some short dnp_rules dnp_lawful dnp_framed dnp_drawing
+          dnp_are_frames dnp_are_short seed count within;
+      reads_passed = reads-all profile tags some short dnp_rules dnp_reads 0 link (omega arith)
+          (dnp_reads_what_passed profile 0 link);
+    }

@@ -1,0 +1,24 @@
+use Rattle.std.proofs.Common.{◌∙◌, sym, ap, subst, length}
+use Rattle.trial_session.specs.Session.{session_line}
+use Rattle.trial_session.specs.Sides.{HasTaken, HasHeard}
+use Rattle.trial_session.proofs.Periods.{line-none, state-none, link-none}
+use Rattle.trial_session.proofs.session.Session.new.Goals as goal
+
+pub returns-clause-run : goal.returns-clause-run
+returns-clause-run g c = λ drawing behind.
+    let seed = c.args.seed in
+    let none = line-none drawing behind seed in
+    let link = link-none drawing behind seed
+    (g.S.CountingBox.counting.other_line (session_line drawing seed 0)) in
+    record {
+      state_is = c.new.ensures ∙ sym (state-none drawing behind seed);
+      seals_line = subst (HasTaken g.S.CountingBox c.new-2.result) (sym none)
+          c.new-2.ensures.taken;
+      link_long = ap (λ l. length (g.S.CountingBox.counting.other_line l)) none
+          ∙ ap length c.new-2.ensures.nothing.no_tick;
+      checks_link = subst (HasTaken g.C.CountingBox c.new-3.result) (sym link)
+          c.new-3.ensures.taken;
+      hears_line = subst (HasHeard g.V.Device c.new-4.result)
+          (sym (ap g.C.CountingBox.counting.other_line link ∙ c.new-3.ensures.nothing.no_tick))
+          c.new-4.ensures.heard;
+    }

@@ -1,0 +1,9 @@
+use Rattle.std.proofs.Common.{◌*◌}
+use Rattle.trial_session.specs.Runs.{HasRun, MayGoOn}
+use Rattle.trial_session.proofs.session.try_session.Given as goal
+
+abbrev pub invariant-loop : goal.invariant-loop
+invariant-loop g l =
+    MayGoOn g.S.CountingBox g.C.CountingBox g.V.Device l.session (640 * l.counter)
+    × HasRun g.S.CountingBox g.C.CountingBox g.V.Device g.R.DrawnFrames.drawing l.behind l.session
+    l.seed l.counter

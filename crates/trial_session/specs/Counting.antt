@@ -1,0 +1,48 @@
+-- What boxes make of a line, as far as it is counted.
+use Rattle.std.specs.Prelude.{◌≡◌, ℕ, ◌+◌, List, [], ◌∷◌, ◌++◌, Option, Some, None}
+use Rattle.yasir_ticks.specs.declared.tick.Tick.{Tick}
+use Rattle.trial_session.specs.declared.counting_box.CountedStep.{CountedStep}
+use Rattle.trial_session.specs.declared.counting_box.Fate.{Fate}
+use Rattle.trial_session.specs.declared.counting_box.Fate.TheVariants.{Through, Refused, Dropped}
+
+-- the other line of a line, and how many of its bursts have each fate
+pub record Counting : Type 0 where
+  pub other_line : List Tick → List Tick
+  pub through : List Tick → ℕ
+  pub refused : List Tick → ℕ
+  pub dropped : List Tick → ℕ
+
+-- how much a step counts of each fate
+abbrev pub through_in : Option Fate → ℕ
+through_in None = 0
+through_in (Some Through) = 1
+through_in (Some Refused) = 0
+through_in (Some Dropped) = 0
+
+abbrev pub refused_in : Option Fate → ℕ
+refused_in None = 0
+refused_in (Some Through) = 0
+refused_in (Some Refused) = 1
+refused_in (Some Dropped) = 0
+
+abbrev pub dropped_in : Option Fate → ℕ
+dropped_in None = 0
+dropped_in (Some Through) = 0
+dropped_in (Some Refused) = 0
+dropped_in (Some Dropped) = 1
+
+-- Of no line there is nothing.
+pub record CountsNothing (counting : Counting) : Type 0 where
+  pub no_tick : counting.other_line [] ≡ []
+  pub none_through : counting.through [] ≡ 0
+  pub none_refused : counting.refused [] ≡ 0
+  pub none_dropped : counting.dropped [] ≡ 0
+
+-- After these ticks of a line, and with one tick more, a step answers the tick of the other line,
+-- and the fate of the burst that is counted then.
+pub record CountsStep (counting : Counting) (line : List Tick) (t : Tick) (step : CountedStep)
+    : Type 0 where
+  pub tick_is : counting.other_line (line ++ t ∷ []) ≡ counting.other_line line ++ step.tick ∷ []
+  pub through_is : counting.through (line ++ t ∷ []) ≡ counting.through line + through_in step.fate
+  pub refused_is : counting.refused (line ++ t ∷ []) ≡ counting.refused line + refused_in step.fate
+  pub dropped_is : counting.dropped (line ++ t ∷ []) ≡ counting.dropped line + dropped_in step.fate

@@ -1,0 +1,8 @@
+-- Frames that are drawn, by protocol.
+use Rattle.std.specs.Prelude.{ℕ, List}
+
+pub record Drawing : Type 0 where
+  -- the frame that is drawn from a state on
+  pub frame : ℕ → List ℕ
+  -- how many draws it takes
+  pub draws : ℕ → ℕ

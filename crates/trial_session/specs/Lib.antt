@@ -1,0 +1,14 @@
+pub mod Draws
+pub mod DrawnFrames
+pub mod RtuDrawn
+pub mod DnpDrawn
+pub mod DrawLaws
+pub mod Alterations
+pub mod Session
+pub mod Counting
+pub mod Boxes
+pub mod Summaries
+pub mod Sides
+pub mod Runs
+pub mod TrialLine
+pub mod Telling

@@ -1,0 +1,37 @@
+-- A box of a session, and what it has counted.
+use Rattle.std.specs.Prelude.{◌≡◌, ◌≤◌, List, ◌++◌, length, Some}
+use Rattle.yasir_io.specs.Steady.{steady_slots}
+use Rattle.yasir_ticks.specs.declared.tick.Tick.{Tick}
+use Rattle.device_model.specs.declared.device.Device.{Ghosts as Device}
+use Rattle.sequence_journal.specs.Journal.{Fits}
+use Rattle.trial_session.specs.declared.counting_box.CountingBox.{Ghosts as CountingBox}
+use Rattle.trial_session.specs.declared.listening.Listening.{Listening}
+use Rattle.trial_session.specs.declared.side.Side.{Side}
+
+module _ {X : Type 0} (counter : CountingBox X) where
+  -- The box may take a tick: the disk is the journal's, and no more is counted than there were
+  -- ticks.
+  pub record MayTake (side : Side X) : Type 0 where
+    pub fits : Fits side.journal (Some (steady_slots side.disk))
+    pub through_few : side.through ≤ counter.taken side.line_box
+    pub refused_few : side.refused ≤ counter.taken side.line_box
+    pub dropped_few : side.dropped ≤ counter.taken side.line_box
+
+  -- The box has taken this line, and its bursts are counted.
+  pub record HasTaken (side : Side X) (line : List Tick) : Type 0 where
+    pub stands : counter.stands side.line_box side.journal line
+    pub through_is : side.through ≡ counter.counting.through line
+    pub refused_is : side.refused ≡ counter.counting.refused line
+    pub dropped_is : side.dropped ≡ counter.counting.dropped line
+
+  -- After this line the box has taken these ticks more, and has answered these.
+  pub record HasSent (side : Side X) (line more answers : List Tick) : Type 0 where
+    pub taken : HasTaken side (line ++ more)
+    pub answered : counter.counting.other_line (line ++ more)
+        ≡ counter.counting.other_line line ++ answers
+
+-- A device has heard this line, and its frames are counted.
+pub record HasHeard {V : Type 0} (device : Device V) (value : Listening V) (line : List Tick)
+    : Type 0 where
+  pub stands : device.stands value.device line
+  pub counts : value.read ≡ length (device.reads line)

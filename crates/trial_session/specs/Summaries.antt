@@ -1,0 +1,50 @@
+-- What is counted of a session.
+use Rattle.std.specs.Prelude.{ℕ, ◌+◌, List, ◌++◌, length}
+use Rattle.yasir_ticks.specs.Ticks.{silent}
+use Rattle.yasir_ticks.specs.declared.tick.Tick.{Tick}
+use Rattle.line_rules.specs.Rules.{Rules}
+use Rattle.device_model.specs.Frames.{FrameRead}
+use Rattle.link_format.specs.Profile.{Profile, pause_len, trailer_len}
+use Rattle.trial_session.specs.Boxes.{seal_counting, check_counting}
+use Rattle.trial_session.specs.Counting.{Counting}
+use Rattle.trial_session.specs.DrawnFrames.{Drawing}
+use Rattle.trial_session.specs.Session.{session_line, altered_link}
+use Rattle.trial_session.specs.declared.summary.Summary.{Summary}
+
+-- so many silent ticks follow the link, so that all that has passed is read
+abbrev pub trial_rest : ℕ
+trial_rest = 320
+
+-- Of a device's line and of a link: what the transmitter seals of the one, what the receiver makes
+-- of the bursts of the other, and the frames that a device that reads so reads of the receiver's
+-- line.
+abbrev pub summary_of : Counting → Counting → (List Tick → List FrameRead) → List Tick → List Tick
+    → Summary
+summary_of sealing checking reads line link = record {
+  sealed = sealing.through line;
+  passed = checking.through link;
+  refused = checking.refused link;
+  dropped = checking.dropped link;
+  read = length (reads (checking.other_line link));
+}
+
+-- the link of the session of so many frames from a seed: that of the transmitter, altered, where so
+-- many ticks follow a frame in its packet, and then silence
+abbrev pub session_link : Drawing → ℕ → Counting → ℕ → ℕ → List Tick
+session_link drawing behind sealing seed count =
+    altered_link drawing behind seed count
+    (sealing.other_line (session_line drawing seed count))
+    ++ silent trial_rest
+
+abbrev pub session_summary : Drawing → ℕ → Counting → Counting → (List Tick → List FrameRead)
+    → ℕ → ℕ → Summary
+session_summary drawing behind sealing checking reads seed count =
+    summary_of sealing checking reads (session_line drawing seed count)
+    (session_link drawing behind sealing seed count)
+
+-- the same of the transmitter and the receiver of a profile and of a protocol's rules
+abbrev pub trial_summary : Drawing → Profile → Rules → (List Tick → List FrameRead) → ℕ → ℕ
+    → Summary
+trial_summary drawing profile rules reads seed count =
+    session_summary drawing (pause_len + trailer_len profile) (seal_counting profile rules)
+    (check_counting profile rules) reads seed count

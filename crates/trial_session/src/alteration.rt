@@ -1,0 +1,30 @@
+ghost use Rattle.std.specs.Prelude.{◌≡◌};
+ghost use Rattle.trial_session.specs.Alterations.{alteration_of};
+
+/// What is done to the ticks of a period on the link.
+#[derive(Clone, Copy, Debug, PartialEq, Eq)]
+pub enum Alteration {
+    /// Nothing.
+    Nothing,
+    /// At this place a byte has the bits of `value` turned, and a silent tick becomes that byte.
+    Change { place: usize, value: u8 },
+    /// The whole period is silent.
+    Lose,
+    /// The first half of it stands again in place of the second half.
+    Repeat,
+    /// All from this place on is silent.
+    CutOff { place: usize },
+}
+
+/// The alteration of a kind, which is a number from 0 to 7: half of them change nothing.
+pub fn alteration_of(kind: u32, place: usize, value: u8) -> Alteration
+    ensures { result ≡ alteration_of kind place value }
+{
+    match kind {
+        4 => Alteration::Change { place, value },
+        5 => Alteration::Lose,
+        6 => Alteration::Repeat,
+        7 => Alteration::CutOff { place },
+        _ => Alteration::Nothing,
+    }
+}

@@ -1,0 +1,53 @@
+use arrayvec::ArrayVec;
+
+/// The bytes of a frame of either protocol.
+pub type FrameBytes = ArrayVec<u8, 292>;
+
+/// Numbers that are drawn one after the other from a first one: a linear congruential generator
+/// (Knuth, MMIX), of whose state each draw gives the high half.
+#[derive(Drop)]
+pub struct Draws {
+    state: u64,
+}
+
+impl Draws {
+    ghost use Rattle.std.specs.Prelude.{◌≡◌, ◌≤◌, length};
+    ghost use Rattle.trial_session.specs.Draws.{next_state, drawn, state_after, bytes_drawn};
+    ghost use Rattle.trial_session.specs.Draws.{draw_state};
+
+    /// Nothing is drawn yet.
+    pub fn new(seed: u32) -> Draws
+        ensures { draw_state result ≡ seed }
+    {
+        Draws {
+            state: u64::from(seed),
+        }
+    }
+
+    /// The next number.
+    #[inline]
+    pub fn draw(&mut self) -> u32
+        ensures state { draw_state self.new ≡ next_state (draw_state self.old) }
+        ensures value { result ≡ drawn (draw_state self.new) }
+    {
+        self.state = self
+            .state
+            .wrapping_mul(6_364_136_223_846_793_005)
+            .wrapping_add(1_442_695_040_888_963_407);
+        (self.state >> 32) as u32
+    }
+
+    /// So many bytes, at most 292, each the low byte of a draw.
+    pub fn draw_bytes(&mut self, n: usize) -> FrameBytes
+        requires { n ≤ 292 }
+        ensures state { draw_state self.new ≡ state_after n (draw_state self.old) }
+        ensures bytes { result.items ≡ bytes_drawn n (draw_state self.old) }
+        ensures long { length result.items ≡ n }
+    {
+        let mut bytes = FrameBytes::new();
+        for _ in 0..n {
+            bytes.push((self.draw() % 256) as u8);
+        }
+        bytes
+    }
+}

@@ -1,0 +1,32 @@
+//! A session that is made from a number: frames that are drawn go through the transmitter, over a
+//! link that is altered period by period, through the receiver and to a device, and all that comes
+//! of them is counted. No memory is taken.
+#![tactic(auto)]
+
+mod alteration;
+mod check_counting;
+mod counting_box;
+mod drawn_frames;
+mod draws;
+mod laws;
+mod listening;
+mod period;
+mod printing;
+mod seal_counting;
+mod session;
+mod side;
+mod summary;
+
+pub use alteration::Alteration;
+pub use check_counting::CheckCounting;
+pub use counting_box::{CountedStep, CountingBox, Fate};
+pub use drawn_frames::DrawnFrames;
+pub use draws::{Draws, FrameBytes};
+pub use laws::sessions_tell;
+pub use printing::print_session;
+pub use seal_counting::SealCounting;
+pub use session::try_session;
+pub use summary::Summary;
+
+#[cfg(test)]
+mod tests;

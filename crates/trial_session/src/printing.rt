@@ -1,0 +1,71 @@
+ghost use Rattle.std.specs.Prelude.{◌≡◌, ◌+◌, ◌<◌, ◌≤◌, ◌++◌, length};
+ghost use Rattle.replay_status.specs.Causes.{SinkCause};
+ghost use Rattle.trial_session.specs.Summaries.{session_summary};
+ghost use Rattle.trial_session.specs.TrialLine.{worded, trial_line, PrintsLine};
+
+use crate::{CountingBox, DrawnFrames, Summary, try_session};
+use device_model::Device;
+use replay_status::{Line, Status, flush_both, push_decimal};
+use yasir_io::{Failed, Sink, write_all};
+
+// Appends a word, and a number behind it, each with a blank before it.
+fn push_worded(line: &mut Line, word: &[u8], n: u64)
+    requires word { length word.now ≤ 10 }
+    requires room { length line.old.items ≤ 500 }
+    ensures line { line.new.items ≡ line.old.items ++ worded word.now n }
+    ensures short { length line.new.items ≤ length line.old.items + 40 }
+{
+    line.push(b' ');
+    line.try_extend_from_slice(word).unwrap();
+    line.push(b' ');
+    push_decimal(line, n);
+}
+
+// The line of a session.
+fn trial_line(name: &[u8], seed: u32, count: u32, counted: Summary) -> Line
+    requires { length name.now ≤ 10 }
+    ensures { result.items ≡ trial_line name.now seed count counted }
+{
+    let mut line = Line::new();
+    line.try_extend_from_slice(b"trial").unwrap();
+    push_worded(&mut line, name, u64::from(seed));
+    line.push(b' ');
+    push_decimal(&mut line, u64::from(count));
+    push_worded(&mut line, b"sealed", counted.sealed);
+    push_worded(&mut line, b"passed", counted.passed);
+    push_worded(&mut line, b"refused", counted.refused);
+    push_worded(&mut line, b"dropped", counted.dropped);
+    push_worded(&mut line, b"read", counted.read);
+    line.push(b'\n');
+    line
+}
+
+/// Runs the session of so many frames, at most 10,000, from a seed, as `try_session` does, and
+/// prints its line, with the name of its protocol.
+pub fn print_session<
+    R: DrawnFrames,
+    S: CountingBox,
+    C: CountingBox,
+    V: Device + Drop,
+    O: Sink,
+    L: Sink,
+>(name: &[u8], seed: u32, count: u32, behind: usize, out: &mut O, log: &mut L) -> Status
+    requires name { length name.now ≤ 10 }
+    requires count { count ≤ 10000 }
+    requires some { 0 < behind }
+    requires few { behind ≤ 64 }
+    requires sealing { S.widths_fit }
+    requires checking { C.widths_fit }
+    ensures line { PrintsLine (O.held out.old) (O.held out.new)
+        (trial_line name.now seed count
+        (session_summary R.drawing behind S.counting C.counting V.reads seed count)) result }
+    ensures log { L.held log.new ≡ L.held log.old }
+    ensures sinks { SinkCause (O.faults out.old) (O.faults out.new) (L.faults log.old)
+        (L.faults log.new) result }
+{
+    let counted = try_session::<R, S, C, V>(seed, count, behind);
+    match write_all(out, trial_line(name, seed, count, counted).as_slice()) {
+        Ok(()) => flush_both(out, log),
+        Err(Failed) => Status::WriteFault,
+    }
+}

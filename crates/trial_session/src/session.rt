@@ -1,0 +1,127 @@
+ghost use Rattle.std.specs.Prelude.{◌≡◌, ◌+◌, ◌%◌, ◌<◌, ◌≤◌};
+ghost use Rattle.trial_session.specs.Alterations.{alteration_of};
+ghost use Rattle.trial_session.specs.Draws.{draw_state, state_after, nth_drawn};
+ghost use Rattle.trial_session.specs.Summaries.{session_summary};
+
+use crate::alteration::{Alteration, alteration_of};
+use crate::listening::Listening;
+use crate::period::{alter, period_line};
+use crate::side::Side;
+use crate::{CountingBox, DrawnFrames, Draws, Summary};
+use device_model::Device;
+use yasir_ticks::{MAX_TICKS, Tick};
+
+/// So many silent ticks follow the link of a session, so that all that has passed is read.
+const REST: usize = 320;
+
+/// A session on its way: frames go through the transmitter `S`, over the link, through the receiver
+/// `C` and to the device `V`.
+#[derive(Drop)]
+pub struct Session<S, C, V> {
+    draws: Draws,
+    sealing: Side<S>,
+    checking: Side<C>,
+    listening: Listening<V>,
+}
+
+// Draws what becomes of the link in the period of a packet of so many ticks.
+fn draw_alteration(draws: &mut Draws, packet_len: usize) -> Alteration
+    requires { 0 < packet_len }
+    ensures state { draw_state draws.new ≡ state_after 3 (draw_state draws.old) }
+    ensures alteration { result ≡ alteration_of (nth_drawn 1 (draw_state draws.old) % 8)
+        (nth_drawn 2 (draw_state draws.old) % packet_len)
+        (1 + nth_drawn 3 (draw_state draws.old) % 255) }
+{
+    let kind = draws.draw() % 8;
+    let place = draws.draw() as usize % packet_len;
+    let value = (draws.draw() % 255 + 1) as u8;
+    alteration_of(kind, place, value)
+}
+
+impl<S: CountingBox, C: CountingBox, V: Device + Drop> Session<S, C, V> {
+    ghost use Rattle.std.specs.Prelude.{ℕ, suc};
+    ghost use Rattle.trial_session.specs.DrawnFrames.{Drawing};
+    ghost use Rattle.trial_session.specs.Runs.{HasRun, MayGoOn};
+
+    // The session of a seed, before its first period.
+    fn new(seed: u32) -> Session<S, C, V>
+        requires sealing { S.widths_fit }
+        requires checking { C.widths_fit }
+        ensures able { MayGoOn S.CountingBox C.CountingBox V.Device result 0 }
+        ensures run { (drawing : Drawing) (behind : ℕ)
+            → HasRun S.CountingBox C.CountingBox V.Device drawing behind result seed 0 }
+    {
+        Session {
+            draws: Draws::new(seed),
+            sealing: Side::new(),
+            checking: Side::new(),
+            listening: Listening::new(),
+        }
+    }
+
+    // One more period, where so many ticks follow a frame in its packet.
+    fn run_period<R: DrawnFrames>(&mut self, behind: usize)
+        requires some { 0 < behind }
+        requires few { behind ≤ 64 }
+        requires able { MayGoOn S.CountingBox C.CountingBox V.Device self.old
+            (S.taken self.old.sealing.line_box) }
+        requires room { S.taken self.old.sealing.line_box + 640 ≤ MAX_TICKS }
+        ensures able { MayGoOn S.CountingBox C.CountingBox V.Device self.new
+            (S.taken self.old.sealing.line_box + 640) }
+        ensures run { (seed count : ℕ)
+            → HasRun S.CountingBox C.CountingBox V.Device R.drawing behind self.old seed count
+            → HasRun S.CountingBox C.CountingBox V.Device R.drawing behind self.new seed
+            (suc count) }
+    {
+        let frame = R::draw_frame(&mut self.draws);
+        let alteration = draw_alteration(&mut self.draws, frame.len() + behind);
+        let mut ticks = period_line(frame.as_slice());
+        self.sealing.send(&mut ticks);
+        alter(&mut ticks, alteration);
+        self.checking.send(&mut ticks);
+        self.listening.hear(&ticks);
+    }
+
+    // The silence behind the link, and what was counted.
+    fn close(&mut self) -> Summary
+        requires able { MayGoOn S.CountingBox C.CountingBox V.Device self.old
+            (S.taken self.old.sealing.line_box) }
+        requires room { S.taken self.old.sealing.line_box + 320 ≤ MAX_TICKS }
+        ensures { (drawing : Drawing) (behind seed count : ℕ)
+            → HasRun S.CountingBox C.CountingBox V.Device drawing behind self.old seed count
+            → result ≡ session_summary drawing behind S.counting C.counting V.reads seed count }
+    {
+        let mut ticks = [Tick::Silent; REST];
+        self.checking.send(&mut ticks);
+        self.listening.hear(&ticks);
+        Summary {
+            sealed: self.sealing.through(),
+            passed: self.checking.through(),
+            refused: self.checking.refused(),
+            dropped: self.checking.dropped(),
+            read: self.listening.read(),
+        }
+    }
+}
+
+/// Runs the session of so many frames, at most 10,000, from a seed: drawn by the protocol `R`,
+/// sealed by `S`, checked by `C` and read by `V`. So many ticks follow a frame in its packet.
+pub fn try_session<R: DrawnFrames, S: CountingBox, C: CountingBox, V: Device + Drop>(
+    seed: u32,
+    count: u32,
+    behind: usize,
+) -> Summary
+    requires count { count ≤ 10000 }
+    requires some { 0 < behind }
+    requires few { behind ≤ 64 }
+    requires sealing { S.widths_fit }
+    requires checking { C.widths_fit }
+    ensures { result
+        ≡ session_summary R.drawing behind S.counting C.counting V.reads seed count }
+{
+    let mut session: Session<S, C, V> = Session::new(seed);
+    for _ in 0..count {
+        session.run_period::<R>(behind);
+    }
+    session.close()
+}

@@ -1,0 +1,76 @@
+#!/usr/bin/env python3
+"""Runs each command of `link_replay` on inputs at the limits and one tick or byte above them, and looks at how it ends.
+
+    python3 scripts/limits.py [PROGRAM] [WORD..]
+
+With WORDs only the commands of these names run. At 16,777,216 ticks, and at 268,435,456 bytes, a run ends well; with one
+more it is refused with the first sum that was too much. It prints status, CPU time and the log's last line of each run,
+and ends with 1 where one isn't as it should be. It is no part of the gate: all runs together read some 4 GB.
+"""
+import os, subprocess, sys, tempfile
+
+TICKS, BYTES = 16_777_216, 268_435_456
+KEY = b"000102030405060708090a0b0c0d0e0f"
+JOURNAL = bytes(8) + b"\xff" * 8 + bytes(16)
+FRAMES = {"rtu": b"01030000000ac5cd", "dnp3": b"056405c001000004e921"}
+FULL_LINE, COMMENT = b"+" + b"5a" * 32 + b"\n", b"#" + b"x" * 120 + b"\n"
+
+
+def inputs(proto, two):
+    """Name, parts and fault line of each input: of one recording, or of two with a mark between them."""
+    frame = FRAMES["rtu" if proto.startswith("rtu") else "dnp3"]
+    head = b"+" + frame + b"\n-40\n" + (b"%\n" if two else b"")
+    many = [FULL_LINE] * (TICKS // 64)
+    ticks = many + ([b"%\n"] if two else []) + many
+    silence = TICKS - len(frame) // 2 - 40 - 16 * 1_000_000
+    comments, left = divmod(BYTES - len(head), len(COMMENT))
+    too_many, too_long = "fault: too long 16777217 ticks", "fault: too long 268435457 bytes"
+    yield "ticks, no silence", ticks, ""
+    yield "ticks, no silence, one more", ticks + [b"-1\n"], too_many
+    for more, fault in ((0, ""), (1, too_many)):
+        yield "ticks, silence" + ", one more" * more, [head] + [b"-1000000\n"] * 16 + [b"-%d\n" % (silence + more)], fault
+    for more, fault in ((0, ""), (1, too_long)):
+        yield "bytes" + ", one more" * more, [head] + [COMMENT] * comments + [b"\n" * (left + more)], fault
+
+
+def run(program, words, parts, folder):
+    """The status, the CPU time in seconds and the last line of the log."""
+    places = {name: os.path.join(folder, name) for name in ("KEY", "JOURNAL", "NEW", "out", "log")}
+    for name, content in (("KEY", KEY), ("JOURNAL", JOURNAL), ("NEW", b"")):
+        with open(places[name], "wb") as file:
+            file.write(content)
+    with open(places["out"], "wb") as out, open(places["log"], "wb") as log:
+        child = subprocess.Popen([program] + [places.get(word, word) for word in words.split()], stdin=subprocess.PIPE, stdout=out, stderr=log)
+        try:
+            for part in parts:
+                child.stdin.write(part)
+            child.stdin.close()
+        except BrokenPipeError:
+            pass
+        _, status, usage = os.wait4(child.pid, 0)
+    with open(places["log"], "rb") as log:
+        lines = log.read()[-200:].decode().splitlines()
+    return os.waitstatus_to_exitcode(status), usage.ru_utime + usage.ru_stime, lines[-1] if lines else ""
+
+
+def main():
+    program = sys.argv[1] if len(sys.argv) > 1 else "crates/link_replay/out/link_replay"
+    commands = ["init NEW", "vectors", "trial rtu 7 10000", "trial dnp3 7 10000", "read rtu", "read dnp3"]
+    for box in ("seal %s ab KEY JOURNAL", "check %s ab KEY JOURNAL", "replay %s ab KEY"):
+        commands += [box % proto for proto in ("rtu", "dnp3")]
+    wrong = 0
+    with tempfile.TemporaryDirectory(dir="/dev/shm" if os.path.isdir("/dev/shm") else None) as folder:
+        for words in commands:
+            name, proto = (words.split() + [""])[:2]
+            if sys.argv[2:] and name not in sys.argv[2:]:
+                continue
+            kinds = [("nothing is read", [], "")] if name in ("init", "vectors", "trial") else inputs(proto, name == "replay")
+            for kind, parts, fault in kinds:
+                status, seconds, last = run(program, words, parts, folder)
+                right = status == (10 if fault else 0) and (last == fault or not fault)
+                wrong += not right
+                print("%-24s %-30s status %2d %6.2f s  %s%s" % (words, kind, status, seconds, last, "" if right else "  WRONG"), flush=True)
+    sys.exit(1 if wrong else 0)
+
+
+main()

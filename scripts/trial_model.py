@@ -1,0 +1,67 @@
+"""What `trial P SEED COUNT` prints, by the model of the boxes (model.py) and the rules of docs/USAGE.md, written anew in Python.
+
+    python3 scripts/trial_model.py rtu 7 100
+"""
+import sys
+
+from model import Dnp3, Rtu, check, seal
+
+PERIOD, HALF, KEY = 640, 320, bytes(16)
+PROTOCOLS = {proto.word: proto for proto in (Rtu, Dnp3)}
+
+
+class Draws:
+    def __init__(self, seed):
+        self.state = seed
+
+    def below(self, bound):
+        self.state = (6364136223846793005 * self.state + 1442695040888963407) % (1 << 64)
+        return (self.state >> 32) % bound
+
+
+def rtu_frame(draws):
+    body = [draws.below(256) for _ in range(draws.below(253) + 2)]
+    return body + list(Rtu.end(body))
+
+
+def dnp3_frame(draws):
+    size = draws.below(251)
+    addresses = [draws.below(1 << 16) for _ in range(2)]
+    user = [draws.below(256) for _ in range(size)]
+    header = [0x05, 0x64, size + 5, 0xC4] + [byte for address in addresses for byte in address.to_bytes(2, "little")]
+    parts = [header] + [user[place:place + 16] for place in range(0, size, 16)]
+    return [byte for part in parts for byte in part + list(Dnp3.end(part))]
+
+
+def alter(ticks, kind, place, value):
+    if kind == 4:
+        return ticks[:place] + [value if ticks[place] is None else ticks[place] ^ value] + ticks[place + 1:]
+    if kind == 5:
+        return [None] * PERIOD
+    if kind == 6:
+        return ticks[:HALF] * 2
+    if kind == 7:
+        return ticks[:place] + [None] * (PERIOD - place)
+    return ticks
+
+
+def counted(proto, seed, count):
+    draws, line, alterations = Draws(seed), [], []
+    for _ in range(count):
+        frame = (rtu_frame if proto is Rtu else dnp3_frame)(draws)
+        kind, place, value = draws.below(8), draws.below(len(frame) + 17), 1 + draws.below(255)
+        line += frame + [None] * (PERIOD - len(frame))
+        alterations.append((kind, place, value))
+    sent, notes, _ = seal(proto, KEY, 0, 0, line)
+    link = []
+    for period, alteration in enumerate(alterations):
+        link += alter(sent[period * PERIOD:(period + 1) * PERIOD], *alteration)
+    received, verdicts, _ = check(proto, KEY, 0, 0, link)
+    words = [note.split()[0] for note in notes + verdicts]
+    return [words.count(word) for word in ("sealed", "passed", "refused", "dropped")] + [len(list(proto.reads(received)))]
+
+
+if __name__ == "__main__":
+    word, seed, count = sys.argv[1], int(sys.argv[2]), int(sys.argv[3])
+    sealed, passed, refused, dropped, read = counted(PROTOCOLS[word], seed, count)
+    print(f"trial {word} {seed} {count} sealed {sealed} passed {passed} refused {refused} dropped {dropped} read {read}")
