@@ -17,4 +17,5 @@ pub mod Worked
 pub mod TextLaws
 pub mod Writing
 pub mod Writers
+pub mod WriterRuns
 pub mod CanonicalLaws

@@ -56,6 +56,7 @@ impl TickWriter {
     ghost use Rattle.yasir_ticks.specs.Ticks.{IsTick, silent};
     ghost use Rattle.yasir_ticks.specs.declared.tick.Tick.TheVariants.{Silent, Byte};
     ghost use Rattle.yasir_ticks.specs.Ticks.Item.{tick};
+    ghost use Rattle.yasir_ticks.specs.declared.run.Run.TheVariants.{Nothing};
     ghost use Rattle.yasir_ticks.specs.TickText.{IsTickText};
     ghost use Rattle.yasir_ticks.specs.CanonicalText.{canonical_text};
     ghost use Rattle.yasir_ticks.specs.Writer.{HasWritten, Writes, BeginsWith, joins, has_room_for};
@@ -141,6 +142,25 @@ impl TickWriter {
         }
     }
 
+    // Begins a line with the first of these bytes, where none is begun.
+    fn begin_some(&mut self, bytes: &[u8]) -> usize
+        requires { self.old.unfilled ≡ Nothing }
+        ensures within { result ≤ length bytes.now }
+        ensures taken { (ticks : List Tick) (answered : List ℕ) → HasWritten self.old ticks answered
+            → HasWritten self.new (ticks ++ map Byte (take result bytes.now)) answered }
+        ensures completes { result < length bytes.now
+            → has_room_for self.new (Byte (slice_index bytes.now result)) ≡ false }
+    {
+        if bytes.is_empty() {
+            return 0;
+        }
+        let count = bytes.len().min(MAX_BYTES - 1);
+        let mut line = LineBytes::new();
+        let _ = line.try_extend_from_slice(&bytes[..count]);
+        self.unfilled = Run::Bytes(line);
+        count
+    }
+
     /// Takes bytes, one a tick, up to the first one that completes a line. Answers how many it
     /// took.
     pub fn extend_bytes(&mut self, bytes: &[u8]) -> usize
@@ -150,14 +170,16 @@ impl TickWriter {
         ensures completes { result < length bytes.now
             → has_room_for self.new (Byte (slice_index bytes.now result)) ≡ false }
     {
-        let mut taken = 0;
-        while taken < bytes.len() {
-            if !self.extend(Tick::Byte(bytes[taken])) {
-                return taken;
+        match &mut self.unfilled {
+            Run::Bytes(line) => {
+                let room = (MAX_BYTES - 1).saturating_sub(line.len());
+                let count = bytes.len().min(room);
+                let _ = line.try_extend_from_slice(&bytes[..count]);
+                count
             }
-            taken += 1;
+            Run::Silence(_) | Run::Mark => 0,
+            Run::Nothing => self.begin_some(bytes),
         }
-        taken
     }
 
     /// Takes silent ticks, so many at most, up to the first one that completes a line. Answers how
@@ -168,14 +190,23 @@ impl TickWriter {
             → HasWritten self.new (line ++ silent result) answered }
         ensures completes { result < ticks → has_room_for self.new Silent ≡ false }
     {
-        let mut taken = 0;
-        while taken < ticks {
-            if !self.extend(Tick::Silent) {
-                return taken;
+        match &mut self.unfilled {
+            Run::Silence(n) => {
+                let room = (MAX_SILENCE - 1).saturating_sub(*n);
+                let count = ticks.min(room);
+                *n += count;
+                count
             }
-            taken += 1;
+            Run::Bytes(_) | Run::Mark => 0,
+            Run::Nothing => {
+                let count = ticks.min(MAX_SILENCE - 1);
+                if count == 0 {
+                    return 0;
+                }
+                self.unfilled = Run::Silence(count);
+                count
+            }
         }
-        taken
     }
 
     // The line that a byte completes: it fills it, or ends one of silence.

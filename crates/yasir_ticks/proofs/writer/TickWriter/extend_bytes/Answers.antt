@@ -1,21 +1,15 @@
-use Rattle.std.proofs.Common.{append-nil, subst, sym, arith}
-use Rattle.yasir_ticks.specs.Writer.{HasWritten}
-use Rattle.yasir_ticks.proofs.Writers.{bytes_more_by_one}
+use Rattle.std.proofs.Common.{◌≡◌, ◌<◌, ◌++◌, ℕ, List, length, take, get_or, refl, arith, rules}
+use Rattle.std.proofs.lemmas.Grind.{common_steps}
+use Rattle.yasir_ticks.proofs.WriterRuns.{are_bytes, run_bytes}
 use Rattle.yasir_ticks.proofs.writer.TickWriter.extend_bytes.Goals as goal
 
-pub loop-taken-init : goal.loop-taken-init
-loop-taken-init c = record {
-  within = omega arith;
-  taken = λ ticks answered has. subst (λ line. HasWritten c.args.self.now line answered)
-      (sym (append-nil ticks)) has;
-}
-
-pub loop-taken-preserved : goal.loop-taken-preserved
-loop-taken-preserved c = record {
-  within = omega arith;
-  taken = λ ticks answered has.
-      subst (λ line. HasWritten c.extend.new.self line answered)
-      (bytes_more_by_one ticks c.args.bytes.now c.loop-taken.taken c.loop-taken-test.true)
-      (c.extend.ensures.taken c.if-not-extend.false _ answered
-      (c.loop-taken.invariant.taken ticks answered has));
-}
+pub returns-in-Bytes-clause-taken : goal.returns-in-Bytes-clause-taken
+returns-in-Bytes-clause-taken c = λ ticks answered has.
+    let items : c.try_extend_from_slice.new.self.items
+    ≡ c.in-Bytes.line.items ++ take c.min-count.result c.args.bytes.now =
+    first_of (search rules, grind (arith, common_steps)) in
+    let fits : (i : ℕ) → get_or c.args.bytes.now i 0 < 256 =
+    λ i. let fit = c.type_inv.bytes i in omega arith in
+    run_bytes c.args.self.now _ ticks answered has c.in-Bytes.line
+    c.try_extend_from_slice.new.self (take c.min-count.result c.args.bytes.now) c.in-Bytes.is refl
+    items (are_bytes c.min-count.result c.args.bytes.now fits)

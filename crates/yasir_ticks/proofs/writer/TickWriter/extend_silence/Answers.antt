@@ -1,21 +1,14 @@
-use Rattle.std.proofs.Common.{append-nil, subst, sym, arith}
-use Rattle.yasir_ticks.specs.Writer.{HasWritten}
-use Rattle.yasir_ticks.proofs.Writers.{silent_more_by_one}
+use Rattle.std.proofs.Common.{◌<◌, refl, arith}
+use Rattle.yasir_ticks.proofs.WriterRuns.{run_silence, run_first_silence}
 use Rattle.yasir_ticks.proofs.writer.TickWriter.extend_silence.Goals as goal
 
-pub loop-taken-init : goal.loop-taken-init
-loop-taken-init c = record {
-  within = omega arith;
-  taken = λ ticks answered has. subst (λ line. HasWritten c.args.self.now line answered)
-      (sym (append-nil ticks)) has;
-}
+pub returns-in-Silence-clause-taken : goal.returns-in-Silence-clause-taken
+returns-in-Silence-clause-taken c = λ ticks answered has.
+    run_silence c.args.self.now _ ticks answered has c.in-Silence.n c.min-count.result
+    c.in-Silence.is refl
 
-pub loop-taken-preserved : goal.loop-taken-preserved
-loop-taken-preserved c = record {
-  within = omega arith;
-  taken = λ ticks answered has.
-      subst (λ line. HasWritten c.extend.new.self line answered)
-      (silent_more_by_one ticks c.loop-taken.taken)
-      (c.extend.ensures.taken c.if-not-extend.false _ answered
-      (c.loop-taken.invariant.taken ticks answered has));
-}
+pub returns-else-count-eq0-clause-taken : goal.returns-else-count-eq0-clause-taken
+returns-else-count-eq0-clause-taken c = λ ticks answered has.
+    let some : 0 < c.min-count-in-Nothing.result = omega (arith, c.if-count-eq0.false) in
+    run_first_silence c.args.self.now _ ticks answered has c.min-count-in-Nothing.result some
+    c.in-Nothing.is refl
