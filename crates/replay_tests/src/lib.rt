@@ -20,5 +20,3 @@ mod reading;
 mod sealing;
 #[cfg(test)]
 mod second_profile;
-#[cfg(test)]
-mod two_recordings;
