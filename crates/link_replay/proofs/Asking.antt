@@ -93,8 +93,12 @@ command-in words (Seal proto profile dir) h = ap command_in h.4 ∙ box-by Seal 
 command-in words (Check proto profile dir) h = ap command_in h.4 ∙ box-by Check proto profile dir
 command-in words (Replay proto profile dir) h = ap command_in h.2 ∙ box-by Replay proto profile dir
 command-in words (Trial proto profile seed count) h =
-    ap command_in h.3 ∙ rw (proto-by proto profile, profile-by proto profile,
-    number-by seed (omega (arith, h.0)), number-by count (omega (arith, h.2))) refl
+    ap command_in h.3 ∙ rw (
+      proto-by proto profile,
+      profile-by proto profile,
+      number-by seed (omega (arith, h.0)),
+      number-by count (omega (arith, h.2)),
+    ) refl
 
 pub asks-one : (words : List (List ℕ)) (a b : Option Command) → Asks words a → Asks words b → a ≡ b
 asks-one words None None ha hb = refl

@@ -13,7 +13,15 @@ fn tried(alloc: Global, words: &[&str]) -> Result<(Status, MemSink), Fail> {
     let mut out = MemSink::with_room(alloc, 200, 512, plan(&[]))?;
     let mut log = MemSink::with_room(alloc, 200, 512, plan(&[]))?;
     let mut disk = SteadySlots::new([0; 16], [0; 16]);
-    let status = run(alloc, words.as_slice(), &mut key, &mut input, &mut out, &mut log, &mut disk);
+    let status = run(
+        alloc,
+        words.as_slice(),
+        &mut key,
+        &mut input,
+        &mut out,
+        &mut log,
+        &mut disk,
+    );
     Ok((status, out))
 }
 
@@ -22,12 +30,16 @@ fn tried(alloc: Global, words: &[&str]) -> Result<(Status, MemSink), Fail> {
 fn trials_of_both_protocols(rt: HostRuntime) -> Result<(), Fail> {
     let (status, out) = tried(rt.alloc(), &["trial", "rtu", "7", "100"])?;
     assert_eq!(rt; status, Status::Done);
-    assert_eq!(rt; out.held(),
-        b"trial rtu 7 100 sealed 100 passed 64 refused 38 dropped 0 read 64\n".as_slice());
+    assert_eq!(rt;
+        out.held(),
+        b"trial rtu 7 100 sealed 100 passed 64 refused 38 dropped 0 read 64\n".as_slice()
+    );
     let (status, out) = tried(rt.alloc(), &["trial", "dnp3", "0", "1000"])?;
     assert_eq!(rt; status, Status::Done);
-    assert_eq!(rt; out.held(),
-        b"trial dnp3 0 1000 sealed 1000 passed 598 refused 363 dropped 21 read 598\n".as_slice());
+    assert_eq!(rt;
+        out.held(),
+        b"trial dnp3 0 1000 sealed 1000 passed 598 refused 363 dropped 21 read 598\n".as_slice()
+    );
     Ok(())
 }
 
@@ -44,14 +56,27 @@ fn numbers_of_a_trial(rt: HostRuntime) -> Result<(), Fail> {
         assert!(rt; is_trial(rt.alloc(), seed, count)?, "{seed} {count}");
     }
     let wrong = [
-        ("00", "1"), ("07", "1"), ("+7", "1"), ("-7", "1"), ("", "1"), ("7 ", "1"), ("0x7", "1"),
-        ("4294967296", "1"), ("7", "0"), ("7", "10001"), ("7", "01"), ("7", ""), ("7", "100000000000"),
+        ("00", "1"),
+        ("07", "1"),
+        ("+7", "1"),
+        ("-7", "1"),
+        ("", "1"),
+        ("7 ", "1"),
+        ("0x7", "1"),
+        ("4294967296", "1"),
+        ("7", "0"),
+        ("7", "10001"),
+        ("7", "01"),
+        ("7", ""),
+        ("7", "100000000000"),
     ];
     for (seed, count) in wrong {
         assert!(rt; !is_trial(rt.alloc(), seed, count)?, "{seed} {count}");
     }
     let words = strings(rt.alloc(), &["trial", "dnp24", "7", "12"])?;
-    assert_eq!(rt; read_words(words.as_slice()),
-        Ok(Command::Trial(Proto::Dnp3, Profile::Y24, 7, 12)));
+    assert_eq!(rt;
+        read_words(words.as_slice()),
+        Ok(Command::Trial(Proto::Dnp3, Profile::Y24, 7, 12))
+    );
     Ok(())
 }
