@@ -27,7 +27,7 @@ fn tried(alloc: Global, words: &[&str]) -> Result<(Status, MemSink), Fail> {
 
 // The counts are those of scripts/trial_model.py.
 #[test]
-fn trials_of_both_protocols(rt: HostRuntime) -> Result<(), Fail> {
+fn trials_of_both_protocols_and_profiles(rt: HostRuntime) -> Result<(), Fail> {
     let (status, out) = tried(rt.alloc(), &["trial", "rtu", "7", "100"])?;
     assert_eq!(rt; status, Status::Done);
     assert_eq!(rt;
@@ -39,6 +39,12 @@ fn trials_of_both_protocols(rt: HostRuntime) -> Result<(), Fail> {
     assert_eq!(rt;
         out.held(),
         b"trial dnp3 0 1000 sealed 1000 passed 598 refused 363 dropped 21 read 598\n".as_slice()
+    );
+    let (status, out) = tried(rt.alloc(), &["trial", "dnp24", "0", "1000"])?;
+    assert_eq!(rt; status, Status::Done);
+    assert_eq!(rt;
+        out.held(),
+        b"trial dnp24 0 1000 sealed 1000 passed 598 refused 366 dropped 17 read 598\n".as_slice()
     );
     Ok(())
 }
