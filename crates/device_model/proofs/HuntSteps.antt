@@ -72,24 +72,25 @@ module _ {R : Type 0} (proto : LineRules R) (first second : ℕ)
 
   -- ---- the hunt goes on
 
-  -- Where the hunt over what is held and a byte gives these frames, and goes on with what is held
+  -- Where the hunt over what is held and some bytes gives these frames, and goes on with what is held
   -- then, so does the hunt over all.
-  module _ (x held later : List Timed) (t : Timed) (frames : List FrameRead)
+  module _ (x held later ts : List Timed) (frames : List FrameRead)
       (goes : GoesOn first second its x held) (undecided : Undecided (timed_bytes later))
-      (steps : (z : List Timed) → hunts (held ++ t ∷ z) ≡ frames ++ hunts (later ++ z)) where
-    reads-after : hunts (x ++ t ∷ []) ≡ hunts x ++ frames
+      (steps : (z : List Timed) → hunts (held ++ (ts ++ z)) ≡ frames ++ hunts (later ++ z)) where
+    pub reads-after : hunts (x ++ ts) ≡ hunts x ++ frames
     reads-after =
-        goes.goes (t ∷ [])
+        goes.goes ts
         ∙ ap (λ y. hunts x ++ y)
-        (steps []
+        (ap (λ y. hunts (held ++ y)) (sym (append-nil ts))
+        ∙ (steps []
         ∙ (ap (λ y. frames ++ y)
         (ap hunts (append-nil later) ∙ quiet first second its proto.headed hunted later undecided)
-        ∙ append-nil frames))
+        ∙ append-nil frames)))
 
-    goes-after : GoesOn first second its (x ++ t ∷ []) later
+    pub goes-after : GoesOn first second its (x ++ ts) later
     goes-after = record {
-      goes = λ z. ap hunts (append_assoc x (t ∷ []) z)
-          ∙ (goes.goes (t ∷ z)
+      goes = λ z. ap hunts (append_assoc x ts z)
+          ∙ (goes.goes (ts ++ z)
           ∙ (ap (λ y. hunts x ++ y) (steps z)
           ∙ (sym (append_assoc (hunts x) frames (hunts (later ++ z)))
           ∙ ap (λ y. y ++ hunts (later ++ z)) (sym reads-after))));
@@ -115,10 +116,10 @@ module _ {R : Type 0} (proto : LineRules R) (first second : ℕ)
 
   -- ---- a byte is kept
 
-  starts-more : (start : ℕ) (held : List Timed) (t : Timed) → 0 < length held
-      → StartsAt start held → StartsAt start (held ++ t ∷ [])
-  starts-more start [] t some starts = absurd (omega arith)
-  starts-more start (u ∷ held) t some starts = starts
+  pub starts-more : (start : ℕ) (held ts : List Timed) → 0 < length held
+      → StartsAt start held → StartsAt start (held ++ ts)
+  starts-more start [] ts some starts = absurd (omega arith)
+  starts-more start (u ∷ held) ts some starts = starts
 
   abbrev Heard : HuntingDevice R → List Timed → Type 0
   Heard value x = HasHeard proto first second value.rules value.bytes.items value.start x
@@ -155,7 +156,7 @@ module _ {R : Type 0} (proto : LineRules R) (first second : ℕ)
         let same = ap length heard.bytes_are in
         let before : 0 < length heard.held = omega arith in
         subst (λ s. StartsAt s more) (sym start)
-        (starts-more old.start heard.held t before heard.starts)
+        (starts-more old.start heard.held (t ∷ []) before heard.starts)
 
     -- it is held with the others
     module _ (start : mid.start ≡ old.start) (some : 0 < length old.bytes.items)
@@ -167,14 +168,14 @@ module _ {R : Type 0} (proto : LineRules R) (first second : ℕ)
       keeps-hears =
           record {
             held = more;
-            goes_on = goes-after x heard.held more t [] heard.goes_on undecided steps-on;
+            goes_on = goes-after x heard.held more (t ∷ []) [] heard.goes_on undecided steps-on;
             bytes_are = kept-bytes;
             stands = kept-stands;
             starts = kept-starts start some;
           }
 
       pub keeps-reads : hunts (x ++ t ∷ []) ≡ hunts x ++ []
-      keeps-reads = reads-after x heard.held more t [] heard.goes_on undecided steps-on
+      keeps-reads = reads-after x heard.held more (t ∷ []) [] heard.goes_on undecided steps-on
 
     -- ---- a byte where a header begins
 
@@ -253,7 +254,7 @@ module _ {R : Type 0} (proto : LineRules R) (first second : ℕ)
               → proto.stands rest.rules [] → Heard rest (x ++ t ∷ [])
           drops-hears rest empty fresh = record {
             held = [];
-            goes_on = goes-after x heard.held [] t frames heard.goes_on nothing steps-off;
+            goes_on = goes-after x heard.held [] (t ∷ []) frames heard.goes_on nothing steps-off;
             bytes_are = empty;
             stands = subst (proto.stands rest.rules) (sym empty) fresh;
             starts = tt;
@@ -261,7 +262,7 @@ module _ {R : Type 0} (proto : LineRules R) (first second : ℕ)
 
           drops-reads : hunts (x ++ t ∷ []) ≡ hunts x ++ frames
           drops-reads =
-              reads-after x heard.held [] t frames heard.goes_on nothing steps-off
+              reads-after x heard.held [] (t ∷ []) frames heard.goes_on nothing steps-off
 
         module _ (loses : next ≡ Loses) where
           lost : (bytes_taken first second its (timed_bytes more) ≡ length (timed_bytes more))
@@ -366,14 +367,14 @@ module _ {R : Type 0} (proto : LineRules R) (first second : ℕ)
           → proto.stands rest.rules [] → Heard rest (x ++ t ∷ [])
       passes-hears rest empty fresh = record {
         held = [];
-        goes_on = goes-after x heard.held [] t [] heard.goes_on nothing steps-out;
+        goes_on = goes-after x heard.held [] (t ∷ []) [] heard.goes_on nothing steps-out;
         bytes_are = empty;
         stands = subst (proto.stands rest.rules) (sym empty) fresh;
         starts = tt;
       }
 
       pub passes-reads : hunts (x ++ t ∷ []) ≡ hunts x ++ []
-      passes-reads = reads-after x heard.held [] t [] heard.goes_on nothing steps-out
+      passes-reads = reads-after x heard.held [] (t ∷ []) [] heard.goes_on nothing steps-out
 
     -- it is
     module _ (first_comes : t.byte ≡ first) where
@@ -397,7 +398,7 @@ module _ {R : Type 0} (proto : LineRules R) (first second : ℕ)
           bytes (omega arith) ∙ ap (λ y. y ++ t.byte ∷ []) empty in
           record {
             held = t ∷ [];
-            goes_on = goes-after x heard.held (t ∷ []) t [] heard.goes_on one-undecided steps-in;
+            goes_on = goes-after x heard.held (t ∷ []) (t ∷ []) [] heard.goes_on one-undecided steps-in;
             bytes_are = is;
             stands = subst (proto.stands rest.rules) (sym is)
                 (rules (undecided-open before.rules [] fresh nothing) [] fresh);
@@ -405,7 +406,7 @@ module _ {R : Type 0} (proto : LineRules R) (first second : ℕ)
           }
 
       pub begins-reads : hunts (x ++ t ∷ []) ≡ hunts x ++ []
-      begins-reads = reads-after x heard.held (t ∷ []) t [] heard.goes_on one-undecided steps-in
+      begins-reads = reads-after x heard.held (t ∷ []) (t ∷ []) [] heard.goes_on one-undecided steps-in
 
   -- ---- a line
 

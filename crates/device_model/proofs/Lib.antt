@@ -6,6 +6,7 @@ pub mod Heads
 pub mod Hunts
 pub mod HuntCases
 pub mod HuntSteps
+pub mod HuntRuns
 mod HuntRows
 mod DnpRows
 pub mod Parting

@@ -1,11 +1,12 @@
 -- The device that hunts, and what it has heard.
 use Rattle.std.specs.Prelude.{◌≡◌, ℕ, ◌<◌, nat_lt, true, List, [], ◌∷◌, ◌++◌, length}
-use Rattle.std.specs.Prelude.{if◌then◌else◌}
+use Rattle.std.specs.Prelude.{if◌then◌else◌, ◌≤◌, false, map, take}
 use Rattle.line_rules.specs.Rules.{Rules, head_of, left_of}
 use Rattle.line_rules.specs.declared.head.Head.{Head}
 use Rattle.line_rules.specs.declared.head.Head.TheVariants.{Short, Good, Bad}
 use Rattle.line_rules.specs.declared.line_rules.LineRules.{Ghosts as LineRules}
 use Rattle.yasir_ticks.specs.declared.tick.Tick.{Tick}
+use Rattle.yasir_ticks.specs.declared.tick.Tick.TheVariants.{Byte}
 use Rattle.device_model.specs.declared.hunting.HuntingDevice.{HuntingDevice}
 use Rattle.device_model.specs.declared.hunting.Next.{Next}
 use Rattle.device_model.specs.declared.hunting.Next.TheVariants.{Waits, Loses, Ends}
@@ -55,6 +56,21 @@ module _ {R : Type 0} (proto : LineRules R) (first second : ℕ) where
           → hunt first second proto.rules 0 (x ++ t ∷ [])
           ≡ hunt first second proto.rules 0 x ++ frames
 
+  -- It takes these bytes, the first at this tick. With the last of them these frames are read, and
+  -- none before it.
+  pub record TakesRun (old new : HuntingDevice R) (at : ℕ) (y : List ℕ) (frames : List FrameRead) :
+      Type 0 where
+    pub ticks : new.ticks ≡ old.ticks
+    pub hears : (x : List Timed) → HasHeard old.rules old.bytes.items old.start x
+        → HasHeard new.rules new.bytes.items new.start (x ++ timed at (map (λ b. Byte b) y))
+    pub reads : (x : List Timed) → HasHeard old.rules old.bytes.items old.start x
+        → hunt first second proto.rules 0 (x ++ timed at (map (λ b. Byte b) y))
+        ≡ hunt first second proto.rules 0 x ++ frames
+    pub unread : (n : ℕ) → n < length y → (x : List Timed)
+        → HasHeard old.rules old.bytes.items old.start x
+        → hunt first second proto.rules 0 (x ++ timed at (map (λ b. Byte b) (take n y)))
+        ≡ hunt first second proto.rules 0 x
+
 -- ---- what becomes of the bytes that are held
 
 abbrev pub next_by : Head → ℕ → Next
@@ -69,3 +85,18 @@ next_of rules x = next_by (head_of rules x) (left_of rules x)
 abbrev pub frame_at : Rules → ℕ → List ℕ → List FrameRead
 frame_at rules start x =
     if rules.is_frame x then record { start = start; frame = x } ∷ [] else []
+
+module _ {R : Type 0} (proto : LineRules R) where
+  -- It holds this byte too, and with it as many bytes as their header says.
+  pub record MeetsEnd (old new : HuntingDevice R) (byte : ℕ) : Type 0 where
+    pub ticks : new.ticks ≡ old.ticks
+    pub start : new.start ≡ old.start
+    pub two : 2 ≤ length old.bytes.items
+    pub bytes : length old.bytes.items < 292 → new.bytes.items ≡ old.bytes.items ++ byte ∷ []
+    pub rules : proto.is_full old.rules ≡ false → (x : List ℕ) → proto.stands old.rules x
+        → proto.stands new.rules (x ++ byte ∷ [])
+    pub head : Head
+    pub left : ℕ
+    pub heads : (x : List ℕ) → proto.stands new.rules x → head ≡ head_of proto.rules x
+    pub lefts : (x : List ℕ) → proto.stands new.rules x → left ≡ left_of proto.rules x
+    pub ends : next_by head left ≡ Ends

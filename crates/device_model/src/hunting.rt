@@ -1,7 +1,10 @@
+ghost use Rattle.std.specs.Prelude.{◌≡◌, ℕ, ◌<◌, ◌≤◌, length, slice_index};
+
 use crate::device::{Device, FrameAt, Heard};
 use crate::hunted::Hunted;
 use arrayvec::ArrayVec;
 use line_rules::Head;
+use memchr::memchr;
 use yasir_ticks::Tick;
 
 // What becomes of the bytes that a device holds.
@@ -13,6 +16,14 @@ enum Next {
     Loses,
     // They are as many as their header says.
     Ends,
+}
+
+// What one step takes of some bytes.
+#[derive(Clone, Copy)]
+struct Part {
+    taken: usize,
+    // as many bytes are held then as their header says
+    ends: bool,
 }
 
 /// A device that hunts for frames by the rules `R`: it takes no notice of silence, looks for the
@@ -28,11 +39,25 @@ pub struct HuntingDevice<R> {
     start: u64,
 }
 
+// How many of these bytes stand before the first one that is `byte`.
+#[inline]
+fn bytes_before(byte: u8, bytes: &[u8]) -> usize
+    ensures within { result ≤ length bytes.now }
+    ensures other { (k : ℕ) → k < result → slice_index bytes.now k ≡ byte → ⊥ }
+{
+    match memchr(byte, bytes) {
+        Some(at) => at,
+        None => bytes.len(),
+    }
+}
+
 impl<R: Hunted> HuntingDevice<R> {
-    ghost use Rattle.std.specs.Prelude.{◌≡◌, ℕ, ◌<◌, ◌≤◌, false, List, [], ◌∷◌, ◌++◌, length};
+    ghost use Rattle.std.specs.Prelude.{◌+◌, false, List, [], ◌∷◌, ◌++◌};
     ghost use Rattle.device_model.specs.Frames.{frames_of};
     ghost use Rattle.device_model.specs.Hunt.{Timed};
-    ghost use Rattle.device_model.specs.HuntingDevice.{TakesByte, next_by, frame_at};
+    ghost use Rattle.std.specs.Prelude.{true, take};
+    ghost use Rattle.device_model.specs.HuntingDevice.{TakesByte, TakesRun, MeetsEnd, next_by};
+    ghost use Rattle.device_model.specs.HuntingDevice.{frame_at};
 
     // What the header says, and how many bytes the frame still lacks.
     #[inline]
@@ -63,6 +88,22 @@ impl<R: Hunted> HuntingDevice<R> {
         if !self.rules.full() {
             self.rules.take(byte);
         }
+    }
+
+    // Holds further bytes, for which there is room in each frame, and says how many the rules took.
+    #[inline]
+    fn keep_some(&mut self, bytes: &[u8]) -> usize
+        ensures ticks { self.new.ticks ≡ self.old.ticks }
+        ensures start { self.new.start ≡ self.old.start }
+        ensures bytes { length self.old.bytes.items + length bytes.now ≤ 292
+            → self.new.bytes.items ≡ self.old.bytes.items ++ bytes.now }
+        ensures within { result ≤ length bytes.now }
+        ensures rules { (x : List ℕ) → R.stands self.old.rules x
+            → R.stands self.new.rules (x ++ take result bytes.now) }
+        ensures full { result < length bytes.now → R.is_full self.new.rules ≡ true }
+    {
+        let _ = self.bytes.try_extend_from_slice(bytes);
+        self.rules.take_some(bytes)
     }
 
     // Holds no bytes any more.
@@ -126,6 +167,26 @@ impl<R: Hunted> HuntingDevice<R> {
         }
     }
 
+    // A further byte where a header begins; whether then as many bytes are held as the header says.
+    #[inline]
+    fn meet(&mut self, byte: u8) -> bool
+        requires { 2 ≤ length self.old.bytes.items }
+        ensures takes { result ≡ false → (at : ℕ)
+            → TakesByte R.LineRules R.FIRST R.SECOND self.old self.new
+            (record { tick = at; byte = byte }) [] }
+        ensures ends { result ≡ true → MeetsEnd R.LineRules self.old self.new byte }
+    {
+        self.keep(byte);
+        match Self::next(self.rules.head(), self.rules.left()) {
+            Next::Waits => false,
+            Next::Loses => {
+                self.lose();
+                false
+            }
+            Next::Ends => true,
+        }
+    }
+
     // A further byte where a header begins.
     #[inline]
     fn go_on(&mut self, byte: u8) -> Option<FrameAt>
@@ -133,14 +194,51 @@ impl<R: Hunted> HuntingDevice<R> {
         ensures { (at : ℕ) → TakesByte R.LineRules R.FIRST R.SECOND self.old self.new
             (record { tick = at; byte = byte }) (frames_of result) }
     {
-        self.keep(byte);
-        match Self::next(self.rules.head(), self.rules.left()) {
-            Next::Waits => None,
-            Next::Loses => {
-                self.lose();
-                None
+        if self.meet(byte) {
+            return self.end();
+        }
+        None
+    }
+
+    // The first of these bytes, as far as one step takes them: those where no header begins, one
+    // that may begin a header or is one of it, or those of the frame before its last.
+    #[inline]
+    fn hear_part(&mut self, at: u64, rest: &[u8]) -> Part
+        requires { 0 < length rest.now }
+        ensures some { 0 < result.taken }
+        ensures within { result.taken ≤ length rest.now }
+        ensures takes { result.ends ≡ false
+            → TakesRun R.LineRules R.FIRST R.SECOND self.old self.new at
+            (take result.taken rest.now) [] }
+        ensures one { result.ends ≡ true → result.taken ≡ 1 }
+        ensures ends { result.ends ≡ true
+            → MeetsEnd R.LineRules self.old self.new (slice_index rest.now 0) }
+    {
+        if self.bytes.is_empty() {
+            let passed = bytes_before(R::FIRST, rest);
+            if passed > 0 {
+                return Part {
+                    taken: passed,
+                    ends: false,
+                };
             }
-            Next::Ends => self.end(),
+        }
+        if self.bytes.len() < 2 {
+            self.look(at, rest[0]);
+            return Part {
+                taken: 1,
+                ends: false,
+            };
+        }
+        let left = usize::from(self.rules.left());
+        if left > 1 {
+            let taken = rest.len().min(left - 1);
+            self.keep_some(&rest[..taken]);
+            return Part { taken, ends: false };
+        }
+        Part {
+            taken: 1,
+            ends: self.meet(rest[0]),
         }
     }
 
@@ -184,6 +282,30 @@ impl<R: Hunted> Device for HuntingDevice<R> {
         match t {
             Tick::Byte(byte) => self.hear(at, byte),
             Tick::Silent => None,
+        }
+    }
+
+    fn hear_some(&mut self, bytes: &[u8]) -> Heard {
+        let from = self.ticks;
+        let mut taken = 0;
+        while taken < bytes.len() {
+            let part = self.hear_part(from + taken as u64, &bytes[taken..]);
+            taken += part.taken;
+            if !part.ends {
+                continue;
+            }
+            if let Some(frame) = self.end() {
+                self.ticks = from + taken as u64;
+                return Heard {
+                    taken,
+                    frame: Some(frame),
+                };
+            }
+        }
+        self.ticks = from + bytes.len() as u64;
+        Heard {
+            taken: bytes.len(),
+            frame: None,
         }
     }
 
