@@ -38,13 +38,17 @@ loop-taken-init g c = record {
 
 pub run_bytes-requires : goal.run_bytes-requires
 run_bytes-requires g c = record {
-  room = omega (arith, c.requires.room, c.loop-taken.invariant.given.counted,
+  room = omega (
+    arith,
+    c.requires.room,
+    c.loop-taken.invariant.given.counted,
     length-ticks_in-bytes c.args.bytes.now,
     length-ticks_in-take c.args.bytes.now c.loop-taken.taken c.loop-taken.invariant.within,
     length-ticks_in-bytes (take (length c.args.bytes.now - c.loop-taken.taken)
-    (drop c.loop-taken.taken c.args.bytes.now)),
+        (drop c.loop-taken.taken c.args.bytes.now)),
     ap length (slice_rest c.args.bytes.now c.loop-taken.taken),
-    length-drop c.loop-taken.taken c.args.bytes.now);
+    length-drop c.loop-taken.taken c.args.bytes.now,
+  );
   able = c.loop-taken.invariant.given.is_able;
 }
 
@@ -73,7 +77,7 @@ loop-taken-preserved-then-count-gt0 g c =
       within = omega (arith, c.in-Ok.ensures.within, c.loop-taken.invariant.within, ap length (slice_rest c.args.bytes.now c.loop-taken.taken), length-drop c.loop-taken.taken c.args.bytes.now);
       given = gives_more (driving g.B.LineBox g.D.SlotDisk) g.O.Sink g.L.Sink g.D.SlotDisk s0 s1 s2 (byte_items (take c.loop-taken.taken c.args.bytes.now)) (byte_items (take c.in-Ok.count (drop c.loop-taken.taken c.args.bytes.now))) (byte_items (take (c.loop-taken.taken + c.in-Ok.count) c.args.bytes.now)) (byte_items-on c.args.bytes.now c.loop-taken.taken c.in-Ok.count)
           c.loop-taken.invariant.given (subst (λ x. Gives (driving g.B.LineBox g.D.SlotDisk) g.O.Sink g.L.Sink g.D.SlotDisk {T = Unit {0}} s1 s2 (byte_items (take c.in-Ok.count x)) (Ok tt))
-    (slice_rest c.args.bytes.now c.loop-taken.taken) c.in-Ok.ensures.gives);
+          (slice_rest c.args.bytes.now c.loop-taken.taken) c.in-Ok.ensures.gives);
     }
 
 pub take_tick-requires : goal.take_tick-requires
@@ -87,13 +91,19 @@ take_tick-requires g c =
     let still = nothing_given (driving g.B.LineBox g.D.SlotDisk) g.O.Sink g.L.Sink g.D.SlotDisk s1 s2 s2
     (front_bytes (take (length c.args.bytes.now - c.loop-taken.taken) (drop c.loop-taken.taken c.args.bytes.now))) (byte_items c.args.bytes.now) refl c.in-Ok.count (omega arith) c.in-Ok.ensures.gives in
     record {
-      room = omega (arith, c.requires.room, c.loop-taken.invariant.given.counted, still.counted,
+      room = omega (
+        arith,
+        c.requires.room,
+        c.loop-taken.invariant.given.counted,
+        still.counted,
         length-ticks_in-bytes c.args.bytes.now,
-    length-ticks_in-take c.args.bytes.now c.loop-taken.taken c.loop-taken.invariant.within,
-    length-ticks_in-bytes (take (length c.args.bytes.now - c.loop-taken.taken)
-    (drop c.loop-taken.taken c.args.bytes.now)),
-    ap length (slice_rest c.args.bytes.now c.loop-taken.taken),
-    length-drop c.loop-taken.taken c.args.bytes.now, c.loop-taken-test.true);
+        length-ticks_in-take c.args.bytes.now c.loop-taken.taken c.loop-taken.invariant.within,
+        length-ticks_in-bytes (take (length c.args.bytes.now - c.loop-taken.taken)
+            (drop c.loop-taken.taken c.args.bytes.now)),
+        ap length (slice_rest c.args.bytes.now c.loop-taken.taken),
+        length-drop c.loop-taken.taken c.args.bytes.now,
+        c.loop-taken-test.true,
+      );
       able = still.is_able;
     }
 

@@ -38,10 +38,14 @@ loop-taken-init g c = record {
 
 pub run_silence-requires : goal.run_silence-requires
 run_silence-requires g c = record {
-  room = omega (arith, c.requires.room, c.loop-taken.invariant.given.counted,
+  room = omega (
+    arith,
+    c.requires.room,
+    c.loop-taken.invariant.given.counted,
     length-ticks_in-silence c.args.ticks,
     length-ticks_in-silence c.loop-taken.taken,
-    length-ticks_in-silence (c.args.ticks - c.loop-taken.taken));
+    length-ticks_in-silence (c.args.ticks - c.loop-taken.taken),
+  );
   able = c.loop-taken.invariant.given.is_able;
 }
 
@@ -84,10 +88,16 @@ take_tick-requires g c =
     let still = nothing_given (driving g.B.LineBox g.D.SlotDisk) g.O.Sink g.L.Sink g.D.SlotDisk s1 s2 s2
     silent_items (silent_items c.args.ticks) refl c.in-Ok.count (omega arith) c.in-Ok.ensures.gives in
     record {
-      room = omega (arith, c.requires.room, c.loop-taken.invariant.given.counted, still.counted,
+      room = omega (
+        arith,
+        c.requires.room,
+        c.loop-taken.invariant.given.counted,
+        still.counted,
         length-ticks_in-silence c.args.ticks,
-    length-ticks_in-silence c.loop-taken.taken,
-    length-ticks_in-silence (c.args.ticks - c.loop-taken.taken), c.loop-taken-test.true);
+        length-ticks_in-silence c.loop-taken.taken,
+        length-ticks_in-silence (c.args.ticks - c.loop-taken.taken),
+        c.loop-taken-test.true,
+      );
       able = still.is_able;
     }
 
