@@ -1,6 +1,8 @@
 -- A box and its writer have taken a run, of which nothing is noted: what that does to the consumer.
-use Rattle.std.proofs.Common.{◌≡◌, ◌∙◌, ℕ, ◌+◌, ◌-◌, ◌<◌, ◌≤◌, List, [], ◌∷◌, ◌++◌, length, take, map}
-use Rattle.std.proofs.Common.{replicate, zero, suc, drop, Result, Ok, Err, refl, sym, ap, subst, arith, append-nil}
+use Rattle.std.proofs.Common.{◌≡◌, ◌∙◌, ℕ, ◌+◌, ◌-◌, ◌<◌, ◌≤◌, List, [], ◌∷◌, ◌++◌, length, take}
+use Rattle.std.proofs.Common.{map}
+use Rattle.std.proofs.Common.{replicate, zero, suc, drop, Result, Ok, Err, refl, sym, ap, subst}
+use Rattle.std.proofs.Common.{arith, append-nil}
 use Rattle.std.proofs.Math.Seq.{take-add}
 use Rattle.std.proofs.lemmas.List.{take_all, map-append, take-append-drop}
 use Rattle.std.proofs.lemmas.List.{replicate-append-replicate}

@@ -244,7 +244,8 @@ takes_tick w0 w1 w2 run all t line is takes goes = record {
 
 -- ---- the counts of faults
 
-pub cause_none : {T E : Type 0} (x : T) (out log : ℕ) → HaveCause {T = T} {E = E} out out log log (Ok x)
+pub cause_none : {T E : Type 0} (x : T) (out log : ℕ) → HaveCause {T = T} {E = E} out out log log
+    (Ok x)
 cause_none x out log = record {
   out_never_falls = omega arith;
   log_never_falls = omega arith;

@@ -33,7 +33,8 @@ key_text_short text key is =
     ap length is.all ∙ length-append is.digits is.ending in
     omega (arith, is.short, twice, few, all)
 
-pub no_key_refused : (text key met : List ℕ) (now : Option (List ℕ)) (place : ℕ) → IsKeyText text key
+pub no_key_refused : (text key met : List ℕ) (now : Option (List ℕ)) (place : ℕ) → IsKeyText text
+    key
     → IsKeyMet (Some text) now met
     → IsNoKey met place → ⊥
 no_key_refused text key met now place right is none = elim is.whole [

@@ -67,10 +67,12 @@ impl<V: Device + Drop> FrameLines<V> {
         requires some { 0 < length bytes.now }
         ensures part { IfOk result (λ n. (0 < n) × (n ≤ length bytes.now)) }
         ensures gives { IfOk result (λ n. Gives (printing V.Device) O.Sink L.Sink D.SlotDisk
-            (state_of self.old out.old log.now disk.now) (state_of self.new out.new log.now disk.now)
+            (state_of self.old out.old log.now disk.now)
+            (state_of self.new out.new log.now disk.now)
             (byte_items (take n bytes.now)) (all_taken result)) }
         ensures stops { IfErr result (λ stop. Gives (printing V.Device) O.Sink L.Sink D.SlotDisk
-            (state_of self.old out.old log.now disk.now) (state_of self.new out.new log.now disk.now)
+            (state_of self.old out.old log.now disk.now)
+            (state_of self.new out.new log.now disk.now)
             (byte_items bytes.now) (all_taken result)) }
     {
         let Heard { taken, frame } = self.device.hear_some(bytes);
@@ -97,10 +99,12 @@ impl<V: Device + Drop> FrameLines<V> {
         requires some { 0 < ticks }
         ensures part { IfOk result (λ n. (0 < n) × (n ≤ ticks)) }
         ensures gives { IfOk result (λ n. Gives (printing V.Device) O.Sink L.Sink D.SlotDisk
-            (state_of self.old out.old log.now disk.now) (state_of self.new out.new log.now disk.now)
+            (state_of self.old out.old log.now disk.now)
+            (state_of self.new out.new log.now disk.now)
             (silent_items n) (all_taken result)) }
         ensures stops { IfErr result (λ stop. Gives (printing V.Device) O.Sink L.Sink D.SlotDisk
-            (state_of self.old out.old log.now disk.now) (state_of self.new out.new log.now disk.now)
+            (state_of self.old out.old log.now disk.now)
+            (state_of self.new out.new log.now disk.now)
             (silent_items ticks) (all_taken result)) }
     {
         let Heard { taken, frame } = self.device.wait_some(ticks);

@@ -55,7 +55,8 @@ word_at (suc n) [] = []
 word_at (suc n) (word ∷ words) = word_at n words
 
 abbrev command_in : List (List ℕ) → Command
-command_in words = command_by (word_at 0 words) (word_at 1 words) (word_at 2 words) (word_at 3 words)
+command_in words = command_by (word_at 0 words) (word_at 1 words) (word_at 2 words)
+    (word_at 3 words)
 
 proto-by : (proto : Proto) (profile : Profile) → proto_by (link_word proto profile) ≡ proto
 proto-by Rtu Y18 = refl

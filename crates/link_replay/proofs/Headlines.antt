@@ -44,7 +44,8 @@ use Rattle.link_replay.specs.declared.words.Proto.TheVariants.{Rtu, Dnp3}
 
 rtu-law : (profile : LinkProfile) (line link : List Tick)
     → ReadsWhatWasSealed rtu_rules rtu_reads 4 profile 0 0 line link
-rtu-law profile line link = reads-sealed rtu_rules rtu_lawful (reads_with 4 2) 4 profile 0 0 line link
+rtu-law profile line link = reads-sealed rtu_rules rtu_lawful (reads_with 4 2) 4 profile 0 0 line
+    link
     (rtu_reads_what_passed profile 4 2 (omega arith) (omega arith) (omega arith) 0 link)
 
 dnp-law : (profile : LinkProfile) (line link : List Tick)

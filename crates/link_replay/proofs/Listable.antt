@@ -19,7 +19,8 @@ use Rattle.link_replay.specs.declared.words.Profile.{Profile}
 use Rattle.link_replay.specs.declared.words.Proto.{Proto}
 
 module _ {K S O L D : Type 0} (k : Source K) (s : Source S) (o : Sink O) (l : Sink L)
-    (d : SlotDisk D) (proto : Proto) (profile : Profile) (dir : Dir) (before after : Outside K S O L D)
+    (d : SlotDisk D) (proto : Proto) (profile : Profile) (dir : Dir)
+    (before after : Outside K S O L D)
     (right : IsListable (k.left before.key) (s.left before.input))
     (calm : NoneRose (k.faults before.key) (k.faults after.key) (s.faults before.input)
     (s.faults after.input)
@@ -33,7 +34,8 @@ module _ {K S O L D : Type 0} (k : Source K) (s : Source S) (o : Sink O) (l : Si
   listable_done Done h reads sinks = inl refl
   listable_done NoMemory h reads sinks = inr refl
   listable_done (BadTicks bad) h reads sinks = absurd
-      (not_refused link_rest (s.left before.input) (s.left after.input) h.lists.does.items right.input
+      (not_refused link_rest (s.left before.input) (s.left after.input) h.lists.does.items
+      right.input
       bad h.lists.does.takes)
   listable_done (TooLong what count) h reads sinks = absurd
       (not_too_long link_rest (s.left before.input) (s.left after.input) h.lists.does.items

@@ -125,10 +125,12 @@ module _ {K S O L D : Type 0} (k : Source K) (s : Source S) (o : Sink O) (l : Si
   asked_done (Some Vectors) before after status may calm does causes =
       tables_done _ _ _ _ _ _ _ _ _ _ calm _ _ status does.tables causes.sinks
   asked_done (Some (Seal proto profile dir)) before after status may calm does causes =
-      replayable_done k s o l d (seal_boxed proto profile) dir (seal_rest profile) before after may calm
+      replayable_done k s o l d (seal_boxed proto profile) dir (seal_rest profile) before after may
+      calm
       status does causes.reads causes.own causes.sinks
   asked_done (Some (Check proto profile dir)) before after status may calm does causes =
-      replayable_done k s o l d (check_boxed proto profile) dir check_rest before after may calm status
+      replayable_done k s o l d (check_boxed proto profile) dir check_rest before after may calm
+      status
       does causes.reads causes.own causes.sinks
   asked_done (Some (Trial proto profile seed count)) before after status may calm does causes =
       line_done _ _ _ _ _ _ _ _ _ _ calm _ _ _ status does.line causes.sinks

@@ -77,7 +77,8 @@ module _ {K S O L D : Type 0} (k : Source K) (s : Source S) (o : Sink O) (l : Si
   MayDo (Some (Check proto profile dir)) before =
       IsReplayable (k.left before.key) (d.told before.disk) (s.left before.input)
   MayDo (Some (Trial proto profile seed count)) before = Unit {0}
-  MayDo (Some (Replay proto profile dir)) before = IsListable (k.left before.key) (s.left before.input)
+  MayDo (Some (Replay proto profile dir)) before = IsListable (k.left before.key)
+      (s.left before.input)
 
   -- Nothing outside failed.
   abbrev pub IsCalm : Outside K S O L D → Outside K S O L D → Type 0

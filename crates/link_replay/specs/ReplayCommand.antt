@@ -78,10 +78,12 @@ ReplaysWith proto profile dir in_before in_now out_before out_now key status =
 
 module _ {K S O L D : Type 0} (k : Source K) (s : Source S) (o : Sink O) (l : Sink L) where
   -- What `replay` does: notes aren't written, and the journal's disk isn't reached.
-  pub record Replays (proto : Proto) (profile : Profile) (dir : Dir) (before after : Outside K S O L D)
+  pub record Replays (proto : Proto) (profile : Profile) (dir : Dir)
+      (before after : Outside K S O L D)
       (status : Status) : Type 0 where
     pub lists : ReadsKeyFirst k before.key after.key
-        (ReplaysWith proto profile dir (s.left before.input) (s.left after.input) (o.held before.out)
+        (ReplaysWith proto profile dir (s.left before.input) (s.left after.input)
+        (o.held before.out)
         (o.held after.out))
         (LeavesAll before.input after.input before.out after.out before.log after.log) status
     pub log : l.held after.log ≡ l.held before.log

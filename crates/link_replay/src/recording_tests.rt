@@ -17,8 +17,8 @@ struct Row {
     log: &'static [u8],
 }
 
-/// Six polls of a master, of three requests, and the link of them: the second packet is altered, the
-/// third one comes twice, and the sixth before the fifth. All tags of this file are those of
+/// Six polls of a master, of three requests, and the link of them: the second packet is altered,
+/// the third one comes twice, and the sixth before the fifth. All tags of this file are those of
 /// Python's `hmac`.
 const POLLS: Row = Row {
     proto: "rtu",

@@ -124,81 +124,65 @@ fn refuses_words_of_no_command(rt: HostRuntime) -> Result<(), Fail> {
 }
 
 #[test]
-fn finds_the_paths_among_the_words(rt: HostRuntime) -> Result<(), Fail> {
-    // words, command, place of the key's path, place of the journal's, whether the journal is made
-    let rows: [(&[&str], Command, Option<usize>, Option<usize>, bool); 11] = [
-        (&["init", "journal"], Command::Init, None, Some(1), true),
-        (
-            &["read", "rtu"],
-            Command::Read(Proto::Rtu),
-            None,
-            None,
-            false,
-        ),
-        (
-            &["read", "dnp3"],
-            Command::Read(Proto::Dnp3),
-            None,
-            None,
-            false,
-        ),
-        (&["vectors"], Command::Vectors, None, None, false),
-        (
-            &["seal", "rtu", "ab", "key", "journal"],
-            Command::Seal(Proto::Rtu, Profile::Y18, Dir::Ab),
-            Some(3),
-            Some(4),
-            false,
-        ),
-        (
-            &["seal", "rtu", "ba", "key", "journal"],
-            Command::Seal(Proto::Rtu, Profile::Y18, Dir::Ba),
-            Some(3),
-            Some(4),
-            false,
-        ),
-        (
-            &["seal", "dnp3", "ba", "key", "journal"],
-            Command::Seal(Proto::Dnp3, Profile::Y18, Dir::Ba),
-            Some(3),
-            Some(4),
-            false,
-        ),
-        (
-            &["check", "dnp3", "ab", "key", "journal"],
-            Command::Check(Proto::Dnp3, Profile::Y18, Dir::Ab),
-            Some(3),
-            Some(4),
-            false,
-        ),
-        (
-            &["check", "rtu", "ba", "key", "journal"],
-            Command::Check(Proto::Rtu, Profile::Y18, Dir::Ba),
-            Some(3),
-            Some(4),
-            false,
-        ),
-        (
-            &["replay", "rtu", "ab", "key"],
-            Command::Replay(Proto::Rtu, Profile::Y18, Dir::Ab),
-            Some(3),
-            None,
-            false,
-        ),
-        (
-            &["replay", "dnp24", "ba", "key"],
-            Command::Replay(Proto::Dnp3, Profile::Y24, Dir::Ba),
-            Some(3),
-            None,
-            false,
-        ),
+fn finds_no_path_of_a_key_among_the_words(rt: HostRuntime) -> Result<(), Fail> {
+    // words, command, place of the journal's path, whether the journal is made
+    let rows: [(&[&str], Command, Option<usize>, bool); 4] = [
+        (&["init", "journal"], Command::Init, Some(1), true),
+        (&["read", "rtu"], Command::Read(Proto::Rtu), None, false),
+        (&["read", "dnp3"], Command::Read(Proto::Dnp3), None, false),
+        (&["vectors"], Command::Vectors, None, false),
     ];
-    for (words, command, key, journal, makes) in rows {
+    for (words, command, journal, makes) in rows {
         let words = strings(rt.alloc(), words)?;
         assert_eq!(rt; read_words(words.as_slice()), Ok(command));
-        assert_eq!(rt; key_word(words.as_slice()), key);
+        assert_eq!(rt; key_word(words.as_slice()), None);
         assert_eq!(rt; journal_word(words.as_slice()), journal);
         assert_eq!(rt; makes_journal(words.as_slice()), makes);
+    }
+    Ok(())
+}
+
+#[test]
+fn finds_the_paths_among_the_words(rt: HostRuntime) -> Result<(), Fail> {
+    let (rtu, dnp, y18, y24) = (Proto::Rtu, Proto::Dnp3, Profile::Y18, Profile::Y24);
+    // words, command; the key's path is word 3, and word 4 is the journal's, where there is one
+    let rows: [(&[&str], Command); 7] = [
+        (
+            &["seal", "rtu", "ab", "k", "j"],
+            Command::Seal(rtu, y18, Dir::Ab),
+        ),
+        (
+            &["seal", "rtu", "ba", "k", "j"],
+            Command::Seal(rtu, y18, Dir::Ba),
+        ),
+        (
+            &["seal", "dnp3", "ba", "k", "j"],
+            Command::Seal(dnp, y18, Dir::Ba),
+        ),
+        (
+            &["check", "dnp24", "ab", "k", "j"],
+            Command::Check(dnp, y24, Dir::Ab),
+        ),
+        (
+            &["check", "rtu", "ba", "k", "j"],
+            Command::Check(rtu, y18, Dir::Ba),
+        ),
+        (
+            &["replay", "rtu", "ab", "k"],
+            Command::Replay(rtu, y18, Dir::Ab),
+        ),
+        (
+            &["replay", "dnp24", "ba", "k"],
+            Command::Replay(dnp, y24, Dir::Ba),
+        ),
+    ];
+    for (words, command) in rows {
+        let journal = if words.len() == 5 { Some(4) } else { None };
+        let words = strings(rt.alloc(), words)?;
+        assert_eq!(rt; read_words(words.as_slice()), Ok(command));
+        assert_eq!(rt; key_word(words.as_slice()), Some(3));
+        assert_eq!(rt; journal_word(words.as_slice()), journal);
+        assert!(rt; !makes_journal(words.as_slice()));
     }
     Ok(())
 }

@@ -2,7 +2,8 @@
 use Rattle.std.proofs.Common.{◌≡◌, ◌∙◌, ℕ, zero, suc, ◌+◌, ◌-◌, ◌*◌, ◌%◌, ◌≤◌, List, [], ◌++◌}
 use Rattle.std.proofs.Common.{length, take, drop, refl, ap, sym, subst, arith, length-drop}
 use Rattle.std.proofs.Common.{length-append, map}
-use Rattle.std.proofs.lemmas.List.{take-append-le, drop-append-le, take_all, length-map, length-replicate}
+use Rattle.std.proofs.lemmas.List.{take-append-le, drop-append-le, take_all, length-map}
+use Rattle.std.proofs.lemmas.List.{length-replicate}
 use Rattle.std.proofs.Math.Seq.{drop-append_seam}
 use Rattle.yasir_ticks.specs.Ticks.{silent}
 use Rattle.yasir_ticks.specs.declared.tick.Tick.{Tick}

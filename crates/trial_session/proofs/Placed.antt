@@ -114,7 +114,8 @@ module _ (rules : Rules) where
         none-extra framed k f are.2,
         ap rules.is_frame (all-live framed k f are.2) ∙ are.2,
         spaced profile framed short
-            (k + length (map (λ b. Byte b) f) + pause_len + trailer_len profile + 4) (k + 640) fs are.3
+            (k + length (map (λ b. Byte b) f) + pause_len + trailer_len profile + 4) (k + 640) fs
+            are.3
             (omega (arith, long, short, are.1)),
       )
 

@@ -1,5 +1,6 @@
 -- Boxes that have taken nothing, over new journals on disks that never fail.
-use Rattle.std.proofs.Common.{◌≡◌, [], Option, Some, None, refl, sym, ◌∙◌, Result, Ok, Err, arith, replicate}
+use Rattle.std.proofs.Common.{◌≡◌, [], Option, Some, None, refl, sym, ◌∙◌, Result, Ok, Err, arith}
+use Rattle.std.proofs.Common.{replicate}
 use Rattle.std.specs.Prelude.{OnErr, IfOk, IfErr, IsOk}
 use Rattle.yasir_io.specs.Disks.{Slots}
 use Rattle.yasir_io.specs.Causes.{Rose}

@@ -15,10 +15,12 @@ more-draws : draws 3 0 ≡ 335903614 ∷ 436792849 ∷ 2599843874 ∷ []
 unfolding draws
 more-draws = refl
 
-changed-byte : altered (Change 1 0x0F) (Byte 1 ∷ Byte 0xF0 ∷ Silent ∷ []) ≡ Byte 1 ∷ Byte 0xFF ∷ Silent ∷ []
+changed-byte : altered (Change 1 0x0F) (Byte 1 ∷ Byte 0xF0 ∷ Silent ∷ []) ≡ Byte 1 ∷ Byte 0xFF ∷
+    Silent ∷ []
 changed-byte = refl
 
-changed-silence : altered (Change 2 0x0F) (Byte 1 ∷ Byte 2 ∷ Silent ∷ []) ≡ Byte 1 ∷ Byte 2 ∷ Byte 0x0F ∷ []
+changed-silence : altered (Change 2 0x0F) (Byte 1 ∷ Byte 2 ∷ Silent ∷ []) ≡ Byte 1 ∷ Byte 2 ∷ Byte
+    0x0F ∷ []
 changed-silence = refl
 
 lost : altered Lose (Byte 1 ∷ Silent ∷ Byte 2 ∷ []) ≡ Silent ∷ Silent ∷ Silent ∷ []

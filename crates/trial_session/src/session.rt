@@ -104,8 +104,8 @@ impl<S: CountingBox, C: CountingBox, V: Device + Drop> Session<S, C, V> {
     }
 }
 
-/// Runs the session of so many frames from a seed: drawn by the protocol `R`, sealed by `S`, checked
-/// by `C` and read by `V`. So many ticks follow a frame in its packet.
+/// Runs the session of so many frames from a seed: drawn by the protocol `R`, sealed by `S`,
+/// checked by `C` and read by `V`. So many ticks follow a frame in its packet.
 pub fn try_session<R: DrawnFrames, S: CountingBox, C: CountingBox, V: Device + Drop>(
     seed: u32,
     count: u32,

@@ -1,4 +1,5 @@
-use Rattle.std.proofs.Common.{◌≡◌, ◌∙◌, ◌+◌, ◌-◌, [], length, map, take, drop, Ok, Err, ap, subst, arith}
+use Rattle.std.proofs.Common.{◌≡◌, ◌∙◌, ◌+◌, ◌-◌, [], length, map, take, drop, Ok, Err, ap, subst}
+use Rattle.std.proofs.Common.{arith}
 use Rattle.std.proofs.Common.{ℕ, length-drop}
 use Rattle.yasir_io.specs.declared.Failed.{Failed}
 use Rattle.yasir_io.specs.TextBuffer.{waiting_bytes}
@@ -25,7 +26,8 @@ loop-done-preserved g c =
     (waiting_bytes c.args.notes.now) in
     let w1 : Waiting = waiting c.loop-done.writer (waiting_bytes c.loop-done.ticks)
     (waiting_bytes c.loop-done.notes) in
-    let w2 : Waiting = waiting c.push_some_bytes.new.writer (waiting_bytes c.push_some_bytes.new.ticks)
+    let w2 : Waiting = waiting c.push_some_bytes.new.writer
+    (waiting_bytes c.push_some_bytes.new.ticks)
     (waiting_bytes c.push_some_bytes.new.notes) in
     let s0 : SinkTexts = sink_texts (g.O.Sink.held c.args.out.now)
     (g.L.Sink.held c.args.log.now) in
@@ -43,10 +45,13 @@ loop-done-preserved g c =
       );
       pushes = subst (λ x. PushesTicks {T = Unit {0}} {E = Unit {0}} w0 w2 s0 s2 x [] (Ok tt))
           (bytes_on c.args.bytes.now c.loop-done.done c.in-Ok.count)
-          (pushes_then tt w0 w1 w2 s0 s1 s2 (map Byte (take c.loop-done.done c.args.bytes.now)) (map Byte (take c.in-Ok.count (drop c.loop-done.done c.args.bytes.now)))
+          (pushes_then tt w0 w1 w2 s0 s1 s2 (map Byte (take c.loop-done.done c.args.bytes.now))
+          (map Byte (take c.in-Ok.count (drop c.loop-done.done c.args.bytes.now)))
           (Ok tt) c.loop-done.invariant.pushes
-          (pushes_as c.in-Ok.count tt w1 w2 s1 s2 (map Byte (take c.in-Ok.count (drop c.loop-done.done c.args.bytes.now))) []
-          (subst (λ x. PushesTicks {T = ℕ} {E = Failed} w1 w2 s1 s2 (map Byte (take c.in-Ok.count x)) [] (Ok c.in-Ok.count))
+          (pushes_as c.in-Ok.count tt w1 w2 s1 s2
+          (map Byte (take c.in-Ok.count (drop c.loop-done.done c.args.bytes.now))) []
+          (subst (λ x. PushesTicks {T = ℕ} {E = Failed} w1 w2 s1 s2
+          (map Byte (take c.in-Ok.count x)) [] (Ok c.in-Ok.count))
           (slice_rest c.args.bytes.now c.loop-done.done) c.in-Ok.ensures.ok)));
       cause = cause_then tt _ _ _ _ _ _ (Ok tt) c.loop-done.invariant.cause
           (cause_as c.in-Ok.count tt _ _ _ _ c.in-Ok.ensures.cause);
@@ -60,7 +65,8 @@ returns-in-Err-clause-pushes g c =
     (waiting_bytes c.args.notes.now) in
     let w1 : Waiting = waiting c.loop-done.writer (waiting_bytes c.loop-done.ticks)
     (waiting_bytes c.loop-done.notes) in
-    let w2 : Waiting = waiting c.push_some_bytes.new.writer (waiting_bytes c.push_some_bytes.new.ticks)
+    let w2 : Waiting = waiting c.push_some_bytes.new.writer
+    (waiting_bytes c.push_some_bytes.new.ticks)
     (waiting_bytes c.push_some_bytes.new.notes) in
     let s0 : SinkTexts = sink_texts (g.O.Sink.held c.args.out.now)
     (g.L.Sink.held c.args.log.now) in
@@ -70,8 +76,11 @@ returns-in-Err-clause-pushes g c =
     (g.L.Sink.held c.push_some_bytes.new.log) in
     subst (λ x. PushesTicks {T = Unit {0}} {E = Failed} w0 w2 s0 s2 x [] (Err c.in-Err.field-0))
     (bytes_whole c.args.bytes.now c.loop-done.done)
-    (pushes_then tt w0 w1 w2 s0 s1 s2 (map Byte (take c.loop-done.done c.args.bytes.now)) (map Byte (drop c.loop-done.done c.args.bytes.now))
+    (pushes_then tt w0 w1 w2 s0 s1 s2 (map Byte (take c.loop-done.done c.args.bytes.now))
+    (map Byte (drop c.loop-done.done c.args.bytes.now))
     (Err c.in-Err.field-0) c.loop-done.invariant.pushes
-    (pushes_failed c.in-Err.field-0 w1 w2 s1 s2 (map Byte (drop c.loop-done.done c.args.bytes.now)) []
-    (subst (λ x. PushesTicks {T = ℕ} {E = Failed} w1 w2 s1 s2 (map Byte x) [] (Err c.in-Err.field-0))
+    (pushes_failed c.in-Err.field-0 w1 w2 s1 s2 (map Byte (drop c.loop-done.done c.args.bytes.now))
+    []
+    (subst (λ x. PushesTicks {T = ℕ} {E = Failed} w1 w2 s1 s2 (map Byte x) []
+    (Err c.in-Err.field-0))
     (slice_rest c.args.bytes.now c.loop-done.done) c.in-Err.ensures.err)))

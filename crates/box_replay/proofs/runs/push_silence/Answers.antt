@@ -1,4 +1,5 @@
-use Rattle.std.proofs.Common.{◌≡◌, ◌∙◌, ◌+◌, ◌-◌, [], length, map, take, drop, Ok, Err, ap, subst, arith}
+use Rattle.std.proofs.Common.{◌≡◌, ◌∙◌, ◌+◌, ◌-◌, [], length, map, take, drop, Ok, Err, ap, subst}
+use Rattle.std.proofs.Common.{arith}
 use Rattle.std.proofs.Common.{ℕ, length-drop}
 use Rattle.yasir_io.specs.declared.Failed.{Failed}
 use Rattle.yasir_io.specs.TextBuffer.{waiting_bytes}
@@ -25,7 +26,8 @@ loop-done-preserved g c =
     (waiting_bytes c.args.notes.now) in
     let w1 : Waiting = waiting c.loop-done.writer (waiting_bytes c.loop-done.ticks)
     (waiting_bytes c.loop-done.notes) in
-    let w2 : Waiting = waiting c.push_some_silence.new.writer (waiting_bytes c.push_some_silence.new.ticks)
+    let w2 : Waiting = waiting c.push_some_silence.new.writer
+    (waiting_bytes c.push_some_silence.new.ticks)
     (waiting_bytes c.push_some_silence.new.notes) in
     let s0 : SinkTexts = sink_texts (g.O.Sink.held c.args.out.now)
     (g.L.Sink.held c.args.log.now) in
@@ -53,7 +55,8 @@ returns-in-Err-clause-pushes g c =
     (waiting_bytes c.args.notes.now) in
     let w1 : Waiting = waiting c.loop-done.writer (waiting_bytes c.loop-done.ticks)
     (waiting_bytes c.loop-done.notes) in
-    let w2 : Waiting = waiting c.push_some_silence.new.writer (waiting_bytes c.push_some_silence.new.ticks)
+    let w2 : Waiting = waiting c.push_some_silence.new.writer
+    (waiting_bytes c.push_some_silence.new.ticks)
     (waiting_bytes c.push_some_silence.new.notes) in
     let s0 : SinkTexts = sink_texts (g.O.Sink.held c.args.out.now)
     (g.L.Sink.held c.args.log.now) in
@@ -65,7 +68,8 @@ returns-in-Err-clause-pushes g c =
     (silent_on c.loop-done.done (c.args.count - c.loop-done.done)
     ∙ ap silent (let e : c.loop-done.done + (c.args.count - c.loop-done.done) ≡ c.args.count =
     omega (arith, c.loop-done.invariant.within) in e))
-    (pushes_then tt w0 w1 w2 s0 s1 s2 (silent c.loop-done.done) (silent (c.args.count - c.loop-done.done))
+    (pushes_then tt w0 w1 w2 s0 s1 s2 (silent c.loop-done.done)
+    (silent (c.args.count - c.loop-done.done))
     (Err c.in-Err.field-0) c.loop-done.invariant.pushes
     (pushes_failed c.in-Err.field-0 w1 w2 s1 s2 (silent (c.args.count - c.loop-done.done)) []
     c.in-Err.ensures.err))

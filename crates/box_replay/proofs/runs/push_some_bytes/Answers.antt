@@ -1,4 +1,5 @@
-use Rattle.std.proofs.Common.{◌≡◌, ◌∙◌, ◌≤◌, ◌<◌, ◌+◌, ◌-◌, List, ℕ, [], ◌∷◌, ◌++◌, length, map, take, drop, get_or}
+use Rattle.std.proofs.Common.{◌≡◌, ◌∙◌, ◌≤◌, ◌<◌, ◌+◌, ◌-◌, List, ℕ, [], ◌∷◌, ◌++◌, length, map}
+use Rattle.std.proofs.Common.{take, drop, get_or}
 use Rattle.std.proofs.Common.{Ok, Err, ap, subst, arith}
 use Rattle.yasir_io.specs.TextBuffer.{waiting_bytes}
 use Rattle.yasir_ticks.specs.Ticks.{silent}
@@ -31,11 +32,13 @@ returns-in-Ok-clause-ok g c =
     let s2 : SinkTexts = sink_texts (g.O.Sink.held c.push_line.new.out)
     (g.L.Sink.held c.push_line.new.log) in
     line_pushed w0 w2 s0 s2 c.complete-line.new.self
-    (map Byte (take (c.extend_bytes-joined.result + 1) c.args.bytes.now)) c.complete-line.result.items
+    (map Byte (take (c.extend_bytes-joined.result + 1) c.args.bytes.now))
+    c.complete-line.result.items
     (completed c.args.writer.now c.extend_bytes-joined.new.self c.complete-line.new.self
     (map Byte (take c.extend_bytes-joined.result c.args.bytes.now)) _
     (Byte (get_or c.args.bytes.now c.extend_bytes-joined.result 0)) c.complete-line.result.items
-    (bytes_more c.args.bytes.now c.extend_bytes-joined.result (omega arith)) c.extend_bytes-joined.ensures.taken c.complete-line.ensures)
+    (bytes_more c.args.bytes.now c.extend_bytes-joined.result (omega arith))
+    c.extend_bytes-joined.ensures.taken c.complete-line.ensures)
     c.in-Ok.field-0 _
     (subst (λ x. PushesTexts s0 s2 w2.ticks w2.notes (w0.ticks ++ x) w0.notes
     (Ok c.in-Ok.field-0)) c.as_slice.ensures.value c.in-Ok.ensures.pushes)
@@ -51,12 +54,15 @@ returns-in-Err-clause-err g c =
     let s2 : SinkTexts = sink_texts (g.O.Sink.held c.push_line.new.out)
     (g.L.Sink.held c.push_line.new.log) in
     line_failed w0 w2 s0 s2 c.skip_bytes.new.writer
-    (map Byte (take (c.extend_bytes-joined.result + 1) c.args.bytes.now)) c.complete-line.result.items
+    (map Byte (take (c.extend_bytes-joined.result + 1) c.args.bytes.now))
+    c.complete-line.result.items
     (completed c.args.writer.now c.extend_bytes-joined.new.self c.complete-line.new.self
     (map Byte (take c.extend_bytes-joined.result c.args.bytes.now)) _
     (Byte (get_or c.args.bytes.now c.extend_bytes-joined.result 0)) c.complete-line.result.items
-    (bytes_more c.args.bytes.now c.extend_bytes-joined.result (omega arith)) c.extend_bytes-joined.ensures.taken c.complete-line.ensures)
-    _ (map Byte (drop (c.extend_bytes-joined.result + 1) c.args.bytes.now)) (map Byte c.args.bytes.now)
+    (bytes_more c.args.bytes.now c.extend_bytes-joined.result (omega arith))
+    c.extend_bytes-joined.ensures.taken c.complete-line.ensures)
+    _ (map Byte (drop (c.extend_bytes-joined.result + 1) c.args.bytes.now))
+    (map Byte c.args.bytes.now)
     (bytes_whole c.args.bytes.now (c.extend_bytes-joined.result + 1))
     (subst (λ x. PushesTexts s0 s2 w2.ticks w2.notes (w0.ticks ++ x) w0.notes
     (Err c.in-Err.field-0))

@@ -1,4 +1,5 @@
-use Rattle.std.proofs.Common.{◌≡◌, ◌∙◌, ◌≤◌, ◌<◌, ◌+◌, ◌-◌, List, ℕ, [], ◌∷◌, ◌++◌, length, map, take, drop, get_or}
+use Rattle.std.proofs.Common.{◌≡◌, ◌∙◌, ◌≤◌, ◌<◌, ◌+◌, ◌-◌, List, ℕ, [], ◌∷◌, ◌++◌, length, map}
+use Rattle.std.proofs.Common.{take, drop, get_or}
 use Rattle.std.proofs.Common.{Ok, Err, ap, subst, arith}
 use Rattle.yasir_io.specs.TextBuffer.{waiting_bytes}
 use Rattle.yasir_ticks.specs.Ticks.{silent}
@@ -35,7 +36,8 @@ returns-in-Ok-clause-ok g c =
     (completed c.args.writer.now c.extend_silence-joined.new.self c.complete-line.new.self
     (silent c.extend_silence-joined.result) _
     Silent c.complete-line.result.items
-    (silent_more c.extend_silence-joined.result) c.extend_silence-joined.ensures.taken c.complete-line.ensures)
+    (silent_more c.extend_silence-joined.result) c.extend_silence-joined.ensures.taken
+    c.complete-line.ensures)
     c.in-Ok.field-0 _
     (subst (λ x. PushesTexts s0 s2 w2.ticks w2.notes (w0.ticks ++ x) w0.notes
     (Ok c.in-Ok.field-0)) c.as_slice.ensures.value c.in-Ok.ensures.pushes)
@@ -55,10 +57,13 @@ returns-in-Err-clause-err g c =
     (completed c.args.writer.now c.extend_silence-joined.new.self c.complete-line.new.self
     (silent c.extend_silence-joined.result) _
     Silent c.complete-line.result.items
-    (silent_more c.extend_silence-joined.result) c.extend_silence-joined.ensures.taken c.complete-line.ensures)
+    (silent_more c.extend_silence-joined.result) c.extend_silence-joined.ensures.taken
+    c.complete-line.ensures)
     _ (silent (c.args.count - c.extend_silence-joined.result - 1)) (silent c.args.count)
-    (silent_on (c.extend_silence-joined.result + 1) (c.args.count - c.extend_silence-joined.result - 1)
-    ∙ ap silent (let e : c.extend_silence-joined.result + 1 + (c.args.count - c.extend_silence-joined.result - 1)
+    (silent_on (c.extend_silence-joined.result + 1)
+    (c.args.count - c.extend_silence-joined.result - 1)
+    ∙ ap silent (let e : c.extend_silence-joined.result + 1 +
+    (c.args.count - c.extend_silence-joined.result - 1)
     ≡ c.args.count = omega (arith, c.extend_silence-joined.ensures.within) in e))
     (subst (λ x. PushesTexts s0 s2 w2.ticks w2.notes (w0.ticks ++ x) w0.notes
     (Err c.in-Err.field-0))

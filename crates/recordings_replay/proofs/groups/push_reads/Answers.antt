@@ -1,7 +1,8 @@
 use Rattle.std.proofs.Common.{◌∙◌, subst, arith}
 use Rattle.replay_lists.specs.ReplayLists.{kept_reads}
 use Rattle.recordings_replay.specs.Printing.{AddsText, BreaksOff, on_the_way}
-use Rattle.recordings_replay.proofs.Pushing.{kept_read_line, kept-read-lines, item-added, item-breaks}
+use Rattle.recordings_replay.proofs.Pushing.{kept_read_line, kept-read-lines, item-added}
+use Rattle.recordings_replay.proofs.Pushing.{item-breaks}
 use Rattle.recordings_replay.proofs.Pushing.{all-added}
 use Rattle.recordings_replay.proofs.groups.push_reads.Goals as goal
 

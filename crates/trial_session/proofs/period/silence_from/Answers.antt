@@ -24,4 +24,5 @@ loop-at-preserved c =
 pub returns : goal.returns
 returns c =
     silence-all c.loop-at.ticks (take c.args.place c.args.ticks.now) c.args.place c.loop-at.at
-    c.loop-at.invariant.1 (c.loop-at.auto.at-end c.requires) c.loop-at-test.false c.loop-at.invariant.2
+    c.loop-at.invariant.1 (c.loop-at.auto.at-end c.requires) c.loop-at-test.false
+    c.loop-at.invariant.2

@@ -1,4 +1,5 @@
-use Rattle.std.proofs.Common.{◌≡◌, ◌∙◌, ◌+◌, ◌-◌, ◌<◌, ℕ, List, [], ◌++◌, length, map, take, drop, Ok}
+use Rattle.std.proofs.Common.{◌≡◌, ◌∙◌, ◌+◌, ◌-◌, ◌<◌, ℕ, List, [], ◌++◌, length, map, take, drop}
+use Rattle.std.proofs.Common.{Ok}
 use Rattle.std.proofs.Common.{sym, ap, subst, arith}
 use Rattle.std.proofs.lemmas.List.{length-map, length-take-le, map-append, take-append-drop}
 use Rattle.std.proofs.lemmas.List.{length-replicate, replicate-append-replicate}
@@ -19,17 +20,25 @@ use Rattle.box_replay.proofs.PushedRuns.{pushes_none, cause_none}
 use Rattle.box_replay.proofs.box_lines.BoxLines.forward_silence.Goals as goal
 
 pub forward_silence-count-requires : goal.forward_silence-count-requires
-forward_silence-count-requires g c = omega (arith, c.requires.room, length-ticks_in-silence c.args.ticks)
+forward_silence-count-requires g c = omega (
+  arith,
+  c.requires.room,
+  length-ticks_in-silence
+      c.args.ticks,
+)
 
 pub returns-then-count-eq0-clause-gives : goal.returns-then-count-eq0-clause-gives
 returns-then-count-eq0-clause-gives g c =
     let long : length (silent c.forward_silence-count.result) ≡ c.forward_silence-count.result =
     (length-replicate c.forward_silence-count.result Silent) in
-    let counts : g.B.LineBox.taken c.forward_silence-count.new.self ≡ g.B.LineBox.taken c.args.self.now.line_box
-    + length (silent c.forward_silence-count.result) = omega (arith, c.forward_silence-count.ensures.taken) in
+    let counts : g.B.LineBox.taken c.forward_silence-count.new.self ≡ g.B.LineBox.taken
+    c.args.self.now.line_box
+    + length (silent c.forward_silence-count.result) = omega
+    (arith, c.forward_silence-count.ensures.taken) in
     let answers : (journal : Journal) (setup : Setup) (line : List Tick)
     → g.B.LineBox.stands c.args.self.now.line_box journal setup line
-    → AnswersBoxRun (g.B.LineBox.boxed setup) line (silent c.forward_silence-count.result) (silent c.forward_silence-count.result) =
+    → AnswersBoxRun (g.B.LineBox.boxed setup) line (silent c.forward_silence-count.result)
+    (silent c.forward_silence-count.result) =
     λ journal setup line stands.
     let goes = c.forward_silence-count.ensures.forwards journal setup line stands in
     record { ticks = goes.ticks; notes = goes.notes; number = goes.number } in
@@ -38,10 +47,13 @@ returns-then-count-eq0-clause-gives g c =
     (g.L.Sink.held c.args.log.now) in
     run_given g.B.LineBox g.O.Sink g.L.Sink g.D.SlotDisk
     (λ disk image left. g.met.D.SlotDisk.only_now disk image left) c.args.self.now
-    c.forward_silence-count.new.self c.args.self.now.writer c.args.self.now.ticks c.args.self.now.notes
+    c.forward_silence-count.new.self c.args.self.now.writer c.args.self.now.ticks
+    c.args.self.now.notes
     c.args.out.now c.args.out.now c.args.log.now c.args.log.now c.args.disk.now
-    (silent_items c.forward_silence-count.result) (silent c.forward_silence-count.result) (silent c.forward_silence-count.result) (ticks_in-silence c.forward_silence-count.result)
-    counts c.forward_silence-count.ensures.stands answers c.requires.able {T = Unit {0}} {E = Unit {0}} (tt {0})
+    (silent_items c.forward_silence-count.result) (silent c.forward_silence-count.result)
+    (silent c.forward_silence-count.result) (ticks_in-silence c.forward_silence-count.result)
+    counts c.forward_silence-count.ensures.stands answers c.requires.able {T = Unit {0}}
+    {E = Unit {0}} (tt {0})
     (subst (λ n. PushesTicks {T = Unit {0}} {E = Unit {0}} waits waits texts texts
     (silent n) [] (Ok (tt {0})))
     (sym c.if-count-eq0.true) (pushes_none (tt {0}) waits texts))
@@ -51,19 +63,24 @@ pub returns-in-Ok-clause-gives : goal.returns-in-Ok-clause-gives
 returns-in-Ok-clause-gives g c =
     let long : length (silent c.forward_silence-count.result) ≡ c.forward_silence-count.result =
     (length-replicate c.forward_silence-count.result Silent) in
-    let counts : g.B.LineBox.taken c.forward_silence-count.new.self ≡ g.B.LineBox.taken c.args.self.now.line_box
-    + length (silent c.forward_silence-count.result) = omega (arith, c.forward_silence-count.ensures.taken) in
+    let counts : g.B.LineBox.taken c.forward_silence-count.new.self ≡ g.B.LineBox.taken
+    c.args.self.now.line_box
+    + length (silent c.forward_silence-count.result) = omega
+    (arith, c.forward_silence-count.ensures.taken) in
     let answers : (journal : Journal) (setup : Setup) (line : List Tick)
     → g.B.LineBox.stands c.args.self.now.line_box journal setup line
-    → AnswersBoxRun (g.B.LineBox.boxed setup) line (silent c.forward_silence-count.result) (silent c.forward_silence-count.result) =
+    → AnswersBoxRun (g.B.LineBox.boxed setup) line (silent c.forward_silence-count.result)
+    (silent c.forward_silence-count.result) =
     λ journal setup line stands.
     let goes = c.forward_silence-count.ensures.forwards journal setup line stands in
     record { ticks = goes.ticks; notes = goes.notes; number = goes.number } in
     run_given g.B.LineBox g.O.Sink g.L.Sink g.D.SlotDisk
     (λ disk image left. g.met.D.SlotDisk.only_now disk image left) c.args.self.now
-    c.forward_silence-count.new.self c.push_silence.new.writer c.push_silence.new.ticks c.push_silence.new.notes
+    c.forward_silence-count.new.self c.push_silence.new.writer c.push_silence.new.ticks
+    c.push_silence.new.notes
     c.args.out.now c.push_silence.new.out c.args.log.now c.push_silence.new.log c.args.disk.now
-    (silent_items c.forward_silence-count.result) (silent c.forward_silence-count.result) (silent c.forward_silence-count.result) (ticks_in-silence c.forward_silence-count.result)
+    (silent_items c.forward_silence-count.result) (silent c.forward_silence-count.result)
+    (silent c.forward_silence-count.result) (ticks_in-silence c.forward_silence-count.result)
     counts c.forward_silence-count.ensures.stands answers c.requires.able c.in-Ok.field-0
     c.in-Ok.ensures.pushes c.in-Ok.ensures.cause c.in-Ok.ensures.flushes
 
@@ -71,24 +88,34 @@ pub returns-in-Err-clause-gives : goal.returns-in-Err-clause-gives
 returns-in-Err-clause-gives g c =
     let long : length (silent c.forward_silence-count.result) ≡ c.forward_silence-count.result =
     (length-replicate c.forward_silence-count.result Silent) in
-    let counts : g.B.LineBox.taken c.forward_silence-count.new.self ≡ g.B.LineBox.taken c.args.self.now.line_box
-    + length (silent c.forward_silence-count.result) = omega (arith, c.forward_silence-count.ensures.taken) in
+    let counts : g.B.LineBox.taken c.forward_silence-count.new.self ≡ g.B.LineBox.taken
+    c.args.self.now.line_box
+    + length (silent c.forward_silence-count.result) = omega
+    (arith, c.forward_silence-count.ensures.taken) in
     let answers : (journal : Journal) (setup : Setup) (line : List Tick)
     → g.B.LineBox.stands c.args.self.now.line_box journal setup line
-    → AnswersBoxRun (g.B.LineBox.boxed setup) line (silent c.forward_silence-count.result) (silent c.forward_silence-count.result) =
+    → AnswersBoxRun (g.B.LineBox.boxed setup) line (silent c.forward_silence-count.result)
+    (silent c.forward_silence-count.result) =
     λ journal setup line stands.
     let goes = c.forward_silence-count.ensures.forwards journal setup line stands in
     record { ticks = goes.ticks; notes = goes.notes; number = goes.number } in
-    let size : length (silent_items c.forward_silence-count.result) ≡ c.forward_silence-count.result =
+    let size : length (silent_items c.forward_silence-count.result) ≡
+    c.forward_silence-count.result =
     (length-replicate c.forward_silence-count.result (tick Silent)) in
-    let some : 0 < length (silent_items c.forward_silence-count.result) = omega (arith, c.if-count-eq0.false) in
+    let some : 0 < length (silent_items c.forward_silence-count.result) = omega
+    (arith, c.if-count-eq0.false) in
     front_stopped g.B.LineBox g.O.Sink g.L.Sink g.D.SlotDisk
     (λ disk image left. g.met.D.SlotDisk.only_now disk image left) c.args.self.now
-    c.forward_silence-count.new.self c.push_silence.new.writer c.push_silence.new.ticks c.push_silence.new.notes
+    c.forward_silence-count.new.self c.push_silence.new.writer c.push_silence.new.ticks
+    c.push_silence.new.notes
     c.args.out.now c.push_silence.new.out c.args.log.now c.push_silence.new.log c.args.disk.now
-    (silent_items c.forward_silence-count.result) (silent c.forward_silence-count.result) (silent c.forward_silence-count.result) (ticks_in-silence c.forward_silence-count.result)
+    (silent_items c.forward_silence-count.result) (silent c.forward_silence-count.result)
+    (silent c.forward_silence-count.result) (ticks_in-silence c.forward_silence-count.result)
     counts c.forward_silence-count.ensures.stands answers c.requires.able c.in-Err.field-0
-    (silent_items (c.args.ticks - c.forward_silence-count.result)) (silent_items c.args.ticks) (replicate-append-replicate c.forward_silence-count.result (c.args.ticks - c.forward_silence-count.result) (tick Silent)
-    ∙ ap silent_items (let e : c.forward_silence-count.result + (c.args.ticks - c.forward_silence-count.result) ≡ c.args.ticks =
+    (silent_items (c.args.ticks - c.forward_silence-count.result)) (silent_items c.args.ticks)
+    (replicate-append-replicate c.forward_silence-count.result
+    (c.args.ticks - c.forward_silence-count.result) (tick Silent)
+    ∙ ap silent_items (let e : c.forward_silence-count.result +
+    (c.args.ticks - c.forward_silence-count.result) ≡ c.args.ticks =
     omega (arith, c.forward_silence-count.ensures.within) in e)) some
     c.in-Err.ensures.pushes c.in-Err.ensures.cause c.in-Err.ensures.flushes

@@ -1,4 +1,5 @@
-use Rattle.std.proofs.Common.{◌≡◌, ◌∙◌, ◌≤◌, ◌+◌, ◌-◌, ◌<◌, ℕ, List, [], ◌++◌, length, map, take, drop, Ok}
+use Rattle.std.proofs.Common.{◌≡◌, ◌∙◌, ◌≤◌, ◌+◌, ◌-◌, ◌<◌, ℕ, List, [], ◌++◌, length, map, take}
+use Rattle.std.proofs.Common.{drop, Ok}
 use Rattle.std.proofs.Common.{Err, sym, ap, subst, arith, refl, length-drop, append-nil}
 use Rattle.std.proofs.lemmas.List.{length-map, length-take, length-take-le, take-take, take_all}
 use Rattle.std.proofs.lemmas.List.{map-append, take-append-drop, length-replicate}
@@ -22,7 +23,8 @@ use Rattle.box_replay.specs.Boxes.{AnswersBoxRun}
 use Rattle.box_replay.specs.BoxLines.{driving, waiting_in}
 use Rattle.box_replay.specs.Fronts.{front_bytes}
 use Rattle.box_replay.specs.Sending.{SinkTexts, sink_texts, Waiting, PushesTicks}
-use Rattle.box_replay.proofs.Fronts.{answers_none, run_given, front_stopped, ticks_in-bytes, ticks_in-silence}
+use Rattle.box_replay.proofs.Fronts.{answers_none, run_given, front_stopped, ticks_in-bytes}
+use Rattle.box_replay.proofs.Fronts.{ticks_in-silence}
 use Rattle.box_replay.proofs.Fronts.{nothing_given, front_then, byte_items-on, byte_items-whole}
 use Rattle.box_replay.proofs.Fronts.{silent_items-on}
 use Rattle.box_replay.proofs.PushedRuns.{pushes_none, cause_none, slice_rest}
@@ -42,24 +44,33 @@ returns-in-Ok-clause-gives g c =
     let within = c.pass_bytes-count.ensures.within in
     let fewer : c.pass_bytes-count.result ≤ c.min.result = omega arith in
     let few : c.pass_bytes-count.result ≤ length c.args.bytes.now = omega arith in
-    let same : take c.pass_bytes-count.result (take c.min.result c.args.bytes.now) ≡ take c.pass_bytes-count.result c.args.bytes.now =
+    let same : take c.pass_bytes-count.result (take c.min.result c.args.bytes.now) ≡ take
+    c.pass_bytes-count.result c.args.bytes.now =
     take-take c.pass_bytes-count.result c.min.result c.args.bytes.now fewer in
-    let long : length (map Byte (take c.pass_bytes-count.result c.args.bytes.now)) ≡ c.pass_bytes-count.result =
+    let long : length (map Byte (take c.pass_bytes-count.result c.args.bytes.now)) ≡
+    c.pass_bytes-count.result =
     length-map (take c.pass_bytes-count.result c.args.bytes.now) (λ b. Byte b)
     ∙ length-take-le c.pass_bytes-count.result c.args.bytes.now few in
-    let counts : g.B.LineBox.taken c.pass_bytes-count.new.self ≡ g.B.LineBox.taken c.args.self.now.line_box
-    + length (map Byte (take c.pass_bytes-count.result c.args.bytes.now)) = omega (arith, c.pass_bytes-count.ensures.taken) in
+    let counts : g.B.LineBox.taken c.pass_bytes-count.new.self ≡ g.B.LineBox.taken
+    c.args.self.now.line_box
+    + length (map Byte (take c.pass_bytes-count.result c.args.bytes.now)) = omega
+    (arith, c.pass_bytes-count.ensures.taken) in
     let steps : (journal : Journal) (setup : Setup) (line : List Tick)
     → g.B.LineBox.stands c.args.self.now.line_box journal setup line
-    → g.B.LineBox.stands c.pass_bytes-count.new.self journal setup (line ++ (map Byte (take c.pass_bytes-count.result c.args.bytes.now))) =
+    → g.B.LineBox.stands c.pass_bytes-count.new.self journal setup
+    (line ++ (map Byte (take c.pass_bytes-count.result c.args.bytes.now))) =
     λ journal setup line stands.
-    subst (λ x. g.B.LineBox.stands c.pass_bytes-count.new.self journal setup (line ++ map Byte x)) same
+    subst (λ x. g.B.LineBox.stands c.pass_bytes-count.new.self journal setup (line ++ map Byte x))
+    same
     (c.pass_bytes-count.ensures.stands journal setup line stands) in
     let answers : (journal : Journal) (setup : Setup) (line : List Tick)
     → g.B.LineBox.stands c.args.self.now.line_box journal setup line
-    → AnswersBoxRun (g.B.LineBox.boxed setup) line (map Byte (take c.pass_bytes-count.result c.args.bytes.now)) (answered c.pass_bytes-count.result c.pass_bytes-count.new.left.items) =
+    → AnswersBoxRun (g.B.LineBox.boxed setup) line
+    (map Byte (take c.pass_bytes-count.result c.args.bytes.now))
+    (answered c.pass_bytes-count.result c.pass_bytes-count.new.left.items) =
     λ journal setup line stands.
-    subst (λ x. AnswersBoxRun (g.B.LineBox.boxed setup) line (map Byte x) (answered c.pass_bytes-count.result c.pass_bytes-count.new.left.items)) same
+    subst (λ x. AnswersBoxRun (g.B.LineBox.boxed setup) line (map Byte x)
+    (answered c.pass_bytes-count.result c.pass_bytes-count.new.left.items)) same
     (c.pass_bytes-count.ensures.answers journal setup line stands) in
     let waits : Waiting = waiting_in c.args.self.now in
     let texts : SinkTexts = sink_texts (g.O.Sink.held c.args.out.now)
@@ -69,15 +80,21 @@ returns-in-Ok-clause-gives g c =
       ticks = waiting_bytes c.push_answered.new.ticks;
       notes = waiting_bytes c.push_answered.new.notes;
     } in
-    let texts1 : SinkTexts = sink_texts (g.O.Sink.held c.push_answered.new.out) (g.L.Sink.held c.push_answered.new.log) in
+    let texts1 : SinkTexts = sink_texts (g.O.Sink.held c.push_answered.new.out)
+    (g.L.Sink.held c.push_answered.new.log) in
     run_given g.B.LineBox g.O.Sink g.L.Sink g.D.SlotDisk
     (λ disk image left. g.met.D.SlotDisk.only_now disk image left) c.args.self.now
-    c.pass_bytes-count.new.self c.push_answered.new.writer c.push_answered.new.ticks c.push_answered.new.notes
+    c.pass_bytes-count.new.self c.push_answered.new.writer c.push_answered.new.ticks
+    c.push_answered.new.notes
     c.args.out.now c.push_answered.new.out c.args.log.now c.push_answered.new.log c.args.disk.now
-    (byte_items (take c.pass_bytes-count.result c.args.bytes.now)) (map Byte (take c.pass_bytes-count.result c.args.bytes.now)) (answered c.pass_bytes-count.result c.pass_bytes-count.new.left.items) (ticks_in-bytes (take c.pass_bytes-count.result c.args.bytes.now))
+    (byte_items (take c.pass_bytes-count.result c.args.bytes.now))
+    (map Byte (take c.pass_bytes-count.result c.args.bytes.now))
+    (answered c.pass_bytes-count.result c.pass_bytes-count.new.left.items)
+    (ticks_in-bytes (take c.pass_bytes-count.result c.args.bytes.now))
     counts steps answers c.requires.able c.in-Ok.field-0
     (subst (λ x. PushesTicks {T = Unit {0}} {E = Failed} waits next texts texts1
-    (answered c.pass_bytes-count.result x) [] (Ok c.in-Ok.field-0)) c.as_slice.ensures.value c.in-Ok.ensures.pushes)
+    (answered c.pass_bytes-count.result x) [] (Ok c.in-Ok.field-0)) c.as_slice.ensures.value
+    c.in-Ok.ensures.pushes)
     c.in-Ok.ensures.cause c.in-Ok.ensures.flushes
 
 pub returns-in-Err-clause-gives : goal.returns-in-Err-clause-gives
@@ -86,24 +103,33 @@ returns-in-Err-clause-gives g c =
     let within = c.pass_bytes-count.ensures.within in
     let fewer : c.pass_bytes-count.result ≤ c.min.result = omega arith in
     let few : c.pass_bytes-count.result ≤ length c.args.bytes.now = omega arith in
-    let same : take c.pass_bytes-count.result (take c.min.result c.args.bytes.now) ≡ take c.pass_bytes-count.result c.args.bytes.now =
+    let same : take c.pass_bytes-count.result (take c.min.result c.args.bytes.now) ≡ take
+    c.pass_bytes-count.result c.args.bytes.now =
     take-take c.pass_bytes-count.result c.min.result c.args.bytes.now fewer in
-    let long : length (map Byte (take c.pass_bytes-count.result c.args.bytes.now)) ≡ c.pass_bytes-count.result =
+    let long : length (map Byte (take c.pass_bytes-count.result c.args.bytes.now)) ≡
+    c.pass_bytes-count.result =
     length-map (take c.pass_bytes-count.result c.args.bytes.now) (λ b. Byte b)
     ∙ length-take-le c.pass_bytes-count.result c.args.bytes.now few in
-    let counts : g.B.LineBox.taken c.pass_bytes-count.new.self ≡ g.B.LineBox.taken c.args.self.now.line_box
-    + length (map Byte (take c.pass_bytes-count.result c.args.bytes.now)) = omega (arith, c.pass_bytes-count.ensures.taken) in
+    let counts : g.B.LineBox.taken c.pass_bytes-count.new.self ≡ g.B.LineBox.taken
+    c.args.self.now.line_box
+    + length (map Byte (take c.pass_bytes-count.result c.args.bytes.now)) = omega
+    (arith, c.pass_bytes-count.ensures.taken) in
     let steps : (journal : Journal) (setup : Setup) (line : List Tick)
     → g.B.LineBox.stands c.args.self.now.line_box journal setup line
-    → g.B.LineBox.stands c.pass_bytes-count.new.self journal setup (line ++ (map Byte (take c.pass_bytes-count.result c.args.bytes.now))) =
+    → g.B.LineBox.stands c.pass_bytes-count.new.self journal setup
+    (line ++ (map Byte (take c.pass_bytes-count.result c.args.bytes.now))) =
     λ journal setup line stands.
-    subst (λ x. g.B.LineBox.stands c.pass_bytes-count.new.self journal setup (line ++ map Byte x)) same
+    subst (λ x. g.B.LineBox.stands c.pass_bytes-count.new.self journal setup (line ++ map Byte x))
+    same
     (c.pass_bytes-count.ensures.stands journal setup line stands) in
     let answers : (journal : Journal) (setup : Setup) (line : List Tick)
     → g.B.LineBox.stands c.args.self.now.line_box journal setup line
-    → AnswersBoxRun (g.B.LineBox.boxed setup) line (map Byte (take c.pass_bytes-count.result c.args.bytes.now)) (answered c.pass_bytes-count.result c.pass_bytes-count.new.left.items) =
+    → AnswersBoxRun (g.B.LineBox.boxed setup) line
+    (map Byte (take c.pass_bytes-count.result c.args.bytes.now))
+    (answered c.pass_bytes-count.result c.pass_bytes-count.new.left.items) =
     λ journal setup line stands.
-    subst (λ x. AnswersBoxRun (g.B.LineBox.boxed setup) line (map Byte x) (answered c.pass_bytes-count.result c.pass_bytes-count.new.left.items)) same
+    subst (λ x. AnswersBoxRun (g.B.LineBox.boxed setup) line (map Byte x)
+    (answered c.pass_bytes-count.result c.pass_bytes-count.new.left.items)) same
     (c.pass_bytes-count.ensures.answers journal setup line stands) in
     let waits : Waiting = waiting_in c.args.self.now in
     let texts : SinkTexts = sink_texts (g.O.Sink.held c.args.out.now)
@@ -113,20 +139,29 @@ returns-in-Err-clause-gives g c =
       ticks = waiting_bytes c.push_answered.new.ticks;
       notes = waiting_bytes c.push_answered.new.notes;
     } in
-    let texts1 : SinkTexts = sink_texts (g.O.Sink.held c.push_answered.new.out) (g.L.Sink.held c.push_answered.new.log) in
-    let amount : length (byte_items (take c.pass_bytes-count.result c.args.bytes.now)) ≡ c.pass_bytes-count.result =
+    let texts1 : SinkTexts = sink_texts (g.O.Sink.held c.push_answered.new.out)
+    (g.L.Sink.held c.push_answered.new.log) in
+    let amount : length (byte_items (take c.pass_bytes-count.result c.args.bytes.now)) ≡
+    c.pass_bytes-count.result =
     length-map (take c.pass_bytes-count.result c.args.bytes.now) (λ b. tick (Byte b))
     ∙ length-take-le c.pass_bytes-count.result c.args.bytes.now few in
-    let some : 0 < length (byte_items (take c.pass_bytes-count.result c.args.bytes.now)) = omega (arith, c.if-count-eq0.false) in
+    let some : 0 < length (byte_items (take c.pass_bytes-count.result c.args.bytes.now)) = omega
+    (arith, c.if-count-eq0.false) in
     front_stopped g.B.LineBox g.O.Sink g.L.Sink g.D.SlotDisk
     (λ disk image left. g.met.D.SlotDisk.only_now disk image left) c.args.self.now
-    c.pass_bytes-count.new.self c.push_answered.new.writer c.push_answered.new.ticks c.push_answered.new.notes
+    c.pass_bytes-count.new.self c.push_answered.new.writer c.push_answered.new.ticks
+    c.push_answered.new.notes
     c.args.out.now c.push_answered.new.out c.args.log.now c.push_answered.new.log c.args.disk.now
-    (byte_items (take c.pass_bytes-count.result c.args.bytes.now)) (map Byte (take c.pass_bytes-count.result c.args.bytes.now)) (answered c.pass_bytes-count.result c.pass_bytes-count.new.left.items) (ticks_in-bytes (take c.pass_bytes-count.result c.args.bytes.now))
+    (byte_items (take c.pass_bytes-count.result c.args.bytes.now))
+    (map Byte (take c.pass_bytes-count.result c.args.bytes.now))
+    (answered c.pass_bytes-count.result c.pass_bytes-count.new.left.items)
+    (ticks_in-bytes (take c.pass_bytes-count.result c.args.bytes.now))
     counts steps answers c.requires.able c.in-Err.field-0
-    (byte_items (drop c.pass_bytes-count.result c.args.bytes.now)) (byte_items c.args.bytes.now) (byte_items-whole c.args.bytes.now c.pass_bytes-count.result) some
+    (byte_items (drop c.pass_bytes-count.result c.args.bytes.now)) (byte_items c.args.bytes.now)
+    (byte_items-whole c.args.bytes.now c.pass_bytes-count.result) some
     (subst (λ x. PushesTicks {T = Unit {0}} {E = Failed} waits next texts texts1
-    (answered c.pass_bytes-count.result x) [] (Err c.in-Err.field-0)) c.as_slice.ensures.value c.in-Err.ensures.pushes)
+    (answered c.pass_bytes-count.result x) [] (Err c.in-Err.field-0)) c.as_slice.ensures.value
+    c.in-Err.ensures.pushes)
     c.in-Err.ensures.cause c.in-Err.ensures.flushes
 
 pub returns-then-count-eq0-clause-gives : goal.returns-then-count-eq0-clause-gives
@@ -135,23 +170,31 @@ returns-then-count-eq0-clause-gives g c =
     let within = c.pass_bytes-count.ensures.within in
     let fewer : c.pass_bytes-count.result ≤ c.min.result = omega arith in
     let few : c.pass_bytes-count.result ≤ length c.args.bytes.now = omega arith in
-    let same : take c.pass_bytes-count.result (take c.min.result c.args.bytes.now) ≡ take c.pass_bytes-count.result c.args.bytes.now =
+    let same : take c.pass_bytes-count.result (take c.min.result c.args.bytes.now) ≡ take
+    c.pass_bytes-count.result c.args.bytes.now =
     take-take c.pass_bytes-count.result c.min.result c.args.bytes.now fewer in
-    let long : length (map Byte (take c.pass_bytes-count.result c.args.bytes.now)) ≡ c.pass_bytes-count.result =
+    let long : length (map Byte (take c.pass_bytes-count.result c.args.bytes.now)) ≡
+    c.pass_bytes-count.result =
     length-map (take c.pass_bytes-count.result c.args.bytes.now) (λ b. Byte b)
     ∙ length-take-le c.pass_bytes-count.result c.args.bytes.now few in
-    let counts : g.B.LineBox.taken c.pass_bytes-count.new.self ≡ g.B.LineBox.taken c.args.self.now.line_box
-    + length (map Byte (take c.pass_bytes-count.result c.args.bytes.now)) = omega (arith, c.pass_bytes-count.ensures.taken) in
+    let counts : g.B.LineBox.taken c.pass_bytes-count.new.self ≡ g.B.LineBox.taken
+    c.args.self.now.line_box
+    + length (map Byte (take c.pass_bytes-count.result c.args.bytes.now)) = omega
+    (arith, c.pass_bytes-count.ensures.taken) in
     let steps : (journal : Journal) (setup : Setup) (line : List Tick)
     → g.B.LineBox.stands c.args.self.now.line_box journal setup line
-    → g.B.LineBox.stands c.pass_bytes-count.new.self journal setup (line ++ (map Byte (take c.pass_bytes-count.result c.args.bytes.now))) =
+    → g.B.LineBox.stands c.pass_bytes-count.new.self journal setup
+    (line ++ (map Byte (take c.pass_bytes-count.result c.args.bytes.now))) =
     λ journal setup line stands.
-    subst (λ x. g.B.LineBox.stands c.pass_bytes-count.new.self journal setup (line ++ map Byte x)) same
+    subst (λ x. g.B.LineBox.stands c.pass_bytes-count.new.self journal setup (line ++ map Byte x))
+    same
     (c.pass_bytes-count.ensures.stands journal setup line stands) in
     let answers : (journal : Journal) (setup : Setup) (line : List Tick)
     → g.B.LineBox.stands c.args.self.now.line_box journal setup line
-    → AnswersBoxRun (g.B.LineBox.boxed setup) line (map Byte (take c.pass_bytes-count.result c.args.bytes.now)) [] =
-    λ journal setup line stands. answers_none (g.B.LineBox.boxed setup) line (map Byte (take c.pass_bytes-count.result c.args.bytes.now))
+    → AnswersBoxRun (g.B.LineBox.boxed setup) line
+    (map Byte (take c.pass_bytes-count.result c.args.bytes.now)) [] =
+    λ journal setup line stands. answers_none (g.B.LineBox.boxed setup) line
+    (map Byte (take c.pass_bytes-count.result c.args.bytes.now))
     (ap (λ k. map Byte (take k c.args.bytes.now)) c.if-count-eq0.true) in
     let waits : Waiting = waiting_in c.args.self.now in
     let texts : SinkTexts = sink_texts (g.O.Sink.held c.args.out.now)
@@ -160,7 +203,9 @@ returns-then-count-eq0-clause-gives g c =
     (λ disk image left. g.met.D.SlotDisk.only_now disk image left) c.args.self.now
     c.pass_bytes-count.new.self c.args.self.now.writer c.args.self.now.ticks c.args.self.now.notes
     c.args.out.now c.args.out.now c.args.log.now c.args.log.now c.args.disk.now
-    (byte_items (take c.pass_bytes-count.result c.args.bytes.now)) (map Byte (take c.pass_bytes-count.result c.args.bytes.now)) [] (ticks_in-bytes (take c.pass_bytes-count.result c.args.bytes.now))
+    (byte_items (take c.pass_bytes-count.result c.args.bytes.now))
+    (map Byte (take c.pass_bytes-count.result c.args.bytes.now)) []
+    (ticks_in-bytes (take c.pass_bytes-count.result c.args.bytes.now))
     counts steps answers c.requires.able {T = Unit {0}} {E = Unit {0}} (tt {0})
     (pushes_none (tt {0}) waits texts) (cause_none (tt {0}) _ _)
     (none_flushed g.O.Sink g.L.Sink _ _)

@@ -1,4 +1,5 @@
-use Rattle.std.proofs.Common.{◌≡◌, ◌∙◌, ◌≤◌, ◌+◌, ◌-◌, ◌<◌, ℕ, List, [], ◌++◌, length, map, take, drop, Ok}
+use Rattle.std.proofs.Common.{◌≡◌, ◌∙◌, ◌≤◌, ◌+◌, ◌-◌, ◌<◌, ℕ, List, [], ◌++◌, length, map, take}
+use Rattle.std.proofs.Common.{drop, Ok}
 use Rattle.std.proofs.Common.{Err, sym, ap, subst, arith, refl, length-drop, append-nil}
 use Rattle.std.proofs.lemmas.List.{length-map, length-take, length-take-le, take-take, take_all}
 use Rattle.std.proofs.lemmas.List.{map-append, take-append-drop, length-replicate}
@@ -22,20 +23,29 @@ use Rattle.box_replay.specs.Boxes.{AnswersBoxRun}
 use Rattle.box_replay.specs.BoxLines.{driving, waiting_in}
 use Rattle.box_replay.specs.Fronts.{front_bytes}
 use Rattle.box_replay.specs.Sending.{SinkTexts, sink_texts, Waiting, PushesTicks}
-use Rattle.box_replay.proofs.Fronts.{answers_none, run_given, front_stopped, ticks_in-bytes, ticks_in-silence}
+use Rattle.box_replay.proofs.Fronts.{answers_none, run_given, front_stopped, ticks_in-bytes}
+use Rattle.box_replay.proofs.Fronts.{ticks_in-silence}
 use Rattle.box_replay.proofs.Fronts.{nothing_given, front_then, byte_items-on, byte_items-whole}
 use Rattle.box_replay.proofs.Fronts.{silent_items-on}
 use Rattle.box_replay.proofs.PushedRuns.{pushes_none, cause_none, slice_rest}
 use Rattle.box_replay.proofs.box_lines.BoxLines.pass_silence.Goals as goal
 
 pub pass_silence-count-requires : goal.pass_silence-count-requires
-pass_silence-count-requires g c = omega (arith, c.requires.room, length-ticks_in-silence c.args.ticks)
+pass_silence-count-requires g c = omega (
+  arith,
+  c.requires.room,
+  length-ticks_in-silence
+      c.args.ticks,
+)
 
 pub returns-in-Ok-clause-gives : goal.returns-in-Ok-clause-gives
 returns-in-Ok-clause-gives g c =
-    let long : length (silent c.pass_silence-count.result) ≡ c.pass_silence-count.result = length-replicate c.pass_silence-count.result Silent in
-    let counts : g.B.LineBox.taken c.pass_silence-count.new.self ≡ g.B.LineBox.taken c.args.self.now.line_box
-    + length (silent c.pass_silence-count.result) = omega (arith, c.pass_silence-count.ensures.taken) in
+    let long : length (silent c.pass_silence-count.result) ≡ c.pass_silence-count.result =
+    length-replicate c.pass_silence-count.result Silent in
+    let counts : g.B.LineBox.taken c.pass_silence-count.new.self ≡ g.B.LineBox.taken
+    c.args.self.now.line_box
+    + length (silent c.pass_silence-count.result) = omega
+    (arith, c.pass_silence-count.ensures.taken) in
     let steps = c.pass_silence-count.ensures.stands in
     let answers = c.pass_silence-count.ensures.answers in
     let waits : Waiting = waiting_in c.args.self.now in
@@ -46,22 +56,30 @@ returns-in-Ok-clause-gives g c =
       ticks = waiting_bytes c.push_answered.new.ticks;
       notes = waiting_bytes c.push_answered.new.notes;
     } in
-    let texts1 : SinkTexts = sink_texts (g.O.Sink.held c.push_answered.new.out) (g.L.Sink.held c.push_answered.new.log) in
+    let texts1 : SinkTexts = sink_texts (g.O.Sink.held c.push_answered.new.out)
+    (g.L.Sink.held c.push_answered.new.log) in
     run_given g.B.LineBox g.O.Sink g.L.Sink g.D.SlotDisk
     (λ disk image left. g.met.D.SlotDisk.only_now disk image left) c.args.self.now
-    c.pass_silence-count.new.self c.push_answered.new.writer c.push_answered.new.ticks c.push_answered.new.notes
+    c.pass_silence-count.new.self c.push_answered.new.writer c.push_answered.new.ticks
+    c.push_answered.new.notes
     c.args.out.now c.push_answered.new.out c.args.log.now c.push_answered.new.log c.args.disk.now
-    (silent_items c.pass_silence-count.result) (silent c.pass_silence-count.result) (answered c.pass_silence-count.result c.pass_silence-count.new.left.items) (ticks_in-silence c.pass_silence-count.result)
+    (silent_items c.pass_silence-count.result) (silent c.pass_silence-count.result)
+    (answered c.pass_silence-count.result c.pass_silence-count.new.left.items)
+    (ticks_in-silence c.pass_silence-count.result)
     counts steps answers c.requires.able c.in-Ok.field-0
     (subst (λ x. PushesTicks {T = Unit {0}} {E = Failed} waits next texts texts1
-    (answered c.pass_silence-count.result x) [] (Ok c.in-Ok.field-0)) c.as_slice.ensures.value c.in-Ok.ensures.pushes)
+    (answered c.pass_silence-count.result x) [] (Ok c.in-Ok.field-0)) c.as_slice.ensures.value
+    c.in-Ok.ensures.pushes)
     c.in-Ok.ensures.cause c.in-Ok.ensures.flushes
 
 pub returns-in-Err-clause-gives : goal.returns-in-Err-clause-gives
 returns-in-Err-clause-gives g c =
-    let long : length (silent c.pass_silence-count.result) ≡ c.pass_silence-count.result = length-replicate c.pass_silence-count.result Silent in
-    let counts : g.B.LineBox.taken c.pass_silence-count.new.self ≡ g.B.LineBox.taken c.args.self.now.line_box
-    + length (silent c.pass_silence-count.result) = omega (arith, c.pass_silence-count.ensures.taken) in
+    let long : length (silent c.pass_silence-count.result) ≡ c.pass_silence-count.result =
+    length-replicate c.pass_silence-count.result Silent in
+    let counts : g.B.LineBox.taken c.pass_silence-count.new.self ≡ g.B.LineBox.taken
+    c.args.self.now.line_box
+    + length (silent c.pass_silence-count.result) = omega
+    (arith, c.pass_silence-count.ensures.taken) in
     let steps = c.pass_silence-count.ensures.stands in
     let answers = c.pass_silence-count.ensures.answers in
     let waits : Waiting = waiting_in c.args.self.now in
@@ -72,33 +90,45 @@ returns-in-Err-clause-gives g c =
       ticks = waiting_bytes c.push_answered.new.ticks;
       notes = waiting_bytes c.push_answered.new.notes;
     } in
-    let texts1 : SinkTexts = sink_texts (g.O.Sink.held c.push_answered.new.out) (g.L.Sink.held c.push_answered.new.log) in
+    let texts1 : SinkTexts = sink_texts (g.O.Sink.held c.push_answered.new.out)
+    (g.L.Sink.held c.push_answered.new.log) in
     let amount : length (silent_items c.pass_silence-count.result) ≡ c.pass_silence-count.result =
     length-replicate c.pass_silence-count.result (tick Silent) in
-    let some : 0 < length (silent_items c.pass_silence-count.result) = omega (arith, c.if-count-eq0.false) in
+    let some : 0 < length (silent_items c.pass_silence-count.result) = omega
+    (arith, c.if-count-eq0.false) in
     front_stopped g.B.LineBox g.O.Sink g.L.Sink g.D.SlotDisk
     (λ disk image left. g.met.D.SlotDisk.only_now disk image left) c.args.self.now
-    c.pass_silence-count.new.self c.push_answered.new.writer c.push_answered.new.ticks c.push_answered.new.notes
+    c.pass_silence-count.new.self c.push_answered.new.writer c.push_answered.new.ticks
+    c.push_answered.new.notes
     c.args.out.now c.push_answered.new.out c.args.log.now c.push_answered.new.log c.args.disk.now
-    (silent_items c.pass_silence-count.result) (silent c.pass_silence-count.result) (answered c.pass_silence-count.result c.pass_silence-count.new.left.items) (ticks_in-silence c.pass_silence-count.result)
+    (silent_items c.pass_silence-count.result) (silent c.pass_silence-count.result)
+    (answered c.pass_silence-count.result c.pass_silence-count.new.left.items)
+    (ticks_in-silence c.pass_silence-count.result)
     counts steps answers c.requires.able c.in-Err.field-0
-    (silent_items (c.args.ticks - c.pass_silence-count.result)) (silent_items c.args.ticks) (silent_items-on c.pass_silence-count.result (c.args.ticks - c.pass_silence-count.result)
-    ∙ ap silent_items (let e : c.pass_silence-count.result + (c.args.ticks - c.pass_silence-count.result) ≡ c.args.ticks =
+    (silent_items (c.args.ticks - c.pass_silence-count.result)) (silent_items c.args.ticks)
+    (silent_items-on c.pass_silence-count.result (c.args.ticks - c.pass_silence-count.result)
+    ∙ ap silent_items (let e : c.pass_silence-count.result +
+    (c.args.ticks - c.pass_silence-count.result) ≡ c.args.ticks =
     omega (arith, c.pass_silence-count.ensures.within) in e)) some
     (subst (λ x. PushesTicks {T = Unit {0}} {E = Failed} waits next texts texts1
-    (answered c.pass_silence-count.result x) [] (Err c.in-Err.field-0)) c.as_slice.ensures.value c.in-Err.ensures.pushes)
+    (answered c.pass_silence-count.result x) [] (Err c.in-Err.field-0)) c.as_slice.ensures.value
+    c.in-Err.ensures.pushes)
     c.in-Err.ensures.cause c.in-Err.ensures.flushes
 
 pub returns-then-count-eq0-clause-gives : goal.returns-then-count-eq0-clause-gives
 returns-then-count-eq0-clause-gives g c =
-    let long : length (silent c.pass_silence-count.result) ≡ c.pass_silence-count.result = length-replicate c.pass_silence-count.result Silent in
-    let counts : g.B.LineBox.taken c.pass_silence-count.new.self ≡ g.B.LineBox.taken c.args.self.now.line_box
-    + length (silent c.pass_silence-count.result) = omega (arith, c.pass_silence-count.ensures.taken) in
+    let long : length (silent c.pass_silence-count.result) ≡ c.pass_silence-count.result =
+    length-replicate c.pass_silence-count.result Silent in
+    let counts : g.B.LineBox.taken c.pass_silence-count.new.self ≡ g.B.LineBox.taken
+    c.args.self.now.line_box
+    + length (silent c.pass_silence-count.result) = omega
+    (arith, c.pass_silence-count.ensures.taken) in
     let steps = c.pass_silence-count.ensures.stands in
     let answers : (journal : Journal) (setup : Setup) (line : List Tick)
     → g.B.LineBox.stands c.args.self.now.line_box journal setup line
     → AnswersBoxRun (g.B.LineBox.boxed setup) line (silent c.pass_silence-count.result) [] =
-    λ journal setup line stands. answers_none (g.B.LineBox.boxed setup) line (silent c.pass_silence-count.result)
+    λ journal setup line stands. answers_none (g.B.LineBox.boxed setup) line
+    (silent c.pass_silence-count.result)
     (ap (λ k. silent k) c.if-count-eq0.true) in
     let waits : Waiting = waiting_in c.args.self.now in
     let texts : SinkTexts = sink_texts (g.O.Sink.held c.args.out.now)
@@ -107,7 +137,8 @@ returns-then-count-eq0-clause-gives g c =
     (λ disk image left. g.met.D.SlotDisk.only_now disk image left) c.args.self.now
     c.pass_silence-count.new.self c.args.self.now.writer c.args.self.now.ticks c.args.self.now.notes
     c.args.out.now c.args.out.now c.args.log.now c.args.log.now c.args.disk.now
-    (silent_items c.pass_silence-count.result) (silent c.pass_silence-count.result) [] (ticks_in-silence c.pass_silence-count.result)
+    (silent_items c.pass_silence-count.result) (silent c.pass_silence-count.result) []
+    (ticks_in-silence c.pass_silence-count.result)
     counts steps answers c.requires.able {T = Unit {0}} {E = Unit {0}} (tt {0})
     (pushes_none (tt {0}) waits texts) (cause_none (tt {0}) _ _)
     (none_flushed g.O.Sink g.L.Sink _ _)

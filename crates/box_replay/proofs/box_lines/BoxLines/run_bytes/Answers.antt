@@ -1,4 +1,5 @@
-use Rattle.std.proofs.Common.{◌≡◌, ◌∙◌, ◌≤◌, ◌+◌, ◌-◌, ◌<◌, ℕ, List, [], ◌++◌, length, map, take, drop, Ok}
+use Rattle.std.proofs.Common.{◌≡◌, ◌∙◌, ◌≤◌, ◌+◌, ◌-◌, ◌<◌, ℕ, List, [], ◌++◌, length, map, take}
+use Rattle.std.proofs.Common.{drop, Ok}
 use Rattle.std.proofs.Common.{Err, sym, ap, subst, arith, refl, length-drop, append-nil}
 use Rattle.std.proofs.lemmas.List.{length-map, length-take, length-take-le, take-take, take_all}
 use Rattle.std.proofs.lemmas.List.{map-append, take-append-drop, length-replicate}
@@ -53,5 +54,6 @@ returns-clause-gives g c =
     front_then (driving g.B.LineBox g.D.SlotDisk) g.O.Sink g.L.Sink g.D.SlotDisk s0 s1 s2
     (front_bytes c.args.bytes.now) (byte_items c.args.bytes.now) refl c.pass_bytes.result
     (nothing_given (driving g.B.LineBox g.D.SlotDisk) g.O.Sink g.L.Sink g.D.SlotDisk s0 s1 s2
-    (front_bytes c.args.bytes.now) (byte_items c.args.bytes.now) refl c.in-Ok.count (omega arith) c.in-Ok.ensures.gives)
+    (front_bytes c.args.bytes.now) (byte_items c.args.bytes.now) refl c.in-Ok.count (omega arith)
+    c.in-Ok.ensures.gives)
     c.pass_bytes.ensures.gives

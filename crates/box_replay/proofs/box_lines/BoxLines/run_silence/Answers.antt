@@ -1,4 +1,5 @@
-use Rattle.std.proofs.Common.{◌≡◌, ◌∙◌, ◌≤◌, ◌+◌, ◌-◌, ◌<◌, ℕ, List, [], ◌++◌, length, map, take, drop, Ok}
+use Rattle.std.proofs.Common.{◌≡◌, ◌∙◌, ◌≤◌, ◌+◌, ◌-◌, ◌<◌, ℕ, List, [], ◌++◌, length, map, take}
+use Rattle.std.proofs.Common.{drop, Ok}
 use Rattle.std.proofs.Common.{Err, sym, ap, subst, arith, refl, length-drop, append-nil}
 use Rattle.std.proofs.lemmas.List.{length-map, length-take, length-take-le, take-take, take_all}
 use Rattle.std.proofs.lemmas.List.{map-append, take-append-drop, length-replicate}

@@ -1,4 +1,5 @@
-use Rattle.std.proofs.Common.{◌≡◌, ◌∙◌, ◌≤◌, ◌+◌, ◌-◌, ◌<◌, ℕ, List, [], ◌++◌, length, map, take, drop, Ok}
+use Rattle.std.proofs.Common.{◌≡◌, ◌∙◌, ◌≤◌, ◌+◌, ◌-◌, ◌<◌, ℕ, List, [], ◌++◌, length, map, take}
+use Rattle.std.proofs.Common.{drop, Ok}
 use Rattle.std.proofs.Common.{Err, sym, ap, subst, arith, refl, length-drop, append-nil}
 use Rattle.std.proofs.lemmas.List.{length-map, length-take, length-take-le, take-take, take_all}
 use Rattle.std.proofs.lemmas.List.{map-append, take-append-drop, length-replicate}
@@ -32,7 +33,8 @@ use Rattle.box_replay.proofs.box_lines.BoxLinesConsumer.take_silence.Goals as go
 pub loop-taken-init : goal.loop-taken-init
 loop-taken-init g c = record {
   within = omega arith;
-  given = gives_none (driving g.B.LineBox g.D.SlotDisk) g.O.Sink g.L.Sink g.D.SlotDisk _ c.requires.able
+  given = gives_none (driving g.B.LineBox g.D.SlotDisk) g.O.Sink g.L.Sink g.D.SlotDisk _
+      c.requires.able
       (λ kept image left. kept.floors image (g.met.D.SlotDisk.only_now _ image left));
 }
 
@@ -57,10 +59,14 @@ returns-in-Err g c =
     c.loop-taken.disk in
     let s2 : State _ _ _ _ = state_of c.run_silence.new.self c.run_silence.new.out
     c.run_silence.new.log c.loop-taken.disk in
-    gives_stop (driving g.B.LineBox g.D.SlotDisk) g.O.Sink g.L.Sink g.D.SlotDisk s0 s1 s2 (silent_items c.loop-taken.taken) (silent_items (c.args.ticks - c.loop-taken.taken)) [] (silent_items c.args.ticks) c.in-Err.stop
+    gives_stop (driving g.B.LineBox g.D.SlotDisk) g.O.Sink g.L.Sink g.D.SlotDisk s0 s1 s2
+    (silent_items c.loop-taken.taken) (silent_items (c.args.ticks - c.loop-taken.taken)) []
+    (silent_items c.args.ticks) c.in-Err.stop
     (sym (silent_items-on c.loop-taken.taken (c.args.ticks - c.loop-taken.taken)
     ∙ ap silent_items (let e : c.loop-taken.taken + (c.args.ticks - c.loop-taken.taken)
-    ≡ c.args.ticks = omega (arith, c.loop-taken.invariant.within) in e)) ∙ sym (append-nil ((silent_items c.loop-taken.taken) ++ (silent_items (c.args.ticks - c.loop-taken.taken)))))
+    ≡ c.args.ticks = omega (arith, c.loop-taken.invariant.within) in e)) ∙ sym
+    (append-nil ((silent_items c.loop-taken.taken) ++
+    (silent_items (c.args.ticks - c.loop-taken.taken)))))
     c.loop-taken.invariant.given c.in-Err.ensures.gives
 
 pub loop-taken-preserved-then-count-gt0 : goal.loop-taken-preserved-then-count-gt0
@@ -73,7 +79,10 @@ loop-taken-preserved-then-count-gt0 g c =
     c.run_silence.new.log c.loop-taken.disk in
     record {
       within = omega (arith, c.in-Ok.ensures.within, c.loop-taken.invariant.within);
-      given = gives_more (driving g.B.LineBox g.D.SlotDisk) g.O.Sink g.L.Sink g.D.SlotDisk s0 s1 s2 (silent_items c.loop-taken.taken) (silent_items c.in-Ok.count) (silent_items (c.loop-taken.taken + c.in-Ok.count)) (silent_items-on c.loop-taken.taken c.in-Ok.count)
+      given = gives_more (driving g.B.LineBox g.D.SlotDisk) g.O.Sink g.L.Sink g.D.SlotDisk s0 s1 s2
+          (silent_items c.loop-taken.taken) (silent_items c.in-Ok.count)
+          (silent_items (c.loop-taken.taken + c.in-Ok.count))
+          (silent_items-on c.loop-taken.taken c.in-Ok.count)
           c.loop-taken.invariant.given c.in-Ok.ensures.gives;
     }
 
@@ -85,8 +94,10 @@ take_tick-requires g c =
     c.loop-taken.disk in
     let s2 : State _ _ _ _ = state_of c.run_silence.new.self c.run_silence.new.out
     c.run_silence.new.log c.loop-taken.disk in
-    let still = nothing_given (driving g.B.LineBox g.D.SlotDisk) g.O.Sink g.L.Sink g.D.SlotDisk s1 s2 s2
-    silent_items (silent_items c.args.ticks) refl c.in-Ok.count (omega arith) c.in-Ok.ensures.gives in
+    let still = nothing_given (driving g.B.LineBox g.D.SlotDisk) g.O.Sink g.L.Sink g.D.SlotDisk s1
+    s2 s2
+    silent_items (silent_items c.args.ticks) refl c.in-Ok.count (omega arith) c.in-Ok.ensures.gives
+    in
     record {
       room = omega (
         arith,
@@ -111,12 +122,18 @@ loop-taken-preserved g c =
     c.run_silence.new.log c.loop-taken.disk in
     let s3 : State _ _ _ _ = state_of c.take_tick.new.self c.take_tick.new.out
     c.take_tick.new.log c.take_tick.new.disk in
-    let still = nothing_given (driving g.B.LineBox g.D.SlotDisk) g.O.Sink g.L.Sink g.D.SlotDisk s1 s2 s2
-    silent_items (silent_items c.args.ticks) refl c.in-Ok.count (omega arith) c.in-Ok.ensures.gives in
+    let still = nothing_given (driving g.B.LineBox g.D.SlotDisk) g.O.Sink g.L.Sink g.D.SlotDisk s1
+    s2 s2
+    silent_items (silent_items c.args.ticks) refl c.in-Ok.count (omega arith) c.in-Ok.ensures.gives
+    in
     record {
       within = omega arith;
-      given = gives_more (driving g.B.LineBox g.D.SlotDisk) g.O.Sink g.L.Sink g.D.SlotDisk s0 s2 s3 (silent_items c.loop-taken.taken) (tick Silent ∷ []) (silent_items (c.loop-taken.taken + 1)) (silent_items-more c.loop-taken.taken)
-          (gives_more (driving g.B.LineBox g.D.SlotDisk) g.O.Sink g.L.Sink g.D.SlotDisk s0 s1 s2 (silent_items c.loop-taken.taken) [] (silent_items c.loop-taken.taken) (append-nil (silent_items c.loop-taken.taken)) c.loop-taken.invariant.given still)
+      given = gives_more (driving g.B.LineBox g.D.SlotDisk) g.O.Sink g.L.Sink g.D.SlotDisk s0 s2 s3
+          (silent_items c.loop-taken.taken) (tick Silent ∷ []) (silent_items (c.loop-taken.taken + 1))
+          (silent_items-more c.loop-taken.taken)
+          (gives_more (driving g.B.LineBox g.D.SlotDisk) g.O.Sink g.L.Sink g.D.SlotDisk s0 s1 s2
+          (silent_items c.loop-taken.taken) [] (silent_items c.loop-taken.taken)
+          (append-nil (silent_items c.loop-taken.taken)) c.loop-taken.invariant.given still)
           c.in-Ok-take_tick.ensures;
     }
 
@@ -130,16 +147,24 @@ returns-in-Err-take_tick g c =
     c.run_silence.new.log c.loop-taken.disk in
     let s3 : State _ _ _ _ = state_of c.take_tick.new.self c.take_tick.new.out
     c.take_tick.new.log c.take_tick.new.disk in
-    let still = nothing_given (driving g.B.LineBox g.D.SlotDisk) g.O.Sink g.L.Sink g.D.SlotDisk s1 s2 s2
-    silent_items (silent_items c.args.ticks) refl c.in-Ok.count (omega arith) c.in-Ok.ensures.gives in
-    gives_stop (driving g.B.LineBox g.D.SlotDisk) g.O.Sink g.L.Sink g.D.SlotDisk s0 s2 s3 (silent_items c.loop-taken.taken) (tick Silent ∷ []) (silent_items (c.args.ticks - (c.loop-taken.taken + 1))) (silent_items c.args.ticks) c.in-Err-take_tick.stop
+    let still = nothing_given (driving g.B.LineBox g.D.SlotDisk) g.O.Sink g.L.Sink g.D.SlotDisk s1
+    s2 s2
+    silent_items (silent_items c.args.ticks) refl c.in-Ok.count (omega arith) c.in-Ok.ensures.gives
+    in
+    gives_stop (driving g.B.LineBox g.D.SlotDisk) g.O.Sink g.L.Sink g.D.SlotDisk s0 s2 s3
+    (silent_items c.loop-taken.taken) (tick Silent ∷ [])
+    (silent_items (c.args.ticks - (c.loop-taken.taken + 1))) (silent_items c.args.ticks)
+    c.in-Err-take_tick.stop
     (silent_items-at c.args.ticks c.loop-taken.taken c.loop-taken-test.true)
-    (gives_more (driving g.B.LineBox g.D.SlotDisk) g.O.Sink g.L.Sink g.D.SlotDisk s0 s1 s2 (silent_items c.loop-taken.taken) [] (silent_items c.loop-taken.taken) (append-nil (silent_items c.loop-taken.taken)) c.loop-taken.invariant.given still)
+    (gives_more (driving g.B.LineBox g.D.SlotDisk) g.O.Sink g.L.Sink g.D.SlotDisk s0 s1 s2
+    (silent_items c.loop-taken.taken) [] (silent_items c.loop-taken.taken)
+    (append-nil (silent_items c.loop-taken.taken)) c.loop-taken.invariant.given still)
     c.in-Err-take_tick.ensures
 
 pub returns : goal.returns
 returns g c =
-    subst (λ x. Gives (driving g.B.LineBox g.D.SlotDisk) g.O.Sink g.L.Sink g.D.SlotDisk {T = Unit {0}}
+    subst (λ x. Gives (driving g.B.LineBox g.D.SlotDisk) g.O.Sink g.L.Sink g.D.SlotDisk
+    {T = Unit {0}}
     (state_of c.args.self.now c.args.out.now c.args.log.now c.args.disk.now)
     (state_of c.loop-taken.self c.loop-taken.out c.loop-taken.log c.loop-taken.disk) x (Ok tt))
     (let e : c.loop-taken.taken ≡ c.args.ticks = omega (arith, c.loop-taken.invariant.within) in

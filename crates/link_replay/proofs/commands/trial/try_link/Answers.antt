@@ -9,7 +9,8 @@ use Rattle.link_replay.proofs.commands.trial.try_link.Goals as goal
 
 pub returns-in-Rtu-Y18-clause-line : goal.returns-in-Rtu-Y18-clause-line
 returns-in-Rtu-Y18-clause-line g c =
-    rw (sym c.link_word-name.ensures.word, c.in-Rtu-Y18.is-0, c.in-Rtu-Y18.is-1) c.print_session.ensures.line
+    rw (sym c.link_word-name.ensures.word, c.in-Rtu-Y18.is-0, c.in-Rtu-Y18.is-1)
+    c.print_session.ensures.line
 
 pub returns-in-Rtu-Y18-clause-tells : goal.returns-in-Rtu-Y18-clause-tells
 returns-in-Rtu-Y18-clause-tells g c =
@@ -17,7 +18,8 @@ returns-in-Rtu-Y18-clause-tells g c =
 
 pub returns-in-Rtu-Y24-clause-line : goal.returns-in-Rtu-Y24-clause-line
 returns-in-Rtu-Y24-clause-line g c =
-    rw (sym c.link_word-name.ensures.word, c.in-Rtu-Y24.is-0, c.in-Rtu-Y24.is-1) c.print_session-in-Rtu-Y24.ensures.line
+    rw (sym c.link_word-name.ensures.word, c.in-Rtu-Y24.is-0, c.in-Rtu-Y24.is-1)
+    c.print_session-in-Rtu-Y24.ensures.line
 
 pub returns-in-Rtu-Y24-clause-tells : goal.returns-in-Rtu-Y24-clause-tells
 returns-in-Rtu-Y24-clause-tells g c =
@@ -25,7 +27,8 @@ returns-in-Rtu-Y24-clause-tells g c =
 
 pub returns-in-Dnp3-Y18-clause-line : goal.returns-in-Dnp3-Y18-clause-line
 returns-in-Dnp3-Y18-clause-line g c =
-    rw (sym c.link_word-name.ensures.word, c.in-Dnp3-Y18.is-0, c.in-Dnp3-Y18.is-1) c.print_session-in-Dnp3-Y18.ensures.line
+    rw (sym c.link_word-name.ensures.word, c.in-Dnp3-Y18.is-0, c.in-Dnp3-Y18.is-1)
+    c.print_session-in-Dnp3-Y18.ensures.line
 
 pub returns-in-Dnp3-Y18-clause-tells : goal.returns-in-Dnp3-Y18-clause-tells
 returns-in-Dnp3-Y18-clause-tells g c =
@@ -33,7 +36,8 @@ returns-in-Dnp3-Y18-clause-tells g c =
 
 pub returns-in-Dnp3-Y24-clause-line : goal.returns-in-Dnp3-Y24-clause-line
 returns-in-Dnp3-Y24-clause-line g c =
-    rw (sym c.link_word-name.ensures.word, c.in-Dnp3-Y24.is-0, c.in-Dnp3-Y24.is-1) c.print_session-in-Dnp3-Y24.ensures.line
+    rw (sym c.link_word-name.ensures.word, c.in-Dnp3-Y24.is-0, c.in-Dnp3-Y24.is-1)
+    c.print_session-in-Dnp3-Y24.ensures.line
 
 pub returns-in-Dnp3-Y24-clause-tells : goal.returns-in-Dnp3-Y24-clause-tells
 returns-in-Dnp3-Y24-clause-tells g c =

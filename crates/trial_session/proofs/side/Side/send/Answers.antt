@@ -17,7 +17,8 @@ loop-at-preserved g c =
       omega (arith, c.step.ensures.level, c.loop-at.invariant.1),
       same-rest ticks given at Silent c.step.result within inside same,
       λ line taken. sends-more g.X.CountingBox c.loop-at.self c.step.new.self line given ticks
-          at _ Silent c.step.result within inside (same-tick ticks given at Silent within inside same)
+          at _ Silent c.step.result within inside
+          (same-tick ticks given at Silent within inside same)
           (c.loop-at.invariant.3 line taken) c.step.ensures.sent,
     )
 
