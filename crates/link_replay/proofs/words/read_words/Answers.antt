@@ -29,10 +29,10 @@ five f (u ∷ v ∷ w ∷ x ∷ y ∷ z ∷ xs) a b c d e p q r s t least below 
 pub returns-in-len5-clause-ok : goal.returns-in-len5-clause-ok
 returns-in-len5-clause-ok c =
     let words = five string_bytes c.args.words.now c.first-item-then-words-lt6.result
-    c.second-item-then-words-lt6.result c.third-item.result
+    c.second-item-then-words-lt6.result c.third-item-then-words-lt6.result
     c.key-item.result c.path-item.result _ _ _ _ _ c.in-len5.len_at_least c.in-len5.len_below
-    c.first-item-then-words-lt6.is c.second-item-then-words-lt6.is c.third-item.is c.key-item.is
-    c.path-item.is
+    c.first-item-then-words-lt6.is c.second-item-then-words-lt6.is
+    c.third-item-then-words-lt6.is c.key-item.is c.path-item.is
     c.as_str-in-len5.ensures.value c.as_str-in-len5-2.ensures.value c.as_str-in-len5-3.ensures.value
     c.as_str-in-len5-4.ensures.value c.as_str-in-len5-5.ensures.value in
     subst (λ l. IfOk c.read_five.result (λ command. IsCommand l command)) (sym words)
@@ -41,10 +41,10 @@ returns-in-len5-clause-ok c =
 pub returns-in-len5-clause-usage : goal.returns-in-len5-clause-usage
 returns-in-len5-clause-usage c =
     let words = five string_bytes c.args.words.now c.first-item-then-words-lt6.result
-    c.second-item-then-words-lt6.result c.third-item.result
+    c.second-item-then-words-lt6.result c.third-item-then-words-lt6.result
     c.key-item.result c.path-item.result _ _ _ _ _ c.in-len5.len_at_least c.in-len5.len_below
-    c.first-item-then-words-lt6.is c.second-item-then-words-lt6.is c.third-item.is c.key-item.is
-    c.path-item.is
+    c.first-item-then-words-lt6.is c.second-item-then-words-lt6.is
+    c.third-item-then-words-lt6.is c.key-item.is c.path-item.is
     c.as_str-in-len5.ensures.value c.as_str-in-len5-2.ensures.value c.as_str-in-len5-3.ensures.value
     c.as_str-in-len5-4.ensures.value c.as_str-in-len5-5.ensures.value in
     subst (λ l. OnErr c.read_five.result ((command : Command) → IsCommand l command → ⊥))
