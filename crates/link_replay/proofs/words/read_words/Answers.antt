@@ -40,8 +40,8 @@ four f (u ∷ v ∷ []) a b c d p q r s least below a-is b-is c-is d-is p-is q-i
 four f (u ∷ v ∷ w ∷ []) a b c d p q r s least below a-is b-is c-is d-is p-is q-is r-is s-is =
     absurd (omega arith)
 four f (u ∷ v ∷ w ∷ x ∷ []) a b c d p q r s least below a-is b-is c-is d-is p-is q-is r-is s-is = cc
-four f (u ∷ v ∷ w ∷ x ∷ y ∷ xs) a b c d p q r s least below a-is b-is c-is d-is p-is q-is r-is s-is =
-    absurd (omega arith)
+four f (u ∷ v ∷ w ∷ x ∷ y ∷ xs) a b c d p q r s least below a-is b-is c-is d-is p-is q-is r-is
+    s-is = absurd (omega arith)
 
 pub returns-in-len4-clause-ok : goal.returns-in-len4-clause-ok
 returns-in-len4-clause-ok c =
@@ -70,8 +70,8 @@ returns-in-len5-clause-ok c =
     let words = five string_bytes c.args.words.now c.first-item-then-words-lt6.result
     c.second-item-then-words-lt6.result c.third-item-then-words-lt6.result
     c.key-item.result c.path-item.result _ _ _ _ _ c.in-len5.len_at_least c.in-len5.len_below
-    c.first-item-then-words-lt6.is c.second-item-then-words-lt6.is c.third-item-then-words-lt6.is c.key-item.is
-    c.path-item.is
+    c.first-item-then-words-lt6.is c.second-item-then-words-lt6.is
+    c.third-item-then-words-lt6.is c.key-item.is c.path-item.is
     c.as_str-in-len5.ensures.value c.as_str-in-len5-2.ensures.value c.as_str-in-len5-3.ensures.value
     c.as_str-in-len5-4.ensures.value c.as_str-in-len5-5.ensures.value in
     subst (λ l. IfOk c.read_five.result (λ command. IsCommand l command)) (sym words)
@@ -82,8 +82,8 @@ returns-in-len5-clause-usage c =
     let words = five string_bytes c.args.words.now c.first-item-then-words-lt6.result
     c.second-item-then-words-lt6.result c.third-item-then-words-lt6.result
     c.key-item.result c.path-item.result _ _ _ _ _ c.in-len5.len_at_least c.in-len5.len_below
-    c.first-item-then-words-lt6.is c.second-item-then-words-lt6.is c.third-item-then-words-lt6.is c.key-item.is
-    c.path-item.is
+    c.first-item-then-words-lt6.is c.second-item-then-words-lt6.is
+    c.third-item-then-words-lt6.is c.key-item.is c.path-item.is
     c.as_str-in-len5.ensures.value c.as_str-in-len5-2.ensures.value c.as_str-in-len5-3.ensures.value
     c.as_str-in-len5-4.ensures.value c.as_str-in-len5-5.ensures.value in
     subst (λ l. OnErr c.read_five.result ((command : Command) → IsCommand l command → ⊥))
