@@ -1,6 +1,6 @@
 -- Words ask for one thing and no other.
 use Rattle.std.proofs.Common.{◌≡◌, ◌∙◌, ℕ, zero, suc, ◌+◌, ◌*◌, Bool, List, [], ◌∷◌, Option, Some}
-use Rattle.std.proofs.Common.{None, cond, nat_eq, refl, sym, ap, arith, ◌^◌, ◌<◌}
+use Rattle.std.proofs.Common.{None, cond, nat_eq, refl, sym, ap, arith, subst, ◌≤◌, ◌^◌, ◌<◌}
 use Rattle.std.proofs.lemmas.Fmt.{decimal_is_IsNumeral}
 use Rattle.std.specs.Prelude.{codes, decimal}
 use Rattle.std.specs.Str.Parse.{digits_value}
@@ -100,6 +100,21 @@ command-in words (Trial proto profile seed count) h =
       number-by seed (omega (arith, h.0)),
       number-by count (omega (arith, h.2)),
     ) refl
+
+-- the words of a trial spell how many frames it has
+pub trial-counts : (first second seed count : List ℕ) (n : ℕ) (command : Command)
+    → first ≡ codes "trial" → count ≡ decimal n → n < 2 ^ 32
+    → IsCommand (first ∷ second ∷ seed ∷ count ∷ []) command → (1 ≤ n) × (n ≤ 10000)
+trial-counts first second seed count n command verb spelled few asked =
+    let words : List (List ℕ) = codes "trial" ∷ second ∷ seed ∷ decimal n ∷ [] in
+    let so : IsCommand words command =
+    subst (λ v. IsCommand (v ∷ second ∷ seed ∷ decimal n ∷ []) command) verb
+    (subst (λ w. IsCommand (first ∷ second ∷ seed ∷ w ∷ []) command) spelled asked) in
+    let named : command ≡ Trial (proto_by second) (profile_by second) (digits_value 10 seed)
+    (digits_value 10 (decimal n)) = sym (command-in words command so) in
+    let this = subst (λ c. IsCommand words c) named so in
+    let same = number-by n (omega (arith, few)) in
+    (subst (λ k. 1 ≤ k) same this.1, subst (λ k. k ≤ 10000) same this.2)
 
 pub asks-one : (words : List (List ℕ)) (a b : Option Command) → Asks words a → Asks words b → a ≡ b
 asks-one words None None ha hb = refl

@@ -4,3 +4,4 @@ pub mod Flushing
 pub mod Headlines
 pub mod Listable
 pub mod Trials
+pub mod Numbers

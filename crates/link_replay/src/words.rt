@@ -141,6 +141,7 @@ fn read_init(first: &str, path: &str) -> Result<Command, Usage>
 // The number that a word spells, in decimal digits without a leading zero.
 fn read_number(word: &str) -> Result<u32, Usage>
     ensures ok { IfOk result (λ n. word.now ≡ decimal n) }
+    ensures small { IfOk result (λ n. n < 2 ^ 32) }
     ensures usage { OnErr result ((n : ℕ) → n < 2 ^ 32 → word.now ≡ decimal n → ⊥) }
 {
     let Ok(n) = word.parse::<u32>() else {

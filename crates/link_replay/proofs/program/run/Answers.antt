@@ -3,7 +3,7 @@ use Rattle.std.specs.Prelude.{map}
 use Rattle.std.specs.String.{string_bytes}
 use Rattle.replay_status.specs.Outside.{outside}
 use Rattle.link_replay.specs.Words.{Asks}
-use Rattle.link_replay.specs.Commands.{Runs, KeepsDisk, HasCauses, MayDo}
+use Rattle.link_replay.specs.Commands.{Runs, KeepsDisk, HasCauses, MayDo, EndsWell}
 use Rattle.link_replay.proofs.Asking.{asks-one}
 use Rattle.replay_status.proofs.Logging.{logs-from}
 use Rattle.link_replay.proofs.Outcomes.{calm_before, causes_after, asked_done}
@@ -61,8 +61,9 @@ returns-clause-done g c = λ asked asks may calm.
     (sym same) may in
     let mid = outside c.answer-status.new.key c.answer-status.new.input c.answer-status.new.out
     c.answer-status.new.log c.answer-status.new.disk in
-    asked_done g.K.Source g.S.Source g.O.Sink g.L.Sink g.D.SlotDisk c.asked_by-asked.result before
+    subst (λ a. EndsWell a c.answer-status.result) same
+    (asked_done g.K.Source g.S.Source g.O.Sink g.L.Sink g.D.SlotDisk c.asked_by-asked.result before
     mid c.answer-status.result right
     (calm_before g.K.Source g.S.Source g.O.Sink g.L.Sink g.D.SlotDisk before after
     c.answer-status.new.log c.write_fault.ensures.never_falls calm)
-    c.answer-status.ensures.does c.answer-status.ensures.causes
+    c.answer-status.ensures.does c.answer-status.ensures.causes)
