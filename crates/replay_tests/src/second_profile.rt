@@ -128,8 +128,8 @@ const REFUSED: Row = Row {
     ..PASSED
 };
 
-// A link, and what a device behind the receiver reads of it. Ticks and notes here were computed
-// from the rules of `docs/LINK.md` by a program in another language, over whole lines.
+// A link, and what a device behind the receiver reads of it. Ticks and notes here were computed from
+// the rules of `docs/LINK.md` by a program in another language, over whole lines.
 const CHECKS: [(Row, &[u8]); 9] = [
     (PASSED, b"read at 24 01030000000ac5cd\n"),
     // The last byte of the tag is wrong.
