@@ -2,11 +2,8 @@
 use Rattle.std.proofs.Common.{◌≡◌, ◌∙◌, ℕ, List, [], ◌∷◌, ◌++◌, length, map, refl, sym, ap, subst}
 use Rattle.std.proofs.Common.{append-nil}
 use Rattle.std.specs.List.{flat_map}
-use Rattle.yasir_ticks.specs.Ticks.{silent}
 use Rattle.yasir_ticks.specs.declared.tick.Tick.{Tick}
-use Rattle.yasir_ticks.specs.declared.tick.Tick.TheVariants.{Byte}
 use Rattle.line_rules.specs.declared.line_rules.LineRules.{Ghosts as LineRules}
-use Rattle.burst_walk.specs.Answered.{answered}
 use Rattle.hmac_tag.specs.declared.tag.Mac.{Ghosts as Mac}
 use Rattle.link_format.specs.Setup.{Setup}
 use Rattle.sequence_journal.specs.declared.journal.Journal.{Journal}
@@ -18,21 +15,6 @@ use Rattle.box_replay.specs.Boxes.{AnswersBoxRun, Forwards}
 use Rattle.seal_replay.specs.NoteLines.{seal_line}
 use Rattle.seal_replay.specs.SealBoxed.{sealing_by}
 use Rattle.seal_replay.specs.SealBoxedLaws.{seals-floor}
-
--- as many bytes as there are ticks are answered as they are
-answered-bytes : (x : List ℕ) → answered (length x) x ≡ map Byte x
-answered-bytes [] = refl
-answered-bytes (b ∷ x) = refl
-
-pub answered-all : (n : ℕ) (x left : List ℕ) → n ≡ length x → left ≡ x
-    → map Byte x ≡ answered n left
-answered-all n x left count items =
-    sym (ap (λ k. answered k left) count ∙ (ap (λ l. answered (length x) l) items
-    ∙ answered-bytes x))
-
--- none are answered as silence
-pub answered-none : (n : ℕ) (left : List ℕ) → left ≡ [] → silent n ≡ answered n left
-answered-none n left none = sym (ap (λ l. answered n l) none)
 
 module _ {R M : Type 0} (proto : LineRules R) (code : Mac M) {B : ℕ} (old new : Sealer R M B)
     (journal : Journal) (setup : Setup) (line : List Tick)
@@ -53,10 +35,3 @@ module _ {R M : Type 0} (proto : LineRules R) (code : Mac M) {B : ℕ} (old new 
   forwards-run run taken =
       let answers = answers-run run run taken in
       record { ticks = answers.ticks; notes = answers.notes; number = answers.number }
-
-  -- after a run of no tick it stands for the same line
-  pub after-nothing : (run answer : List Tick) → run ≡ [] → Takes run answer
-      → StandsFor proto code new journal setup line
-  after-nothing run answer none taken =
-      subst (λ l. StandsFor proto code new journal setup l)
-      (ap (λ r. line ++ r) none ∙ append-nil line) taken.stands

@@ -1,4 +1,4 @@
-ghost use Rattle.std.specs.Prelude.{◌≡◌, ℕ, ◌+◌, ◌≤◌, [], ◌++◌, List, length};
+ghost use Rattle.std.specs.Prelude.{◌≡◌, ℕ, ◌+◌, ◌≤◌, [], ◌++◌, List};
 ghost use Rattle.link_format.specs.Profile.{IsWordLen};
 ghost use Rattle.seal_transmitter.specs.Stands.{StandsFor, ticks_taken};
 ghost use Rattle.seal_replay.specs.NoteLines.{seal_line};
@@ -12,23 +12,12 @@ use line_rules::LineRules;
 use seal_transmitter::{SealNote, SealStep, Sealer};
 use sequence_journal::{Journal, JournalFault};
 use yasir_io::SlotDisk;
-use yasir_ticks::{LineBytes, Tick};
+use yasir_ticks::Tick;
 
 /// The transmitter as a box, with words of `B` bytes.
 #[derive(Drop)]
 pub struct SealBox<R, M, const B: usize> {
     sealer: Sealer<R, M, B>,
-}
-
-// Puts these bytes into `left` in place of what stands there, and answers how many.
-#[inline]
-fn put(left: &mut RunBytes, sent: &LineBytes) -> usize
-    ensures items { left.new.items ≡ sent.now.items }
-    ensures count { result ≡ length sent.now.items }
-{
-    left.clear();
-    let _ = left.try_extend_from_slice(sent.as_slice());
-    sent.len()
 }
 
 impl<R: LineRules, M: Mac, const B: usize> LineBox for SealBox<R, M, B> {
@@ -81,18 +70,11 @@ impl<R: LineRules, M: Mac, const B: usize> LineBox for SealBox<R, M, B> {
         self.sealer.rest(ticks)
     }
 
-    // Over an early burst goes what is left of the last trailer, and then silence.
     fn pass_bytes(&mut self, bytes: &[u8], left: &mut RunBytes) -> usize {
-        let held = self.sealer.hold(bytes);
-        if held > 0 {
-            left.clear();
-            return held;
-        }
-        put(left, &self.sealer.send_over(bytes))
+        self.sealer.pass_bytes(bytes, left)
     }
 
-    // What is left of a trailer.
     fn pass_silence(&mut self, ticks: u32, left: &mut RunBytes) -> u32 {
-        put(left, &self.sealer.send_some(ticks)) as u32
+        self.sealer.pass_silence(ticks, left)
     }
 }

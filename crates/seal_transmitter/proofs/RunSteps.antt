@@ -9,11 +9,12 @@ use Rattle.yasir_ticks.specs.declared.tick.Tick.TheVariants.{Silent, Byte}
 use Rattle.line_rules.specs.Rules.{Rules}
 use Rattle.line_rules.specs.declared.line_rules.LineRules.{Ghosts as LineRules}
 use Rattle.frame_ending.specs.declared.burst_cut.BurstCut.{BurstCut}
-use Rattle.frame_ending.specs.declared.cut.Cut.TheVariants.{Live, Quiet}
+use Rattle.frame_ending.specs.declared.cut.Cut.TheVariants.{Live, Extra, Quiet}
 use Rattle.frame_ending.specs.Cuts.{cut_of, cuts_after}
 use Rattle.frame_ending.specs.SoFar.{start_so_far}
 use Rattle.frame_ending.specs.Stands.{StandsFor as CutStandsFor}
 use Rattle.frame_ending.proofs.Runs.{live-start}
+use Rattle.burst_walk.specs.Answered.{answered}
 use Rattle.burst_walk.specs.Runs.{AnswersRun}
 use Rattle.burst_walk.proofs.Runs.{run-none, run-joined, run-tick}
 use Rattle.hmac_tag.specs.declared.tag.Mac.{Ghosts as Mac}
@@ -171,7 +172,25 @@ module _ {R M : Type 0} (proto : LineRules R) (code : Mac M) (word_len : ℕ) (s
         (silent n) (sent n (drop 1 left)) on
         (sends-quiet n (drop 1 left) text (line ++ Silent ∷ []) on.walks others))
 
-    -- so it is while an early burst goes on
+    -- so it is while bytes come that aren't live
+    pub sends-extra : (x : List ℕ) (left text : List ℕ) (line : List Tick)
+        → TextWalks last earliest left text line
+        → cuts_after rules line (map Byte x) ≡ map Extra x
+        → RunsOn last earliest (drop (length x) left) text line (map Byte x) (sent (length x) left)
+    sends-extra [] left text line w extra = none-on left text line w
+    sends-extra (b ∷ x) left text line w extra =
+        let first : cut_of rules line (Byte b) ≡ Extra b = cc in
+        let others : cuts_after rules (line ++ Byte b ∷ []) (map Byte x) ≡ map Extra x = cc in
+        let on = advance-passing proto as_text word_len setup line last earliest left text w
+        (Byte b) (Extra b) first tt in
+        let P : List ℕ → Type 0 = λ y. RunsOn last earliest y text line (map Byte (b ∷ x))
+        (sent (length (b ∷ x)) left) in
+        subst P (drop-one (length x) left)
+        (more-on (drop (length x) (drop 1 left)) text (drop 1 left) text line (Byte b)
+        (first_of left) (map Byte x) (sent (length x) (drop 1 left)) on
+        (sends-extra x (drop 1 left) text (line ++ Byte b ∷ []) on.walks others))
+
+    -- and while an early burst goes on
     pub sends-early : (x : List ℕ) (left text : List ℕ) (line : List Tick)
         → TextWalks last earliest left text line
         → cuts_after rules line (map Byte x) ≡ map Live x → start_so_far line < earliest
@@ -276,3 +295,42 @@ module _ {R M : Type 0} (proto : LineRules R) (code : Mac M) {B : ℕ} (old : Se
         (ap (λ k. sent k left) long ∙ answer_is)
         (sends-early proto code B setup last old.earliest_start x left stands.walks.text line
         walks-text live early)
+
+    pub extra-taken : (n : ℕ) (x : List ℕ) (answer : List Tick) → length x ≡ n
+        → CutStandsFor proto cut (line ++ map Byte x)
+        → cuts_after proto.rules line (map Byte x) ≡ map Extra x
+        → bytes_left trailer ≡ drop n left → sent n left ≡ answer
+        → Takes (record old { cut = cut; trailer = trailer }) (map Byte x) answer
+    extra-taken n x answer long cuts extra left_is answer_is =
+        sends (length x) (map Byte x) answer cuts (left_is ∙ ap (λ k. drop k left) (sym long))
+        (ap (λ k. sent k left) long ∙ answer_is)
+        (sends-extra proto code B setup last old.earliest_start x left stands.walks.text line
+        walks-text extra)
+
+-- ---- runs as they are lent
+
+-- as many bytes as there are ticks are answered as they are
+answered-bytes : (x : List ℕ) → answered (length x) x ≡ map Byte x
+answered-bytes [] = refl
+answered-bytes (b ∷ x) = refl
+
+pub answered-all : (n : ℕ) (x lent : List ℕ) → n ≡ length x → lent ≡ x
+    → map Byte x ≡ answered n lent
+answered-all n x lent count items =
+    sym (ap (λ k. answered k lent) count ∙ (ap (λ l. answered (length x) l) items
+    ∙ answered-bytes x))
+
+-- none are answered as silence
+pub answered-none : (n : ℕ) (lent : List ℕ) → lent ≡ [] → silent n ≡ answered n lent
+answered-none n lent none = sym (ap (λ l. answered n l) none)
+
+-- a run behind one of no tick
+pub run-behind : {R M : Type 0} (proto : LineRules R) (code : Mac M) {B : ℕ} (last : ℕ)
+    (mid new : Sealer R M B) (setup : Setup) (line none run nothing answer : List Tick)
+    → none ≡ [] → HasTakenRun proto code mid last setup line none nothing
+    → (StandsAt proto code mid last setup line
+    → HasTakenRun proto code new last setup line run answer)
+    → HasTakenRun proto code new last setup line run answer
+run-behind proto code last mid new setup line none run nothing answer is first then =
+    then (subst (λ l. StandsAt proto code mid last setup l)
+    (ap (λ r. line ++ r) is ∙ append-nil line) first.stands)

@@ -9,7 +9,7 @@ mod sealer;
 pub use hmac_tag::Dir;
 pub use laws::longer_lines;
 pub use note::{SealNote, SealStep, UnsealedWhy};
-pub use sealer::Sealer;
+pub use sealer::{RunBytes, Sealer};
 
 #[cfg(test)]
 mod tests;

@@ -1,4 +1,7 @@
+ghost use Rattle.std.specs.Prelude.{◌≡◌, length};
+
 use crate::{SealNote, SealStep, UnsealedWhy};
+use arrayvec::ArrayVec;
 use frame_ending::{BurstCut, Cut};
 use hmac_tag::{Dir, Mac};
 use line_rules::LineRules;
@@ -22,9 +25,23 @@ pub struct Sealer<R, M, const B: usize> {
     trailer: Trailer<B>,
 }
 
+/// What is sent of a trailer over a run of ticks.
+pub type RunBytes = ArrayVec<u8, 64>;
+
+// Puts these bytes into `left` in place of what stands there, and says how many they are.
+#[inline]
+fn put(left: &mut RunBytes, sent: &LineBytes) -> usize
+    ensures items { left.new.items ≡ sent.now.items }
+    ensures count { result ≡ length sent.now.items }
+{
+    left.clear();
+    let _ = left.try_extend_from_slice(sent.as_slice());
+    sent.len()
+}
+
 impl<R: LineRules, M: Mac, const B: usize> Sealer<R, M, B> {
-    ghost use Rattle.std.specs.Prelude.{◌≡◌, ℕ, ◌+◌, ◌<◌, ◌≤◌, nat_lt, List, [], ◌∷◌, ◌++◌, drop};
-    ghost use Rattle.std.specs.Prelude.{Option, length, map, take};
+    ghost use Rattle.std.specs.Prelude.{ℕ, ◌+◌, ◌<◌, ◌≤◌, nat_lt, List, [], ◌∷◌, ◌++◌, drop};
+    ghost use Rattle.std.specs.Prelude.{Option, map, take};
     ghost use Rattle.std.specs.Prelude.{None, OnOk, OnErr, IfOk, IfNone};
     ghost use Rattle.yasir_ticks.specs.Ticks.{silent};
     ghost use Rattle.yasir_ticks.specs.declared.tick.Tick.{Tick};
@@ -34,6 +51,7 @@ impl<R: LineRules, M: Mac, const B: usize> Sealer<R, M, B> {
     ghost use Rattle.frame_ending.specs.Cuts.{IsPassing};
     ghost use Rattle.frame_ending.specs.SoFar.{start_so_far, live_bytes_so_far};
     ghost use Rattle.frame_ending.specs.Stands.{StandsFor as CutStandsFor};
+    ghost use Rattle.burst_walk.specs.Answered.{answered};
     ghost use Rattle.link_format.specs.Profile.{IsWordLen, profile_of};
     ghost use Rattle.link_format.specs.Setup.{Setup, setup_of};
     ghost use Rattle.link_format.specs.Trailers.{bytes_left, first_of};
@@ -142,6 +160,25 @@ impl<R: LineRules, M: Mac, const B: usize> Sealer<R, M, B> {
         self.cut.go_on_some(bytes)
     }
 
+    /// Takes the first of these bytes, as far as each is a further byte of a burst that isn't live
+    /// and nothing is left of the trailer, and says how many: all or none. The link is silent
+    /// meanwhile. At most `MAX_TICKS` ticks are taken then.
+    #[inline]
+    pub fn pass_over(&mut self, bytes: &[u8]) -> usize
+        requires { ticks_taken self.old + length bytes.now ≤ MAX_TICKS }
+        ensures within { result ≤ length bytes.now }
+        ensures taken { ticks_taken self.new ≡ ticks_taken self.old + result }
+        ensures run { (journal : Journal) (setup : Setup) (line : List Tick)
+            → StandsFor R.LineRules M.Mac self.old journal setup line
+            → HasTakenRun R.LineRules M.Mac self.new (journal_floor journal) setup line
+            (map Byte (take result bytes.now)) (silent result) }
+    {
+        if self.trailer.left().len() > 0 {
+            return 0;
+        }
+        self.cut.pass_over_some(bytes)
+    }
+
     /// Takes the first of these bytes, as far as each is a further live byte of an early burst and
     /// something is left of the trailer. Answers what is sent of it, a byte for each. At most
     /// `MAX_TICKS` ticks are taken then.
@@ -196,6 +233,58 @@ impl<R: LineRules, M: Mac, const B: usize> Sealer<R, M, B> {
         let most = ticks.min(self.trailer.left().len() as u32);
         let count = self.cut.rest(most);
         self.trailer.send_some(count as usize)
+    }
+
+    // Takes the first of these bytes over which the link is silent, and says how many.
+    #[inline]
+    fn hold_some(&mut self, bytes: &[u8]) -> usize
+        requires { ticks_taken self.old + length bytes.now ≤ MAX_TICKS }
+        ensures within { result ≤ length bytes.now }
+        ensures taken { ticks_taken self.new ≡ ticks_taken self.old + result }
+        ensures run { (journal : Journal) (setup : Setup) (line : List Tick)
+            → StandsFor R.LineRules M.Mac self.old journal setup line
+            → HasTakenRun R.LineRules M.Mac self.new (journal_floor journal) setup line
+            (map Byte (take result bytes.now)) (silent result) }
+    {
+        let held = self.hold(bytes);
+        if held > 0 {
+            return held;
+        }
+        self.pass_over(bytes)
+    }
+
+    /// Takes the first of these bytes, as far as none is forwarded, and says how many: while an
+    /// early burst goes on, or bytes come that aren't live. Puts into `left` what is sent meanwhile
+    /// of a trailer, a byte for each, or nothing where the link is silent. With 0 the caller goes on
+    /// by another call. At most `MAX_TICKS` ticks are taken then.
+    pub fn pass_bytes(&mut self, bytes: &[u8], left: &mut RunBytes) -> usize
+        requires { ticks_taken self.old + length bytes.now ≤ MAX_TICKS }
+        ensures within { result ≤ length bytes.now }
+        ensures taken { ticks_taken self.new ≡ ticks_taken self.old + result }
+        ensures run { (journal : Journal) (setup : Setup) (line : List Tick)
+            → StandsFor R.LineRules M.Mac self.old journal setup line
+            → HasTakenRun R.LineRules M.Mac self.new (journal_floor journal) setup line
+            (map Byte (take result bytes.now)) (answered result left.new.items) }
+    {
+        let held = self.hold_some(bytes);
+        if held > 0 {
+            left.clear();
+            return held;
+        }
+        put(left, &self.send_over(bytes))
+    }
+
+    /// The same of silence while no burst runs: what is left of a trailer is sent.
+    pub fn pass_silence(&mut self, ticks: u32, left: &mut RunBytes) -> u32
+        requires { ticks_taken self.old + ticks ≤ MAX_TICKS }
+        ensures within { result ≤ ticks }
+        ensures taken { ticks_taken self.new ≡ ticks_taken self.old + result }
+        ensures run { (journal : Journal) (setup : Setup) (line : List Tick)
+            → StandsFor R.LineRules M.Mac self.old journal setup line
+            → HasTakenRun R.LineRules M.Mac self.new (journal_floor journal) setup line
+            (silent result) (answered result left.new.items) }
+    {
+        put(left, &self.send_some(ticks)) as u32
     }
 
     // Whether the burst that is running or was the last is early.
