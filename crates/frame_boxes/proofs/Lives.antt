@@ -1,8 +1,10 @@
 -- The live bytes of a line's last burst, by one tick more.
 use Rattle.std.proofs.Common.{◌≡◌, ◌∙◌, ℕ, ◌+◌, ◌<◌, ◌≤◌, List, [], ◌∷◌, ◌++◌, length, refl, ap}
-use Rattle.std.proofs.Common.{sym, subst, arith, ⊎_elim, Option, Some, None, length-append}
+use Rattle.std.proofs.Common.{sym, subst, arith, ⊎_elim, Option, Some, None, length-append, map}
+use Rattle.std.proofs.Common.{zero, suc, append-nil, append_assoc}
 use Rattle.std.proofs.lemmas.Bool.{cases_lt}
 use Rattle.yasir_ticks.specs.Bursts.{Burst, end_of}
+use Rattle.yasir_ticks.specs.Ticks.{silent}
 use Rattle.yasir_ticks.specs.declared.tick.Tick.{Tick}
 use Rattle.yasir_ticks.specs.declared.tick.Tick.TheVariants.{Silent, Byte}
 use Rattle.line_rules.specs.Rules.{Rules}
@@ -11,7 +13,7 @@ use Rattle.line_rules.specs.declared.line_rules.LineRules.{Ghosts as LineRules}
 use Rattle.frame_ending.specs.declared.burst_cut.BurstCut.{BurstCut}
 use Rattle.frame_ending.specs.declared.cut.Cut.{Cut}
 use Rattle.frame_ending.specs.declared.cut.Cut.TheVariants.{Start, Live, Extra, Closed}
-use Rattle.frame_ending.specs.Cuts.{cut_of, IsPassing}
+use Rattle.frame_ending.specs.Cuts.{cut_of, cuts_after, IsPassing}
 use Rattle.frame_ending.specs.SoFar.{last_burst, live_bytes_in, live_bytes_so_far}
 use Rattle.frame_ending.specs.Stands.{StandsFor}
 use Rattle.frame_ending.proofs.LastBurst.{last_burst-silent, last_burst-nil}
@@ -100,6 +102,40 @@ module _ (rules : Rules) (lawful : IsLawful rules) (line : List Tick) where
   live-closed t is =
       ap (λ t. live_bytes_so_far rules (line ++ t ∷ [])) (closed-tick rules line t is) ∙ live-silent
 
+-- ---- runs
+
+module _ (rules : Rules) (lawful : IsLawful rules) where
+  pub live-run : (x : List ℕ) (line : List Tick)
+      → cuts_after rules line (map Byte x) ≡ map Live x
+      → live_bytes_so_far rules (line ++ map Byte x) ≡ live_bytes_so_far rules line ++ x
+  live-run [] line cuts = ap (live_bytes_so_far rules) (append-nil line)
+      ∙ sym (append-nil (live_bytes_so_far rules line))
+  live-run (b ∷ x) line cuts =
+      let first : cut_of rules line (Byte b) ≡ Live b = cc in
+      let others : cuts_after rules (line ++ Byte b ∷ []) (map Byte x) ≡ map Live x = cc in
+      ap (live_bytes_so_far rules) (sym (append_assoc line (Byte b ∷ []) (map Byte x)))
+      ∙ (live-run x (line ++ Byte b ∷ []) others
+      ∙ (ap (λ l. l ++ x) (live-live rules lawful line (Byte b) b first)
+      ∙ append_assoc (live_bytes_so_far rules line) (b ∷ []) x))
+
+  pub extra-run : (x : List ℕ) (line : List Tick)
+      → cuts_after rules line (map Byte x) ≡ map Extra x
+      → live_bytes_so_far rules (line ++ map Byte x) ≡ live_bytes_so_far rules line
+  extra-run [] line cuts = ap (live_bytes_so_far rules) (append-nil line)
+  extra-run (b ∷ x) line cuts =
+      let first : cut_of rules line (Byte b) ≡ Extra b = cc in
+      let others : cuts_after rules (line ++ Byte b ∷ []) (map Byte x) ≡ map Extra x = cc in
+      ap (live_bytes_so_far rules) (sym (append_assoc line (Byte b ∷ []) (map Byte x)))
+      ∙ (extra-run x (line ++ Byte b ∷ []) others
+      ∙ live-extra rules lawful line (Byte b) b first)
+
+  pub silent-run : (n : ℕ) (line : List Tick)
+      → live_bytes_so_far rules (line ++ silent n) ≡ live_bytes_so_far rules line
+  silent-run zero line = ap (live_bytes_so_far rules) (append-nil line)
+  silent-run (suc n) line =
+      ap (live_bytes_so_far rules) (sym (append_assoc line (Silent ∷ []) (silent n)))
+      ∙ (silent-run n (line ++ Silent ∷ []) ∙ live-silent rules lawful line)
+
 -- ---- what keeps them
 
 module _ {R : Type 0} (proto : LineRules R) where
@@ -172,3 +208,50 @@ module _ {R : Type 0} (proto : LineRules R) where
           (sym (answer line lives.cuts) ∙ is));
       room = lives.room;
     }
+
+  -- a run
+  module _ (old new : LiveBytes R) (line : List Tick) (lives : LiveFor proto old line) where
+    pub lives-run : (x : List ℕ) → StandsFor proto new.cut (line ++ map Byte x)
+        → cuts_after proto.rules line (map Byte x) ≡ map Live x
+        → (length old.bytes.items + length x ≤ 292
+        → new.bytes.items ≡ old.bytes.items ++ x)
+        → LiveFor proto new (line ++ map Byte x)
+    lives-run x stands cuts kept =
+        let more = live-run proto.rules proto.lawful x line cuts in
+        let fits = room-for new.cut (line ++ map Byte x) stands lives.room in
+        let few : length old.bytes.items + length x ≤ 292 = omega (
+          arith,
+          ap length more,
+          length-append (live_bytes_so_far proto.rules line) x,
+          ap length lives.kept,
+          fits,
+        ) in
+        record {
+          cuts = stands;
+          kept = kept few ∙ ap (λ l. l ++ x) lives.kept ∙ sym more;
+          room = lives.room;
+        }
+
+    pub lives-over : (x : List ℕ) → StandsFor proto new.cut (line ++ map Byte x)
+        → cuts_after proto.rules line (map Byte x) ≡ map Extra x
+        → new.bytes.items ≡ old.bytes.items
+        → LiveFor proto new (line ++ map Byte x)
+    lives-over x stands cuts same = record {
+      cuts = stands;
+      kept = same ∙ lives.kept ∙ sym (extra-run proto.rules proto.lawful x line cuts);
+      room = lives.room;
+    }
+
+    pub lives-wait : (n : ℕ) → StandsFor proto new.cut (line ++ silent n)
+        → new.bytes.items ≡ old.bytes.items → LiveFor proto new (line ++ silent n)
+    lives-wait n stands same = record {
+      cuts = stands;
+      kept = same ∙ lives.kept ∙ sym (silent-run proto.rules proto.lawful n line);
+      room = lives.room;
+    }
+
+  -- after a run of no tick it stands for the same line
+  pub lives-same : (value : LiveBytes R) (line run : List Tick) → run ≡ []
+      → LiveFor proto value (line ++ run) → LiveFor proto value line
+  lives-same value line run none lives =
+      subst (LiveFor proto value) (ap (λ r. line ++ r) none ∙ append-nil line) lives

@@ -8,7 +8,7 @@ use crate::noting_box::NotingBox;
 use check_receiver::{CheckNote, Checker};
 use hmac_tag::{Dir, Mac};
 use line_rules::LineRules;
-use replay_lists::{FrameStep, Numbered};
+use replay_lists::{FrameStep, Numbered, RunBytes};
 use sequence_journal::{Journal, JournalFault};
 use yasir_io::SlotDisk;
 use yasir_ticks::Tick;
@@ -58,5 +58,13 @@ impl<R: LineRules, M: Mac, const B: usize, const D: usize> NotingBox<R>
             }),
             Err(JournalFault) => Err(JournalFault),
         }
+    }
+
+    fn pass_bytes(&mut self, bytes: &[u8], left: &mut RunBytes) -> usize {
+        self.checker.pass_bytes(bytes, left)
+    }
+
+    fn pass_silence(&mut self, ticks: u32, left: &mut RunBytes) -> u32 {
+        self.checker.pass_silence(ticks, left)
     }
 }

@@ -1,15 +1,19 @@
-ghost use Rattle.std.specs.Prelude.{◌≡◌, ℕ, ◌+◌, ◌<◌, List, [], ◌∷◌, ◌++◌, OnOk, IfOk};
+ghost use Rattle.std.specs.Prelude.{◌≡◌, ℕ, ◌+◌, ◌<◌, ◌≤◌, List, [], ◌∷◌, ◌++◌, OnOk, IfOk};
+ghost use Rattle.std.specs.Prelude.{length, map, take};
+ghost use Rattle.yasir_ticks.specs.Ticks.{silent};
 ghost use Rattle.yasir_io.specs.Causes.{HasCause};
 ghost use Rattle.yasir_ticks.specs.declared.tick.Tick.{Tick};
+ghost use Rattle.yasir_ticks.specs.declared.tick.Tick.TheVariants.{Byte};
+ghost use Rattle.burst_walk.specs.Answered.{answered};
 ghost use Rattle.frame_ending.specs.SoFar.{live_bytes_so_far};
 ghost use Rattle.link_format.specs.Setup.{Setup, setup_of};
 ghost use Rattle.sequence_journal.specs.declared.journal.Journal.{Journal};
 ghost use Rattle.sequence_journal.specs.Journal.{journal_floor, Fits};
-ghost use Rattle.replay_lists.specs.FrameBox.{Numbering, AnswersFrame};
+ghost use Rattle.replay_lists.specs.FrameBox.{Numbering, AnswersFrame, AnswersFrameRun};
 
 use hmac_tag::Dir;
 use line_rules::LineRules;
-use replay_lists::FrameStep;
+use replay_lists::{FrameStep, RunBytes};
 use sequence_journal::{Journal, JournalFault};
 use yasir_io::SlotDisk;
 use yasir_ticks::{MAX_TICKS, Tick};
@@ -57,4 +61,40 @@ pub trait NotingBox<R: LineRules>: Drop {
             → AnswersFrame (numbering setup) line t step
             (live_bytes_so_far R.rules (line ++ t ∷ []))) }
         ensures cause { HasCause (D.faults disk.old) (D.faults disk.new) result };
+
+    /// Takes the first of these bytes, one a tick, as far as the box answers all of them with
+    /// silence or all of them with bytes, and numbers no frame; answers how many it took. Puts the
+    /// bytes of the answer into `left`, or none for silence. With 0 the caller goes on by `step`.
+    fn pass_bytes(&mut self, _bytes: &[u8], left: &mut RunBytes) -> usize
+        requires { taken self.old + length _bytes.now ≤ MAX_TICKS }
+        ensures within { result ≤ length _bytes.now }
+        ensures taken { taken self.new ≡ taken self.old + result }
+        ensures stands { (journal : Journal) (setup : Setup) (line : List Tick)
+            → stands self.old journal setup line
+            → stands self.new journal setup (line ++ map Byte (take result _bytes.now)) }
+        ensures answers { (journal : Journal) (setup : Setup) (line : List Tick)
+            → stands self.old journal setup line
+            → AnswersFrameRun (numbering setup) line (map Byte (take result _bytes.now))
+            (answered result left.new.items) }
+    {
+        left.clear();
+        0
+    }
+
+    /// The same of so many silent ticks.
+    fn pass_silence(&mut self, _ticks: u32, left: &mut RunBytes) -> u32
+        requires { taken self.old + _ticks ≤ MAX_TICKS }
+        ensures within { result ≤ _ticks }
+        ensures taken { taken self.new ≡ taken self.old + result }
+        ensures stands { (journal : Journal) (setup : Setup) (line : List Tick)
+            → stands self.old journal setup line
+            → stands self.new journal setup (line ++ silent result) }
+        ensures answers { (journal : Journal) (setup : Setup) (line : List Tick)
+            → stands self.old journal setup line
+            → AnswersFrameRun (numbering setup) line (silent result)
+            (answered result left.new.items) }
+    {
+        left.clear();
+        0
+    }
 }

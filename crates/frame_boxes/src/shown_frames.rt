@@ -6,7 +6,7 @@ use crate::noting_box::NotingBox;
 use crate::steady_disk::SteadyDisk;
 use hmac_tag::Dir;
 use line_rules::LineRules;
-use replay_lists::{FrameBox, FrameStep};
+use replay_lists::{FrameBox, FrameStep, RunBytes};
 use sequence_journal::Journal;
 use yasir_ticks::Tick;
 
@@ -49,6 +49,18 @@ impl<R: LineRules, X: NotingBox<R>, K: SteadyDisk> FrameBox for ShownFrames<X, R
         self.noting
             .step(t, &mut self.journal, &mut self.disk)
             .unwrap()
+    }
+
+    fn pass_bytes(&mut self, bytes: &[u8], left: &mut RunBytes) -> usize {
+        let count = self.noting.pass_bytes(bytes, left);
+        self.live.hear_bytes(&bytes[..count]);
+        count
+    }
+
+    fn pass_silence(&mut self, ticks: u32, left: &mut RunBytes) -> u32 {
+        let count = self.noting.pass_silence(ticks, left);
+        self.live.wait_some(count);
+        count
     }
 
     fn bytes(&self) -> &[u8] {

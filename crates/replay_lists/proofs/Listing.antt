@@ -26,7 +26,7 @@ module _ {S C V : Type 0} (s : FrameBox S) (c : FrameBox C) (v : Device V)
   -- ---- a tick for the transmitter
 
   module _ (others : new ≡ record old { sealer = new.sealer; sealed = new.sealed }) where
-    checks-same : (setup : Setup) (link : List Tick) → Checks s c v old setup link
+    pub checks-same : (setup : Setup) (link : List Tick) → Checks s c v old setup link
         → Checks s c v new setup link
     checks-same setup link checks =
         let checker : new.checker ≡ old.checker = ap (λ l. l.checker) others in

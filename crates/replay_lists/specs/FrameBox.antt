@@ -1,5 +1,5 @@
 -- A box between two lines: the frames that it numbers, and what its steps answer.
-use Rattle.std.specs.Prelude.{◌≡◌, ℕ, List, [], ◌∷◌, ◌++◌, Option, Some, None, map}
+use Rattle.std.specs.Prelude.{◌≡◌, ℕ, List, [], ◌∷◌, ◌++◌, length, Option, Some, None, map}
 use Rattle.yasir_ticks.specs.declared.tick.Tick.{Tick}
 use Rattle.link_format.specs.NumberedFrame.{NumberedFrame}
 use Rattle.replay_lists.specs.FrameList.{Kept}
@@ -23,6 +23,13 @@ pub record AnswersFrame (box : Numbering) (line : List Tick) (t : Tick) (step : 
     (bytes : List ℕ) : Type 0 where
   pub tick_is : box.other_line (line ++ t ∷ []) ≡ box.other_line line ++ step.tick ∷ []
   pub frame_is : box.frames (line ++ t ∷ []) ≡ box.frames line ++ frame_told step.frame bytes
+
+-- A run of ticks is answered, after this line, with as many ticks of the other line, these, and no
+-- frame falls into it.
+pub record AnswersFrameRun (box : Numbering) (line run answer : List Tick) : Type 0 where
+  pub ticks : box.other_line (line ++ run) ≡ box.other_line line ++ answer
+  pub long : length answer ≡ length run
+  pub frames : box.frames (line ++ run) ≡ box.frames line
 
 -- a frame as it is kept
 abbrev pub kept_numbered : NumberedFrame → Kept Numbered

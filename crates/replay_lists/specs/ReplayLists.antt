@@ -1,6 +1,6 @@
 -- What is kept of two recordings.
-use Rattle.std.specs.Prelude.{◌≡◌, ℕ, ◌+◌, List, [], ◌∷◌, ◌++◌, map, Option, ⊤}
-use Rattle.yasir_ticks.specs.Ticks.{Item}
+use Rattle.std.specs.Prelude.{◌≡◌, ℕ, ◌+◌, List, [], ◌∷◌, ◌++◌, length, map, Option, ⊤}
+use Rattle.yasir_ticks.specs.Ticks.{Item, ticks_in}
 use Rattle.yasir_ticks.specs.declared.tick.Tick.{Tick}
 use Rattle.link_format.specs.Setup.{Setup}
 use Rattle.device_model.specs.Frames.{FrameRead}
@@ -85,6 +85,13 @@ module _ {S C V : Type 0} (s : FrameBox S) (c : FrameBox C) (v : Device V) where
     pub marked : lists.marked ≡ has_mark items
     pub out : outputs.out ≡ origin.out
     pub log : outputs.log ≡ origin.log
+
+  -- After these items more the boxes stand for them too, they have counted them, and they may go on.
+  pub record GoesOnBy (old new : ReplayLists S C V) (more : List Item) : Type 0 where
+    pub moved : (origin : ReplayOrigin) (outputs : Outputs) (items : List Item)
+        → ListsItems old origin outputs items → ListsItems new origin outputs (items ++ more)
+    pub counted : lists_taken new ≡ lists_taken old + length (ticks_in more)
+    pub ready : IsReady new
 
   -- What is said of such a consumer. It uses no disk.
   abbrev pub listing : {D : Type 0} → Consuming (ReplayLists S C V) D

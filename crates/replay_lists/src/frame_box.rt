@@ -1,12 +1,20 @@
 ghost use Rattle.std.specs.Prelude.{◌≡◌, ℕ, ◌+◌, ◌<◌, ◌≤◌, List, [], ◌∷◌, ◌++◌, length};
+ghost use Rattle.std.specs.Prelude.{map, take};
+ghost use Rattle.yasir_ticks.specs.Ticks.{silent};
 ghost use Rattle.yasir_ticks.specs.declared.tick.Tick.{Tick};
+ghost use Rattle.yasir_ticks.specs.declared.tick.Tick.TheVariants.{Byte};
+ghost use Rattle.burst_walk.specs.Answered.{answered};
 ghost use Rattle.link_format.specs.NumberedFrame.{NumberedFrame};
 ghost use Rattle.link_format.specs.Setup.{Setup, setup_of};
-ghost use Rattle.replay_lists.specs.FrameBox.{Numbering, AnswersFrame};
+ghost use Rattle.replay_lists.specs.FrameBox.{Numbering, AnswersFrame, AnswersFrameRun};
 ghost use Rattle.replay_lists.specs.FrameList.{longest_frame};
 
+use arrayvec::ArrayVec;
 use hmac_tag::Dir;
 use yasir_ticks::{MAX_TICKS, Tick};
+
+/// The bytes that a box answers to a run of ticks.
+pub type RunBytes = ArrayVec<u8, 64>;
 
 /// The number of a frame that falls into a step, and the tick of its first byte.
 #[derive(Clone, Copy, Debug, PartialEq, Eq)]
@@ -63,6 +71,43 @@ pub trait FrameBox: Drop {
             → stands self.new setup (line ++ t ∷ []) }
         ensures answer { (setup : Setup) (line : List Tick) → stands self.old setup line
             → AnswersFrame (numbering setup) line t result (shown self.new) };
+
+    /// Takes the first of these bytes, one a tick, as far as the box answers all of them with
+    /// silence or all of them with bytes, and seals or passes no frame; answers how many it took.
+    /// Puts the bytes of the answer into `left`, or none for silence. With 0 the caller goes on by
+    /// `step`.
+    fn pass_bytes(&mut self, _bytes: &[u8], left: &mut RunBytes) -> usize
+        requires room { taken self.old + length _bytes.now ≤ MAX_TICKS }
+        requires able { able self.old }
+        ensures within { result ≤ length _bytes.now }
+        ensures taken { taken self.new ≡ taken self.old + result }
+        ensures able { able self.new }
+        ensures stands { (setup : Setup) (line : List Tick) → stands self.old setup line
+            → stands self.new setup (line ++ map Byte (take result _bytes.now)) }
+        ensures answers { (setup : Setup) (line : List Tick) → stands self.old setup line
+            → AnswersFrameRun (numbering setup) line (map Byte (take result _bytes.now))
+            (answered result left.new.items) }
+    {
+        left.clear();
+        0
+    }
+
+    /// The same of so many silent ticks.
+    fn pass_silence(&mut self, _ticks: u32, left: &mut RunBytes) -> u32
+        requires room { taken self.old + _ticks ≤ MAX_TICKS }
+        requires able { able self.old }
+        ensures within { result ≤ _ticks }
+        ensures taken { taken self.new ≡ taken self.old + result }
+        ensures able { able self.new }
+        ensures stands { (setup : Setup) (line : List Tick) → stands self.old setup line
+            → stands self.new setup (line ++ silent result) }
+        ensures answers { (setup : Setup) (line : List Tick) → stands self.old setup line
+            → AnswersFrameRun (numbering setup) line (silent result)
+            (answered result left.new.items) }
+    {
+        left.clear();
+        0
+    }
 
     /// The bytes of the frame of the step before, where it had one.
     fn bytes(&self) -> &[u8]

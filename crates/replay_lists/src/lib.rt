@@ -5,10 +5,11 @@
 
 mod frame_box;
 mod frame_list;
+mod hearing;
 mod recordings;
 mod replay_lists;
 
-pub use frame_box::{FrameBox, FrameStep, Numbered};
+pub use frame_box::{FrameBox, FrameStep, Numbered, RunBytes};
 pub use frame_list::{FrameList, NoMemory};
 pub use recordings::list_recordings;
 pub use replay_lists::ReplayLists;

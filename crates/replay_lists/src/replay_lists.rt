@@ -8,8 +8,9 @@ ghost use Rattle.replay_lists.specs.FrameList.{Kept, Holds};
 ghost use Rattle.replay_lists.specs.ReplayLists.{KeepsFrames, Listens, StepsInto};
 ghost use Rattle.replay_lists.specs.declared.frame_box.Numbered.{Numbered};
 
-use crate::frame_box::{FrameBox, Numbered};
+use crate::frame_box::{FrameBox, Numbered, RunBytes};
 use crate::frame_list::{FrameList, NoMemory};
+use crate::hearing::hear_answered;
 use device_model::Device;
 use hmac_tag::Dir;
 use std::alloc::Global;
@@ -75,7 +76,11 @@ pub struct ReplayLists<S, C, V> {
 }
 
 impl<S: FrameBox, C: FrameBox, V: Device + Drop> ReplayLists<S, C, V> {
-    ghost use Rattle.replay_lists.specs.ReplayLists.{Checks, HasListed, IsReady};
+    ghost use Rattle.std.specs.Prelude.{length, map, take};
+    ghost use Rattle.yasir_ticks.specs.declared.tick.Tick.TheVariants.{Byte};
+    ghost use Rattle.tick_drive.specs.Items.{byte_items, silent_items};
+    ghost use Rattle.replay_lists.specs.ReplayLists.{Checks, HasListed, IsReady, lists_taken};
+    ghost use Rattle.replay_lists.specs.ReplayLists.{GoesOnBy};
     ghost use Rattle.replay_lists.specs.Listed.{MayList};
     ghost use Rattle.replay_lists.specs.ReplayLists.{kept_reads};
 
@@ -142,6 +147,147 @@ impl<S: FrameBox, C: FrameBox, V: Device + Drop> ReplayLists<S, C, V> {
             Err(NoMemory) => return Err(NoMemory),
         };
         hear_into(&mut self.device, &mut self.read, received)
+    }
+
+    // Gives the first of these bytes to the transmitter as a run, and answers how many.
+    #[inline]
+    fn seal_bytes(&mut self, bytes: &[u8]) -> usize
+        requires room { S.taken self.old.sealer + length bytes.now ≤ MAX_TICKS }
+        requires able { S.able self.old.sealer }
+        ensures within { result ≤ length bytes.now }
+        ensures able { S.able self.new.sealer }
+        ensures others { self.new ≡ record self.old {
+          sealer = self.new.sealer;
+          sealed = self.new.sealed;
+        } }
+        ensures taken { S.taken self.new.sealer ≡ S.taken self.old.sealer + result }
+        ensures ok { (setup : Setup) (line : List Tick)
+            → KeepsFrames S.FrameBox self.old.sealer self.old.sealed setup line
+            → KeepsFrames S.FrameBox self.new.sealer self.new.sealed setup
+            (line ++ map Byte (take result bytes.now)) }
+    {
+        let mut left = RunBytes::new();
+        self.sealer.pass_bytes(bytes, &mut left)
+    }
+
+    // The same of silence.
+    #[inline]
+    fn seal_silence(&mut self, ticks: u32) -> u32
+        requires room { S.taken self.old.sealer + ticks ≤ MAX_TICKS }
+        requires able { S.able self.old.sealer }
+        ensures within { result ≤ ticks }
+        ensures able { S.able self.new.sealer }
+        ensures others { self.new ≡ record self.old {
+          sealer = self.new.sealer;
+          sealed = self.new.sealed;
+        } }
+        ensures taken { S.taken self.new.sealer ≡ S.taken self.old.sealer + result }
+        ensures ok { (setup : Setup) (line : List Tick)
+            → KeepsFrames S.FrameBox self.old.sealer self.old.sealed setup line
+            → KeepsFrames S.FrameBox self.new.sealer self.new.sealed setup
+            (line ++ silent result) }
+    {
+        let mut left = RunBytes::new();
+        self.sealer.pass_silence(ticks, &mut left)
+    }
+
+    // Gives the first of these bytes to the receiver as a run, and what it answers to the device.
+    // Answers how many.
+    #[inline]
+    fn check_bytes(&mut self, bytes: &[u8]) -> Result<usize, NoMemory>
+        requires room { C.taken self.old.checker + length bytes.now ≤ MAX_TICKS }
+        requires ready { IsReady S.FrameBox C.FrameBox V.Device self.old }
+        ensures within { IfOk result (λ n. n ≤ length bytes.now) }
+        ensures others { self.new ≡ record self.old {
+          checker = self.new.checker;
+          device = self.new.device;
+          passed = self.new.passed;
+          read = self.new.read;
+        } }
+        ensures taken { IfOk result (λ n.
+            C.taken self.new.checker ≡ C.taken self.old.checker + n) }
+        ensures ready { OnOk result (IsReady S.FrameBox C.FrameBox V.Device self.new) }
+        ensures ok { IfOk result (λ n. (setup : Setup) (link : List Tick)
+            → Checks S.FrameBox C.FrameBox V.Device self.old setup link
+            → Checks S.FrameBox C.FrameBox V.Device self.new setup
+            (link ++ map Byte (take n bytes.now))) }
+    {
+        let mut left = RunBytes::new();
+        let count = self.checker.pass_bytes(bytes, &mut left);
+        match hear_answered(&mut self.device, &mut self.read, count, left.as_slice()) {
+            Ok(()) => Ok(count),
+            Err(NoMemory) => Err(NoMemory),
+        }
+    }
+
+    // The same of silence.
+    #[inline]
+    fn check_silence(&mut self, ticks: u32) -> Result<u32, NoMemory>
+        requires room { C.taken self.old.checker + ticks ≤ MAX_TICKS }
+        requires ready { IsReady S.FrameBox C.FrameBox V.Device self.old }
+        ensures within { IfOk result (λ n. n ≤ ticks) }
+        ensures others { self.new ≡ record self.old {
+          checker = self.new.checker;
+          device = self.new.device;
+          passed = self.new.passed;
+          read = self.new.read;
+        } }
+        ensures taken { IfOk result (λ n.
+            C.taken self.new.checker ≡ C.taken self.old.checker + n) }
+        ensures ready { OnOk result (IsReady S.FrameBox C.FrameBox V.Device self.new) }
+        ensures ok { IfOk result (λ n. (setup : Setup) (link : List Tick)
+            → Checks S.FrameBox C.FrameBox V.Device self.old setup link
+            → Checks S.FrameBox C.FrameBox V.Device self.new setup (link ++ silent n)) }
+    {
+        let mut left = RunBytes::new();
+        let count = self.checker.pass_silence(ticks, &mut left);
+        match hear_answered(
+            &mut self.device,
+            &mut self.read,
+            count as usize,
+            left.as_slice(),
+        ) {
+            Ok(()) => Ok(count),
+            Err(NoMemory) => Err(NoMemory),
+        }
+    }
+
+    // Takes the first of these bytes as a run, and answers how many.
+    #[inline]
+    fn run_bytes(&mut self, bytes: &[u8]) -> Result<usize, NoMemory>
+        requires room { lists_taken S.FrameBox C.FrameBox V.Device self.old + length bytes.now
+            ≤ MAX_TICKS }
+        requires ready { IsReady S.FrameBox C.FrameBox V.Device self.old }
+        ensures within { IfOk result (λ n. n ≤ length bytes.now) }
+        ensures goes { IfOk result (λ n. GoesOnBy S.FrameBox C.FrameBox V.Device self.old self.new
+            (byte_items (take n bytes.now))) }
+    {
+        if !self.marked {
+            return Ok(self.seal_bytes(bytes));
+        }
+        match self.check_bytes(bytes) {
+            Ok(count) => Ok(count),
+            Err(NoMemory) => Err(NoMemory),
+        }
+    }
+
+    // The same of silence.
+    #[inline]
+    fn run_silence(&mut self, ticks: u32) -> Result<u32, NoMemory>
+        requires room { lists_taken S.FrameBox C.FrameBox V.Device self.old + ticks
+            ≤ MAX_TICKS }
+        requires ready { IsReady S.FrameBox C.FrameBox V.Device self.old }
+        ensures within { IfOk result (λ n. n ≤ ticks) }
+        ensures goes { IfOk result (λ n. GoesOnBy S.FrameBox C.FrameBox V.Device self.old self.new
+            (silent_items n)) }
+    {
+        if !self.marked {
+            return Ok(self.seal_silence(ticks));
+        }
+        match self.check_silence(ticks) {
+            Ok(count) => Ok(count),
+            Err(NoMemory) => Err(NoMemory),
+        }
     }
 
     /// The frames that were sealed.
@@ -213,6 +359,59 @@ impl<S: FrameBox, C: FrameBox, V: Device + Drop, O: Sink, L: Sink, D: SlotDisk> 
                 Err(NoMemory) => Err(Stop::NoMemory),
             }
         }
+    }
+
+    // The first of the bytes go as a run where the box has an answer to one, and else one goes
+    // alone.
+    fn take_bytes(
+        &mut self,
+        out: &mut O,
+        log: &mut L,
+        disk: &mut D,
+        bytes: &[u8],
+    ) -> Result<(), Stop> {
+        let mut taken = 0;
+        while taken < bytes.len() {
+            let count = match self.run_bytes(&bytes[taken..]) {
+                Ok(count) => count,
+                Err(NoMemory) => return Err(Stop::NoMemory),
+            };
+            if count > 0 {
+                taken += count;
+                continue;
+            }
+            match self.take_tick(out, log, disk, Tick::Byte(bytes[taken])) {
+                Ok(()) => taken += 1,
+                Err(stop) => return Err(stop),
+            }
+        }
+        Ok(())
+    }
+
+    // The same of silence.
+    fn take_silence(
+        &mut self,
+        out: &mut O,
+        log: &mut L,
+        disk: &mut D,
+        ticks: u32,
+    ) -> Result<(), Stop> {
+        let mut taken = 0;
+        while taken < ticks {
+            let count = match self.run_silence(ticks - taken) {
+                Ok(count) => count,
+                Err(NoMemory) => return Err(Stop::NoMemory),
+            };
+            if count > 0 {
+                taken += count;
+                continue;
+            }
+            match self.take_tick(out, log, disk, Tick::Silent) {
+                Ok(()) => taken += 1,
+                Err(stop) => return Err(stop),
+            }
+        }
+        Ok(())
     }
 
     fn take_mark(&mut self, _out: &mut O, _log: &mut L, _disk: &mut D) -> Result<(), Stop> {

@@ -1,0 +1,70 @@
+-- A device that hears a run of ticks.
+use Rattle.std.proofs.Common.{◌≡◌, ◌∙◌, ℕ, ◌+◌, List, [], ◌∷◌, ◌++◌, Some, None, Option, Result, refl}
+use Rattle.std.proofs.Common.{ap, sym, subst, append-nil, arith, length, map, take, min, ◌-◌, ◌≤◌}
+use Rattle.std.specs.Prelude.{OnOk}
+use Rattle.std.proofs.lemmas.List.{map-append, length-map, take_all}
+use Rattle.std.proofs.lemmas.Result.{on_ok_weaker}
+use Rattle.yasir_ticks.specs.Ticks.{silent}
+use Rattle.yasir_ticks.specs.declared.tick.Tick.{Tick}
+use Rattle.yasir_ticks.specs.declared.tick.Tick.TheVariants.{Byte}
+use Rattle.burst_walk.specs.Answered.{answered}
+use Rattle.device_model.specs.Frames.{frames_of}
+use Rattle.device_model.specs.declared.device.Device.{Ghosts as Device}
+use Rattle.device_model.specs.declared.device.FrameAt.{FrameAt}
+use Rattle.replay_lists.specs.FrameList.{Kept, Holds}
+use Rattle.replay_lists.specs.ReplayLists.{Listens, kept_read, kept_reads}
+use Rattle.replay_lists.specs.declared.frame_list.FrameList.{FrameList}
+
+module _ {V : Type 0} (device : Device V) (old new : V) (run : List Tick)
+    (stands : (line : List Tick) → device.stands old line → device.stands new (line ++ run)) where
+  -- which has read no frame in it
+  pub hears-none : (list : FrameList ℕ) (frame : Option FrameAt) → frame ≡ None
+      → ((line : List Tick) → device.stands old line
+      → device.reads (line ++ run) ≡ device.reads line ++ frames_of frame)
+      → (line : List Tick) → Listens device old list line → Listens device new list (line ++ run)
+  hears-none list frame is answer line listens = record {
+    hears = stands line listens.hears;
+    holds = subst (λ l. Holds list (kept_reads l))
+        (sym (answer line listens.hears ∙ ap (λ f. device.reads line ++ frames_of f) is
+        ∙ append-nil (device.reads line))) listens.holds;
+  }
+
+  -- which has read one, and it was kept
+  pub hears-one : (before after : FrameList ℕ) (o : Option FrameAt) (frame : FrameAt)
+      → o ≡ Some frame
+      → ((line : List Tick) → device.stands old line
+      → device.reads (line ++ run) ≡ device.reads line ++ frames_of o)
+      → ((frames : List (Kept ℕ)) → Holds before frames
+      → Holds after (frames ++ record { head = frame.start; frame = frame.bytes.items } ∷ []))
+      → (line : List Tick) → Listens device old before line → Listens device new after (line ++ run)
+  hears-one before after o frame is answer push line listens = record {
+    hears = stands line listens.hears;
+    holds = subst (Holds after)
+        (sym (ap kept_reads (answer line listens.hears
+        ∙ ap (λ f. device.reads line ++ frames_of f) is)
+        ∙ map-append kept_read (device.reads line) (frames_of (Some frame))))
+        (push (kept_reads (device.reads line)) listens.holds);
+  }
+
+-- nothing was heard yet
+pub hears-nothing : {V : Type 0} (device : Device V) (value : V) (list : FrameList ℕ)
+    (line : List Tick) → Listens device value list line → Listens device value list (line ++ [])
+hears-nothing device value list line listens =
+    subst (Listens device value list) (sym (append-nil line)) listens
+
+-- what is heard of the answer to a run of so many ticks: its bytes, and then silence
+pub answered-heard : (line : List Tick) (count : ℕ) (left : List ℕ) (heard : ℕ)
+    → heard ≡ min (length left) count → length (answered count left) ≡ count
+    → (line ++ map Byte (take heard left)) ++ silent (count - heard) ≡ line ++ answered count left
+answered-heard line count [] heard is long =
+    let none : heard ≡ 0 = omega arith in
+    let rest : count - heard ≡ count = omega arith in
+    ap (λ n. (line ++ map Byte (take n [])) ++ silent (count - heard)) none
+    ∙ (ap (λ l. l ++ silent (count - heard)) (append-nil line) ∙ ap (λ n. line ++ silent n) rest)
+answered-heard line count (b ∷ x) heard is long =
+    let size = length-map (b ∷ x) (λ a. Byte a) in
+    let all : length (b ∷ x) ≤ heard = omega (arith, long, size) in
+    let none : count - heard ≡ 0 = omega (arith, long, size) in
+    ap (λ n. (line ++ map Byte (take heard (b ∷ x))) ++ silent n) none
+    ∙ (append-nil (line ++ map Byte (take heard (b ∷ x)))
+    ∙ ap (λ l. line ++ map Byte l) (take_all heard (b ∷ x) all))

@@ -1,0 +1,43 @@
+use Rattle.std.proofs.Common.{◌≡◌, ◌+◌, ◌++◌, ap, subst, arith, length, length-drop, map, take}
+use Rattle.std.proofs.lemmas.List.{take_all}
+use Rattle.yasir_ticks.specs.Ticks.{silent}
+use Rattle.yasir_ticks.specs.declared.tick.Tick.TheVariants.{Byte}
+use Rattle.replay_lists.specs.ReplayLists.{Listens}
+use Rattle.replay_lists.proofs.HeardRuns.{hears-nothing}
+use Rattle.replay_lists.proofs.Runs.{slice_rest, bytes_on, silent_on}
+use Rattle.replay_lists.proofs.hearing.hear_silence.Goals as goal
+
+pub loop-done-init : goal.loop-done-init
+loop-done-init g c = record {
+  within = omega arith;
+  taken = omega arith;
+  ok = λ line listens. hears-nothing g.V.Device c.args.device.now c.args.frames.now line listens;
+}
+
+pub wait_some-requires : goal.wait_some-requires
+wait_some-requires g c = omega (
+  arith,
+  c.requires,
+  c.loop-done.invariant.taken,
+  c.loop-done.invariant.within,
+)
+
+pub loop-done-preserved : goal.loop-done-preserved
+loop-done-preserved g c = record {
+  within = omega (arith, c.in-Ok.ensures.within, c.loop-done.invariant.within);
+  taken = omega (arith, c.in-Ok.ensures.taken, c.loop-done.invariant.taken);
+  ok = λ line listens.
+      subst (Listens g.V.Device c.wait_some.new.device c.wait_some.new.frames)
+      (silent_on line c.loop-done.done c.in-Ok.count)
+      (c.in-Ok.ensures.ok (line ++ silent c.loop-done.done) (c.loop-done.invariant.ok line listens));
+}
+
+pub returns-clause-taken : goal.returns-clause-taken
+returns-clause-taken g c =
+    omega (arith, c.loop-done.invariant.taken, c.loop-done.invariant.within)
+
+pub returns-clause-ok : goal.returns-clause-ok
+returns-clause-ok g c = λ line listens.
+    let all : c.loop-done.done ≡ c.args.ticks = omega (arith, c.loop-done.invariant.within) in
+    subst (λ n. Listens g.V.Device c.loop-done.device c.loop-done.frames (line ++ silent n)) all
+    (c.loop-done.invariant.ok line listens)

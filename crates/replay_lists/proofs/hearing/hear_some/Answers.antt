@@ -1,0 +1,18 @@
+use Rattle.std.proofs.Common.{map, take}
+use Rattle.yasir_ticks.specs.Ticks.{silent}
+use Rattle.yasir_ticks.specs.declared.tick.Tick.TheVariants.{Byte}
+use Rattle.replay_lists.proofs.HeardRuns.{hears-none, hears-one}
+use Rattle.replay_lists.proofs.hearing.hear_some.Goals as goal
+
+pub returns-in-None-clause-ok : goal.returns-in-None-clause-ok
+returns-in-None-clause-ok g c =
+    hears-none g.V.Device c.args.device.now c.hear_some-taken.new.self (map Byte (take c.hear_some-taken.result.taken c.args.bytes.now))
+    c.hear_some-taken.ensures.stands c.args.frames.now c.hear_some-taken.result.frame c.in-None.is
+    c.hear_some-taken.ensures.answer
+
+pub returns-in-Ok-clause-ok : goal.returns-in-Ok-clause-ok
+returns-in-Ok-clause-ok g c =
+    hears-one g.V.Device c.args.device.now c.hear_some-taken.new.self (map Byte (take c.hear_some-taken.result.taken c.args.bytes.now))
+    c.hear_some-taken.ensures.stands c.args.frames.now c.push.new.self c.hear_some-taken.result.frame
+    c.in-Some.frame c.in-Some.is c.hear_some-taken.ensures.answer
+    (rw c.as_slice.ensures.value at c.in-Ok.ensures)

@@ -1,0 +1,17 @@
+use Rattle.std.proofs.Common.{◌≤◌, ◌-◌, Ok, take, length}
+use Rattle.tick_drive.specs.Consumers.{Gives, state_of}
+use Rattle.tick_drive.specs.Items.{byte_items, silent_items}
+use Rattle.replay_lists.specs.ReplayLists.{listing}
+use Rattle.replay_lists.proofs.replay_lists.ReplayListsConsumer.take_bytes.Given as goal
+
+abbrev pub invariant-loop-taken : goal.invariant-loop-taken
+invariant-loop-taken g l = record {
+  within : l.taken ≤ length l.bytes;
+  given : Gives (listing g.S.FrameBox g.C.FrameBox g.V.Device) g.O.Sink g.L.Sink g.D.SlotDisk
+      {T = Unit {0}}
+      (state_of l.fn.self l.fn.out l.fn.log l.fn.disk) (state_of l.self l.out l.log l.disk)
+      (byte_items (take l.taken l.bytes)) (Ok tt);
+}
+
+abbrev pub decreases-loop-taken : goal.decreases-loop-taken
+decreases-loop-taken g l = length l.bytes - l.taken

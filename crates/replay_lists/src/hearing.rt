@@ -1,0 +1,122 @@
+//! A device that hears runs of ticks, and the frames that it reads in them.
+ghost use Rattle.std.specs.Prelude.{◌≡◌, ℕ, ◌+◌, ◌<◌, ◌≤◌, List, ◌++◌, length, map, take, IfOk, OnOk};
+ghost use Rattle.yasir_ticks.specs.Ticks.{silent};
+ghost use Rattle.yasir_ticks.specs.declared.tick.Tick.{Tick};
+ghost use Rattle.yasir_ticks.specs.declared.tick.Tick.TheVariants.{Byte};
+ghost use Rattle.yasir_ticks.specs.declared.TheConstants.{MAX_TICKS};
+ghost use Rattle.burst_walk.specs.Answered.{answered};
+ghost use Rattle.replay_lists.specs.ReplayLists.{Listens};
+
+use crate::frame_list::{FrameList, NoMemory};
+use device_model::{Device, Heard};
+
+// A device hears bytes up to the first one in which it reads a frame, which is kept. Answers how
+// many.
+fn hear_some<V: Device>(
+    device: &mut V,
+    frames: &mut FrameList<u64>,
+    bytes: &[u8],
+) -> Result<usize, NoMemory>
+    requires { V.taken device.old + length bytes.now ≤ MAX_TICKS }
+    ensures within { IfOk result (λ n. n ≤ length bytes.now) }
+    ensures some { 0 < length bytes.now → IfOk result (λ n. 0 < n) }
+    ensures taken { IfOk result (λ n. V.taken device.new ≡ V.taken device.old + n) }
+    ensures ok { IfOk result (λ n. (line : List Tick)
+        → Listens V.Device device.old frames.old line
+        → Listens V.Device device.new frames.new (line ++ map Byte (take n bytes.now))) }
+{
+    let Heard { taken, frame } = device.hear_some(bytes);
+    match frame {
+        None => Ok(taken),
+        Some(frame) => match frames.push(frame.start, frame.bytes.as_slice()) {
+            Ok(()) => Ok(taken),
+            Err(NoMemory) => Err(NoMemory),
+        },
+    }
+}
+
+// The same of so many silent ticks.
+fn wait_some<V: Device>(
+    device: &mut V,
+    frames: &mut FrameList<u64>,
+    ticks: usize,
+) -> Result<usize, NoMemory>
+    requires { V.taken device.old + ticks ≤ MAX_TICKS }
+    ensures within { IfOk result (λ n. n ≤ ticks) }
+    ensures some { 0 < ticks → IfOk result (λ n. 0 < n) }
+    ensures taken { IfOk result (λ n. V.taken device.new ≡ V.taken device.old + n) }
+    ensures ok { IfOk result (λ n. (line : List Tick)
+        → Listens V.Device device.old frames.old line
+        → Listens V.Device device.new frames.new (line ++ silent n)) }
+{
+    let Heard { taken, frame } = device.wait_some(ticks);
+    match frame {
+        None => Ok(taken),
+        Some(frame) => match frames.push(frame.start, frame.bytes.as_slice()) {
+            Ok(()) => Ok(taken),
+            Err(NoMemory) => Err(NoMemory),
+        },
+    }
+}
+
+// A device hears all of these bytes.
+fn hear_bytes<V: Device>(
+    device: &mut V,
+    frames: &mut FrameList<u64>,
+    bytes: &[u8],
+) -> Result<(), NoMemory>
+    requires { V.taken device.old + length bytes.now ≤ MAX_TICKS }
+    ensures taken { OnOk result (V.taken device.new ≡ V.taken device.old + length bytes.now) }
+    ensures ok { OnOk result ((line : List Tick) → Listens V.Device device.old frames.old line
+        → Listens V.Device device.new frames.new (line ++ map Byte bytes.now)) }
+{
+    let mut done = 0;
+    while done < bytes.len() {
+        match hear_some(device, frames, &bytes[done..]) {
+            Ok(count) => done += count,
+            Err(NoMemory) => return Err(NoMemory),
+        }
+    }
+    Ok(())
+}
+
+// A device hears so many silent ticks.
+fn hear_silence<V: Device>(
+    device: &mut V,
+    frames: &mut FrameList<u64>,
+    ticks: usize,
+) -> Result<(), NoMemory>
+    requires { V.taken device.old + ticks ≤ MAX_TICKS }
+    ensures taken { OnOk result (V.taken device.new ≡ V.taken device.old + ticks) }
+    ensures ok { OnOk result ((line : List Tick) → Listens V.Device device.old frames.old line
+        → Listens V.Device device.new frames.new (line ++ silent ticks)) }
+{
+    let mut done = 0;
+    while done < ticks {
+        match wait_some(device, frames, ticks - done) {
+            Ok(count) => done += count,
+            Err(NoMemory) => return Err(NoMemory),
+        }
+    }
+    Ok(())
+}
+
+// A device hears what a box answers to a run of so many ticks: as many bytes, or silence.
+pub(crate) fn hear_answered<V: Device>(
+    device: &mut V,
+    frames: &mut FrameList<u64>,
+    count: usize,
+    left: &[u8],
+) -> Result<(), NoMemory>
+    requires { V.taken device.old + count ≤ MAX_TICKS }
+    ensures taken { OnOk result (V.taken device.new ≡ V.taken device.old + count) }
+    ensures ok { OnOk result ((line : List Tick) → length (answered count left.now) ≡ count
+        → Listens V.Device device.old frames.old line
+        → Listens V.Device device.new frames.new (line ++ answered count left.now)) }
+{
+    let heard = left.len().min(count);
+    match hear_bytes(device, frames, &left[..heard]) {
+        Ok(()) => hear_silence(device, frames, count - heard),
+        Err(NoMemory) => Err(NoMemory),
+    }
+}
