@@ -5,7 +5,9 @@ use Rattle.std.specs.Prelude.{is_some}
 use Rattle.std.specs.List.{filter_map, cons_option, filter}
 use Rattle.std.proofs.lemmas.List.Elements.{filter-append}
 use Rattle.yasir_ticks.specs.declared.tick.Tick.{Tick}
-use Rattle.burst_walk.specs.Walk.{Walker, Noted, notes_of}
+use Rattle.burst_walk.specs.Walk.{Walker, Noted, notes_of, line_of}
+use Rattle.burst_walk.specs.Runs.{AnswersRun}
+use Rattle.burst_walk.proofs.Longer.{length-line_of}
 use Rattle.burst_walk.specs.Answers.{AnswersTick, told_notes, note_in}
 use Rattle.trial_session.specs.Boxes.{told_by}
 use Rattle.trial_session.specs.Counting.{through_in, refused_in, dropped_in}
@@ -91,6 +93,40 @@ frames-step {N = N} w brief begun line t answer note frame_in told agree answers
     ∙ tally-step w brief begun line t answer note p told agree answers
     ∙ ap (λ k. k + counted told note)
     (sym (length-filter_map frame_in p (λ n. refl) (notes_of w begun line)))
+
+-- a run without a note counts nothing
+pub tally-run : {S N A : Type 0} (w : Walker S N) (brief : N → A) (begun : S)
+    (line run answer : List Tick) (p : N → Bool) (told : A → Bool)
+    → ((n : N) → p n ≡ told (brief n)) → AnswersRun w brief begun line run answer
+    → tally p (notes_of w begun (line ++ run)) ≡ tally p (notes_of w begun line)
+tally-run w brief begun line run answer p told agree answers =
+    sym (tally-told brief p told agree (notes_of w begun (line ++ run)))
+    ∙ ap (tally told) answers.notes
+    ∙ tally-told brief p told agree (notes_of w begun line)
+
+pub frames-run : {S N A F : Type 0} (w : Walker S N) (brief : N → A) (begun : S)
+    (line run answer : List Tick) (frame_in : N → Option F) (told : A → Bool)
+    → ((n : N) → is_some (frame_in n) ≡ told (brief n))
+    → AnswersRun w brief begun line run answer
+    → length (filter_map (λ n. frame_in n.note) (notes_of w begun (line ++ run)))
+    ≡ length (filter_map (λ n. frame_in n.note) (notes_of w begun line))
+frames-run {N = N} w brief begun line run answer frame_in told agree answers =
+    let p : N → Bool = λ n. is_some (frame_in n) in
+    length-filter_map frame_in p (λ n. refl) (notes_of w begun (line ++ run))
+    ∙ tally-run w brief begun line run answer p told agree answers
+    ∙ sym (length-filter_map frame_in p (λ n. refl) (notes_of w begun line))
+
+-- a run is answered with as many ticks
+pub run-long : {S N A : Type 0} (w : Walker S N) (brief : N → A) (begun : S)
+    (line run answer : List Tick) → AnswersRun w brief begun line run answer
+    → length answer ≡ length run
+run-long w brief begun line run answer answers =
+    let all : length (line_of w begun (line ++ run)) ≡ length line + length run =
+    length-line_of w begun (line ++ run) ∙ length-append line run in
+    let parts : length (line_of w begun (line ++ run)) ≡ length line + length answer =
+    ap length answers.ticks ∙ length-append (line_of w begun line) answer
+    ∙ ap (λ n. n + length answer) (length-line_of w begun line) in
+    omega (arith, all, parts)
 
 -- ---- by fates
 

@@ -4,6 +4,7 @@ use Rattle.std.specs.Prelude.{is_some}
 use Rattle.std.specs.List.{filter, filter_map}
 use Rattle.yasir_ticks.specs.declared.tick.Tick.{Tick}
 use Rattle.line_rules.specs.Rules.{Rules}
+use Rattle.burst_walk.specs.Runs.{AnswersRun}
 use Rattle.link_format.specs.Profile.{Profile}
 use Rattle.seal_transmitter.specs.Sealing.{FullNote as SealFull, sealer, sealed_in}
 use Rattle.seal_transmitter.specs.Sealing.{at_floor as seals_from}
@@ -20,8 +21,9 @@ use Rattle.check_receiver.specs.declared.step.CheckStep.{CheckStep}
 use Rattle.trial_session.specs.Boxes.{told_by, fate_sealed, is_unsealed, seal_counting}
 use Rattle.trial_session.specs.Boxes.{fate_checked, check_counting}
 use Rattle.trial_session.specs.Boxes.{is_refused as notes_refused, is_dropped as notes_dropped}
-use Rattle.trial_session.specs.Counting.{CountsNothing, CountsStep, dropped_in}
+use Rattle.trial_session.specs.Counting.{CountsNothing, CountsStep, CountsRun, dropped_in}
 use Rattle.trial_session.proofs.Counting.{is_through, is_refused, is_dropped}
+use Rattle.trial_session.proofs.Counting.{tally-run, frames-run, run-long}
 use Rattle.trial_session.proofs.Counting.{through-step, refused-step, dropped-step}
 use Rattle.trial_session.proofs.Starting.{no-note, no-tick}
 
@@ -62,6 +64,21 @@ module _ (profile : Profile) (rules : Rules) where
     dropped_is = none-dropped step.note;
   }
 
+  pub seals-run : (line run answer : List Tick)
+      → AnswersRun (sealer profile rules) seal_brief (seals_from 0) line run answer
+      → CountsRun (seal_counting profile rules) line run answer
+  seals-run line run answer answers =
+      let w = sealer profile rules in
+      record {
+        long = run-long w seal_brief (seals_from 0) line run answer answers;
+        ticks_are = answers.ticks;
+        through_is = frames-run w seal_brief (seals_from 0) line run answer sealed_in
+            (λ a. is_through (fate_sealed a)) sealed-alike answers;
+        refused_is = tally-run w seal_brief (seals_from 0) line run answer is_unsealed
+            (λ a. is_refused (fate_sealed a)) unsealed-alike answers;
+        dropped_is = refl;
+      }
+
   passed-alike : (n : CheckFull) → is_some (passed_in n) ≡ is_through (fate_checked (check_brief n))
   passed-alike (passed_note number start frame) = refl
   passed-alike (refused_note start why) = refl
@@ -100,3 +117,19 @@ module _ (profile : Profile) (rules : Rules) where
     dropped_is = dropped-step fate_checked (checker profile rules) check_brief (checks_from 0) line
         t step.tick step.note answers notes_dropped dropped-alike;
   }
+
+  pub checks-run : (line run answer : List Tick)
+      → AnswersRun (checker profile rules) check_brief (checks_from 0) line run answer
+      → CountsRun (check_counting profile rules) line run answer
+  checks-run line run answer answers =
+      let w = checker profile rules in
+      record {
+        long = run-long w check_brief (checks_from 0) line run answer answers;
+        ticks_are = answers.ticks;
+        through_is = frames-run w check_brief (checks_from 0) line run answer passed_in
+            (λ a. is_through (fate_checked a)) passed-alike answers;
+        refused_is = tally-run w check_brief (checks_from 0) line run answer notes_refused
+            (λ a. is_refused (fate_checked a)) refused-alike answers;
+        dropped_is = tally-run w check_brief (checks_from 0) line run answer notes_dropped
+            (λ a. is_dropped (fate_checked a)) dropped-alike answers;
+      }

@@ -10,3 +10,5 @@ pub mod Placed
 pub mod SealsAll
 pub mod Tellings
 pub mod Worked
+pub mod SentRuns
+pub mod HeardRuns

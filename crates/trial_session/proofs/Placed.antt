@@ -11,7 +11,7 @@ use Rattle.yasir_ticks.specs.BurstsOf.{StartsFrom, IsContiguous}
 use Rattle.yasir_ticks.specs.BurstsOf.IsContiguous.{one}
 use Rattle.yasir_ticks.specs.Ticks.{silent, bytes_in}
 use Rattle.yasir_ticks.specs.declared.tick.Tick.{Tick}
-use Rattle.yasir_ticks.specs.declared.tick.Tick.TheVariants.{Silent, Byte}
+use Rattle.yasir_ticks.specs.declared.tick.Tick.TheVariants.{Byte}
 use Rattle.yasir_ticks.proofs.BurstLaws.{bursts_from-starts}
 use Rattle.yasir_ticks.proofs.BurstsOfLaws.{bursts_from-contiguous, bursts_from-silence}
 use Rattle.line_rules.specs.Rules.{Rules}

@@ -12,15 +12,14 @@ use Rattle.yasir_ticks.proofs.BurstLaws.{bursts_from-silent_end}
 use Rattle.line_rules.specs.Rules.{Rules}
 use Rattle.line_rules.specs.RulesLaws.{IsLawful, IsFramed}
 use Rattle.device_model.specs.Frames.{FrameRead}
-use Rattle.link_format.specs.NumberedFrame.{NumberedFrame}
-use Rattle.link_format.specs.Profile.{Profile, HasTags, trailer_len, delay, words}
+use Rattle.link_format.specs.Profile.{Profile, HasTags, trailer_len}
 use Rattle.seal_transmitter.specs.Sealing.{sealer, at_floor, sealed, sealed_in}
 use Rattle.link_verdicts.specs.Checking.{passed, received_line}
 use Rattle.receiver_laws.specs.Reading.{ReadsWhatPassed, delivered}
 use Rattle.receiver_laws.specs.Untouched.{AreSpaced, IsUntouched, numbered}
 use Rattle.receiver_laws.proofs.Deliveries.{delivers-all}
 use Rattle.trial_session.specs.DrawnFrames.{Drawing}
-use Rattle.trial_session.specs.Session.{period_line, state_at, session_line}
+use Rattle.trial_session.specs.Session.{state_at, session_line}
 use Rattle.trial_session.proofs.Periods.{line-none, line-suc}
 use Rattle.trial_session.proofs.Placed.{placed, length-placed, AreFrames, frames-more}
 use Rattle.trial_session.proofs.Placed.{bursts-placed, spaced, frames_drawn, length-drawn}

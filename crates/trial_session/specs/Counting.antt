@@ -1,5 +1,5 @@
 -- What boxes make of a line, as far as it is counted.
-use Rattle.std.specs.Prelude.{◌≡◌, ℕ, ◌+◌, List, [], ◌∷◌, ◌++◌, Option, Some, None}
+use Rattle.std.specs.Prelude.{◌≡◌, ℕ, ◌+◌, List, [], ◌∷◌, ◌++◌, length, Option, Some, None}
 use Rattle.yasir_ticks.specs.declared.tick.Tick.{Tick}
 use Rattle.trial_session.specs.declared.counting_box.CountedStep.{CountedStep}
 use Rattle.trial_session.specs.declared.counting_box.Fate.{Fate}
@@ -46,3 +46,12 @@ pub record CountsStep (counting : Counting) (line : List Tick) (t : Tick) (step 
   pub through_is : counting.through (line ++ t ∷ []) ≡ counting.through line + through_in step.fate
   pub refused_is : counting.refused (line ++ t ∷ []) ≡ counting.refused line + refused_in step.fate
   pub dropped_is : counting.dropped (line ++ t ∷ []) ≡ counting.dropped line + dropped_in step.fate
+
+-- After these ticks of a line, a run of ticks more is answered with as many ticks of the other
+-- line, and no burst is counted in it.
+pub record CountsRun (counting : Counting) (line run answer : List Tick) : Type 0 where
+  pub long : length answer ≡ length run
+  pub ticks_are : counting.other_line (line ++ run) ≡ counting.other_line line ++ answer
+  pub through_is : counting.through (line ++ run) ≡ counting.through line
+  pub refused_is : counting.refused (line ++ run) ≡ counting.refused line
+  pub dropped_is : counting.dropped (line ++ run) ≡ counting.dropped line

@@ -30,6 +30,11 @@ module _ {X : Type 0} (counter : CountingBox X) where
     pub answered : counter.counting.other_line (line ++ more)
         ≡ counter.counting.other_line line ++ answers
 
+  -- The same of a run, whose answer has as many ticks.
+  pub record HasPassed (side : Side X) (line run answer : List Tick) : Type 0 where
+    pub sent : HasSent side line run answer
+    pub long : length answer ≡ length run
+
 -- A device has heard this line, and its frames are counted.
 pub record HasHeard {V : Type 0} (device : Device V) (value : Listening V) (line : List Tick)
     : Type 0 where

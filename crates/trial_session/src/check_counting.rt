@@ -4,7 +4,7 @@ ghost use Rattle.check_receiver.specs.Stands.{StandsFor, ticks_taken};
 ghost use Rattle.trial_session.specs.Boxes.{trial_setup, checking, fate_checked, told_by};
 
 use crate::counting_box::{CountedStep, CountingBox, Fate};
-use check_receiver::{CheckNote, Checker};
+use check_receiver::{CheckNote, Checker, RunBytes};
 use hmac_tag::{Dir, Mac};
 use line_rules::LineRules;
 use sequence_journal::{Journal, JournalFault};
@@ -58,5 +58,15 @@ impl<R: LineRules, M: Mac, const B: usize, const D: usize> CountingBox
             }),
             Err(JournalFault) => Err(JournalFault),
         }
+    }
+
+    #[inline]
+    fn pass_bytes(&mut self, bytes: &[u8], left: &mut RunBytes) -> usize {
+        self.checker.pass_bytes(bytes, left)
+    }
+
+    #[inline]
+    fn pass_silence(&mut self, ticks: u32, left: &mut RunBytes) -> u32 {
+        self.checker.pass_silence(ticks, left)
     }
 }

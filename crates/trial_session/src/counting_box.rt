@@ -1,10 +1,15 @@
-ghost use Rattle.std.specs.Prelude.{◌≡◌, ℕ, ◌+◌, ◌<◌, List, [], ◌∷◌, ◌++◌, OnOk, IfOk};
+ghost use Rattle.std.specs.Prelude.{◌≡◌, ℕ, ◌+◌, ◌<◌, ◌≤◌, List, [], ◌∷◌, ◌++◌, length, map, take};
+ghost use Rattle.std.specs.Prelude.{OnOk, IfOk};
 ghost use Rattle.yasir_io.specs.Causes.{HasCause};
+ghost use Rattle.yasir_ticks.specs.Ticks.{silent};
+ghost use Rattle.yasir_ticks.specs.declared.tick.Tick.TheVariants.{Byte};
+ghost use Rattle.burst_walk.specs.Answered.{answered};
 ghost use Rattle.yasir_ticks.specs.declared.tick.Tick.{Tick};
 ghost use Rattle.sequence_journal.specs.declared.journal.Journal.{Journal};
 ghost use Rattle.sequence_journal.specs.Journal.{journal_floor, Fits};
-ghost use Rattle.trial_session.specs.Counting.{Counting, CountsNothing, CountsStep};
+ghost use Rattle.trial_session.specs.Counting.{Counting, CountsNothing, CountsStep, CountsRun};
 
+use check_receiver::RunBytes;
 use sequence_journal::{Journal, JournalFault};
 use yasir_io::SlotDisk;
 use yasir_ticks::{MAX_TICKS, Tick};
@@ -67,4 +72,29 @@ pub trait CountingBox: Drop {
         ensures answer { IfOk result (λ step. (line : List Tick) → stands self.old journal.old line
             → CountsStep counting line t step) }
         ensures cause { HasCause (D.faults disk.old) (D.faults disk.new) result };
+
+    /// Takes the first of these bytes, at most 64, one a tick, as far as no burst is counted in
+    /// their steps and what is answered is alike, all bytes or all silence. Answers how many, and
+    /// `left` gets the bytes that are answered, or none for silence. With 0 the caller goes on by
+    /// `step`.
+    fn pass_bytes(&mut self, bytes: &[u8], left: &mut RunBytes) -> usize
+        requires few { length bytes.now ≤ 64 }
+        requires room { taken self.old + length bytes.now ≤ MAX_TICKS }
+        ensures within { result ≤ length bytes.now }
+        ensures taken { taken self.new ≡ taken self.old + result }
+        ensures stands { (journal : Journal) (line : List Tick) → stands self.old journal line
+            → stands self.new journal (line ++ map Byte (take result bytes.now)) }
+        ensures answers { (journal : Journal) (line : List Tick) → stands self.old journal line
+            → CountsRun counting line (map Byte (take result bytes.now))
+            (answered result left.new.items) };
+
+    /// The same of so many silent ticks.
+    fn pass_silence(&mut self, ticks: u32, left: &mut RunBytes) -> u32
+        requires room { taken self.old + ticks ≤ MAX_TICKS }
+        ensures within { result ≤ ticks }
+        ensures taken { taken self.new ≡ taken self.old + result }
+        ensures stands { (journal : Journal) (line : List Tick) → stands self.old journal line
+            → stands self.new journal (line ++ silent result) }
+        ensures answers { (journal : Journal) (line : List Tick) → stands self.old journal line
+            → CountsRun counting line (silent result) (answered result left.new.items) };
 }

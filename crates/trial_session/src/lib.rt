@@ -12,6 +12,7 @@ mod laws;
 mod listening;
 mod period;
 mod printing;
+mod runs;
 mod seal_counting;
 mod session;
 mod side;

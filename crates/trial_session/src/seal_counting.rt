@@ -1,9 +1,10 @@
-ghost use Rattle.std.specs.Prelude.{◌≡◌};
+ghost use Rattle.std.specs.Prelude.{◌≡◌, ◌≤◌, length};
 ghost use Rattle.link_format.specs.Profile.{IsWordLen};
 ghost use Rattle.seal_transmitter.specs.Stands.{StandsFor, ticks_taken};
 ghost use Rattle.trial_session.specs.Boxes.{trial_setup, sealing, fate_sealed, told_by};
 
 use crate::counting_box::{CountedStep, CountingBox, Fate};
+use check_receiver::RunBytes;
 use hmac_tag::{Dir, Mac};
 use line_rules::LineRules;
 use seal_transmitter::{SealNote, Sealer};
@@ -25,6 +26,16 @@ fn fate_in(note: Option<SealNote>) -> Option<Fate>
         Some(SealNote::Unsealed { .. }) => Some(Fate::Refused),
         None => None,
     }
+}
+
+// Puts these bytes into `left` in place of what stands there.
+#[inline]
+fn put(left: &mut RunBytes, bytes: &[u8])
+    requires { length bytes.now ≤ 64 }
+    ensures { left.new.items ≡ bytes.now }
+{
+    left.clear();
+    left.try_extend_from_slice(bytes).unwrap();
 }
 
 impl<R: LineRules, M: Mac, const B: usize> CountingBox for SealCounting<R, M, B> {
@@ -56,5 +67,19 @@ impl<R: LineRules, M: Mac, const B: usize> CountingBox for SealCounting<R, M, B>
             }),
             Err(JournalFault) => Err(JournalFault),
         }
+    }
+
+    // The link has the bytes of a burst that may be sealed.
+    #[inline]
+    fn pass_bytes(&mut self, bytes: &[u8], left: &mut RunBytes) -> usize {
+        let count = self.sealer.forward(bytes);
+        put(left, &bytes[..count]);
+        count
+    }
+
+    #[inline]
+    fn pass_silence(&mut self, ticks: u32, left: &mut RunBytes) -> u32 {
+        left.clear();
+        self.sealer.rest(ticks)
     }
 }
