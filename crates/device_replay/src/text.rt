@@ -2,7 +2,8 @@ ghost use Rattle.std.specs.Prelude.{◌≡◌, ◌≤◌, length};
 ghost use Rattle.device_replay.specs.Lines.{frame_line, read_at};
 
 use device_model::FrameAt;
-use replay_status::{Line, push_decimal, push_hex};
+use hex_digits::push_digits;
+use replay_status::{Line, push_decimal};
 
 /// `read at S HEX`: the bytes of a frame, and the tick of its first byte.
 pub fn read_line(start: u64, bytes: &[u8]) -> Line
@@ -13,7 +14,7 @@ pub fn read_line(start: u64, bytes: &[u8]) -> Line
     line.try_extend_from_slice(b"read at ").unwrap();
     push_decimal(&mut line, start);
     line.push(b' ');
-    push_hex(&mut line, bytes);
+    push_digits(&mut line, bytes);
     line.push(b'\n');
     line
 }

@@ -1,0 +1,16 @@
+use Rattle.std.proofs.Common.{◌%◌, ◌∙◌, bit_and, ap, map, arith}
+use Rattle.std.proofs.lemmas.Nat.{and_mask}
+use Rattle.std.proofs.lemmas.Simd.{zip2_splat}
+use Rattle.hex.specs.Hex.{lower_digits}
+use Rattle.hex_digits.specs.declared.lanes.TheConstants.{DIGITS}
+use Rattle.hex_digits.proofs.Lookups.{low_ok, looked_up, copied, low_bits}
+use Rattle.hex_digits.proofs.lanes.seconds.Goals as goal
+
+pub swizzle : goal.swizzle
+swizzle c = low_ok c.args.bytes c.fits-bytes
+
+pub returns : goal.returns
+returns c =
+    looked_up DIGITS lower_digits (λ x. x % 16) c.args.bytes _ c.fits-bytes
+    (zip2_splat bit_and c.args.bytes 32 15 c.fits-bytes.0 ∙ low_bits c.args.bytes)
+    (λ x h. omega arith) copied

@@ -1,0 +1,24 @@
+ghost use Rattle.std.specs.Prelude.{◌≡◌, ◌+◌, ◌*◌, ◌≤◌, ◌++◌, length};
+ghost use Rattle.hex.specs.Hex.{encode_lower};
+
+use crate::lanes::digits_of;
+use arrayvec::ArrayVec;
+
+// How many bytes are written together.
+const TOGETHER: usize = 32;
+
+/// Appends bytes as lower-case hex digits, for which there must be room.
+pub fn push_digits<const CAP: usize>(line: &mut ArrayVec<u8, CAP>, bytes: &[u8])
+    requires { length line.old.items + 2 * length bytes.now ≤ CAP }
+    ensures digits { line.new.items ≡ line.old.items ++ encode_lower bytes.now }
+    ensures long { length line.new.items ≡ length line.old.items + 2 * length bytes.now }
+{
+    let mut rest = bytes;
+    while let Some((front, more)) = rest.split_first_chunk::<TOGETHER>() {
+        let _ = line.try_extend_from_slice(&digits_of(front));
+        rest = more;
+    }
+    let mut last = [0; TOGETHER];
+    last[..rest.len()].copy_from_slice(rest);
+    let _ = line.try_extend_from_slice(&digits_of(&last)[..2 * rest.len()]);
+}
