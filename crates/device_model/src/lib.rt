@@ -23,4 +23,6 @@ pub use rtu_family::RtuFamily;
 #[cfg(test)]
 mod family_tests;
 #[cfg(test)]
+mod run_tests;
+#[cfg(test)]
 mod tests;

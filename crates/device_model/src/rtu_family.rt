@@ -244,6 +244,10 @@ impl RtuFamily {
             → rtu_family_reads cut gap (line ++ map Byte (take n bytes.now))
             ≡ rtu_family_reads cut gap line }
     {
+        if self.silence.ticks() == 0 {
+            self.go_on_some(bytes);
+            return;
+        }
         let Some((first, rest)) = bytes.split_first() else {
             return;
         };

@@ -1,0 +1,144 @@
+//! Runs of bytes and of silence against single ticks, at each cut of lines of each length.
+ghost use Rattle.std.specs.Prelude.{◌+◌, ◌<◌, ◌≤◌, length};
+
+use super::*;
+use dnp_link_frame::{DnpBytes, Header, UserBytes, build};
+use rtu_frame::{RtuBytes, close};
+use std::test::Fail;
+use yasir_ticks::Tick;
+
+// A byte of a run that looks random.
+fn byte_at(seed: u32, place: u32) -> u8 {
+    let mixed = (seed ^ place.wrapping_mul(0x9E37_79B9)).wrapping_mul(0x85EB_CA6B);
+    (mixed >> 24) as u8
+}
+
+// What is read of some bytes, a pause, further bytes and silence, a tick at a time: the first
+// frame, and after how many ticks.
+fn by_ticks<D: Device + Drop>(first: &[u8], pause: usize, second: &[u8], rest: usize) -> Heard
+    requires { length first.now + pause + length second.now + rest < 1000 }
+{
+    let mut device = D::fresh();
+    let mut taken = 0;
+    let ticks = first.len() + pause + second.len() + rest;
+    for at in 0..ticks {
+        let tick = if at < first.len() {
+            Tick::Byte(first[at])
+        } else if at < first.len() + pause {
+            Tick::Silent
+        } else if at < first.len() + pause + second.len() {
+            Tick::Byte(second[at - first.len() - pause])
+        } else {
+            Tick::Silent
+        };
+        taken = at + 1;
+        if let Some(frame) = device.step(tick) {
+            return Heard {
+                taken,
+                frame: Some(frame),
+            };
+        }
+    }
+    Heard { taken, frame: None }
+}
+
+// The same by runs.
+fn by_runs<D: Device + Drop>(first: &[u8], pause: usize, second: &[u8], rest: usize) -> Heard
+    requires { length first.now + pause + length second.now + rest < 1000 }
+{
+    let mut device = D::fresh();
+    let Heard { taken: a, frame } = device.hear_some(first);
+    if frame.is_some() {
+        return Heard { taken: a, frame };
+    }
+    let Heard { taken: b, frame } = device.wait_some(pause);
+    if frame.is_some() {
+        return Heard {
+            taken: a + b,
+            frame,
+        };
+    }
+    let Heard { taken: c, frame } = device.hear_some(second);
+    if frame.is_some() {
+        return Heard {
+            taken: a + b + c,
+            frame,
+        };
+    }
+    let Heard { taken: d, frame } = device.wait_some(rest);
+    Heard {
+        taken: a + b + c + d,
+        frame,
+    }
+}
+
+fn same<D: Device + Drop>(first: &[u8], pause: usize, second: &[u8], rest: usize) -> bool
+    requires { length first.now + pause + length second.now + rest < 1000 }
+{
+    let single = by_ticks::<D>(first, pause, second, rest);
+    let runs = by_runs::<D>(first, pause, second, rest);
+    if single.taken != runs.taken {
+        return false;
+    }
+    match (&single.frame, &runs.frame) {
+        (None, None) => true,
+        (Some(one), Some(other)) => {
+            one.start == other.start && one.bytes.as_slice() == other.bytes.as_slice()
+        }
+        _ => false,
+    }
+}
+
+// Frames of each length, and what is none by a pause of two ticks, by its last byte, or by a byte
+// too many.
+#[test]
+fn bursts_of_every_length(rt: HostRuntime) -> Result<(), Fail> {
+    for len in 0..255u32 {
+        let mut frame = RtuBytes::new();
+        for place in 0..len {
+            assert!(rt; frame.try_push(byte_at(len, place)).is_ok());
+        }
+        let _ = close(&mut frame);
+        for cut in 0..=frame.len() {
+            let (first, second) = frame.as_slice().split_at(cut);
+            for pause in 0..6 {
+                assert!(rt; same::<RtuDevice>(first, pause, second, 7));
+            }
+        }
+        let rest = [0; 40];
+        assert!(rt; same::<RtuDevice>(frame.as_slice(), 0, &rest, 7));
+    }
+    Ok(())
+}
+
+// Frames of each length, behind bytes that are none and before others; whole, and with a byte that
+// is wrong.
+#[test]
+fn hunts_of_every_length(rt: HostRuntime) -> Result<(), Fail> {
+    let header = Header {
+        control: 0xC4,
+        destination: 1,
+        source: 1024,
+    };
+    for len in 0..200u32 {
+        let mut user = UserBytes::new();
+        for place in 0..len {
+            assert!(rt; user.try_push(byte_at(len, place)).is_ok());
+        }
+        let mut frame: DnpBytes = build(&header, user.as_slice())?;
+        for cut in 0..=frame.len() {
+            let (first, second) = frame.as_slice().split_at(cut);
+            assert!(rt; same::<DnpDevice>(first, cut % 3, second, 1));
+            assert!(rt; same::<DnpDevice>(b"\x64\x05\x05\x00", cut % 2, first, 2));
+        }
+        let wrong = byte_at(len, 300) as usize % 292;
+        if let Some(byte) = frame.get_mut(wrong) {
+            *byte ^= 0x10;
+        }
+        for cut in 0..=frame.len() {
+            let (first, second) = frame.as_slice().split_at(cut);
+            assert!(rt; same::<DnpDevice>(first, cut % 3, second, 1));
+        }
+    }
+    Ok(())
+}
