@@ -191,11 +191,11 @@ impl<R: LineRules, M: Mac, const B: usize, const D: usize> Checker<R, M, B, D> {
         if self.outlet.owes() {
             return 0;
         }
-        if self.until == 0 {
-            self.cut.wait_some(ticks);
-            return ticks;
+        if self.until > 0 {
+            return self.rest_some(ticks, left);
         }
-        0
+        self.cut.wait_some(ticks);
+        ticks
     }
 
     // Whether the burst has a whole and good header.
@@ -325,6 +325,30 @@ impl<R: LineRules, M: Mac, const B: usize, const D: usize> Checker<R, M, B, D> {
         self.ring.pass_silence(taken);
         self.until -= taken as u8;
         taken
+    }
+
+    // Silence while live ticks of a burst that is noted still leave, but for the last of them.
+    fn rest_some(&mut self, ticks: u32, left: &mut RunBytes) -> u32
+        requires room { ticks_taken self.old + ticks ≤ MAX_TICKS }
+        requires rests { self.old.waits ≡ false }
+        requires unowed { owed_by self.old.outlet ≡ 0 }
+        requires some { 0 < self.old.until }
+        requires empty { left.old.items ≡ [] }
+        ensures within { result ≤ ticks }
+        ensures taken { ticks_taken self.new ≡ ticks_taken self.old + result }
+        ensures run { (last : ℕ) (setup : Setup) (line : List Tick)
+            → StandsAt R.LineRules M.Mac self.old last setup line
+            → HasTakenRun R.LineRules M.Mac self.new last setup line
+            (silent result) (answered result left.new.items) }
+    {
+        let still = usize::from(self.until) - 1;
+        let most = (ticks as usize).min(still).min(D);
+        let count = self.ring.front_alike(most);
+        lend(&self.ring, &mut self.outlet, count, left);
+        self.ring.pass_silence(count);
+        self.cut.wait_some(count as u32);
+        self.until -= count as u8;
+        count as u32
     }
 
     // What leaves in this step, where the tick `t` enters the ring.

@@ -15,9 +15,10 @@ returns-then-owes-clause-run g c = λ last setup line stands.
     same-taken g.R.LineRules g.M.Mac c.args.self.now last setup line stands
     c.clear.new.self.items c.clear.ensures
 
-pub returns-then-self-eq0-clause-run : goal.returns-then-self-eq0-clause-run
-returns-then-self-eq0-clause-run g c = λ last setup line stands.
+pub returns-clause-run : goal.returns-clause-run
+returns-clause-run g c = λ last setup line stands.
     let n : ℕ = c.args.ticks in
+    let none = c.if-self-gt0.false in
     let new = record c.args.self.now { cut = c.wait_some.new.self } in
     let Len : ℕ → Type 0 = λ k. HasTakenRun g.R.LineRules g.M.Mac new last setup line (silent n)
     (silent k) in
@@ -26,10 +27,5 @@ returns-then-self-eq0-clause-run g c = λ last setup line stands.
     subst A (sym c.clear.ensures) (subst Len (length-replicate n Silent)
     (idle-taken g.R.LineRules g.M.Mac c.args.self.now last setup line stands c.wait_some.new.self
     (silent n) c.if-self.false (not-owed _ (sym c.owes.ensures ∙ c.if-owes.false))
-    c.if-self-eq0.true (c.wait_some.ensures.stands line stands.cuts)
+    (omega arith) (c.wait_some.ensures.stands line stands.cuts)
     (silence-begin_none g.R.LineRules.rules n line)))
-
-pub returns-clause-run : goal.returns-clause-run
-returns-clause-run g c = λ last setup line stands.
-    same-taken g.R.LineRules g.M.Mac c.args.self.now last setup line stands
-    c.clear.new.self.items c.clear.ensures

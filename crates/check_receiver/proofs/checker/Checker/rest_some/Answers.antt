@@ -1,0 +1,24 @@
+use Rattle.std.proofs.Common.{◌≡◌, ◌+◌, ◌-◌, ◌≤◌, ◌<◌, arith, ℕ}
+use Rattle.std.proofs.lemmas.List.{length-replicate}
+use Rattle.yasir_ticks.specs.Ticks.{silent}
+use Rattle.yasir_ticks.specs.declared.tick.Tick.TheVariants.{Silent}
+use Rattle.check_receiver.proofs.RestRuns.{silence-begin_none}
+use Rattle.check_receiver.proofs.RunsTaken.{flow-counted}
+use Rattle.check_receiver.proofs.checker.Checker.rest_some.Goals as goal
+
+pub returns-clause-run : goal.returns-clause-run
+returns-clause-run g c = λ last setup line stands.
+    let old = c.args.self.now in
+    let n : ℕ = c.front_alike-count.result in
+    let within = c.front_alike-count.ensures.within in
+    let most = c.min-most.ensures in
+    let first = c.min.ensures in
+    let widened = c.from.ensures in
+    let some = c.requires.some in
+    flow-counted g.R.LineRules g.M.Mac old last setup line stands c.wait_some.new.self
+    c.pass_silence.new.self c.lend.new.outlet n c.lend.new.left.items (old.until - n)
+    (omega arith) c.front_alike-count.ensures.alike c.lend.ensures.stands c.lend.ensures.owed
+    (silent n) n (length-replicate n Silent) c.requires.rests c.requires.unowed (omega arith)
+    (omega arith) (c.wait_some.ensures.stands line stands.cuts)
+    (silence-begin_none g.R.LineRules.rules n line) c.lend.ensures.front c.pass_silence.ensures
+    (omega arith)
