@@ -415,10 +415,47 @@ const CHECK_CASE: Case = Case {
     ],
 };
 
+// One frame, and its packet. Nothing is printed before the input's end.
+const REPLAY_CASE: Case = Case {
+    row: Row {
+        words: &["replay", "rtu", "ab", "key"],
+        text: b"+01030000000ac5cd\n-4\n%\n\
+          +01030000000ac5cd\n-3\n+0001014c5b8d33c6d29a347013b0\n-11\n",
+        out: b"sealed 1 at 0 01030000000ac5cd\n\
+          passed 1 at 0 01030000000ac5cd\n\
+          read at 18 01030000000ac5cd\n",
+        ..READ
+    },
+    keyed: true,
+    reads: &[(0, NOTHING)],
+    disk_calls: &[],
+};
+
+// The counts are those of scripts/trial_model.py. Nothing is read.
+const TRIAL_CASE: Case = Case {
+    row: Row {
+        words: &["trial", "rtu", "7", "3"],
+        out: b"trial rtu 7 3 sealed 3 passed 2 refused 2 dropped 0 read 2\n",
+        ..READ
+    },
+    keyed: false,
+    reads: &[],
+    disk_calls: &[],
+};
+
+const CASES: [Case; 7] = [
+    READ_CASE,
+    VECTORS_CASE,
+    INIT_CASE,
+    SEAL_CASE,
+    CHECK_CASE,
+    REPLAY_CASE,
+    TRIAL_CASE,
+];
+
 #[test]
 fn stops_where_a_call_fails(rt: HostRuntime) -> Result<(), Fail> {
-    let cases = [READ_CASE, VECTORS_CASE, INIT_CASE, SEAL_CASE, CHECK_CASE];
-    for case in cases {
+    for case in CASES {
         fail_key(&rt, rt.alloc(), &case)?;
         fail_input(&rt, rt.alloc(), &case)?;
         fail_out(&rt, rt.alloc(), &case)?;
