@@ -17,6 +17,8 @@ mod over_boxes;
 #[cfg(test)]
 mod reading;
 #[cfg(test)]
+mod runs;
+#[cfg(test)]
 mod sealing;
 #[cfg(test)]
 mod second_profile;

@@ -1,0 +1,60 @@
+//! A line comes to the same however many of its bytes stand in one line of text.
+ghost use Rattle.std.specs.Prelude.{◌<◌, ◌≤◌};
+
+use crate::outside::STEADY;
+use crate::over_boxes::{FRESH, KEY, Ran, replay};
+use hmac_tag::{Dir, HmacSha1};
+use replay_status::Status;
+use rtu_frame::Rtu;
+use seal_replay::SealBox;
+use std::alloc::Global;
+use std::test::Fail;
+
+/// The transmitter of a line of Modbus RTU, with words of two bytes.
+type RtuSealBox = SealBox<Rtu, HmacSha1, 2>;
+
+// Adds a burst of so many bytes, in lines of at most so many.
+fn push_burst(text: &mut Vec<u8>, len: usize, most: usize) -> Result<(), Fail>
+    requires { 0 < most }
+{
+    let mut left = len;
+    while left > 0 {
+        let now = left.min(most);
+        text.push(b'+')?;
+        for _ in 0..now {
+            text.extend_from_slice(b"41")?;
+        }
+        text.push(b'\n')?;
+        left -= now;
+    }
+    Ok(())
+}
+
+// A frame, a burst that starts before its trailer is sent, and one that may be sealed.
+fn seal_bursts(alloc: Global, len: usize, most: usize) -> Result<Ran, Fail>
+    requires { 0 < most }
+{
+    let mut text = b"+01030000000ac5cd\n-6\n".to_vec(alloc)?;
+    push_burst(&mut text, len, most)?;
+    text.extend_from_slice(b"-30\n")?;
+    push_burst(&mut text, len, most)?;
+    replay::<RtuSealBox>(alloc, 24, Dir::Ab, KEY, FRESH, text.as_slice(), &STEADY)
+}
+
+// Bursts of each length, past the room of a frame too, in single bytes and in lines of each length:
+// the one is early, so that the trailer goes out over it, and the other is forwarded.
+#[test]
+fn runs_are_sealed_as_their_bytes(rt: HostRuntime) -> Result<(), Fail> {
+    for len in [
+        0, 1, 2, 7, 31, 32, 33, 63, 64, 100, 199, 200, 255, 256, 257, 300,
+    ] {
+        let single = seal_bursts(rt.alloc(), len, 1)?;
+        assert_eq!(rt; single.status, Status::Done);
+        for most in 2..33 {
+            let run = seal_bursts(rt.alloc(), len, most)?;
+            assert_eq!(rt; run.out.held(), single.out.held(), "{len} bytes by {most}");
+            assert_eq!(rt; run.log.held(), single.log.held(), "{len} bytes by {most}");
+        }
+    }
+    Ok(())
+}
