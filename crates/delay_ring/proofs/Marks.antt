@@ -1,9 +1,9 @@
 -- Bytes with marks, and the ticks that they are.
-use Rattle.std.proofs.Common.{◌≡◌, ◌∙◌, ℕ, zero, suc, ◌+◌, ◌-◌, ◌<◌, ◌≤◌, List, [], ◌∷◌, ◌++◌}
+use Rattle.std.proofs.Common.{◌≡◌, ◌∙◌, ℕ, zero, suc, ◌+◌, ◌<◌, ◌≤◌, List, [], ◌∷◌, ◌++◌}
 use Rattle.std.proofs.Common.{length, length-append, take, drop, map, replicate, get_or, refl, sym}
-use Rattle.std.proofs.Common.{ap, arith, append_assoc, subst, slice_set}
-use Rattle.std.proofs.lemmas.List.{append-nil, drop-take, drop-drop, take_at, drop_at, set_split}
-use Rattle.std.proofs.lemmas.List.{length-take-le, take-append-drop}
+use Rattle.std.proofs.Common.{ap, arith, append_assoc}
+use Rattle.std.proofs.lemmas.List.{drop-take, drop-drop, take_at}
+use Rattle.std.proofs.lemmas.List.{length-take-le}
 use Rattle.yasir_ticks.specs.Ticks.{silent}
 use Rattle.yasir_ticks.specs.declared.tick.Tick.{Tick}
 use Rattle.yasir_ticks.specs.declared.tick.Tick.TheVariants.{Silent, Byte}

@@ -1,5 +1,5 @@
 -- The ticks of a ring, which stand from a place on.
-use Rattle.std.proofs.Common.{◌≡◌, ◌∙◌, ℕ, zero, suc, ◌+◌, ◌-◌, ◌<◌, ◌≤◌, List, [], ◌∷◌, ◌++◌}
+use Rattle.std.proofs.Common.{◌≡◌, ◌∙◌, ℕ, zero, suc, ◌+◌, ◌<◌, ◌≤◌, List, [], ◌∷◌, ◌++◌}
 use Rattle.std.proofs.Common.{length, take, drop, map, replicate, get_or, refl, sym, ap, arith}
 use Rattle.std.proofs.Common.{slice_set}
 use Rattle.std.proofs.lemmas.List.{drop-append-le, take_at, drop_at, set_split, length-drop}

@@ -1,5 +1,6 @@
 ghost use Rattle.std.specs.Prelude.{◌≡◌, ◌+◌, ◌<◌, ◌≤◌, ◌++◌, length, take, drop};
 
+use crate::lanes::{LANES, bytes_from, silence_from};
 use yasir_ticks::Tick;
 
 /// How many ticks a ring holds at most.
@@ -180,6 +181,9 @@ impl<const D: usize> DelayRing<D> {
         ensures all { result < most
             → slice_index_or self.now.marks (self.now.oldest + result) 0 ≡ 0 }
     {
+        if most <= LANES && self.oldest <= PLACES - LANES {
+            return bytes_from(&self.marks, self.oldest).min(most);
+        }
         for n in 0..most {
             if self.marks[self.oldest + n] == 0 {
                 return n;
@@ -210,6 +214,9 @@ impl<const D: usize> DelayRing<D> {
         ensures all { result < most
             → (slice_index_or (ring_ticks self.now) result Silent ≡ Silent → ⊥) }
     {
+        if most <= LANES && self.oldest <= PLACES - LANES {
+            return silence_from(&self.marks, self.oldest).min(most);
+        }
         for n in 0..most {
             if self.marks[self.oldest + n] != 0 {
                 return n;

@@ -2,6 +2,7 @@
 #![tactic(auto)]
 
 mod delay_ring;
+mod lanes;
 #[cfg(test)]
 mod tests;
 

@@ -1,4 +1,4 @@
-use Rattle.std.proofs.Common.{◌≡◌, ◌∙◌, ◌+◌, sym, arith, slice_index_or}
+use Rattle.std.proofs.Common.{◌≡◌, ◌∙◌, ◌+◌, sym, subst, arith, slice_index_or, ℕ}
 use Rattle.yasir_ticks.specs.declared.tick.Tick.TheVariants.{Silent, Byte}
 use Rattle.delay_ring.proofs.Marks.{marked-byte}
 use Rattle.delay_ring.proofs.Windows.{front-silent, ring-at}
@@ -39,3 +39,39 @@ returns-clause-silent g c =
     let end = c.loop-n-test.false in
     front-silent g.row.D ring.oldest ring.bytes ring.marks (bytes ∙ sym marks) (omega arith)
     c.args.most c.requires (λ j less. c.loop-n.invariant j (omega arith))
+
+-- ---- by vectors
+
+pub returns-then-self-clause-silent : goal.returns-then-self-clause-silent
+returns-then-self-clause-silent g c =
+    let ring = c.args.self.now in
+    let bytes = ring.byte_room in
+    let marks = ring.mark_room in
+    let within = ring.within in
+    let most = c.requires in
+    let few = c.if-most-le-LANES.true in
+    let least = c.min.ensures in
+    front-silent g.row.D ring.oldest ring.bytes ring.marks (bytes ∙ sym marks) (omega arith)
+    c.min.result (omega arith)
+    (λ j less. c.silence_from.ensures.silent j (omega arith) (omega arith))
+
+pub returns-then-self-clause-all : goal.returns-then-self-clause-all
+returns-then-self-clause-all g c = λ short is.
+    let ring = c.args.self.now in
+    let bytes = ring.byte_room in
+    let marks = ring.mark_room in
+    let within = ring.within in
+    let most = c.requires in
+    let few = c.if-most-le-LANES.true in
+    let least = c.min.ensures in
+    let k : ℕ = c.min.result in
+    let same : c.silence_from.result ≡ k = omega arith in
+    let M : ℕ → Type 0 = λ n. slice_index_or ring.marks (ring.oldest + n) 0 ≡ 0 → ⊥ in
+    let some : M k = subst M same (c.silence_from.ensures.byte (omega arith)) in
+    let at = ring-at g.row.D ring.oldest ring.bytes ring.marks (bytes ∙ sym marks) (omega arith) k
+    (omega arith) in
+    let byte = marked-byte (slice_index_or ring.bytes (ring.oldest + k) 0)
+    (slice_index_or ring.marks (ring.oldest + k) 0) some in
+    let both : Silent ≡ Byte (slice_index_or ring.bytes (ring.oldest + k) 0) =
+    sym is ∙ (at ∙ byte) in
+    cc

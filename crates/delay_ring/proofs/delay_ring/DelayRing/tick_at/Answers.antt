@@ -1,5 +1,4 @@
-use Rattle.std.proofs.Common.{◌∙◌, sym, ap, arith, slice_index_or}
-use Rattle.delay_ring.specs.DelayRing.{marked}
+use Rattle.std.proofs.Common.{◌∙◌, sym, arith, slice_index_or}
 use Rattle.delay_ring.proofs.Marks.{ticks-at, marked-silent, marked-byte}
 use Rattle.delay_ring.proofs.delay_ring.DelayRing.tick_at.Goals as goal
 
