@@ -2,8 +2,8 @@
 use Rattle.std.proofs.Common.{◌≡◌, ◌↔◌, ◌∙◌, ◌==◌, ◌&&◌, ℕ, zero, suc, ◌+◌, ◌*◌, ◌-◌, ◌%◌, ◌<◌, ◌≤◌, ◌++◌}
 use Rattle.std.proofs.Common.{inl, inr, Bool, true, false, List, [], ◌∷◌, length, get_or, take, map}
 use Rattle.std.proofs.Common.{replicate, Option, Some, None, unwrap_or, Ok, refl, ap, sym, cond, w64}
-use Rattle.std.proofs.Common.{subst, arith, bit_or, ltb, ◌^◌}
-use Rattle.std.proofs.lemmas.Bool.{and_parts, cases_eq, cases_lt}
+use Rattle.std.proofs.Common.{subst, arith, bit_and, ltb, ◌^◌, min, ◌⊎◌}
+use Rattle.std.proofs.lemmas.Bool.{and_parts, cases_eq, cases_lt, lt-ltb, le-ltb}
 use Rattle.std.proofs.lemmas.List.{take_more, get_or-map, length-map, get_or_past}
 use Rattle.std.proofs.lemmas.List.{get_or_append_left, get_or-append_right}
 use Rattle.std.proofs.lemmas.Nat.Bits.{bit_at-zero, bit_at-trailing_zeros}
@@ -12,9 +12,8 @@ use Rattle.std.specs.Simd.Lanes.{zip2, sel_l, top}
 use Rattle.hex.specs.Hex.{decode_of, decode_pairs, hex_digit_value}
 use Rattle.memchr.specs.Lanes.{HasLanes}
 use Rattle.memchr.proofs.lemmas.LaneLemmas.{HasLanes-zip2}
-use Rattle.yasir_ticks.specs.Pairs.{lane_value, lane_pair, lane_greater}
+use Rattle.yasir_ticks.specs.Pairs.{HasValues, lane_value, lane_pair, lane_greater, lane_raised}
 use Rattle.yasir_ticks.proofs.Digits.{decode_of-more}
-use Rattle.yasir_ticks.proofs.HexValues.{digit_small}
 use Rattle.yasir_ticks.proofs.ManyBytes.{take_pair}
 
 -- ---- the values of digits
@@ -31,21 +30,31 @@ mul8 a b = a * b % 256
 abbrev below8 : ℕ → ℕ → ℕ
 below8 a b = cond (ltb a b) 255 0
 
+-- the greater and the less of two lanes
+abbrev max8 : ℕ → ℕ → ℕ
+max8 a b = cond (top 7 (below8 a b)) b a
+
+abbrev min8 : ℕ → ℕ → ℕ
+min8 a b = cond (top 7 (below8 a b)) a b
+
+abbrev max_lanes : List ℕ → List ℕ → List ℕ
+max_lanes a b = sel_l (map (top 7) (zip2 below8 a b)) b a
+
+abbrev min_lanes : List ℕ → List ℕ → List ℕ
+min_lanes a b = sel_l (map (top 7) (zip2 below8 a b)) a b
+
 -- what the operations make of one lane
 abbrev value_by_steps : ℕ → ℕ
 value_by_steps c =
-    cond (top 7 (below8 (sub8 c 48) 10)) (sub8 c 48)
-    (cond (top 7 (below8 (sub8 (bit_or c 32) 97) 6)) (add8 (sub8 (bit_or c 32) 97) 10) 255)
+    min8 (sub8 (max8 (add8 c 198) 6) 246) (add8 (min8 (sub8 (bit_and c 223) 65) 245) 10)
 
 -- and of n lanes
 abbrev values_by_steps : ℕ → List ℕ → List ℕ
 values_by_steps n c =
-    sel_l (map (top 7) (zip2 below8 (zip2 sub8 c (replicate n 48)) (replicate n 10)))
-    (zip2 sub8 c (replicate n 48))
-    (sel_l (map (top 7) (zip2 below8 (zip2 sub8 (zip2 bit_or c (replicate n 32)) (replicate n 97))
-    (replicate n 6)))
-    (zip2 add8 (zip2 sub8 (zip2 bit_or c (replicate n 32)) (replicate n 97)) (replicate n 10))
-    (replicate n 255))
+    min_lanes
+    (zip2 sub8 (max_lanes (zip2 add8 c (replicate n 198)) (replicate n 6)) (replicate n 246))
+    (zip2 add8 (min_lanes (zip2 sub8 (zip2 bit_and c (replicate n 223)) (replicate n 65))
+    (replicate n 245)) (replicate n 10))
 
 values_are : (n : ℕ) (c : List ℕ) → length c ≡ n → values_by_steps n c ≡ map value_by_steps c
 values_are zero [] h = refl
@@ -56,17 +65,17 @@ values_are (suc n) (b ∷ c) h = ap (λ l. value_by_steps b ∷ l) (values_are n
 -- whether the steps give the values of all bytes below n
 abbrev agree : ℕ → Bool
 agree zero = true
-agree (suc n) = value_by_steps n == lane_value n && agree n
+agree (suc n) = min 16 (value_by_steps n) == lane_value n && agree n
 
 eq_of : (a b : ℕ) → (a == b) ≡ true → a ≡ b
 eq_of a b h = grind arith
 
-agree_at : (n : ℕ) → agree n ≡ true → (c : ℕ) → c < n → value_by_steps c ≡ lane_value c
+agree_at : (n : ℕ) → agree n ≡ true → (c : ℕ) → c < n → min 16 (value_by_steps c) ≡ lane_value c
 agree_at zero h c l = absurd (omega arith)
 agree_at (suc n) h c l =
-    let parts = and_parts (value_by_steps n == lane_value n) (agree n) h in
+    let parts = and_parts (min 16 (value_by_steps n) == lane_value n) (agree n) h in
     elim (cases_eq c n) [
-      | inl e ↦ rw e (eq_of (value_by_steps n) (lane_value n) parts.0)
+      | inl e ↦ rw e (eq_of (min 16 (value_by_steps n)) (lane_value n) parts.0)
       | inr other ↦ agree_at n parts.1 c (omega arith)
     ]
 
@@ -74,10 +83,10 @@ all_agree : agree 256 ≡ true
 all_agree = refl
 
 pub lanes_values : (c : List ℕ) → length c ≡ 32 → ((k : ℕ) → k < 32 → get_or c k 0 < 256)
-    → HasLanes (values_by_steps 32 c) (λ k. lane_value (get_or c k 0))
+    → HasValues (values_by_steps 32 c) (λ k. get_or c k 0)
 lanes_values c long bytes = rw (values_are 32 c long) (record {
   long = length-map c value_by_steps ∙ long;
-  each = λ k h. get_or-map value_by_steps c k 0 0 (omega arith)
+  each = λ k h. ap (min 16) (get_or-map value_by_steps c k 0 0 (omega arith))
       ∙ agree_at 256 all_agree (get_or c k 0) (bytes k h);
 })
 
@@ -143,6 +152,37 @@ pub lanes_greater : (a b : List ℕ) → length a ≡ 32 → length b ≡ 32
     (λ k. lane_greater (get_or a k 0) (get_or b k 0))
 lanes_greater a b p q = rw (greater_are a b) (HasLanes-zip2 lane_greater a b p q)
 
+-- ---- lanes that are raised
+
+raised_by_steps : (a : ℕ) (t : Bool) → cond (top 7 (cond t 255 0)) a 143 ≡ cond t a 143
+raised_by_steps a true = refl
+raised_by_steps a false = refl
+
+raised_one : (a : ℕ) → add8 (min8 a 143) 112 ≡ lane_raised a
+raised_one a =
+    ap (λ m. add8 m 112) (raised_by_steps a (ltb a 143)) ∙ small a (cases_lt a 143)
+  where
+    small : (a : ℕ) → (a < 143) ⊎ (143 ≤ a) → add8 (cond (ltb a 143) a 143) 112 ≡ lane_raised a
+    small a (inl less) = rw (lt-ltb a 143 less) (let e : (a + 112) % 256 ≡ a + 112 = omega arith in e)
+    small a (inr more) = rw (le-ltb a 143 more) refl
+
+raised_are : (n : ℕ) (v : List ℕ) → length v ≡ n
+    → zip2 add8 (min_lanes v (replicate n 143)) (replicate n 112) ≡ map lane_raised v
+raised_are zero [] h = refl
+raised_are zero (a ∷ v) h = absurd (omega arith)
+raised_are (suc n) [] h = absurd (omega arith)
+raised_are (suc n) (a ∷ v) h =
+    ap (λ x. x ∷ zip2 add8 (min_lanes v (replicate n 143)) (replicate n 112)) (raised_one a)
+    ∙ ap (λ l. lane_raised a ∷ l) (raised_are n v (omega arith))
+
+pub lanes_raised : (v : List ℕ) → length v ≡ 32
+    → HasLanes (zip2 add8 (min_lanes v (replicate 32 143)) (replicate 32 112))
+    (λ k. lane_raised (get_or v k 0))
+lanes_raised v long = rw (raised_are 32 v long) (record {
+  long = length-map v lane_raised ∙ long;
+  each = λ k h. get_or-map lane_raised v k 0 0 (omega arith);
+})
+
 -- ---- how many lanes are digits
 
 -- a mask of the lanes that are 128 or more
@@ -197,33 +237,28 @@ pub record IsPair (first second byte : ℕ) : Type 0 where
   pub second_is : hex_digit_value second ≡ Some low
   pub byte_is : byte ≡ high * 16 + low
 
-found : (o : Option ℕ) → unwrap_or o 255 < 128 → o ≡ Some (unwrap_or o 255)
-found (Some v) h = refl
-found None h = absurd (omega arith)
+found : (o : Option ℕ) (v : ℕ) → min 16 v ≡ unwrap_or o 16 → v < 16 → o ≡ Some v
+found (Some w) v e h = let same : w ≡ v = omega arith in ap Some same
+found None v e h = absurd (omega arith)
 
 pair_fits : (high low : ℕ) → high < 16 → low < 16 → lane_pair high low ≡ high * 16 + low
 pair_fits high low h l = omega arith
 
-both_low : (a b : ℕ) → lane_greater a b < 128 → (a < 128) × (b < 128)
+both_low : (a b : ℕ) → lane_raised (lane_greater a b) < 128 → (a < 16) × (b < 16)
 both_low a b h = grind arith
 
 -- where the greater of the values is low, both are digits
-pub is_pair : (first second : ℕ) → lane_greater (lane_value first) (lane_value second) < 128
-    → IsPair first second (lane_pair (lane_value first) (lane_value second))
-is_pair first second h =
-    let low = both_low (lane_value first) (lane_value second) h in
-    let first_is : hex_digit_value first ≡ Some (lane_value first) =
-    found (hex_digit_value first) low.0 in
-    let second_is : hex_digit_value second ≡ Some (lane_value second) =
-    found (hex_digit_value second) low.1 in
+pub is_pair : (first second high low : ℕ) → min 16 high ≡ lane_value first
+    → min 16 low ≡ lane_value second → lane_raised (lane_greater high low) < 128
+    → IsPair first second (lane_pair high low)
+is_pair first second high low first_value second_value h =
+    let small = both_low high low h in
     record {
-      high = lane_value first;
-      low = lane_value second;
-      first_is = first_is;
-      second_is = second_is;
-      byte_is = pair_fits (lane_value first) (lane_value second)
-          (digit_small first (lane_value first) first_is)
-          (digit_small second (lane_value second) second_is);
+      high = high;
+      low = low;
+      first_is = found (hex_digit_value first) high first_value small.0;
+      second_is = found (hex_digit_value second) low second_value small.1;
+      byte_is = pair_fits high low small.0 small.1;
     }
 
 -- the bytes of whole pairs
@@ -250,34 +285,32 @@ pairs_decoded text bytes (suc n) h l pairs =
     rw (front, whole) more
 
 -- what the vectors of a decoding say of the text
-pub pairs_of_lanes : (text a b first second high low worst bytes : List ℕ) (n : ℕ)
+pub pairs_of_lanes : (text a b first second high low worst up bytes : List ℕ) (n : ℕ)
     → HasLanes a (λ k. get_or text (0 + k) 0) → HasLanes b (λ k. get_or text (32 + k) 0)
     → HasLanes first (λ k. get_or (a ++ b) (2 * k) 0)
     → HasLanes second (λ k. get_or (a ++ b) (2 * k + 1) 0)
-    → HasLanes high (λ k. lane_value (get_or first k 0))
-    → HasLanes low (λ k. lane_value (get_or second k 0))
+    → HasValues high (λ k. get_or first k 0)
+    → HasValues low (λ k. get_or second k 0)
     → HasLanes worst (λ k. lane_greater (get_or high k 0) (get_or low k 0))
+    → HasLanes up (λ k. lane_raised (get_or worst k 0))
     → HasLanes bytes (λ k. lane_pair (get_or high k 0) (get_or low k 0))
-    → n ≤ 32 → ((k : ℕ) → k < n → get_or worst k 0 < 128) → 64 ≤ length text
+    → n ≤ 32 → ((k : ℕ) → k < n → get_or up k 0 < 128) → 64 ≤ length text
     → decode_of (take (2 * n) text) ≡ Ok (take n bytes)
-pairs_of_lanes text a b first second high low worst bytes n la lb lf ls lh ll lw lj within good h =
+pairs_of_lanes text a b first second high low worst up bytes n la lb lf ls lh ll lw lu lj within
+    good h =
     pairs_decoded text bytes n (omega arith) (omega (arith, lj.long)) (λ k l.
     let one : get_or first k 0 ≡ get_or text (2 * k) 0 =
     lf.each k (omega arith) ∙ loaded text a b la lb (2 * k) (omega arith) in
     let two : get_or second k 0 ≡ get_or text (2 * k + 1) 0 =
     ls.each k (omega arith) ∙ loaded text a b la lb (2 * k + 1) (omega arith) in
-    let high_is : get_or high k 0 ≡ lane_value (get_or text (2 * k) 0) =
+    let high_is : min 16 (get_or high k 0) ≡ lane_value (get_or text (2 * k) 0) =
     lh.each k (omega arith) ∙ ap lane_value one in
-    let low_is : get_or low k 0 ≡ lane_value (get_or text (2 * k + 1) 0) =
+    let low_is : min 16 (get_or low k 0) ≡ lane_value (get_or text (2 * k + 1) 0) =
     ll.each k (omega arith) ∙ ap lane_value two in
-    let worst_is : get_or worst k 0
-    ≡ lane_greater (lane_value (get_or text (2 * k) 0)) (lane_value (get_or text (2 * k + 1) 0)) =
-    lw.each k (omega arith) ∙ ap (λ v. lane_greater v (get_or low k 0)) high_is
-    ∙ ap (λ v. lane_greater (lane_value (get_or text (2 * k) 0)) v) low_is in
-    let byte_is : get_or bytes k 0
-    ≡ lane_pair (lane_value (get_or text (2 * k) 0)) (lane_value (get_or text (2 * k + 1) 0)) =
-    lj.each k (omega arith) ∙ ap (λ v. lane_pair v (get_or low k 0)) high_is
-    ∙ ap (λ v. lane_pair (lane_value (get_or text (2 * k) 0)) v) low_is in
+    let up_is : get_or up k 0 ≡ lane_raised (lane_greater (get_or high k 0) (get_or low k 0)) =
+    lu.each k (omega arith) ∙ ap lane_raised (lw.each k (omega arith)) in
+    let byte_is : get_or bytes k 0 ≡ lane_pair (get_or high k 0) (get_or low k 0) =
+    lj.each k (omega arith) in
     subst (IsPair (get_or text (2 * k) 0) (get_or text (2 * k + 1) 0)) (sym byte_is)
-    (is_pair (get_or text (2 * k) 0) (get_or text (2 * k + 1) 0)
-    (subst (λ v. v < 128) worst_is (good k l))))
+    (is_pair (get_or text (2 * k) 0) (get_or text (2 * k + 1) 0) (get_or high k 0)
+    (get_or low k 0) high_is low_is (subst (λ v. v < 128) up_is (good k l))))

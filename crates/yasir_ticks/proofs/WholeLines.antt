@@ -449,3 +449,13 @@ few_ended bytes items n sum within feed decoded some fits = record {
   some = omega arith;
   fits = omega arith;
 }
+
+-- one pair of digits, and an LF
+pub one_pair : (bytes : List ℕ) (high low : ℕ) → 2 < length bytes → get_or bytes 2 0 ≡ 10
+    → Some high ≡ hex_digit_value (get_or bytes 0 0)
+    → Some low ≡ hex_digit_value (get_or bytes 1 0)
+    → IsFewPairs bytes ((high * 16 + low) ∷ [])
+one_pair bytes high low within feed first second =
+    let more = pair_more bytes [] ((high * 16 + low) ∷ []) 0 high low refl within
+    (none_decoded [] refl) first second refl in
+    few_ended bytes ((high * 16 + low) ∷ []) 2 refl within feed more.0 (omega arith) (omega arith)

@@ -4,7 +4,7 @@ ghost use Rattle.std.specs.Prelude.{slice_index};
 ghost use Rattle.std.specs.Int.{bit_at};
 ghost use Rattle.hex.specs.Hex.{decode_of};
 ghost use Rattle.memchr.specs.Lanes.{HasLanes};
-ghost use Rattle.yasir_ticks.specs.Pairs.{lane_value, lane_pair, lane_greater};
+ghost use Rattle.yasir_ticks.specs.Pairs.{HasValues, lane_pair, lane_greater, lane_raised};
 
 use std::simd::prelude::*;
 
@@ -25,19 +25,16 @@ fn load(s: &[u8], i: usize) -> u8x32
     u8x32::from_slice(&s[i..])
 }
 
-// The value of each hex digit of either case, and 255 of what is none.
+// The value of each hex digit of either case, and 16 or more of what is none: both what a decimal
+// digit and what a letter would have, of which one is 16 or more.
 #[inline(always)]
 fn values(c: u8x32) -> u8x32
-    ensures { HasLanes result (λ k. lane_value (slice_index c k)) }
+    ensures { HasValues result (λ k. slice_index c k) }
 {
-    let from_zero = c - u8x32::splat(b'0');
-    let from_a = (c | u8x32::splat(32)) - u8x32::splat(b'a');
-    let letters = from_a
-        .simd_lt(u8x32::splat(6))
-        .select(from_a + u8x32::splat(10), u8x32::splat(255));
-    from_zero
-        .simd_lt(u8x32::splat(10))
-        .select(from_zero, letters)
+    let decimal = (c + u8x32::splat(198)).simd_max(u8x32::splat(6)) - u8x32::splat(246);
+    let from_a = (c & u8x32::splat(223)) - u8x32::splat(65);
+    let letter = from_a.simd_min(u8x32::splat(245)) + u8x32::splat(10);
+    decimal.simd_min(letter)
 }
 
 // The first byte of each pair.
@@ -84,6 +81,14 @@ fn greater(a: u8x32, b: u8x32) -> u8x32
     a.simd_max(b)
 }
 
+// Each lane 112 greater, at most 255, so that what was 16 or more comes to be 128 or more.
+#[inline(always)]
+fn raised(v: u8x32) -> u8x32
+    ensures { HasLanes result (λ k. lane_raised (slice_index v k)) }
+{
+    v.simd_min(u8x32::splat(143)) + u8x32::splat(112)
+}
+
 // Bit k tells whether lane k is 128 or more.
 #[inline(always)]
 fn high_lanes(v: u8x32) -> u64
@@ -120,7 +125,7 @@ pub(crate) fn decode_front(text: &[u8]) -> Decoded
     let high = values(firsts(a, b));
     let low = values(seconds(a, b));
     Decoded {
-        pairs: low_lanes(greater(high, low)),
+        pairs: low_lanes(raised(greater(high, low))),
         bytes: joined(high, low).to_array(),
     }
 }

@@ -145,6 +145,27 @@ impl TickReader {
         })
     }
 
+    // The byte of a line behind its `+`, where it is but one.
+    #[inline(always)]
+    fn take_pair_line(&mut self, bytes: &[u8]) -> Option<Whole>
+        requires place { self.old.place ≡ Start }
+        requires line { reader_line self.old < 2 ^ 32 - 1 }
+        requires long { 2 < length bytes.now }
+        requires ends { slice_index bytes.now 2 ≡ line_feed }
+        ensures whole { IfSome result (TakesWhole self.old plus_sign bytes.now self.new) }
+        ensures none { result ≡ None → self.new ≡ self.old }
+    {
+        let high = hex_value(bytes[0])?;
+        let low = hex_value(bytes[1])?;
+        self.bytes = LineBytes::new();
+        self.bytes.push(high * 16 + low);
+        self.line += 1;
+        Some(Whole {
+            len: 2,
+            content: Content::KeptBytes,
+        })
+    }
+
     // The bytes of a line behind its `+`. Few are looked up one by one, which costs less than all
     // lanes of the vectors.
     #[inline(always)]
@@ -157,7 +178,10 @@ impl TickReader {
         if bytes.len() < 7 {
             return self.take_short_line(bytes);
         }
-        if bytes[2] == b'\n' || bytes[4] == b'\n' || bytes[6] == b'\n' {
+        if bytes[2] == b'\n' {
+            return self.take_pair_line(bytes);
+        }
+        if bytes[4] == b'\n' || bytes[6] == b'\n' {
             return self.take_short_line(bytes);
         }
         self.take_long_line(bytes)
