@@ -1,6 +1,6 @@
 use Rattle.std.proofs.Common.{◌∙◌, Ok, ap, sym}
 use Rattle.std.specs.Io.KnownBytes.{prepend_known}
-use Rattle.tick_drive.proofs.intake.Intake.step.Goals as goal
+use Rattle.tick_drive.proofs.intake.Intake.feed_read.Goals as goal
 
 pub returns-in-Ok-true-clause-answer : goal.returns-in-Ok-true-clause-answer
 returns-in-Ok-true-clause-answer g c = λ marks before text met.
