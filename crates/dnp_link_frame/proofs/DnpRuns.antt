@@ -8,13 +8,14 @@ use Rattle.std.proofs.Math.Bool.{and-true}
 use Rattle.std.proofs.lemmas.List.{length-take}
 use Rattle.std.proofs.lemmas.List.Elements.{All-head, All-tail}
 use Rattle.std.proofs.lemmas.Bool.{cond-true, cond-false, cases_Bool, ne_eqb, le-leb, and_left}
+use Rattle.std.proofs.lemmas.Bool.{lt-leb}
 use Rattle.std.proofs.lemmas.Bool.{and_right, cond_both}
 use Rattle.line_rules.specs.Bytes.{AreBytes}
 use Rattle.line_rules.specs.Crc.{byte_step, crc}
 use Rattle.line_rules.specs.Rules.{fills_room}
 use Rattle.line_rules.proofs.CrcLaws.{crc-nil, crc-cons}
 use Rattle.dnp_link_frame.specs.Blocks.{length_byte, room_by, room_of}
-use Rattle.dnp_link_frame.specs.BlockLaws.{length_byte-append}
+use Rattle.dnp_link_frame.specs.BlockLaws.{length_byte-append, room_by-least}
 use Rattle.dnp_link_frame.specs.Rules.{dnp_rules}
 use Rattle.dnp_link_frame.specs.Steps.{begins_block, register_before, register_after, fits_header}
 use Rattle.dnp_link_frame.specs.Steps.{blocks_after, len_byte_after}
@@ -47,6 +48,62 @@ dnp_take-behind value next b behind room byte count tells check header blocks x 
     (header ∙ (sym (and-true value.header_right)
     ∙ ap (λ t. value.header_right && t) (sym (fits_header-behind value.len next.register b behind))))
     blocks x stands
+
+-- ---- bytes of a header between LEN and its last byte
+
+fits_header-inside : (n register byte : ℕ) → 3 ≤ n → n < 9 → fits_header n register byte ≡ true
+fits_header-inside n register byte behind before =
+    cond-false (n == 0) _ _ (ne_eqb n 0 (λ e. omega arith))
+    ∙ (cond-false (n == 1) _ _ (ne_eqb n 1 (λ e. omega arith))
+    ∙ (cond-false (n == 2) _ _ (ne_eqb n 2 (λ e. omega arith))
+    ∙ cond-false (n == 9) _ _ (ne_eqb n 9 (λ e. omega arith))))
+
+before-blocks : (n : ℕ) → n < 10 → begins_block n ≡ false
+before-blocks n few = and_left (nat_le 10 n) ((n - 10) % 18 == 0) (lt-leb 10 n few)
+
+pub dnp_take_in_header : (value next : Dnp) (y : List ℕ) → 3 ≤ value.len
+    → value.len + length y ≤ 9 → AreBytes y
+    → next.len ≡ value.len + length y
+    → next.len_byte ≡ value.len_byte
+    → next.register ≡ crc 0xA6BC value.register y
+    → next.header_right ≡ value.header_right
+    → next.blocks_right ≡ value.blocks_right
+    → (x : List ℕ) → DnpStandsFor value x → DnpStandsFor next (x ++ y)
+dnp_take_in_header value next [] behind before bytes count tells check header blocks x stands =
+    subst (DnpStandsFor next) (sym (append-nil x)) (record {
+      count = let e = stands.count in omega arith;
+      tells = tells ∙ stands.tells;
+      check = check ∙ (crc-nil 0xA6BC value.register ∙ stands.check);
+      header = header ∙ stands.header;
+      blocks = blocks ∙ stands.blocks;
+      short = stands.short;
+      bytes = stands.bytes;
+    })
+dnp_take_in_header value next (b ∷ y) behind before bytes count tells check header blocks x stands =
+    let inside : begins_block value.len ≡ false = before-blocks value.len (omega arith) in
+    let least = room_by-least value.len_byte in
+    let middle : Dnp = record {
+      len = value.len + 1;
+      len_byte = value.len_byte;
+      register = byte_step 0xA6BC value.register b;
+      header_right = value.header_right;
+      blocks_right = value.blocks_right;
+    } in
+    let first : DnpStandsFor middle (x ++ b ∷ []) =
+    dnp_take value middle b (omega arith) (All-head (λ n. n < 256) b y bytes)
+    refl
+    (sym (cond-false (value.len == 2) b value.len_byte
+    (ne_eqb value.len 2 (λ e. omega arith))))
+    (sym (cond-false (begins_block value.len) _ _ inside))
+    (sym (and-true value.header_right)
+    ∙ ap (λ t. value.header_right && t)
+    (sym (fits_header-inside value.len middle.register b behind (omega arith))))
+    (sym (cond-false (begins_block value.len && nat_lt 10 value.len) _ _
+    (and_left (begins_block value.len) (nat_lt 10 value.len) inside))) x stands in
+    subst (DnpStandsFor next) (append_assoc x (b ∷ []) y)
+    (dnp_take_in_header middle next y (omega arith) (omega arith)
+    (All-tail (λ n. n < 256) b y bytes) (omega arith) tells
+    (check ∙ crc-cons 0xA6BC value.register b y) header blocks (x ++ b ∷ []) first)
 
 -- ---- bytes that go on in a block that has begun
 
@@ -135,7 +192,7 @@ dnp_take_in_block value next (b ∷ y) behind some few room bytes count tells ch
     header blocks (x ++ b ∷ []) first)
 
 -- there is room as long as there are fewer bytes than the room has
-pub has_room : (value : Dnp) (x y : List ℕ) → DnpStandsFor value x → 10 ≤ value.len
+pub has_room : (value : Dnp) (x y : List ℕ) → DnpStandsFor value x → 3 ≤ value.len
     → value.len + length y < room_by value.len_byte → fills_room dnp_rules (x ++ y) ≡ false
 has_room value x y stands behind below =
     let count = stands.count in

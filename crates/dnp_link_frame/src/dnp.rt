@@ -45,8 +45,42 @@ impl Dnp {
         self.len += run.len() as u16;
     }
 
-    // Appends the next byte of a header, or of what is behind it as many bytes as belong to one
-    // block and have room; says how many.
+    // Appends bytes of a header between LEN and its last byte. No test is made of them.
+    #[inline]
+    fn take_in_header(&mut self, run: &[u8])
+        requires behind { 3 ≤ self.old.len }
+        requires before { self.old.len + length run.now ≤ 9 }
+        ensures { (x : List ℕ) → DnpStandsFor self.old x → DnpStandsFor self.new (x ++ run.now) }
+    {
+        self.register = after_bytes(self.register, run);
+        self.len += run.len() as u16;
+    }
+
+    // Appends the next byte of a header, or as many as stand between LEN and its last byte; says
+    // how many.
+    #[inline]
+    fn take_of_header(&mut self, rest: &[u8]) -> usize
+        requires short { self.old.len < 10 }
+        requires room { is_full_dnp self.old ≡ false }
+        requires some { 0 < length rest.now }
+        ensures some { 0 < result }
+        ensures within { result ≤ length rest.now }
+        ensures stands { (x : List ℕ) → DnpStandsFor self.old x
+            → DnpStandsFor self.new (x ++ take result rest.now) }
+        ensures room { (x : List ℕ) (n : ℕ) → DnpStandsFor self.old x → n < result
+            → fills_room dnp_rules (x ++ take n rest.now) ≡ false }
+    {
+        if self.len < 3 || self.len >= HEADER_LEN - 1 {
+            self.take(rest[0]);
+            return 1;
+        }
+        let run = rest.len().min(usize::from(HEADER_LEN - 1 - self.len));
+        self.take_in_header(&rest[..run]);
+        run
+    }
+
+    // Appends bytes of a header, or of what is behind it as many bytes as belong to one block and
+    // have room; says how many.
     #[inline]
     fn take_next(&mut self, rest: &[u8]) -> usize
         requires room { is_full_dnp self.old ≡ false }
@@ -59,8 +93,7 @@ impl Dnp {
             → fills_room dnp_rules (x ++ take n rest.now) ≡ false }
     {
         if self.len < HEADER_LEN {
-            self.take(rest[0]);
-            return 1;
+            return self.take_of_header(rest);
         }
         let room = room_by(self.len_byte) - self.len;
         let run = rest
