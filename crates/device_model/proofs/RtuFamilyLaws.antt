@@ -7,7 +7,6 @@ use Rattle.std.proofs.lemmas.Bool.{or_parts, ltb-true, leb-true, leb-false, eqb-
 use Rattle.std.proofs.lemmas.Bool.{lt-ltb, le-ltb, cond-true, cond-false}
 use Rattle.std.proofs.lemmas.List.{append-nil}
 use Rattle.rtu_frame.specs.Frame.{is_frame}
-use Rattle.rtu_frame.specs.Rtu.{RtuStandsFor, is_full_rtu}
 use Rattle.yasir_ticks.specs.Ticks.{bytes_in}
 use Rattle.yasir_ticks.specs.Bursts.{Burst, bursts_from, end_of}
 use Rattle.yasir_ticks.specs.BurstsOf.{one}
@@ -162,57 +161,44 @@ module _ (cut gap : ℕ) where
           absurd (omega arith)
 
       pub begins : new.start ≡ old.ticks → new.broken ≡ false → new.bytes.items ≡ b ∷ []
-          → RtuStandsFor new.rules (b ∷ []) → Hears new line (Byte b) []
-      begins start broken bytes rules =
+          → Hears new line (Byte b) []
+      begins start broken bytes =
           hears-on (Byte b) (Some (alone (length line) b)) (rests heard.running heard.parted)
           (record {
             contiguous = one b;
             start_is = start ∙ heard.count;
             broken_is = broken ∙ sym (alone-whole gap b);
             bytes_are = λ whole. bytes;
-            stands = λ whole. rules;
           })
 
     -- a byte in a burst
     module _ (b : ℕ) (parts : nat_le old.silence.cut old.silence.quiet ≡ false)
         (quiet_is : new.silence.quiet ≡ 0) (start : new.start ≡ old.start)
         (broken : new.broken ≡ (old.broken || (nat_lt old.gap old.silence.quiet
-        || is_full_rtu old.rules)))
-        (bytes : new.broken ≡ false → length old.bytes.items < 292
-        → new.bytes.items ≡ old.bytes.items ++ b ∷ [])
-        (rules : new.broken ≡ false → (x : List ℕ) → RtuStandsFor old.rules x
-        → RtuStandsFor new.rules (x ++ b ∷ [])) where
+        || nat_le 256 (length old.bytes.items))))
+        (bytes : new.broken ≡ false → new.bytes.items ≡ old.bytes.items ++ b ∷ []) where
       was_whole : new.broken ≡ false → old.broken ≡ false
       was_whole whole = (or_parts _ _ (sym broken ∙ whole)).0
-
-      room : (d : Burst) → Keeps cut gap old d → old.broken ≡ false
-          → length old.bytes.items < 292
-      room d kept was =
-          let long = ap length (kept.bytes_are was) in
-          let short = (kept.stands was).short in
-          omega arith
 
       grown-keeps : (d : Burst) → old.silence.quiet < cut → Keeps cut gap old d
           → Keeps cut gap new (grown_by d old.silence.quiet b)
       grown-keeps d few kept =
-          let known : (old.broken || (nat_lt gap old.silence.quiet || is_full_rtu old.rules))
+          let known : (old.broken || (nat_lt gap old.silence.quiet
+          || nat_le 256 (length old.bytes.items)))
           ≡ is_broken gap (grown_by d old.silence.quiet b).body =
-          grown-is gap cut d.body old.silence.quiet b old.broken (is_full_rtu old.rules)
-          kept.contiguous kept.broken_is
-          (λ was. ap (λ n. nat_le 256 n) (kept.stands was).count) in
+          grown-is gap cut d.body old.silence.quiet b old.broken
+          (nat_le 256 (length old.bytes.items)) kept.contiguous kept.broken_is
+          (λ was. ap (λ x. nat_le 256 (length x)) (kept.bytes_are was)) in
           record {
             contiguous = contiguous-more cut d.body old.silence.quiet b kept.contiguous few;
             start_is = start ∙ kept.start_is;
             broken_is = broken
-                ∙ (ap (λ g. old.broken || (nat_lt g old.silence.quiet || is_full_rtu old.rules))
-                heard.gap_is ∙ known);
+                ∙ (ap (λ g. old.broken || (nat_lt g old.silence.quiet
+                || nat_le 256 (length old.bytes.items))) heard.gap_is ∙ known);
             bytes_are = λ whole.
                 let was : old.broken ≡ false = was_whole whole in
-                bytes whole (room d kept was) ∙ (ap (λ x. x ++ b ∷ []) (kept.bytes_are was)
+                bytes whole ∙ (ap (λ x. x ++ b ∷ []) (kept.bytes_are was)
                 ∙ sym (grown-bytes d.body old.silence.quiet b));
-            stands = λ whole.
-                subst (RtuStandsFor new.rules) (sym (grown-bytes d.body old.silence.quiet b))
-                (rules whole (bytes_in d.body) (kept.stands (was_whole whole)));
           }
 
       goes-on : (running : Option Burst) → IsParted cut old.silence.quiet line heard.closed running
@@ -241,17 +227,13 @@ module _ (cut gap : ℕ) where
       -- that ends no burst
       module _ (waits : old.silence.quiet + 1 == old.silence.cut ≡ false)
           (start : new.start ≡ old.start)
-          (broken : new.broken ≡ old.broken) (bytes : new.bytes.items ≡ old.bytes.items)
-          (rules : new.rules ≡ old.rules) where
+          (broken : new.broken ≡ old.broken) (bytes : new.bytes.items ≡ old.bytes.items) where
         kept-on : (d : Burst) → Keeps cut gap old d → Keeps cut gap new d
         kept-on d kept = record {
           contiguous = kept.contiguous;
           start_is = start ∙ kept.start_is;
           broken_is = broken ∙ kept.broken_is;
           bytes_are = λ whole. bytes ∙ kept.bytes_are (sym broken ∙ whole);
-          stands = λ whole.
-              subst (λ r. RtuStandsFor r (bytes_in d.body)) (sym rules)
-              (kept.stands (sym broken ∙ whole));
         }
 
         waits-on : (running : Option Burst)
@@ -285,8 +267,7 @@ module _ (cut gap : ℕ) where
 
       -- or ends one
       module _ (parts : old.silence.quiet + 1 == old.silence.cut ≡ true) (answer : List FrameRead)
-          (tells : (old.broken ≡ false → RtuStandsFor old.rules old.bytes.items)
-          → answer ≡ frame_at_end old.broken old.start old.bytes.items) where
+          (tells : answer ≡ frame_at_end old.broken old.start old.bytes.items) where
         ends-with : (running : Option Burst)
             → IsParted cut old.silence.quiet line heard.closed running
             → IfSome running (λ d. Keeps cut gap old d)
@@ -310,9 +291,7 @@ module _ (cut gap : ℕ) where
                   (parted-ends cut line heard.closed old.silence.quiet d at_cut parted)) tt;
               is = reads-ends line old.silence.quiet heard.closed d parted at_cut
                   ∙ ap (λ x. reads line ++ x)
-                  (sym (tells (λ whole. subst (RtuStandsFor old.rules)
-                  (sym (kept.bytes_are whole)) (kept.stands whole))
-                  ∙ gives old.broken old.start old.bytes.items d kept.start_is kept.broken_is
+                  (sym (tells ∙ gives old.broken old.start old.bytes.items d kept.start_is kept.broken_is
                   kept.bytes_are));
             }
 

@@ -7,7 +7,6 @@ use Rattle.std.proofs.Common.{if◌then◌else◌, append_assoc, length-append}
 use Rattle.std.proofs.lemmas.Bool.{ltb-true, lt-ltb, le-ltb, cond-true, cond-false, or_parts}
 use Rattle.std.proofs.lemmas.Bool.{cases_lt}
 use Rattle.std.proofs.lemmas.List.{append-nil, length-replicate, length-map}
-use Rattle.rtu_frame.specs.Rtu.{RtuStandsFor}
 use Rattle.yasir_ticks.specs.Ticks.{bytes_in, silent}
 use Rattle.yasir_ticks.specs.Bursts.{Burst}
 use Rattle.yasir_ticks.specs.BurstsOf.{IsContiguous}
@@ -59,6 +58,10 @@ run-silence g cut d (b ∷ y) some contiguous =
     run-silence g cut (grown_by d 0 b) y some (contiguous-more cut d.body 0 b contiguous some)
     ∙ (grown-silence g cut d.body 0 b contiguous
     ∙ or-none (has_silence (suc g) d.body) (nat_lt g 0) (le-ltb g 0 (omega arith)))
+
+or-same : (s q r : Bool) → (s ≡ false → q ≡ r) → (s || q) ≡ (s || r)
+or-same true q r same = refl
+or-same false q r same = same refl
 
 -- it is broken where it was before, or the bytes have no room
 run-broken : (gap cut : ℕ) (d : Burst) (y : List ℕ) (broken : Bool) → 0 < cut
@@ -215,39 +218,25 @@ module _ (cut gap : ℕ) where
       → RtuFamilyStandsFor cut gap old line
       → new.silence ≡ old.silence → new.gap ≡ old.gap → new.ticks ≡ old.ticks + length y
       → old.silence.quiet ≡ 0 → new.start ≡ old.start
-      → ((x : List ℕ) → (old.broken ≡ false → RtuStandsFor old.rules x)
-      → new.broken ≡ (old.broken || nat_lt 256 (length x + length y)))
-      → (new.broken ≡ false → length old.bytes.items + length y ≤ 292
-      → new.bytes.items ≡ old.bytes.items ++ y)
-      → (new.broken ≡ false → (x : List ℕ) → RtuStandsFor old.rules x
-      → RtuStandsFor new.rules (x ++ y))
+      → new.broken ≡ (old.broken || nat_lt 256 (length old.bytes.items + length y))
+      → (new.broken ≡ false → new.bytes.items ≡ old.bytes.items ++ y)
       → RtuFamilyStandsFor cut gap new (line ++ map (λ b. Byte b) y)
-  bytes-kept old new line y heard silence gap_is ticks quiet start broken bytes rules =
+  bytes-kept old new line y heard silence gap_is ticks quiet start broken bytes =
       behind heard.running heard.parted heard.kept
     where
       grown : (d : Burst) → Keeps cut gap old d → Keeps cut gap new (grown_run d y)
       grown d kept =
-          let x : List ℕ = bytes_in d.body in
           let is : new.broken ≡ (old.broken || nat_lt 256 (length (bytes_in d.body) + length y)) =
-          broken (bytes_in d.body) kept.stands in
-          let was : new.broken ≡ false → (old.broken ≡ false)
-          × (nat_lt 256 (length (bytes_in d.body) + length y) ≡ false) =
-          λ whole. or_parts _ _ (sym is ∙ whole) in
+          broken ∙ or-same old.broken _ _ (λ whole.
+          ap (λ x. nat_lt 256 (length x + length y)) (kept.bytes_are whole)) in
           record {
             contiguous = run-contiguous cut d y heard.some_cut kept.contiguous;
             start_is = start ∙ (kept.start_is ∙ sym (run-start d y));
             broken_is = is ∙ run-broken gap cut d y old.broken heard.some_cut kept.contiguous
                 kept.broken_is;
             bytes_are = λ whole.
-                let items : old.bytes.items ≡ bytes_in d.body = kept.bytes_are (was whole).0 in
-                let long = ap length items in
-                let behind_it = rules whole (bytes_in d.body) (kept.stands (was whole).0) in
-                let short : length (bytes_in d.body ++ y) ≤ 256 = behind_it.short in
-                let sum = length-append (bytes_in d.body) y in
-                bytes whole (omega arith) ∙ (ap (λ z. z ++ y) items ∙ sym (run-bytes d y));
-            stands = λ whole.
-                subst (RtuStandsFor new.rules) (sym (run-bytes d y))
-                (rules whole (bytes_in d.body) (kept.stands (was whole).0));
+                let was : old.broken ≡ false = (or_parts _ _ (sym is ∙ whole)).0 in
+                bytes whole ∙ (ap (λ z. z ++ y) (kept.bytes_are was) ∙ sym (run-bytes d y));
           }
 
       behind : (running : Option Burst) → IsParted cut old.silence.quiet line heard.closed running
@@ -284,9 +273,9 @@ module _ (cut gap : ℕ) where
       → new.silence.quiet ≡ (if nat_lt old.silence.quiet old.silence.cut
       then old.silence.quiet + n else old.silence.quiet)
       → new.gap ≡ old.gap → new.ticks ≡ old.ticks + n → new.start ≡ old.start
-      → new.broken ≡ old.broken → new.bytes ≡ old.bytes → new.rules ≡ old.rules
+      → new.broken ≡ old.broken → new.bytes ≡ old.bytes
       → RtuFamilyStandsFor cut gap new (line ++ silent n)
-  silence-kept old new line n heard ends cut_stays quiet gap_is ticks start broken bytes rules =
+  silence-kept old new line n heard ends cut_stays quiet gap_is ticks start broken bytes =
       let behind = rests old line n heard.cut_is ends heard.closed heard.running heard.parted in
       let count = heard.count in
       record {
@@ -310,9 +299,6 @@ module _ (cut gap : ℕ) where
         broken_is = broken ∙ kept.broken_is;
         bytes_are = λ whole.
             ap (λ b. b.items) bytes ∙ kept.bytes_are (sym broken ∙ whole);
-        stands = λ whole.
-            subst (λ r. RtuStandsFor r (bytes_in d.body)) (sym rules)
-            (kept.stands (sym broken ∙ whole));
       }
 
 -- ---- silence in parts

@@ -6,7 +6,6 @@ use Rattle.yasir_ticks.specs.Bursts.{Burst, bursts_from}
 use Rattle.yasir_ticks.specs.BurstsOf.{IsContiguous}
 use Rattle.yasir_ticks.specs.declared.tick.Tick.{Tick}
 use Rattle.rtu_frame.specs.Frame.{is_frame}
-use Rattle.rtu_frame.specs.Rtu.{RtuStandsFor}
 use Rattle.device_model.specs.declared.rtu_family.RtuFamily.{RtuFamily}
 use Rattle.device_model.specs.Frames.{FrameRead}
 use Rattle.device_model.specs.Parted.{IsParted}
@@ -28,7 +27,6 @@ pub record Keeps (cut gap : ℕ) (value : RtuFamily) (d : Burst) : Type 0 where
   pub start_is : value.start ≡ d.start
   pub broken_is : value.broken ≡ is_broken gap d.body
   pub bytes_are : value.broken ≡ false → value.bytes.items ≡ bytes_in d.body
-  pub stands : value.broken ≡ false → RtuStandsFor value.rules (bytes_in d.body)
 
 -- The device, which has this cut and this gap, has heard this line.
 pub record RtuFamilyStandsFor (cut gap : ℕ) (value : RtuFamily) (line : List Tick) : Type 0 where

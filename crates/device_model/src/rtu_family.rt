@@ -1,9 +1,11 @@
 use crate::device::{FrameAt, Heard};
 use crate::silence::Silence;
 use arrayvec::ArrayVec;
-use line_rules::LineRules;
-use rtu_frame::Rtu;
+use rtu_frame::is_frame;
 use yasir_ticks::{MAX_TICKS, Tick};
+
+/// How many bytes a frame has at most.
+const LONGEST: usize = 256;
 
 /// A Modbus RTU device with silences of its own: it takes `cut` silent ticks together for the end
 /// of a burst, and reads the burst if at most `gap` silent ticks stand together in it and its bytes
@@ -15,20 +17,19 @@ pub struct RtuFamily {
     silence: Silence,
     gap: u8,
     // of the burst that is running or was the last: the tick of its first byte, whether it can be
-    // no frame any more, and if it can, its bytes, and what they are by the rules
+    // no frame any more, and if it can, its bytes
     start: u64,
     broken: bool,
     bytes: ArrayVec<u8, 292>,
-    rules: Rtu,
 }
 
 impl RtuFamily {
     ghost use Rattle.std.specs.Prelude.{◌≡◌, ℕ, ◌+◌, ◌<◌, ◌≤◌, ◌||◌, nat_lt, false, List};
     ghost use Rattle.std.specs.Prelude.{[], ◌∷◌, ◌++◌, length, map, take, ◌⊎◌, None, if◌then◌else◌};
+    ghost use Rattle.std.specs.Prelude.{nat_le};
     ghost use Rattle.yasir_ticks.specs.Ticks.{silent};
     ghost use Rattle.yasir_ticks.specs.declared.tick.Tick.{Tick};
     ghost use Rattle.yasir_ticks.specs.declared.tick.Tick.TheVariants.{Silent, Byte};
-    ghost use Rattle.rtu_frame.specs.Rtu.{RtuStandsFor, is_full_rtu};
     ghost use Rattle.device_model.specs.Frames.{frames_of};
     ghost use Rattle.device_model.specs.RtuFamily.{RtuFamilyStandsFor, rtu_family_reads};
     ghost use Rattle.device_model.specs.RtuFamily.{ticks_heard, frame_at_end};
@@ -51,7 +52,6 @@ impl RtuFamily {
             start: 0,
             broken: false,
             bytes: ArrayVec::new(),
-            rules: Rtu::fresh(),
         }
     }
 
@@ -66,14 +66,11 @@ impl RtuFamily {
         ensures start { self.new.start ≡ self.old.ticks }
         ensures broken { self.new.broken ≡ false }
         ensures bytes { self.new.bytes.items ≡ byte ∷ [] }
-        ensures rules { RtuStandsFor self.new.rules (byte ∷ []) }
     {
         self.start = self.ticks;
         self.broken = false;
         self.bytes.clear();
         self.bytes.push(byte);
-        self.rules.restart();
-        self.rules.take(byte);
         self.silence.end();
         self.ticks += 1;
     }
@@ -86,20 +83,16 @@ impl RtuFamily {
         ensures gap { self.new.gap ≡ self.old.gap }
         ensures start { self.new.start ≡ self.old.start }
         ensures broken { self.new.broken ≡ (self.old.broken
-            || (nat_lt self.old.gap self.old.silence.quiet || is_full_rtu self.old.rules)) }
-        ensures bytes { self.new.broken ≡ false → length self.old.bytes.items < 292
+            || (nat_lt self.old.gap self.old.silence.quiet
+            || nat_le 256 (length self.old.bytes.items))) }
+        ensures bytes { self.new.broken ≡ false
             → self.new.bytes.items ≡ self.old.bytes.items ++ byte ∷ [] }
-        ensures rules { self.new.broken ≡ false → (x : List ℕ) → RtuStandsFor self.old.rules x
-            → RtuStandsFor self.new.rules (x ++ byte ∷ []) }
     {
-        if self.silence.ticks() > self.gap || self.rules.full() {
+        if self.silence.ticks() > self.gap || self.bytes.len() >= LONGEST {
             self.broken = true;
             return;
         }
-        self.rules.take(byte);
-        if !self.bytes.is_full() {
-            self.bytes.push(byte);
-        }
+        self.bytes.push(byte);
     }
 
     // A further byte of a burst.
@@ -112,39 +105,54 @@ impl RtuFamily {
         ensures gap { self.new.gap ≡ self.old.gap }
         ensures start { self.new.start ≡ self.old.start }
         ensures broken { self.new.broken ≡ (self.old.broken
-            || (nat_lt self.old.gap self.old.silence.quiet || is_full_rtu self.old.rules)) }
-        ensures bytes { self.new.broken ≡ false → length self.old.bytes.items < 292
+            || (nat_lt self.old.gap self.old.silence.quiet
+            || nat_le 256 (length self.old.bytes.items))) }
+        ensures bytes { self.new.broken ≡ false
             → self.new.bytes.items ≡ self.old.bytes.items ++ byte ∷ [] }
-        ensures rules { self.new.broken ≡ false → (x : List ℕ) → RtuStandsFor self.old.rules x
-            → RtuStandsFor self.new.rules (x ++ byte ∷ []) }
     {
         self.keep(byte);
         self.silence.end();
         self.ticks += 1;
     }
 
+    // Keeps further bytes of a burst, for which there is room. One alone is put down by itself,
+    // which costs less than the copy of a run.
+    #[inline(always)]
+    fn keep_some(&mut self, bytes: &[u8])
+        requires { length self.old.bytes.items + length bytes.now ≤ 256 }
+        ensures ticks { self.new.ticks ≡ self.old.ticks }
+        ensures silence { self.new.silence ≡ self.old.silence }
+        ensures gap { self.new.gap ≡ self.old.gap }
+        ensures start { self.new.start ≡ self.old.start }
+        ensures broken { self.new.broken ≡ self.old.broken }
+        ensures bytes { self.new.bytes.items ≡ self.old.bytes.items ++ bytes.now }
+    {
+        if let [byte] = bytes {
+            self.bytes.push(*byte);
+            return;
+        }
+        let _ = self.bytes.try_extend_from_slice(bytes);
+    }
+
     // Further bytes of a burst, right behind the last one.
-    #[inline]
+    #[inline(always)]
     fn go_on_some(&mut self, bytes: &[u8])
         requires { self.old.ticks + length bytes.now ≤ MAX_TICKS }
         ensures ticks { self.new.ticks ≡ self.old.ticks + length bytes.now }
         ensures silence { self.new.silence ≡ self.old.silence }
         ensures gap { self.new.gap ≡ self.old.gap }
         ensures start { self.new.start ≡ self.old.start }
-        ensures broken { (x : List ℕ) → (self.old.broken ≡ false → RtuStandsFor self.old.rules x)
-            → self.new.broken
-            ≡ (self.old.broken || nat_lt 256 (length x + length bytes.now)) }
+        ensures broken { self.new.broken ≡ (self.old.broken
+            || nat_lt 256 (length self.old.bytes.items + length bytes.now)) }
         ensures bytes { self.new.broken ≡ false
-            → length self.old.bytes.items + length bytes.now ≤ 292
             → self.new.bytes.items ≡ self.old.bytes.items ++ bytes.now }
-        ensures rules { self.new.broken ≡ false → (x : List ℕ) → RtuStandsFor self.old.rules x
-            → RtuStandsFor self.new.rules (x ++ bytes.now) }
     {
         self.ticks += bytes.len() as u64;
-        if !self.broken {
-            self.broken = self.rules.take_some(bytes) < bytes.len();
-            let _ = self.bytes.try_extend_from_slice(bytes);
+        if self.bytes.len() + bytes.len() > LONGEST {
+            self.broken = true;
+            return;
         }
+        self.keep_some(bytes);
     }
 
     // The end of a burst.
@@ -153,14 +161,13 @@ impl RtuFamily {
         ensures ticks { self.new.ticks ≡ self.old.ticks }
         ensures silence { self.new.silence ≡ self.old.silence }
         ensures gap { self.new.gap ≡ self.old.gap }
-        ensures frame { (self.old.broken ≡ false
-            → RtuStandsFor self.old.rules self.old.bytes.items) → frames_of result
+        ensures frame { frames_of result
             ≡ frame_at_end self.old.broken self.old.start self.old.bytes.items }
     {
         if self.broken {
             return None;
         }
-        if !self.rules.good() {
+        if !is_frame(self.bytes.as_slice()) {
             return None;
         }
         Some(FrameAt {
@@ -231,8 +238,29 @@ impl RtuFamily {
         self.silence.rest(ticks);
     }
 
+    // Bytes behind silence. It stands apart from those that go on with a burst, which are more.
+    #[inline(never)]
+    fn hear_behind(&mut self, bytes: &[u8])
+        requires { ticks_heard self.old + length bytes.now ≤ MAX_TICKS }
+        ensures taken { ticks_heard self.new ≡ ticks_heard self.old + length bytes.now }
+        ensures stands { (cut gap : ℕ) (line : List Tick)
+            → RtuFamilyStandsFor cut gap self.old line
+            → RtuFamilyStandsFor cut gap self.new (line ++ map Byte bytes.now) }
+        ensures answer { (cut gap n : ℕ) (line : List Tick)
+            → RtuFamilyStandsFor cut gap self.old line
+            → rtu_family_reads cut gap (line ++ map Byte (take n bytes.now))
+            ≡ rtu_family_reads cut gap line }
+    {
+        let Some((first, rest)) = bytes.split_first() else {
+            return;
+        };
+        self.hear(*first);
+        self.go_on_some(rest);
+    }
+
     /// Takes the next ticks, which have these bytes. A frame is read in none of them. At most
     /// `MAX_TICKS` ticks were then taken.
+    #[inline(always)]
     pub fn hear_some(&mut self, bytes: &[u8])
         requires { ticks_heard self.old + length bytes.now ≤ MAX_TICKS }
         ensures taken { ticks_heard self.new ≡ ticks_heard self.old + length bytes.now }
@@ -248,11 +276,7 @@ impl RtuFamily {
             self.go_on_some(bytes);
             return;
         }
-        let Some((first, rest)) = bytes.split_first() else {
-            return;
-        };
-        self.hear(*first);
-        self.go_on_some(rest);
+        self.hear_behind(bytes);
     }
 
     /// Takes so many silent ticks, up to the first one in which a frame is read. At most

@@ -7,29 +7,25 @@ returns-then-has_parted-clause-stands c = λ cut gap line heard.
     (begins cut gap c.args.self.now c.begin.new.self line heard c.begin.ensures.cut
     c.begin.ensures.gap c.begin.ensures.ticks c.args.byte
     (sym c.has_parted.ensures ∙ c.if-has_parted.true) c.begin.ensures.quiet c.begin.ensures.start
-    c.begin.ensures.broken c.begin.ensures.bytes
-    c.begin.ensures.rules).stands
+    c.begin.ensures.broken c.begin.ensures.bytes).stands
 
 pub returns-then-has_parted-clause-answer : goal.returns-then-has_parted-clause-answer
 returns-then-has_parted-clause-answer c = λ cut gap line heard.
     (begins cut gap c.args.self.now c.begin.new.self line heard c.begin.ensures.cut
     c.begin.ensures.gap c.begin.ensures.ticks c.args.byte
     (sym c.has_parted.ensures ∙ c.if-has_parted.true) c.begin.ensures.quiet c.begin.ensures.start
-    c.begin.ensures.broken c.begin.ensures.bytes
-    c.begin.ensures.rules).is
+    c.begin.ensures.broken c.begin.ensures.bytes).is
 
 pub returns-clause-stands : goal.returns-clause-stands
 returns-clause-stands c = λ cut gap line heard.
     (goes_on cut gap c.args.self.now c.go_on.new.self line heard c.go_on.ensures.cut
     c.go_on.ensures.gap c.go_on.ensures.ticks c.args.byte
     (sym c.has_parted.ensures ∙ c.if-has_parted.false) c.go_on.ensures.quiet c.go_on.ensures.start
-    c.go_on.ensures.broken c.go_on.ensures.bytes
-    c.go_on.ensures.rules).stands
+    c.go_on.ensures.broken c.go_on.ensures.bytes).stands
 
 pub returns-clause-answer : goal.returns-clause-answer
 returns-clause-answer c = λ cut gap line heard.
     (goes_on cut gap c.args.self.now c.go_on.new.self line heard c.go_on.ensures.cut
     c.go_on.ensures.gap c.go_on.ensures.ticks c.args.byte
     (sym c.has_parted.ensures ∙ c.if-has_parted.false) c.go_on.ensures.quiet c.go_on.ensures.start
-    c.go_on.ensures.broken c.go_on.ensures.bytes
-    c.go_on.ensures.rules).is
+    c.go_on.ensures.broken c.go_on.ensures.bytes).is

@@ -22,11 +22,11 @@ returns-then-wait-clause-answer c = λ cut gap line heard.
 pub returns-clause-stands : goal.returns-clause-stands
 returns-clause-stands c = λ cut gap line heard.
     (waits_on cut gap c.args.self.now _ line heard c.wait.ensures.cut refl refl
-    c.wait.ensures.quiet (sym c.wait.ensures.parts ∙ c.if-wait.false) refl refl refl refl).stands
+    c.wait.ensures.quiet (sym c.wait.ensures.parts ∙ c.if-wait.false) refl refl refl).stands
 
 pub returns-clause-answer : goal.returns-clause-answer
 returns-clause-answer c = λ cut gap line heard.
     (waits_on cut gap c.args.self.now
     (record c.args.self.now { silence = c.wait.new.self; ticks = c.args.self.now.ticks + 1 }) line
     heard c.wait.ensures.cut refl refl c.wait.ensures.quiet
-    (sym c.wait.ensures.parts ∙ c.if-wait.false) refl refl refl refl).is
+    (sym c.wait.ensures.parts ∙ c.if-wait.false) refl refl refl).is
