@@ -6,7 +6,7 @@ use Rattle.std.proofs.Math.ListN.{drop_of_length-le}
 use Rattle.std.proofs.Math.Seq.{drop-cons}
 use Rattle.std.proofs.lemmas.List.{get_or-map, length-map, get_or_append_left}
 use Rattle.std.proofs.lemmas.List.{get_or-append_right}
-use Rattle.hex.specs.Hex.{encode_with, encode_lower, lower_digits}
+use Rattle.hex.specs.Hex.{encode_with, encode_lower}
 use Rattle.hex_digits.specs.Digits.{first_digit, second_digit}
 
 -- ---- in parts
@@ -15,7 +15,8 @@ pub encode-append : (t x y : List ℕ)
     → encode_with t (x ++ y) ≡ encode_with t x ++ encode_with t y
 unfolding encode_with
 encode-append t [] y = refl
-encode-append t (b ∷ x) y = ap (λ l. get_or t (b / 16) 0 ∷ get_or t (b % 16) 0 ∷ l) (encode-append t x y)
+encode-append t (b ∷ x) y =
+    ap (λ l. get_or t (b / 16) 0 ∷ get_or t (b % 16) 0 ∷ l) (encode-append t x y)
 
 pub encode-take : (t x : List ℕ) (n : ℕ)
     → take (2 * n) (encode_with t x) ≡ encode_with t (take n x)

@@ -1,4 +1,4 @@
-ghost use Rattle.std.specs.Prelude.{◌≡◌, ◌+◌, ◌*◌, ◌≤◌, ◌++◌, length};
+ghost use Rattle.std.specs.Prelude.{◌≡◌, ◌+◌, ◌*◌, ◌<◌, ◌≤◌, ◌++◌, length};
 ghost use Rattle.hex.specs.Hex.{encode_lower};
 
 use crate::lanes::digits_of;
@@ -6,6 +6,21 @@ use arrayvec::ArrayVec;
 
 // How many bytes are written together.
 const TOGETHER: usize = 32;
+
+// Appends the digits of fewer bytes than are written together.
+#[inline]
+fn push_last<const CAP: usize>(line: &mut ArrayVec<u8, CAP>, rest: &[u8])
+    requires few { length rest.now < 32 }
+    requires room { length line.old.items + 2 * length rest.now ≤ CAP }
+    ensures { line.new.items ≡ line.old.items ++ encode_lower rest.now }
+{
+    if rest.is_empty() {
+        return;
+    }
+    let mut last = [0; TOGETHER];
+    last[..rest.len()].copy_from_slice(rest);
+    let _ = line.try_extend_from_slice(&digits_of(&last)[..2 * rest.len()]);
+}
 
 /// Appends bytes as lower-case hex digits, for which there must be room.
 pub fn push_digits<const CAP: usize>(line: &mut ArrayVec<u8, CAP>, bytes: &[u8])
@@ -18,7 +33,5 @@ pub fn push_digits<const CAP: usize>(line: &mut ArrayVec<u8, CAP>, bytes: &[u8])
         let _ = line.try_extend_from_slice(&digits_of(front));
         rest = more;
     }
-    let mut last = [0; TOGETHER];
-    last[..rest.len()].copy_from_slice(rest);
-    let _ = line.try_extend_from_slice(&digits_of(&last)[..2 * rest.len()]);
+    push_last(line, rest);
 }

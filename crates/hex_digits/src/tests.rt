@@ -22,7 +22,11 @@ fn runs_of_every_length(rt: HostRuntime) -> Result<(), Fail> {
         let text = &mut digits[..2 * bytes.len()];
         hex::encode_to_slice(bytes.as_slice(), text)?;
         assert_eq!(rt; &line.as_slice()[1..], text);
-        assert!(rt; bytes.try_push((len.wrapping_mul(0x9E37_79B9) >> 24) as u8).is_ok());
+        assert!(rt;
+            bytes
+                .try_push((len.wrapping_mul(0x9E37_79B9) >> 24) as u8)
+                .is_ok()
+        );
     }
     Ok(())
 }

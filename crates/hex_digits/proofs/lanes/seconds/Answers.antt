@@ -1,5 +1,4 @@
-use Rattle.std.proofs.Common.{◌%◌, ◌∙◌, bit_and, ap, map, arith}
-use Rattle.std.proofs.lemmas.Nat.{and_mask}
+use Rattle.std.proofs.Common.{◌%◌, ◌∙◌, bit_and, arith}
 use Rattle.std.proofs.lemmas.Simd.{zip2_splat}
 use Rattle.hex.specs.Hex.{lower_digits}
 use Rattle.hex_digits.specs.declared.lanes.TheConstants.{DIGITS}
