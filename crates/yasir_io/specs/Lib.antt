@@ -13,3 +13,4 @@ pub mod Pieces
 pub mod SlotFiles
 pub mod Steady
 pub mod TextBuffer
+pub mod TextRoom

@@ -19,6 +19,7 @@ mod steady;
 #[cfg(test)]
 mod tests;
 mod text_buffer;
+mod text_room;
 
 pub use calls::{NoMemory, Plan};
 pub use disk::{SLOT_LEN, Slot, SlotBytes, SlotDisk};

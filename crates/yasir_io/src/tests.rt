@@ -85,17 +85,18 @@ fn a_source_gives_each_byte_once(rt: HostRuntime) -> Result<(), Fail> {
 
 #[test]
 fn a_buffer_writes_a_text_in_order(rt: HostRuntime) -> Result<(), Fail> {
-    let long = [b'l'; 5000];
+    let mut long = Vec::new(rt.alloc());
+    long.resize(70_000, b'l')?;
     // lengths of the pieces pushed, calls that fail, whether all is written, bytes held
     let rows: [(&[usize], &[u32], bool, usize); 5] = [
         (&[], &[], true, 0),
         (&[1, 2, 3], &[], true, 6),
-        (&[4095, 1, 1, 5000, 7], &[], true, 9104),
-        (&[4096, 1], &[9], false, 4096),
-        (&[10, 5000], &[2], false, 10),
+        (&[65_535, 1, 1, 70_000, 7], &[], true, 135_544),
+        (&[65_536, 1], &[129], false, 65_536),
+        (&[10, 70_000], &[2], false, 10),
     ];
     for (pieces, fail, written, held) in rows {
-        let mut sink = MemSink::with_room(rt.alloc(), 10000, 512, plan(fail))?;
+        let mut sink = MemSink::with_room(rt.alloc(), 140_000, 512, plan(fail))?;
         let mut buffer = TextBuffer::new();
         let mut done = true;
         for n in pieces {

@@ -1,13 +1,13 @@
+use crate::text_room::TextRoom;
 use crate::{Failed, Sink, write_all};
-use arrayvec::ArrayVec;
 
-/// A text on its way to a sink: up to 4,096 bytes wait here, so that a short piece costs no call of
-/// the sink.
+/// A text on its way to a sink: up to 65,536 bytes wait here, so that a short piece costs no call
+/// of the sink.
 ///
 /// After an error the sink has got a front of the text, and the buffer isn't to be used again.
 #[derive(Drop)]
 pub struct TextBuffer {
-    text: ArrayVec<u8, 4096>,
+    text: TextRoom<65536>,
 }
 
 impl TextBuffer {
@@ -24,7 +24,7 @@ impl TextBuffer {
             → Buffered start start (waiting_bytes result) [] }
     {
         TextBuffer {
-            text: ArrayVec::new(),
+            text: TextRoom::new(),
         }
     }
 
@@ -35,9 +35,9 @@ impl TextBuffer {
         ensures added { result ≡ true
             → waiting_bytes self.new ≡ waiting_bytes self.old ++ piece.now }
         ensures left { result ≡ false → self.new ≡ self.old }
-        ensures fits { length (waiting_bytes self.old) + length piece.now ≤ 4096 → result ≡ true }
+        ensures fits { length (waiting_bytes self.old) + length piece.now ≤ 65536 → result ≡ true }
     {
-        self.text.try_extend_from_slice(piece).is_ok()
+        self.text.extend(piece)
     }
 
     /// Adds a piece to the text, of any length.
@@ -52,10 +52,10 @@ impl TextBuffer {
         ensures cause { HasCause (S.faults sink.old) (S.faults sink.new) result }
         ensures flushes { S.flushes sink.new ≡ S.flushes sink.old }
     {
-        match self.text.try_extend_from_slice(piece) {
-            Ok(()) => Ok(()),
-            Err(_) => self.push_full(sink, piece),
+        if self.text.extend(piece) {
+            return Ok(());
         }
+        self.push_full(sink, piece)
     }
 
     // A piece that the room left doesn't take: what waits goes to the sink first.
@@ -71,10 +71,10 @@ impl TextBuffer {
         ensures flushes { S.flushes sink.new ≡ S.flushes sink.old }
     {
         self.drain(sink)?;
-        match self.text.try_extend_from_slice(piece) {
-            Ok(()) => Ok(()),
-            Err(_) => write_all(sink, piece),
+        if self.text.extend(piece) {
+            return Ok(());
         }
+        write_all(sink, piece)
     }
 
     /// Writes what waits to the sink. A flush is the caller's.
@@ -90,7 +90,7 @@ impl TextBuffer {
         ensures flushes { S.flushes sink.new ≡ S.flushes sink.old }
     {
         write_all(sink, self.text.as_slice())?;
-        self.text.clear();
+        self.text.empty();
         Ok(())
     }
 }
