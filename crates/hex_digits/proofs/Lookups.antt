@@ -1,6 +1,7 @@
 -- A table of sixteen that stands twice in 32 lanes, read at each lane.
 use Rattle.std.proofs.Common.{◌≡◌, ◌∙◌, ℕ, ◌+◌, ◌*◌, ◌/◌, ◌%◌, ◌^◌, ◌<◌, List, map, length, get_or}
-use Rattle.std.proofs.Common.{replicate, bit_and, refl, sym, ap, arith, w8, Fits, true, [], ◌∷◌, nat_eq}
+use Rattle.std.proofs.Common.{replicate, bit_and, refl, sym, ap, arith, w8, Fits, true, [], ◌∷◌}
+use Rattle.std.proofs.Common.{nat_eq}
 use Rattle.std.proofs.lemmas.List.{get_or-map, length-map, ext_get_or}
 use Rattle.std.proofs.lemmas.Nat.{and_le_r, and_mask}
 use Rattle.std.proofs.lemmas.Bool.{agree_below_at, eqb-true}
@@ -71,6 +72,6 @@ copied i j within below =
     let low : (16 * ((0 + i) / 16) + j) % 16 ≡ j = omega arith in
     eqb-true (get_or DIGITS (16 * ((0 + i) / 16) + j) 0)
     (get_or lower_digits ((16 * ((0 + i) / 16) + j) % 16) 0)
-    (agree_below_at (λ k. nat_eq (get_or DIGITS k 0) (get_or lower_digits (k % 16) 0)) (λ k. true) 32
-    (16 * ((0 + i) / 16) + j) refl place)
+    (agree_below_at (λ k. nat_eq (get_or DIGITS k 0) (get_or lower_digits (k % 16) 0)) (λ k. true)
+    32 (16 * ((0 + i) / 16) + j) refl place)
     ∙ ap (λ k. get_or lower_digits k 0) low

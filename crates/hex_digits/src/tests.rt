@@ -19,9 +19,9 @@ fn runs_of_every_length(rt: HostRuntime) -> Result<(), Fail> {
         line.push(b'+');
         push_digits(&mut line, bytes.as_slice());
         let mut digits = [0; 400];
-        let text = &mut digits[..2 * bytes.len()];
-        hex::encode_to_slice(bytes.as_slice(), text)?;
-        assert_eq!(rt; &line.as_slice()[1..], text);
+        let size = 2 * bytes.len();
+        hex::encode_to_slice(bytes.as_slice(), &mut digits[..size])?;
+        assert_eq!(rt; &line.as_slice()[1..], &digits[..size]);
         assert!(rt;
             bytes
                 .try_push((len.wrapping_mul(0x9E37_79B9) >> 24) as u8)
