@@ -29,7 +29,7 @@ impl<R: LineRules> BurstCut<R> {
     ghost use Rattle.yasir_ticks.specs.declared.tick.Tick.{Tick};
     ghost use Rattle.yasir_ticks.specs.declared.tick.Tick.TheVariants.{Silent, Byte};
     ghost use Rattle.frame_ending.specs.SoFar.{start_so_far, live_bytes_so_far, last_live_so_far};
-    ghost use Rattle.frame_ending.specs.SoFar.{has_extra_so_far, is_over_so_far};
+    ghost use Rattle.frame_ending.specs.SoFar.{has_extra_so_far, is_over_so_far, quiet_so_far};
     ghost use Rattle.frame_ending.specs.declared.cut.Cut.TheVariants.{Live, Quiet, Extra};
     ghost use Rattle.frame_ending.specs.Cuts.{cut_of, cuts_after};
     ghost use Rattle.frame_ending.specs.Stands.{StandsFor, ticks_taken};
@@ -320,6 +320,16 @@ impl<R: LineRules> BurstCut<R> {
             → result ≡ is_over_so_far R.rules line }
     {
         self.is_over()
+    }
+
+    /// The silent ticks since the last byte, counted up to `T3_5_TICKS`: a burst runs while there are
+    /// fewer.
+    #[inline]
+    pub fn quiet(&self) -> u8
+        ensures { (line : List Tick) → StandsFor R.LineRules self.now line
+            → result ≡ quiet_so_far line }
+    {
+        self.quiet
     }
 
     /// How many ticks were taken.

@@ -73,6 +73,7 @@ struct Told {
     live: u16,
     extra: bool,
     over: bool,
+    quiet: u8,
 }
 
 fn burst_told<R: LineRules>(cut: &BurstCut<R>) -> Told {
@@ -82,6 +83,7 @@ fn burst_told<R: LineRules>(cut: &BurstCut<R>) -> Told {
         live: cut.rules().len(),
         extra: cut.extra(),
         over: cut.live_over(),
+        quiet: cut.quiet(),
     }
 }
 
@@ -111,7 +113,8 @@ fn no_burst_yet(rt: HostRuntime) -> Result<(), Fail> {
             last_live: 0,
             live: 0,
             extra: false,
-            over: false
+            over: false,
+            quiet: 4
         }
     );
     Ok(())
@@ -147,7 +150,8 @@ fn one_silent_tick_between_all_bytes(rt: HostRuntime) -> Result<(), Fail> {
             last_live: 16,
             live: 8,
             extra: false,
-            over: false
+            over: false,
+            quiet: 1
         }
     );
     Ok(())
@@ -170,7 +174,8 @@ fn two_silent_ticks_inside(rt: HostRuntime) -> Result<(), Fail> {
             last_live: 2,
             live: 3,
             extra: true,
-            over: true
+            over: true,
+            quiet: 4
         }
     );
     Ok(())
@@ -190,7 +195,8 @@ fn three_silent_ticks_and_a_byte(rt: HostRuntime) -> Result<(), Fail> {
             last_live: 7,
             live: 8,
             extra: true,
-            over: true
+            over: true,
+            quiet: 0
         }
     );
     Ok(())
@@ -210,7 +216,8 @@ fn four_silent_ticks_and_a_byte(rt: HostRuntime) -> Result<(), Fail> {
             last_live: 12,
             live: 1,
             extra: false,
-            over: false
+            over: false,
+            quiet: 0
         }
     );
     Ok(())
@@ -231,7 +238,8 @@ fn a_byte_more_than_there_is_room_for(rt: HostRuntime) -> Result<(), Fail> {
             last_live: 255,
             live: 256,
             extra: true,
-            over: true
+            over: true,
+            quiet: 4
         }
     );
     Ok(())
