@@ -6,6 +6,7 @@ ghost use Rattle.yasir_ticks.specs.Line.{is_unfilled};
 
 use crate::{LineBytes, Run, Tick};
 use arrayvec::ArrayVec;
+use hex_digits::push_digits;
 use itoa::Buffer;
 
 /// The text of one line of tick text, its LF included.
@@ -21,12 +22,9 @@ const MAX_SILENCE: u32 = 1_000_000;
 fn hex_line(bytes: &LineBytes) -> LineText
     ensures { result.items ≡ byte_line bytes.now.items }
 {
-    let mut digits = [0; 64];
-    let digits = &mut digits[..2 * bytes.len()];
-    let _ = hex::encode_to_slice(bytes.as_slice(), digits);
     let mut line = LineText::new();
     line.push(b'+');
-    let _ = line.try_extend_from_slice(digits);
+    push_digits(&mut line, bytes.as_slice());
     line.push(b'\n');
     line
 }
