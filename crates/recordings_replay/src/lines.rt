@@ -1,8 +1,9 @@
 ghost use Rattle.std.specs.Prelude.{◌≡◌, ◌≤◌, length};
 ghost use Rattle.recordings_replay.specs.Listing.{numbered_line};
 
+use hex_digits::push_digits;
 use replay_lists::Numbered;
-use replay_status::{Line, push_decimal, push_hex};
+use replay_status::{Line, push_decimal};
 
 /// `NAME N at S HEX`: the bytes of a frame, its number, and the tick of its first byte.
 pub fn numbered_line(name: &[u8], head: Numbered, bytes: &[u8]) -> Line
@@ -18,7 +19,7 @@ pub fn numbered_line(name: &[u8], head: Numbered, bytes: &[u8]) -> Line
     line.try_extend_from_slice(b" at ").unwrap();
     push_decimal(&mut line, head.start);
     line.push(b' ');
-    push_hex(&mut line, bytes);
+    push_digits(&mut line, bytes);
     line.push(b'\n');
     line
 }

@@ -3,7 +3,8 @@ ghost use Rattle.replay_status.specs.Statuses.{fault_line, fault_word, unit_word
 ghost use Rattle.replay_status.specs.Causes.{LogsFault};
 
 use crate::Status;
-use crate::text::{Line, push_decimal, push_hex};
+use crate::text::{Line, push_decimal};
+use hex_digits::push_digits;
 use tick_drive::TooMuch;
 use yasir_io::{Sink, SlotBytes, write_all};
 use yasir_ticks::{BadTicks, TickFault};
@@ -81,9 +82,9 @@ fn bad_journal_line(a: &SlotBytes, b: &SlotBytes) -> Line
 {
     let mut line = Line::new();
     line.try_extend_from_slice(b"fault: bad journal ").unwrap();
-    push_hex(&mut line, a);
+    push_digits(&mut line, a);
     line.push(b' ');
-    push_hex(&mut line, b);
+    push_digits(&mut line, b);
     line.push(b'\n');
     line
 }

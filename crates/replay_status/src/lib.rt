@@ -10,4 +10,4 @@ mod text;
 pub use ending::{flush_both, status_of};
 pub use fault_log::write_fault;
 pub use status::Status;
-pub use text::{Line, push_decimal, push_hex};
+pub use text::{Line, push_decimal};

@@ -1,5 +1,4 @@
-ghost use Rattle.std.specs.Prelude.{◌≡◌, ◌≤◌, ◌+◌, ◌*◌, ◌++◌, length, decimal};
-ghost use Rattle.hex.specs.Hex.{encode_lower};
+ghost use Rattle.std.specs.Prelude.{◌≡◌, ◌≤◌, ◌+◌, ◌++◌, length, decimal};
 
 use arrayvec::ArrayVec;
 
@@ -16,17 +15,4 @@ pub fn push_decimal<const CAP: usize>(line: &mut ArrayVec<u8, CAP>, n: u64)
     let mut digits = itoa::Buffer::new();
     let text = digits.format(n);
     line.try_extend_from_slice(text.as_bytes()).unwrap();
-}
-
-/// Appends bytes as lower-case hex digits.
-pub fn push_hex(line: &mut Line, bytes: &[u8])
-    requires room { length line.old.items + 2 * length bytes.now ≤ 640 }
-    requires frame { length bytes.now ≤ 292 }
-    ensures digits { line.new.items ≡ line.old.items ++ encode_lower bytes.now }
-    ensures long { length line.new.items ≡ length line.old.items + 2 * length bytes.now }
-{
-    let mut digits = [0u8; 584];
-    let text = &mut digits[..2 * bytes.len()];
-    hex::encode_to_slice(bytes, text).unwrap();
-    line.try_extend_from_slice(text).unwrap();
 }
