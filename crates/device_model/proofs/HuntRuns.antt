@@ -3,7 +3,7 @@
 use Rattle.std.proofs.Common.{◌≡◌, ◌∙◌, ℕ, zero, suc, ◌+◌, ◌-◌, ◌<◌, ◌≤◌, true, false, List, []}
 use Rattle.std.proofs.Common.{◌∷◌, ◌++◌, length, take, map, get_or, refl, sym, ap, subst, arith}
 use Rattle.std.proofs.Common.{length-append, append_assoc, ⊎_elim, min, drop, Bool, not}
-use Rattle.std.proofs.lemmas.Bool.{cases_lt, eqb-true}
+use Rattle.std.proofs.lemmas.Bool.{cases_lt, eqb-true, lt-ltb, cond-true}
 use Rattle.std.proofs.lemmas.List.{append-nil, length-map, map-append, length-take, take_all, length-drop}
 use Rattle.std.proofs.lemmas.List.{take-append-le, take_more, take-take}
 use Rattle.std.proofs.Math.Seq.{take-append-add, take-add}
@@ -19,11 +19,12 @@ use Rattle.device_model.specs.Frames.{FrameRead}
 use Rattle.device_model.specs.Hunt.{Timed, timed, timed_bytes, begins, bytes_taken, hunt}
 use Rattle.device_model.specs.Hunt.{header_in}
 use Rattle.device_model.specs.HuntLaws.{IsHunted}
-use Rattle.device_model.specs.HuntingDevice.{IsUndecided, header_begun, HasHeard, TakesByte}
+use Rattle.device_model.specs.HuntingDevice.{IsUndecided, nothing, first_byte, header_begun}
+use Rattle.device_model.specs.HuntingDevice.{HasHeard, TakesByte}
 use Rattle.device_model.specs.HuntingDevice.{TakesRun, MeetsEnd, HuntStandsFor, frame_at, StartsAt}
 use Rattle.device_model.proofs.Heads.{good-long, good-header, header-more, head-more}
 use Rattle.device_model.proofs.Hunts.{timed_bytes-append, timed_bytes-length, begins-more, taken-is}
-use Rattle.device_model.proofs.HuntCases.{good-starts, good-size, good-room}
+use Rattle.device_model.proofs.HuntCases.{good-starts, good-size, good-room, undecided-room}
 use Rattle.device_model.proofs.HuntSteps.{timed-append, reads-after, goes-after, starts-more}
 use Rattle.device_model.proofs.HuntSteps.{passes-hears, passes-reads, ends-hears, ends-reads}
 
@@ -322,6 +323,127 @@ module _ {R : Type 0} (proto : LineRules R) (first second : ℕ)
       reads = λ x heard. reads-front x heard y few;
       unread = λ k below x heard.
           reads-front x heard (take k y) (omega (arith, length-take k y))
+          ∙ append-nil (hunts x);
+    }
+
+  -- ---- bytes of a header, before its last one
+
+  begun-by : (x : List ℕ) → IsUndecided first second its x → 2 ≤ length x
+      → begins first second x ≡ true
+  begun-by x nothing long = absurd (omega arith)
+  begun-by x first_byte long = absurd (omega arith)
+  begun-by x (header_begun z starts few) long = starts
+
+  -- too few for a header, they aren't decided
+  short-undecided : (x z : List ℕ) → begins first second x ≡ true
+      → length x + length z < its.header_len → IsUndecided first second its (x ++ z)
+  short-undecided x z starts few =
+      let sum = length-append x z in
+      let more : begins first second (x ++ z) ≡ true = begins-more first second x z starts in
+      let head : head_of its (x ++ z) ≡ Short =
+      cond-true _ _ _ (lt-ltb (length (x ++ z)) its.header_len (omega arith)) in
+      let taken : bytes_taken first second its (x ++ z) ≡ its.header_len =
+      taken-is first second its Short (x ++ z) more head in
+      header_begun (x ++ z) more (omega arith)
+
+  module _ (old new : HuntingDevice R) (at : ℕ) (y : List ℕ) (n : ℕ)
+      (two : 2 ≤ length old.bytes.items)
+      (few : length old.bytes.items + length y < its.header_len)
+      (ticks : new.ticks ≡ old.ticks) (start : new.start ≡ old.start)
+      (bytes : length old.bytes.items + length y ≤ 292
+      → new.bytes.items ≡ old.bytes.items ++ y)
+      (within : n ≤ length y)
+      (stands : (x : List ℕ) → proto.stands old.rules x → proto.stands new.rules (x ++ take n y))
+      (full : n < length y → proto.is_full new.rules ≡ true) where
+    module _ (x : List Timed) (heard : Heard old x) where
+      header-begins : begins first second old.bytes.items ≡ true
+      header-begins = begun-by old.bytes.items
+          (subst (IsUndecided first second its) (sym heard.bytes_are) heard.goes_on.undecided) two
+
+      header-undecided : (z : List ℕ) → length z ≤ length y
+          → IsUndecided first second its (old.bytes.items ++ z)
+      header-undecided z fewer =
+          short-undecided old.bytes.items z header-begins (omega arith)
+
+      header-room : (z : List ℕ) → length z ≤ length y
+          → length (old.bytes.items ++ z) < its.room (old.bytes.items ++ z)
+      header-room z fewer =
+          undecided-room first second its proto.headed hunted proto.lawful
+          (old.bytes.items ++ z) (header-undecided z fewer)
+
+      header-taken : n ≡ length y
+      header-taken =
+          ⊎_elim
+          (λ short.
+          let z : List ℕ = take n y in
+          let count = length-take n y in
+          let after = stands old.bytes.items heard.stands in
+          let filled = eqb-true (length (old.bytes.items ++ take n y))
+          (its.room (old.bytes.items ++ take n y))
+          (sym (proto.fullness new.rules (old.bytes.items ++ take n y) after) ∙ full short) in
+          let room = header-room (take n y) (omega arith) in
+          absurd (omega arith))
+          (λ all. let e : n ≡ length y = omega arith in e)
+          (cases_lt n (length y))
+
+      header-stands : proto.stands new.rules (old.bytes.items ++ y)
+      header-stands =
+          let all = header-taken in
+          subst (λ z. proto.stands new.rules (old.bytes.items ++ z)) (take_all n y (omega arith))
+          (stands old.bytes.items heard.stands)
+
+      header-items : new.bytes.items ≡ old.bytes.items ++ y
+      header-items =
+          let room = header-room y (omega arith) in
+          let bound = proto.lawful.bounded (old.bytes.items ++ y)
+          (proto.bytes new.rules (old.bytes.items ++ y) header-stands) in
+          let readable = hunted.readable in
+          let sum = length-append old.bytes.items y in
+          bytes (omega arith)
+
+      header-front : (z : List ℕ) → length z ≤ length y
+          → IsUndecided first second its (timed_bytes (heard.held ++ run at z))
+      header-front z fewer =
+          subst (IsUndecided first second its)
+          (ap (λ u. u ++ z) heard.bytes_are
+          ∙ (ap (λ u. timed_bytes heard.held ++ u) (sym (run-bytes at z))
+          ∙ sym (timed_bytes-append heard.held (run at z))))
+          (header-undecided z fewer)
+
+      header-steps : (z : List ℕ) (w : List Timed)
+          → hunts (heard.held ++ (run at z ++ w)) ≡ [] ++ hunts ((heard.held ++ run at z) ++ w)
+      header-steps z w = ap hunts (sym (append_assoc heard.held (run at z) w))
+
+      header-reads : (z : List ℕ) → length z ≤ length y → hunts (x ++ run at z) ≡ hunts x ++ []
+      header-reads z fewer =
+          reads-after proto first second hunted x heard.held (heard.held ++ run at z) (run at z) []
+          heard.goes_on (header-front z fewer) (header-steps z)
+
+      header-hears : Heard new (x ++ run at y)
+      header-hears =
+          let count = timed_bytes-length heard.held in
+          let same = ap length heard.bytes_are in
+          record {
+            held = heard.held ++ run at y;
+            goes_on = goes-after proto first second hunted x heard.held (heard.held ++ run at y)
+                (run at y) [] heard.goes_on (header-front y (omega arith)) (header-steps y);
+            bytes_are = header-items
+                ∙ (ap (λ u. u ++ y) heard.bytes_are
+                ∙ (ap (λ u. timed_bytes heard.held ++ u) (sym (run-bytes at y))
+                ∙ sym (timed_bytes-append heard.held (run at y))));
+            stands = subst (proto.stands new.rules) (sym header-items) header-stands;
+            starts = subst (λ s. StartsAt s (heard.held ++ run at y)) (sym start)
+                (starts-more proto first second hunted old.start heard.held (run at y)
+                (omega arith) heard.starts);
+          }
+
+    pub header-run : Takes old new at y []
+    header-run = record {
+      ticks = ticks;
+      hears = λ x heard. header-hears x heard;
+      reads = λ x heard. header-reads x heard y (omega arith);
+      unread = λ k below x heard.
+          header-reads x heard (take k y) (omega (arith, length-take k y))
           ∙ append-nil (hunts x);
     }
 

@@ -1,7 +1,7 @@
 -- A device can hunt by the rules of the DNP3 link layer.
 use Rattle.std.specs.Prelude.{◌≡◌, ℕ, suc, ◌≤◌, ◌==◌, ◌&&◌, nat_le, true, false, List, []}
 use Rattle.std.specs.Prelude.{◌∷◌, ◌++◌, length, get_or}
-use Rattle.std.proofs.Common.{arith, ◌∙◌, sym, ap}
+use Rattle.std.proofs.Common.{arith, ◌∙◌, sym, ap, refl}
 use Rattle.std.proofs.lemmas.Bool.{and_parts, and_from, eq-eqb, le-leb, eqb-true}
 use Rattle.std.proofs.lemmas.Bool.{false_from_ne_true, false≢true}
 use Rattle.dnp_link_frame.specs.Blocks.{length_byte, size_by, room_by, room_of, ends_in_crc}
@@ -75,3 +75,6 @@ dnp_hunted = record {
   spoils = spoiled-header;
   readable = omega arith;
 }
+
+pub dnp_header : dnp_rules.header_len ≡ 10
+dnp_header = refl

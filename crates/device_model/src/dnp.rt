@@ -4,17 +4,23 @@ use crate::hunting_family::HuntingFamily;
 use dnp_link_frame::Dnp;
 
 impl Hunted for Dnp {
-    ghost use Rattle.device_model.specs.DnpHunted.{dnp_hunted};
+    ghost use Rattle.device_model.specs.DnpHunted.{dnp_hunted, dnp_header};
 
     ghost FIRST = { 0x05 };
 
     ghost SECOND = { 0x64 };
 
+    ghost HEADER_LEN = { 10 };
+
     ghost hunted = { dnp_hunted };
+
+    ghost header = { dnp_header };
 
     const FIRST: u8 = 0x05;
 
     const SECOND: u8 = 0x64;
+
+    const HEADER_LEN: u8 = 10;
 }
 
 /// A DNP3 device, which reads the frames of the link layer (IEEE 1815).

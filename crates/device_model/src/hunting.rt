@@ -45,6 +45,9 @@ fn bytes_before(byte: u8, bytes: &[u8]) -> usize
     ensures within { result ≤ length bytes.now }
     ensures other { (k : ℕ) → k < result → slice_index bytes.now k ≡ byte → ⊥ }
 {
+    if !bytes.is_empty() && bytes[0] == byte {
+        return 0;
+    }
     match memchr(byte, bytes) {
         Some(at) => at,
         None => bytes.len(),
@@ -200,8 +203,41 @@ impl<R: Hunted> HuntingDevice<R> {
         None
     }
 
+    // The first of these bytes where a header begins, as far as one step takes them: those of the
+    // header before its last, or of the frame before its last, or that one.
+    #[inline]
+    fn hear_begun(&mut self, rest: &[u8]) -> Part
+        requires some { 0 < length rest.now }
+        requires two { 2 ≤ length self.old.bytes.items }
+        ensures some { 0 < result.taken }
+        ensures within { result.taken ≤ length rest.now }
+        ensures takes { result.ends ≡ false → (at : ℕ)
+            → TakesRun R.LineRules R.FIRST R.SECOND self.old self.new at
+            (take result.taken rest.now) [] }
+        ensures one { result.ends ≡ true → result.taken ≡ 1 }
+        ensures ends { result.ends ≡ true
+            → MeetsEnd R.LineRules self.old self.new (slice_index rest.now 0) }
+    {
+        let header = usize::from(R::HEADER_LEN);
+        if self.bytes.len() + 1 < header {
+            let taken = rest.len().min(header - 1 - self.bytes.len());
+            self.keep_some(&rest[..taken]);
+            return Part { taken, ends: false };
+        }
+        let left = usize::from(self.rules.left());
+        if left > 1 {
+            let taken = rest.len().min(left - 1);
+            self.keep_some(&rest[..taken]);
+            return Part { taken, ends: false };
+        }
+        Part {
+            taken: 1,
+            ends: self.meet(rest[0]),
+        }
+    }
+
     // The first of these bytes, as far as one step takes them: those where no header begins, one
-    // that may begin a header or is one of it, or those of the frame before its last.
+    // that may begin a header, or what a header that has begun takes.
     #[inline]
     fn hear_part(&mut self, at: u64, rest: &[u8]) -> Part
         requires { 0 < length rest.now }
@@ -230,16 +266,7 @@ impl<R: Hunted> HuntingDevice<R> {
                 ends: false,
             };
         }
-        let left = usize::from(self.rules.left());
-        if left > 1 {
-            let taken = rest.len().min(left - 1);
-            self.keep_some(&rest[..taken]);
-            return Part { taken, ends: false };
-        }
-        Part {
-            taken: 1,
-            ends: self.meet(rest[0]),
-        }
+        self.hear_begun(rest)
     }
 
     // The next byte of the line.

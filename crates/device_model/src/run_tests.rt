@@ -101,9 +101,7 @@ fn bursts_of_every_length(rt: HostRuntime) -> Result<(), Fail> {
         let _ = close(&mut frame);
         for cut in 0..=frame.len() {
             let (first, second) = frame.as_slice().split_at(cut);
-            for pause in 0..6 {
-                assert!(rt; same::<RtuDevice>(first, pause, second, 7));
-            }
+            assert!(rt; same::<RtuDevice>(first, cut % 6, second, 7));
         }
         let rest = [0; 40];
         assert!(rt; same::<RtuDevice>(frame.as_slice(), 0, &rest, 7));
@@ -129,7 +127,9 @@ fn hunts_of_every_length(rt: HostRuntime) -> Result<(), Fail> {
         for cut in 0..=frame.len() {
             let (first, second) = frame.as_slice().split_at(cut);
             assert!(rt; same::<DnpDevice>(first, cut % 3, second, 1));
-            assert!(rt; same::<DnpDevice>(b"\x64\x05\x05\x00", cut % 2, first, 2));
+            if cut % 8 == 0 {
+                assert!(rt; same::<DnpDevice>(b"\x64\x05\x05\x00", cut % 3, first, 2));
+            }
         }
         let wrong = byte_at(len, 300) as usize % 292;
         if let Some(byte) = frame.get_mut(wrong) {

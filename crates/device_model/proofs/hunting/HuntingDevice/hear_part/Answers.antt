@@ -1,7 +1,7 @@
-use Rattle.std.proofs.Common.{◌≡◌, ◌∙◌, ◌<◌, ◌≤◌, get_or, length, take, refl, sym, ap, arith}
+use Rattle.std.proofs.Common.{◌∙◌, length, take, refl, sym, arith}
 use Rattle.std.proofs.lemmas.Bool.{eqb-true}
 use Rattle.std.proofs.lemmas.List.{get_or-take, length-take}
-use Rattle.device_model.proofs.HuntRuns.{passes-run, keeps-run, first-run, none-of}
+use Rattle.device_model.proofs.HuntRuns.{passes-run, first-run, none-of}
 use Rattle.device_model.proofs.hunting.HuntingDevice.hear_part.Goals as goal
 
 pub returns-then-passed-gt0-clause-takes : goal.returns-then-passed-gt0-clause-takes
@@ -21,17 +21,5 @@ returns-then-len-lt2-clause-takes g c = λ on.
     c.args.self.now c.look.new.self c.args.at c.args.rest.now 1 _ c.requires refl
     c.look.ensures
 
-pub returns-then-left-gt1-clause-takes : goal.returns-then-left-gt1-clause-takes
-returns-then-left-gt1-clause-takes g c = λ on.
-    let count = length-take c.min-taken.result c.args.rest.now in
-    keeps-run g.R.LineRules g.R.Hunted.FIRST g.R.Hunted.SECOND g.met.R.Hunted.hunted
-    c.args.self.now c.keep_some.new.self c.args.at (take c.min-taken.result c.args.rest.now)
-    c.left.result c.keep_some.result (omega arith) c.left.ensures (omega arith)
-    c.keep_some.ensures.ticks c.keep_some.ensures.start c.keep_some.ensures.bytes
-    c.keep_some.ensures.within c.keep_some.ensures.rules c.keep_some.ensures.full
-
 pub returns-clause-takes : goal.returns-clause-takes
-returns-clause-takes g c = λ on.
-    first-run g.R.LineRules g.R.Hunted.FIRST g.R.Hunted.SECOND g.met.R.Hunted.hunted
-    c.args.self.now c.meet.new.self c.args.at c.args.rest.now 1 _ c.requires refl
-    (c.meet.ensures.takes on c.args.at)
+returns-clause-takes g c = λ on. c.hear_begun.ensures.takes on c.args.at
