@@ -273,6 +273,14 @@ module _ {R M : Type 0} (proto : LineRules R) (code : Mac M) (word_len : ℕ) (s
     next-start : (b : ℕ) → start_so_far (line ++ Byte b ∷ []) ≡ (next_burst b).start
     next-start b = ap start_in (last-next rules proto.lawful line b old.running runs)
 
+    -- a byte that begins a burst begins it now
+    pub starts-now : (b : ℕ) → cut_of rules line (Byte b) ≡ Start b
+        → start_so_far (line ++ Byte b ∷ []) ≡ m
+    starts-now b starts =
+        let none = byte-starts rules proto.lawful line b old.running runs starts in
+        let is : next_burst b ≡ alone m b = ap (λ o. with_byte_at m b o) none in
+        next-start b ∙ ap (λ (d : Burst). d.start) is
+
     -- a byte of an early burst
     pub advance-early : (b : ℕ) → start_so_far (line ++ Byte b ∷ []) < earliest
         → On last earliest (drop 1 left) mac (Byte b) (noteless (first_of left))

@@ -8,3 +8,5 @@ pub mod Stepping
 pub mod Judging
 pub mod WholeSteps
 pub mod RunSteps
+pub mod OpenSilence
+pub mod Beginning

@@ -1,16 +1,20 @@
 -- A run of ticks of a transmitter: bytes that are forwarded, and ticks over which what is left of
 -- the trailer is sent.
 use Rattle.std.proofs.Common.{◌≡◌, ◌∙◌, ℕ, zero, suc, ◌+◌, ◌<◌, ◌≤◌, List, [], ◌∷◌, ◌++◌, length}
-use Rattle.std.proofs.Common.{take, drop, map, replicate, refl, sym, ap, subst, arith}
+use Rattle.std.proofs.Common.{take, drop, map, refl, sym, ap, subst, arith}
 use Rattle.std.proofs.Common.{append-nil, append_assoc}
+use Rattle.std.specs.List.{All}
+use Rattle.std.proofs.lemmas.List.Elements.{All-head, All-tail}
+use Rattle.std.proofs.lemmas.List.{map-append, take-take, drop-take, take-append-drop}
 use Rattle.yasir_ticks.specs.Ticks.{silent}
 use Rattle.yasir_ticks.specs.declared.tick.Tick.{Tick}
 use Rattle.yasir_ticks.specs.declared.tick.Tick.TheVariants.{Silent, Byte}
 use Rattle.line_rules.specs.Rules.{Rules}
 use Rattle.line_rules.specs.declared.line_rules.LineRules.{Ghosts as LineRules}
 use Rattle.frame_ending.specs.declared.burst_cut.BurstCut.{BurstCut}
-use Rattle.frame_ending.specs.declared.cut.Cut.TheVariants.{Live, Extra, Quiet}
-use Rattle.frame_ending.specs.Cuts.{cut_of, cuts_after}
+use Rattle.frame_ending.specs.declared.cut.Cut.{Cut}
+use Rattle.frame_ending.specs.declared.cut.Cut.TheVariants.{Live, Extra}
+use Rattle.frame_ending.specs.Cuts.{cut_of, cuts_after, IsPassing}
 use Rattle.frame_ending.specs.SoFar.{start_so_far}
 use Rattle.frame_ending.specs.Stands.{StandsFor as CutStandsFor}
 use Rattle.frame_ending.proofs.Runs.{live-start}
@@ -19,14 +23,15 @@ use Rattle.burst_walk.specs.Runs.{AnswersRun}
 use Rattle.burst_walk.proofs.Runs.{run-none, run-joined, run-tick}
 use Rattle.hmac_tag.specs.declared.tag.Mac.{Ghosts as Mac}
 use Rattle.link_format.specs.declared.trailer.Trailer.{Trailer}
-use Rattle.link_format.specs.Profile.{Profile, profile_of}
+use Rattle.link_format.specs.NumberedFrame.{last_number}
+use Rattle.link_format.specs.Profile.{profile_of}
 use Rattle.link_format.specs.Setup.{Setup}
 use Rattle.link_format.specs.Trailers.{bytes_left, first_of}
 use Rattle.sequence_journal.specs.declared.numbers.TheConstants.{LIMIT}
 use Rattle.seal_transmitter.specs.Answers.{brief_note}
 use Rattle.seal_transmitter.specs.Between.{noteless}
 use Rattle.seal_transmitter.specs.Runs.{HasTakenRun}
-use Rattle.seal_transmitter.specs.Sealing.{sealer, at_floor}
+use Rattle.seal_transmitter.specs.Sealing.{sealer, at_floor, sealed}
 use Rattle.seal_transmitter.specs.Stands.{Walks, StandsAt}
 use Rattle.seal_transmitter.specs.declared.sealer.Sealer.{Sealer}
 use Rattle.seal_transmitter.proofs.Advancing.{WalksOn, number-is, advance-live, advance-early}
@@ -154,23 +159,24 @@ module _ {R M : Type 0} (proto : LineRules R) (code : Mac M) (word_len : ℕ) (s
         (map Byte x) (map Byte x) on
         (forwards x left (text ++ b ∷ []) (line ++ Byte b ∷ []) on.walks others from))
 
-    -- while no burst runs, what is left of the trailer is sent
-    pub sends-quiet : (n : ℕ) (left text : List ℕ) (line : List Tick)
+    -- over silence that closes no burst, what is left of the trailer is sent
+    pub sends-open : (n : ℕ) (left text : List ℕ) (line : List Tick)
         → TextWalks last earliest left text line
-        → cuts_after rules line (silent n) ≡ replicate n Quiet
+        → All IsPassing (cuts_after rules line (silent n))
         → RunsOn last earliest (drop n left) text line (silent n) (sent n left)
-    sends-quiet zero left text line w quiet = none-on left text line w
-    sends-quiet (suc n) left text line w quiet =
-        let first : cut_of rules line Silent ≡ Quiet = cc in
-        let others : cuts_after rules (line ++ Silent ∷ []) (silent n) ≡ replicate n Quiet = cc in
+    sends-open zero left text line w open' = none-on left text line w
+    sends-open (suc n) left text line w open' =
+        let first : Cut = cut_of rules line Silent in
+        let others : List Cut = cuts_after rules (line ++ Silent ∷ []) (silent n) in
         let on = advance-passing proto as_text word_len setup line last earliest left text w Silent
-        Quiet first tt in
+        first refl (All-head IsPassing first others open') in
         let P : List ℕ → Type 0 = λ y. RunsOn last earliest y text line (silent (suc n))
         (sent (suc n) left) in
         subst P (drop-one n left)
         (more-on (drop n (drop 1 left)) text (drop 1 left) text line Silent (first_of left)
         (silent n) (sent n (drop 1 left)) on
-        (sends-quiet n (drop 1 left) text (line ++ Silent ∷ []) on.walks others))
+        (sends-open n (drop 1 left) text (line ++ Silent ∷ []) on.walks
+        (All-tail IsPassing first others open')))
 
     -- so it is while bytes come that aren't live
     pub sends-extra : (x : List ℕ) (left text : List ℕ) (line : List Tick)
@@ -275,14 +281,14 @@ module _ {R M : Type 0} (proto : LineRules R) (code : Mac M) {B : ℕ} (old : Se
         taken cut old.mac trailer stands.walks.text run answer cuts stands.walks.codes
         (subst P (sym left_is) (subst Q answer_is on))
 
-    pub quiet-taken : (n : ℕ) (answer : List Tick) → CutStandsFor proto cut (line ++ silent n)
-        → cuts_after proto.rules line (silent n) ≡ replicate n Quiet
+    pub open-taken : (n : ℕ) (answer : List Tick) → CutStandsFor proto cut (line ++ silent n)
+        → All IsPassing (cuts_after proto.rules line (silent n))
         → bytes_left trailer ≡ drop n left → sent n left ≡ answer
         → Takes (record old { cut = cut; trailer = trailer }) (silent n) answer
-    quiet-taken n answer cuts quiet left_is answer_is =
+    open-taken n answer cuts open' left_is answer_is =
         sends n (silent n) answer cuts left_is answer_is
-        (sends-quiet proto code B setup last old.earliest_start n left stands.walks.text line
-        walks-text quiet)
+        (sends-open proto code B setup last old.earliest_start n left stands.walks.text line
+        walks-text open')
 
     pub early-taken : (n : ℕ) (x : List ℕ) (answer : List Tick) → length x ≡ n
         → CutStandsFor proto cut (line ++ map Byte x)
@@ -306,6 +312,37 @@ module _ {R M : Type 0} (proto : LineRules R) (code : Mac M) {B : ℕ} (old : Se
         (ap (λ k. sent k left) long ∙ answer_is)
         (sends-extra proto code B setup last old.earliest_start x left stands.walks.text line
         walks-text extra)
+
+-- ---- runs that follow one another
+
+pub run-then : {R M : Type 0} (proto : LineRules R) (code : Mac M) {B : ℕ} (last : ℕ)
+    (mid new : Sealer R M B) (setup : Setup) (line run answer more next : List Tick)
+    → HasTakenRun proto code mid last setup line run answer
+    → HasTakenRun proto code new last setup (line ++ run) more next
+    → HasTakenRun proto code new last setup line (run ++ more) (answer ++ next)
+run-then proto code {B} last mid new setup line run answer more next first then =
+    let whole : (line ++ run) ++ more ≡ line ++ (run ++ more) = append_assoc line run more in
+    let P : List Tick → Type 0 = λ l. StandsAt proto code new last setup l in
+    let Q : List Tick → Type 0 = λ l. last ≡ last_number setup.floor
+    (sealed (profile_of proto code B LIMIT setup) proto.rules setup.floor l) in
+    record {
+      stands = subst P whole then.stands;
+      floor = subst Q whole then.floor;
+      answers = run-joined (sealer (profile_of proto code B LIMIT setup) proto.rules) brief_note
+          (at_floor setup.floor) line run more answer next first.answers then.answers;
+    }
+
+-- bytes and those that follow them
+pub bytes-then : (n k : ℕ) (x : List ℕ) → map Byte (take n x) ++ map Byte (take k (drop n x))
+    ≡ map Byte (take (n + k) x)
+bytes-then n k x =
+    let all : List ℕ = take (n + k) x in
+    let front : take n all ≡ take n x = take-take n (n + k) x (omega arith) in
+    let rest : drop n all ≡ take k (drop n x) = drop-take n k x in
+    let whole : take n x ++ take k (drop n x) ≡ all =
+    ap (λ y. y ++ take k (drop n x)) (sym front)
+    ∙ (ap (λ y. take n all ++ y) (sym rest) ∙ take-append-drop n all) in
+    sym (map-append Byte (take n x) (take k (drop n x))) ∙ ap (λ y. map Byte y) whole
 
 -- ---- runs as they are lent
 

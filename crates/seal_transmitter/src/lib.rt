@@ -5,6 +5,7 @@
 mod laws;
 mod note;
 mod sealer;
+mod silence;
 
 pub use hmac_tag::Dir;
 pub use laws::longer_lines;

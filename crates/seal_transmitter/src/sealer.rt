@@ -1,5 +1,6 @@
 ghost use Rattle.std.specs.Prelude.{◌≡◌, length};
 
+use crate::silence::wait_open;
 use crate::{SealNote, SealStep, UnsealedWhy};
 use arrayvec::ArrayVec;
 use frame_ending::{BurstCut, Cut};
@@ -117,11 +118,36 @@ impl<R: LineRules, M: Mac, const B: usize> Sealer<R, M, B> {
         }
     }
 
-    /// Forwards the first of these bytes, one a tick, as far as each is a further live byte of a
-    /// burst that isn't early, and says how many. The ticks of the link are these bytes. With 0 the
-    /// caller goes on by another call. At most `MAX_TICKS` ticks are taken then.
+    // Forwards the first of these bytes, if it begins a burst that isn't early, and says how many.
     #[inline]
-    pub fn forward(&mut self, bytes: &[u8]) -> usize
+    fn begin_some(&mut self, bytes: &[u8]) -> usize
+        requires { ticks_taken self.old + length bytes.now ≤ MAX_TICKS }
+        ensures within { result ≤ length bytes.now }
+        ensures taken { ticks_taken self.new ≡ ticks_taken self.old + result }
+        ensures run { (journal : Journal) (setup : Setup) (line : List Tick)
+            → StandsFor R.LineRules M.Mac self.old journal setup line
+            → HasTakenRun R.LineRules M.Mac self.new (journal_floor journal) setup line
+            (map Byte (take result bytes.now)) (map Byte (take result bytes.now)) }
+    {
+        if self.cut.quiet() < T3_5_TICKS {
+            return 0;
+        }
+        if self.cut.ticks() < self.earliest_start {
+            return 0;
+        }
+        let Some(byte) = bytes.first() else {
+            return 0;
+        };
+        let _ = self.cut.step(Tick::Byte(*byte));
+        self.mac.begin();
+        self.mac.update(&[R::LABEL, self.direction.number(), *byte]);
+        1
+    }
+
+    // Forwards the first of these bytes, as far as each is a further live byte of a burst that
+    // isn't early, and says how many.
+    #[inline]
+    fn go_on_some(&mut self, bytes: &[u8]) -> usize
         requires { ticks_taken self.old + length bytes.now ≤ MAX_TICKS }
         ensures within { result ≤ length bytes.now }
         ensures taken { ticks_taken self.new ≡ ticks_taken self.old + result }
@@ -136,6 +162,24 @@ impl<R: LineRules, M: Mac, const B: usize> Sealer<R, M, B> {
         let count = self.cut.go_on_some(bytes);
         self.mac.update(&bytes[..count]);
         count
+    }
+
+    /// Forwards the first of these bytes, one a tick, as far as each is a live byte of a burst that
+    /// isn't early, and says how many. The ticks of the link are these bytes. With 0 the caller goes
+    /// on by another call. At most `MAX_TICKS` ticks are taken then.
+    #[inline]
+    pub fn forward(&mut self, bytes: &[u8]) -> usize
+        requires { ticks_taken self.old + length bytes.now ≤ MAX_TICKS }
+        ensures within { result ≤ length bytes.now }
+        ensures taken { ticks_taken self.new ≡ ticks_taken self.old + result }
+        ensures run { (journal : Journal) (setup : Setup) (line : List Tick)
+            → StandsFor R.LineRules M.Mac self.old journal setup line
+            → HasTakenRun R.LineRules M.Mac self.new (journal_floor journal) setup line
+            (map Byte (take result bytes.now)) (map Byte (take result bytes.now)) }
+    {
+        let begun = self.begin_some(bytes);
+        let more = self.go_on_some(&bytes[begun..]);
+        begun + more
     }
 
     /// Takes the first of these bytes, as far as each is a further live byte of an early burst and
@@ -200,8 +244,9 @@ impl<R: LineRules, M: Mac, const B: usize> Sealer<R, M, B> {
         self.trailer.send_some(count)
     }
 
-    /// Takes so many silent ticks, if no burst runs and nothing is left of the trailer, and says
-    /// how many: all or none. The link is silent too. At most `MAX_TICKS` ticks are taken then.
+    /// Takes the first of so many silent ticks, as far as none closes a burst, if nothing is left of
+    /// the trailer, and says how many. The link is silent too. At most `MAX_TICKS` ticks are taken
+    /// then.
     #[inline]
     pub fn rest(&mut self, ticks: u32) -> u32
         requires { ticks_taken self.old + ticks ≤ MAX_TICKS }
@@ -215,11 +260,12 @@ impl<R: LineRules, M: Mac, const B: usize> Sealer<R, M, B> {
         if self.trailer.left().len() > 0 {
             return 0;
         }
-        self.cut.rest(ticks)
+        wait_open(&mut self.cut, ticks)
     }
 
-    /// Takes of so many silent ticks as many as something is left of the trailer for, if no burst
-    /// runs. Answers what is sent of it, a byte for each. At most `MAX_TICKS` ticks are taken then.
+    /// Takes of so many silent ticks as many as something is left of the trailer for, as far as none
+    /// closes a burst. Answers what is sent of it, a byte for each. At most `MAX_TICKS` ticks are
+    /// taken then.
     #[inline]
     pub fn send_some(&mut self, ticks: u32) -> LineBytes
         requires { ticks_taken self.old + ticks ≤ MAX_TICKS }
@@ -231,7 +277,7 @@ impl<R: LineRules, M: Mac, const B: usize> Sealer<R, M, B> {
             (silent (length result.items)) (map Byte result.items) }
     {
         let most = ticks.min(self.trailer.left().len() as u32);
-        let count = self.cut.rest(most);
+        let count = wait_open(&mut self.cut, most);
         self.trailer.send_some(count as usize)
     }
 
@@ -274,7 +320,7 @@ impl<R: LineRules, M: Mac, const B: usize> Sealer<R, M, B> {
         put(left, &self.send_over(bytes))
     }
 
-    /// The same of silence while no burst runs: what is left of a trailer is sent.
+    /// The same of silence, as far as it closes no burst: what is left of a trailer is sent.
     pub fn pass_silence(&mut self, ticks: u32, left: &mut RunBytes) -> u32
         requires { ticks_taken self.old + ticks ≤ MAX_TICKS }
         ensures within { result ≤ ticks }

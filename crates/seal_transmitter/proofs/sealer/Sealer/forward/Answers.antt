@@ -1,20 +1,29 @@
-use Rattle.std.proofs.Common.{◌∙◌, sym, subst, take}
-use Rattle.std.proofs.lemmas.Bool.{ltb-false}
-use Rattle.frame_ending.specs.SoFar.{start_so_far}
+use Rattle.std.proofs.Common.{◌≡◌, ◌∙◌, ◌+◌, ◌-◌, ◌++◌, ℕ, List, map, take, drop, subst, ap, length}
+use Rattle.std.proofs.Common.{arith}
+use Rattle.std.proofs.lemmas.List.{take-take}
+use Rattle.yasir_ticks.specs.declared.tick.Tick.{Tick}
+use Rattle.yasir_ticks.specs.declared.tick.Tick.TheVariants.{Byte}
 use Rattle.sequence_journal.specs.Journal.{journal_floor}
-use Rattle.seal_transmitter.proofs.RunSteps.{nothing-taken, forward-taken}
+use Rattle.seal_transmitter.specs.Runs.{HasTakenRun}
+use Rattle.seal_transmitter.proofs.RunSteps.{run-then, bytes-then}
 use Rattle.seal_transmitter.proofs.sealer.Sealer.forward.Goals as goal
-
-pub returns-then-is_early-clause-run : goal.returns-then-is_early-clause-run
-returns-then-is_early-clause-run g c = λ journal setup line stands.
-    nothing-taken g.R.LineRules g.M.Mac c.args.self.now (journal_floor journal) setup line stands
 
 pub returns-clause-run : goal.returns-clause-run
 returns-clause-run g c = λ journal setup line stands.
-    forward-taken g.R.LineRules g.M.Mac c.args.self.now (journal_floor journal) setup line stands
-    c.go_on_some-count.new.self c.update.new.self (take c.go_on_some-count.result c.args.bytes.now)
-    (c.go_on_some-count.ensures.stands line stands.cuts)
-    (c.go_on_some-count.ensures.live line stands.cuts)
-    (ltb-false (start_so_far line) c.args.self.now.earliest_start
-    (sym (c.is_early.ensures line stands.cuts) ∙ c.if-is_early.false))
-    (λ text codes. c.update.ensures setup.key text codes)
+    let x : List ℕ = c.args.bytes.now in
+    let d : ℕ = c.begin_some-begun.result in
+    let k : ℕ = c.go_on_some-more.result in
+    let begun = c.begin_some-begun.ensures.run journal setup line stands in
+    let more = c.go_on_some-more.ensures.run journal setup (line ++ map Byte (take d x))
+    begun.stands in
+    let within = c.go_on_some-more.ensures.within in
+    let fewer = c.begin_some-begun.ensures.within in
+    let same : map Byte (take d x) ++ map Byte (take k (take (length x - d) (drop d x)))
+    ≡ map Byte (take (d + k) x) =
+    ap (λ y. map Byte (take d x) ++ map Byte y)
+    (take-take k (length x - d) (drop d x) (omega arith)) ∙ bytes-then d k x in
+    let P : List Tick → Type 0 = λ l. HasTakenRun g.R.LineRules g.M.Mac c.go_on_some-more.new.self
+    (journal_floor journal) setup line l l in
+    subst P same
+    (run-then g.R.LineRules g.M.Mac (journal_floor journal) c.begin_some-begun.new.self
+    c.go_on_some-more.new.self setup line _ _ _ _ begun more)

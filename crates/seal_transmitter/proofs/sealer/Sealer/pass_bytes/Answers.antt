@@ -1,4 +1,4 @@
-use Rattle.std.proofs.Common.{◌≡◌, ap, arith, map, take, sym, subst, List, ℕ}
+use Rattle.std.proofs.Common.{◌≡◌, ap, arith, map, take, sym, subst, List}
 use Rattle.yasir_ticks.specs.declared.tick.Tick.{Tick}
 use Rattle.yasir_ticks.specs.declared.tick.Tick.TheVariants.{Byte}
 use Rattle.sequence_journal.specs.Journal.{journal_floor}

@@ -1,4 +1,4 @@
-use Rattle.std.proofs.Common.{map, sym, subst, List, ℕ}
+use Rattle.std.proofs.Common.{map, sym, subst, List}
 use Rattle.yasir_ticks.specs.Ticks.{silent}
 use Rattle.yasir_ticks.specs.declared.tick.Tick.{Tick}
 use Rattle.yasir_ticks.specs.declared.tick.Tick.TheVariants.{Byte}

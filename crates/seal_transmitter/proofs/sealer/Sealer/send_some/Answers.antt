@@ -5,24 +5,24 @@ use Rattle.yasir_ticks.specs.declared.tick.Tick.TheVariants.{Byte}
 use Rattle.sequence_journal.specs.Journal.{journal_floor}
 use Rattle.link_format.specs.Trailers.{bytes_left}
 use Rattle.seal_transmitter.specs.Runs.{HasTakenRun}
-use Rattle.seal_transmitter.proofs.RunSteps.{sent-bytes, quiet-taken}
+use Rattle.seal_transmitter.proofs.RunSteps.{sent-bytes, open-taken}
 use Rattle.seal_transmitter.proofs.sealer.Sealer.send_some.Goals as goal
 
 pub returns-clause-run : goal.returns-clause-run
 returns-clause-run g c = λ journal setup line stands.
-    let count : ℕ = c.rest-count.result in
+    let count : ℕ = c.wait_open-count.result in
     let left : List ℕ = bytes_left c.args.self.now.trailer in
-    let within = c.rest-count.ensures.within in
+    let within = c.wait_open-count.ensures.within in
     let size = ap length c.left.ensures.left in
     let few : count ≤ length left = omega arith in
     let long : length c.send_some.result.items ≡ count =
     ap length c.send_some.ensures.sent ∙ length-take-le count left few in
     let P : ℕ → Type 0 = λ k. HasTakenRun g.R.LineRules g.M.Mac
-    (record c.args.self.now { cut = c.rest-count.new.self; trailer = c.send_some.new.self })
+    (record c.args.self.now { cut = c.wait_open-count.new.cut; trailer = c.send_some.new.self })
     (journal_floor journal) setup line (silent k) (map Byte c.send_some.result.items) in
     subst P (sym long)
-    (quiet-taken g.R.LineRules g.M.Mac c.args.self.now (journal_floor journal) setup line stands
-    c.rest-count.new.self c.send_some.new.self count (map Byte c.send_some.result.items)
-    (c.rest-count.ensures.stands line stands.cuts) (c.rest-count.ensures.quiet line stands.cuts)
+    (open-taken g.R.LineRules g.M.Mac c.args.self.now (journal_floor journal) setup line stands
+    c.wait_open-count.new.cut c.send_some.new.self count (map Byte c.send_some.result.items)
+    (c.wait_open-count.ensures.stands line stands.cuts) (c.wait_open-count.ensures.open line stands.cuts)
     c.send_some.ensures.left
     (sent-bytes count left few ∙ ap (λ x. map Byte x) (sym c.send_some.ensures.sent)))

@@ -1,0 +1,63 @@
+-- The first byte of a burst, forwarded as a run of one tick.
+use Rattle.std.proofs.Common.{◌≡◌, ℕ, ◌≤◌, List, [], ◌∷◌, ◌++◌, length, take, sym, arith}
+use Rattle.std.proofs.Common.{Some}
+use Rattle.std.specs.Prelude.{slice_get}
+use Rattle.yasir_ticks.specs.declared.tick.Tick.{Tick}
+use Rattle.yasir_ticks.specs.declared.tick.Tick.TheVariants.{Byte}
+use Rattle.line_rules.specs.declared.line_rules.LineRules.{Ghosts as LineRules}
+use Rattle.frame_ending.specs.declared.burst_cut.BurstCut.{BurstCut}
+use Rattle.frame_ending.specs.declared.cut.Cut.TheVariants.{Start}
+use Rattle.frame_ending.specs.Cuts.{cut_of}
+use Rattle.frame_ending.specs.SoFar.{start_so_far, quiet_so_far}
+use Rattle.frame_ending.specs.Stands.{StandsFor as CutStandsFor}
+use Rattle.frame_ending.proofs.Cutting.{cut-begin}
+use Rattle.burst_walk.proofs.Runs.{run-tick}
+use Rattle.hmac_tag.specs.declared.tag.Mac.{Ghosts as Mac}
+use Rattle.link_format.specs.Profile.{profile_of}
+use Rattle.link_format.specs.Setup.{Setup}
+use Rattle.link_format.specs.Trailers.{bytes_left}
+use Rattle.sequence_journal.specs.declared.numbers.TheConstants.{LIMIT}
+use Rattle.seal_transmitter.specs.Answers.{brief_note}
+use Rattle.seal_transmitter.specs.Between.{IsBetween}
+use Rattle.seal_transmitter.specs.Runs.{HasTakenRun}
+use Rattle.seal_transmitter.specs.Sealing.{sealer, at_floor}
+use Rattle.seal_transmitter.specs.Stands.{StandsAt}
+use Rattle.seal_transmitter.specs.declared.sealer.Sealer.{Sealer}
+use Rattle.seal_transmitter.proofs.Advancing.{starts-now}
+use Rattle.seal_transmitter.proofs.Stepping.{begin-late}
+
+-- the first of these bytes
+pub first-of : (x : List ℕ) (b : ℕ) → Some b ≡ slice_get x 0 → take 1 x ≡ b ∷ []
+first-of [] b is = cc
+first-of (a ∷ x) b is = cc
+
+pub begun-taken : {R M : Type 0} (proto : LineRules R) (code : Mac M) {B : ℕ} (old : Sealer R M B)
+    (last : ℕ) (setup : Setup) (line : List Tick) → StandsAt proto code old last setup line
+    → (cut : BurstCut R) (mac : M) (b : ℕ) → 4 ≤ quiet_so_far line
+    → old.earliest_start ≤ length line → CutStandsFor proto cut (line ++ Byte b ∷ [])
+    → ((text : List ℕ) → code.stands old.mac setup.key text
+    → code.stands mac setup.key (proto.rules.label ∷ setup.direction ∷ b ∷ []))
+    → HasTakenRun proto code (record old { cut = cut; mac = mac }) last setup line
+    (Byte b ∷ []) (Byte b ∷ [])
+begun-taken proto code {B} old last setup line stands cut mac b quiet late cuts codes =
+    let quiet_is = stands.cuts.quiet_is in
+    let starts : cut_of proto.rules line (Byte b) ≡ Start b =
+    sym (cut-begin proto old.cut line stands.cuts b (omega arith)) in
+    let now : start_so_far (line ++ Byte b ∷ []) ≡ length line =
+    starts-now proto code B setup line last old.earliest_start (bytes_left old.trailer) old.mac
+    stands.walks b starts in
+    let between : IsBetween proto code (record old { cut = cut }) last setup line (Byte b)
+    (Start b) = record {
+      direction_is = stands.direction_is;
+      cuts = cuts;
+      is_cut = starts;
+      walks = stands.walks;
+    } in
+    let one = begin-late proto code (record old { cut = cut }) last setup line mac (Byte b) b
+    between (omega arith) (codes stands.walks.text stands.walks.codes) in
+    record {
+      stands = one.stands;
+      floor = one.floor;
+      answers = run-tick (sealer (profile_of proto code B LIMIT setup) proto.rules) brief_note
+          (at_floor setup.floor) line (Byte b) (Byte b) one.answers;
+    }

@@ -1,0 +1,45 @@
+-- Silent ticks that close no burst, as a run.
+use Rattle.std.proofs.Common.{◌≡◌, ℕ, zero, suc, ◌+◌, ◌<◌, ◌≤◌, List, [], ◌∷◌, ◌++◌, sym, subst}
+use Rattle.std.proofs.Common.{arith, replicate}
+use Rattle.std.specs.List.{All}
+use Rattle.std.proofs.lemmas.List.Elements.{All-nil, All-cons}
+use Rattle.yasir_ticks.specs.Ticks.{silent}
+use Rattle.yasir_ticks.specs.declared.tick.Tick.{Tick}
+use Rattle.yasir_ticks.specs.declared.tick.Tick.TheVariants.{Silent}
+use Rattle.line_rules.specs.Rules.{Rules}
+use Rattle.line_rules.specs.declared.line_rules.LineRules.{Ghosts as LineRules}
+use Rattle.frame_ending.specs.declared.burst_cut.BurstCut.{BurstCut}
+use Rattle.frame_ending.specs.declared.cut.Cut.{Cut}
+use Rattle.frame_ending.specs.declared.cut.Cut.TheVariants.{Pause, Quiet}
+use Rattle.frame_ending.specs.Cuts.{cut_of, cuts_after, IsPassing}
+use Rattle.frame_ending.specs.Stands.{StandsFor}
+use Rattle.frame_ending.proofs.Cutting.{stands-wait, cut-wait}
+use Rattle.frame_ending.proofs.Runs.{cuts-silence}
+
+quiet-passing : (n : ℕ) → All IsPassing (replicate n Quiet)
+quiet-passing zero = All-nil IsPassing
+quiet-passing (suc n) = All-cons IsPassing Quiet (replicate n Quiet) tt (quiet-passing n)
+
+module _ {R : Type 0} (proto : LineRules R) where
+  abbrev rules : Rules
+  rules = proto.rules
+
+  -- where no burst runs, none is closed
+  pub rest-open : (n : ℕ) (v : BurstCut R) (line : List Tick) → StandsFor proto v line
+      → 4 ≤ v.quiet → All IsPassing (cuts_after rules line (silent n))
+  rest-open n v line old quiet =
+      subst (λ (l : List Cut). All IsPassing l) (sym (cuts-silence proto n v line old quiet))
+      (quiet-passing n)
+
+  -- a running burst isn't closed by fewer than four ticks in all
+  pub wait-open : (n : ℕ) (v : BurstCut R) (line : List Tick) → StandsFor proto v line
+      → v.quiet + n < 4 → All IsPassing (cuts_after rules line (silent n))
+  wait-open zero v line old few = All-nil IsPassing
+  wait-open (suc n) v line old few =
+      let next = stands-wait proto v line old (omega arith) in
+      let first : Pause (v.quiet + 1) ≡ cut_of rules line Silent =
+      cut-wait proto v line old (omega arith) in
+      All-cons IsPassing (cut_of rules line Silent)
+      (cuts_after rules (line ++ Silent ∷ []) (silent n))
+      (subst IsPassing first tt)
+      (wait-open n _ (line ++ Silent ∷ []) next (omega arith))
