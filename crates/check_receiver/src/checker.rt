@@ -670,4 +670,14 @@ impl<R: LineRules, M: Mac, const B: usize, const D: usize> Checker<R, M, B, D> {
             why: DroppedWhy::Busy,
         }))
     }
+
+    /// The live bytes of the burst of the link that is running or was the last.
+    #[inline]
+    pub fn live_bytes(&self) -> &R
+        ensures { (journal : Journal) (setup : Setup) (link : List Tick)
+            → StandsFor R.LineRules M.Mac self.now journal setup link
+            → R.stands result.now (live_bytes_so_far R.rules link) }
+    {
+        self.cut.rules()
+    }
 }

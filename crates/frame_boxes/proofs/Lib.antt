@@ -1,5 +1,6 @@
-pub mod Lives
+pub mod BurstRuns
 pub mod LastNotes
 pub mod Starting
 pub mod Noting
 pub mod RunNotes
+pub mod Showing

@@ -1,4 +1,4 @@
-pub mod LiveBytes
+pub mod BurstBytes
 pub mod FramesOf
 pub mod ShownFrames
 pub mod SealNoting

@@ -67,4 +67,8 @@ impl<R: LineRules, M: Mac, const B: usize, const D: usize> NotingBox<R>
     fn pass_silence(&mut self, ticks: u32, left: &mut RunBytes) -> u32 {
         self.checker.pass_silence(ticks, left)
     }
+
+    fn live(&self) -> &R {
+        self.checker.live_bytes()
+    }
 }

@@ -97,4 +97,10 @@ pub trait NotingBox<R: LineRules>: Drop {
         left.clear();
         0
     }
+
+    /// The live bytes of the line's last burst, as the rules see them.
+    fn live(&self) -> &R
+        ensures { (journal : Journal) (setup : Setup) (line : List Tick)
+            → stands self.now journal setup line
+            → R.stands result.now (live_bytes_so_far R.rules line) };
 }

@@ -91,4 +91,8 @@ impl<R: LineRules, M: Mac, const B: usize> NotingBox<R> for SealNoting<R, M, B> 
         }
         self.sealer.pass_silence(ticks, left)
     }
+
+    fn live(&self) -> &R {
+        self.sealer.live_bytes()
+    }
 }

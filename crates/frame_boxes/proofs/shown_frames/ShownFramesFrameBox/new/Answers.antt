@@ -10,5 +10,6 @@ returns-clause-stands g c = record {
       (floor-of c.init.result c.unwrap-journal.result c.unwrap-journal.ensures
       c.init.ensures.floor)
       (c.new.ensures.stands c.unwrap-journal.result);
-  lives = c.new-2.ensures.live;
+  burst = c.new-2.ensures;
+  room = c.requires.1;
 }
