@@ -2,10 +2,10 @@ ghost use Rattle.std.specs.Prelude.{◌≡◌, ◌+◌, ◌<◌, ◌≤◌, ◌+
 ghost use Rattle.arrayvec.specs.ArrayVec.{array_vec_len};
 ghost use Rattle.dnp_link_frame.specs.Frame.{with_crc, header_fields, frame_of};
 
-use crate::crc::dnp_crc;
 use crate::header::Header;
 use crate::size::{BLOCK_DATA_LEN, COUNTED_OF_HEADER};
 use crate::steps::START;
+use crate::table::dnp_crc_by_tables;
 use arrayvec::ArrayVec;
 
 const BLOCK: usize = BLOCK_DATA_LEN as usize;
@@ -45,7 +45,7 @@ fn push_with_crc(bytes: &mut DnpBytes, part: &[u8])
     requires { array_vec_len bytes.old + length part.now + 2 ≤ 292 }
     ensures { bytes.new.items ≡ bytes.old.items ++ with_crc part.now }
 {
-    let crc = dnp_crc(part).to_le_bytes();
+    let crc = dnp_crc_by_tables(part).to_le_bytes();
     let _ = bytes.try_extend_from_slice(part);
     let _ = bytes.try_extend_from_slice(&crc);
 }

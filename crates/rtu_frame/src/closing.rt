@@ -2,7 +2,7 @@ ghost use Rattle.std.specs.Prelude.{◌≡◌, ◌<◌, ◌++◌, ◌↔◌, len
 ghost use Rattle.line_rules.specs.Bytes.{low_first};
 ghost use Rattle.rtu_frame.specs.Crc.{crc_rtu};
 
-use crate::crc::crc16;
+use crate::table::crc16_by_tables;
 use arrayvec::ArrayVec;
 
 /// The bytes of a Modbus RTU frame.
@@ -20,6 +20,6 @@ pub fn close(bytes: &mut RtuBytes) -> Result<(), NoRoom>
     ensures unchanged { OnErr result (bytes.new ≡ bytes.old) }
     ensures cause { IsErr result ↔ (254 < length bytes.old.items) }
 {
-    let sent = crc16(bytes.as_slice()).to_le_bytes();
+    let sent = crc16_by_tables(bytes.as_slice()).to_le_bytes();
     bytes.try_extend_from_slice(&sent).map_err(|_| NoRoom)
 }

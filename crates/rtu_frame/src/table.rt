@@ -1,8 +1,9 @@
 //! The CRC by tables: eight bytes at a time, and a byte alone.
 ghost use Rattle.std.specs.Prelude.{◌≡◌};
 ghost use Rattle.line_rules.specs.Crc.{byte_step, crc};
+ghost use Rattle.rtu_frame.specs.Crc.{crc_rtu};
 
-use crate::crc::POLYNOMIAL;
+use crate::crc::{FIRST_REGISTER, POLYNOMIAL};
 use line_rules::{CrcTables, crc_by_tables, step_by_table};
 
 /// The register that these bytes leave of `register`.
@@ -11,6 +12,13 @@ pub(crate) fn after_bytes(register: u16, bytes: &[u8]) -> u16
     ensures { result ≡ crc POLYNOMIAL register bytes.now }
 {
     crc_by_tables::<POLYNOMIAL>(&TABLES, register, bytes)
+}
+
+/// What `crc16` is of these bytes, by the tables.
+pub(crate) fn crc16_by_tables(bytes: &[u8]) -> u16
+    ensures { result ≡ crc_rtu bytes.now }
+{
+    after_bytes(FIRST_REGISTER, bytes)
 }
 
 /// The register that this byte leaves of `register`.
