@@ -1,8 +1,8 @@
 -- What a header is by what the head says.
-use Rattle.std.proofs.Common.{◌≡◌, ◌<◌, ◌≤◌, ℕ, false, List, length, take, ⊎_elim}
+use Rattle.std.proofs.Common.{◌≡◌, ◌<◌, ◌≤◌, ℕ, true, false, List, length, take, ⊎_elim}
 use Rattle.std.proofs.lemmas.Bool.{cases_Bool, cases_lt}
 use Rattle.line_rules.specs.Rules.{Rules, head_of}
-use Rattle.line_rules.specs.declared.head.Head.TheVariants.{Short, Bad}
+use Rattle.line_rules.specs.declared.head.Head.TheVariants.{Short, Good, Bad}
 use Rattle.link_verdicts.proofs.Judging.{head-short, head-good, head-bad}
 
 module _ (rules : Rules) (x : List ℕ) where
@@ -31,5 +31,18 @@ module _ (rules : Rules) (x : List ℕ) where
       (λ long. ⊎_elim
       (λ good. let other = head-good rules x long good in absurd cc)
       (λ bad. bad)
+      (cases_Bool (rules.is_good_header (take rules.header_len x))))
+      (cases_lt (length x) rules.header_len)
+
+  -- It is whole and good where the head says so.
+  pub head-is-good : head_of rules x ≡ Good
+      → (rules.header_len ≤ length x)
+      × (rules.is_good_header (take rules.header_len x) ≡ true)
+  head-is-good is =
+      ⊎_elim
+      (λ short. let other = head-short rules x short in absurd cc)
+      (λ long. ⊎_elim
+      (λ good. (long, good))
+      (λ bad. let other = head-bad rules x long bad in absurd cc)
       (cases_Bool (rules.is_good_header (take rules.header_len x))))
       (cases_lt (length x) rules.header_len)

@@ -1,5 +1,5 @@
 -- The bytes that are lent for a run of ticks.
-use Rattle.std.proofs.Common.{◌≡◌, ◌∙◌, ℕ, zero, suc, ◌+◌, ◌<◌, ◌≤◌, true, false, List, [], ◌∷◌}
+use Rattle.std.proofs.Common.{◌≡◌, ◌∙◌, ℕ, suc, ◌<◌, ◌≤◌, true, false, List, [], ◌∷◌}
 use Rattle.std.proofs.Common.{◌++◌, length, take, map, refl, sym, ap, subst, arith, nat_lt, ⊎_elim}
 use Rattle.std.specs.Prelude.{Result, Ok, Err, IsOk, OnOk, not}
 use Rattle.std.proofs.lemmas.Bool.{cases_lt, lt-ltb}

@@ -21,3 +21,4 @@ pub mod PauseRuns
 pub mod LiveRuns
 pub mod RunsTaken
 pub mod Lending
+pub mod Beginnings

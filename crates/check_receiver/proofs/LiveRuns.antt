@@ -1,8 +1,8 @@
 -- Runs of live bytes of the burst whose verdict is open.
-use Rattle.std.proofs.Common.{◌≡◌, ◌∙◌, ◌⊎◌, ℕ, zero, suc, ◌+◌, ◌-◌, ◌<◌, ◌≤◌, Bool, true, false}
-use Rattle.std.proofs.Common.{List, [], ◌∷◌, ◌++◌, ◌||◌, nat_le, ⊎_elim, inl, inr}
+use Rattle.std.proofs.Common.{◌≡◌, ◌∙◌, ◌⊎◌, ℕ, suc, ◌+◌, ◌-◌, ◌<◌, ◌≤◌, true, false}
+use Rattle.std.proofs.Common.{List, [], ◌∷◌, ◌++◌, ◌||◌, nat_le, ⊎_elim, inl}
 use Rattle.std.proofs.Common.{length, length-append, take, drop, get_or, map, refl, sym, ap, subst}
-use Rattle.std.proofs.Common.{arith, append_assoc, Option, Some, None}
+use Rattle.std.proofs.Common.{arith, append_assoc, Some, None}
 use Rattle.std.proofs.lemmas.Bool.{or_parts, eqb-false}
 use Rattle.std.proofs.lemmas.List.{append-nil, length-drop, get_or-drop, take-append-le}
 use Rattle.yasir_ticks.specs.Ticks.{silent, bytes_in}
@@ -32,6 +32,7 @@ use Rattle.link_verdicts.proofs.Opening.{open-goes, length-silent}
 use Rattle.link_verdicts.proofs.Resting.{causal}
 use Rattle.link_verdicts.proofs.Rings.{ring-first, ring-byte}
 use Rattle.link_verdicts.proofs.Settling.{open-bytes, open-near, after-long}
+use Rattle.check_receiver.specs.Runs.{KeepsHeader}
 use Rattle.check_receiver.proofs.Entering.{live-open, nothing-after}
 use Rattle.check_receiver.proofs.Machine.{last_of-more}
 use Rattle.check_receiver.proofs.RunTicks.{RunsTo, runs-none, runs-first, entered-next, left-next}
@@ -67,7 +68,9 @@ module _ {R : Type 0} (proto : LineRules R) (profile : Profile)
     none : trailer_so_far rules d ≡ []
 
   live-one : (line : List Tick) (left : List ℕ) (live : List Tick) (d : Burst) (b : ℕ)
-      → Walked line left live d → rules.header_len ≤ length (live_bytes rules d)
+      → Walked line left live d
+      → (rules.header_len ≤ length (live_bytes rules d ++ b ∷ [])
+      → rules.is_good_header (take rules.header_len (live_bytes rules d ++ b ∷ [])) ≡ true)
       → Fits (live_bytes rules d) → cut_of rules line (Byte b) ≡ Live b
       → IsLive line left live d b
   live-one line left live d b walked headed fits is =
@@ -104,9 +107,9 @@ module _ {R : Type 0} (proto : LineRules R) (profile : Profile)
       let fits' : Fits (live_bytes rules e) = subst Fits (sym bytes) fits_more in
       let header : rules.header_len ≤ length (live_bytes rules e)
       → rules.is_good_header (take rules.header_len (live_bytes rules e)) ≡ true =
-      λ there. ap (λ x. rules.is_good_header (take rules.header_len x)) bytes
-      ∙ (ap rules.is_good_header (take-append-le rules.header_len (live_bytes rules d) (b ∷ [])
-      headed) ∙ opens.not_bad headed) in
+      let N : List ℕ → Type 0 = λ x. rules.header_len ≤ length x
+      → rules.is_good_header (take rules.header_len x) ≡ true in
+      subst N (sym bytes) headed in
       let entered : List Tick = drop 1 live ++ (silent (m - end_of d) ++ Byte b ∷ []) in
       let next = opens-live profile rules proto.lawful proto.headed some m s.earliest_start d left
       live b may opens open' header in
@@ -160,7 +163,7 @@ module _ {R : Type 0} (proto : LineRules R) (profile : Profile)
 
   pub live-run : (x : List ℕ) (line : List Tick) (left : List ℕ) (live Q : List Tick) (d : Burst)
       → Q ≡ live ++ silent (delay profile - length live) → length live ≤ delay profile
-      → Walked line left live d → rules.header_len ≤ length (live_bytes rules d)
+      → Walked line left live d → KeepsHeader rules (live_bytes rules d) x
       → Fits (live_bytes rules d)
       → cuts_after rules line (map (λ b. Byte b) x) ≡ map (λ b. Live b) x
       → length x ≤ length Q → LiveRun line left live Q d x
@@ -184,7 +187,7 @@ module _ {R : Type 0} (proto : LineRules R) (profile : Profile)
       let first : cut_of rules line (Byte b) ≡ Live b = ap (λ l. get_or l 0 Quiet) cuts in
       let later : cuts_after rules (line ++ Byte b ∷ []) (map (λ c. Byte c) x)
       ≡ map (λ c. Live c) x = ap (λ l. drop 1 l) cuts in
-      let one = live-one line left live d b walked headed fits first in
+      let one = live-one line left live d b walked (headed 1 (omega arith)) fits first in
       let more = one.more in
       let whole = one.full in
       let gap : ℕ = length line - end_of d in
@@ -208,9 +211,14 @@ module _ {R : Type 0} (proto : LineRules R) (profile : Profile)
       let Q_more = length-append (drop 1 Q) (Byte b ∷ []) in
       let k : ℕ = length x in
       let left' : List ℕ = left ++ bytes_in (take 1 live) in
+      let N : List ℕ → Type 0 = λ y. rules.header_len ≤ length y
+      → rules.is_good_header (take rules.header_len y) ≡ true in
+      let headed' : KeepsHeader rules (live_bytes rules e) x = λ n few'.
+      subst N (sym (append_assoc (live_bytes rules d) (b ∷ []) (take n x))
+      ∙ ap (λ y. y ++ take n x) (sym one.bytes)) (headed (suc n) (omega arith)) in
       let rest : LiveRun (line ++ Byte b ∷ []) left' next shifted e x =
       live-run x (line ++ Byte b ∷ []) left' next shifted e shifted_is (omega arith)
-      one.goes.walked (omega arith) one.fits later (omega arith) in
+      one.goes.walked headed' one.fits later (omega arith) in
       let front : take 1 live ≡ take 1 Q =
       sym (ap (λ l. take 1 l) is
       ∙ take-append-le 1 live (silent (delay profile - length live)) (omega arith)) in

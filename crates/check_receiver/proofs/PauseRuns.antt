@@ -2,7 +2,7 @@
 use Rattle.std.proofs.Common.{◌≡◌, ◌∙◌, ℕ, zero, suc, ◌+◌, ◌-◌, ◌<◌, ◌≤◌, false, List, [], ◌∷◌, ◌++◌}
 use Rattle.std.proofs.Common.{length, length-append, take, drop, get_or, refl, sym, ap, subst, arith}
 use Rattle.std.proofs.Common.{append_assoc, Some, None}
-use Rattle.std.proofs.lemmas.List.{append-nil, length-drop, get_or-drop, take-append-drop}
+use Rattle.std.proofs.lemmas.List.{append-nil, get_or-drop, take-append-drop}
 use Rattle.yasir_ticks.specs.Ticks.{silent, bytes_in}
 use Rattle.yasir_ticks.specs.Bursts.{Burst, bursts}
 use Rattle.yasir_ticks.specs.declared.tick.Tick.{Tick}
@@ -14,7 +14,7 @@ use Rattle.frame_ending.specs.LiveBytes.{live_bytes, live_end}
 use Rattle.burst_walk.specs.Causal.{MayGoOn}
 use Rattle.burst_walk.specs.Walk.{Walker}
 use Rattle.burst_walk.proofs.Coming.{come-silent, waiting-may}
-use Rattle.link_format.specs.Profile.{Profile, delay, trailer_len}
+use Rattle.link_format.specs.Profile.{Profile, trailer_len}
 use Rattle.link_verdicts.specs.Verdicts.{CheckState}
 use Rattle.link_verdicts.specs.Checking.{FullNote, checker, at_floor}
 use Rattle.link_verdicts.specs.Going.{Goes}

@@ -1,6 +1,6 @@
 -- The receiver after a run of ticks.
-use Rattle.std.proofs.Common.{◌≡◌, ◌∙◌, ◌⊎◌, ℕ, zero, suc, ◌+◌, ◌-◌, ◌<◌, ◌≤◌, Bool, true, false}
-use Rattle.std.proofs.Common.{List, [], ◌∷◌, ◌++◌, inl, inr}
+use Rattle.std.proofs.Common.{◌≡◌, ◌∙◌, ℕ, zero, suc, ◌+◌, ◌-◌, ◌<◌, ◌≤◌, Bool, true, false}
+use Rattle.std.proofs.Common.{List, [], ◌∷◌, ◌++◌, inr}
 use Rattle.std.proofs.Common.{length, length-append, take, drop, map, refl, sym, ap, subst}
 use Rattle.std.proofs.Common.{arith, append_assoc, Option, Some, None, IfSome, ⊎_elim}
 use Rattle.std.proofs.lemmas.Bool.{cases_lt}
@@ -13,7 +13,6 @@ use Rattle.yasir_ticks.specs.declared.tick.Tick.TheVariants.{Silent, Byte}
 use Rattle.yasir_ticks.proofs.SilenceLaws.{bytes_in-append, bytes_in-silent}
 use Rattle.line_rules.specs.Rules.{Rules, head_of, fills_room}
 use Rattle.line_rules.specs.RulesLaws.{IsLawful}
-use Rattle.line_rules.specs.declared.head.Head.{Head}
 use Rattle.line_rules.specs.declared.head.Head.TheVariants.{Good, Short}
 use Rattle.line_rules.specs.declared.line_rules.LineRules.{Ghosts as LineRules}
 use Rattle.frame_ending.specs.Cuts.{cuts_after}
@@ -44,7 +43,7 @@ use Rattle.link_verdicts.proofs.Judging.{head-short}
 use Rattle.link_verdicts.proofs.Resting.{causal}
 use Rattle.link_verdicts.proofs.Settling.{after-long}
 use Rattle.check_receiver.specs.Arrivals.{Arrives}
-use Rattle.check_receiver.specs.Runs.{HasTakenRun, BeginNone, IsFront, HaveRoom}
+use Rattle.check_receiver.specs.Runs.{HasTakenRun, BeginNone, IsFront, HaveRoom, KeepsHeader}
 use Rattle.check_receiver.specs.Stands.{Codes, StandsAt}
 use Rattle.check_receiver.specs.declared.checker.Checker.{Checker}
 use Rattle.check_receiver.proofs.Entering.{nothing-after, arrives-none}
@@ -520,8 +519,8 @@ module _ {R M : Type 0} (proto : LineRules R) (code : Mac M) {B D : ℕ} (old : 
     -- ---- live bytes come of the burst whose verdict is open
 
     module _ (bytes : List ℕ) (mac : M) (waits : old.waits ≡ true) (any : 0 < length bytes)
-        (few : length bytes ≤ c) (good : head_of proto.rules (live_bytes_so_far proto.rules line)
-        ≡ Good) (cuts : CutStandsFor proto cut (line ++ map (λ b. Byte b) bytes))
+        (few : length bytes ≤ c)
+        (keeps : KeepsHeader proto.rules (live_bytes_so_far proto.rules line) bytes) (cuts : CutStandsFor proto cut (line ++ map (λ b. Byte b) bytes))
         (are_live : cuts_after proto.rules line (map (λ b. Byte b) bytes)
         ≡ map (λ b. Live b) bytes)
         (codes : (key text : List ℕ) → code.stands old.mac key text
@@ -548,8 +547,10 @@ module _ {R M : Type 0} (proto : LineRules R) (code : Mac M) {B D : ℕ} (old : 
       walked-live : Walked false live 0 (Some d)
       walked-live = live-opened waits
 
-      headed : rules.header_len ≤ length (live_bytes rules d)
-      headed = head-opened waits good
+      headed : KeepsHeader rules (live_bytes rules d) bytes
+      headed =
+          let K : Option Burst → Type 0 = λ o. KeepsHeader rules (live_bytes_in rules o) bytes in
+          subst K (last-opened waits) keeps
 
       fits : length (live_bytes rules d) ≤ rules.room (live_bytes rules d)
       fits = fits-opened waits

@@ -59,6 +59,7 @@ use Rattle.check_receiver.proofs.Machine.{last_of-more, until-last, flow, ring-w
 use Rattle.check_receiver.proofs.Silences.{timely}
 use Rattle.check_receiver.proofs.Entering.{nothing-after}
 use Rattle.check_receiver.proofs.Dropping.{drops}
+use Rattle.check_receiver.proofs.Beginnings.{ring-still}
 
 -- ---- no burst runs before it
 
@@ -165,6 +166,9 @@ module _ {R M : Type 0} (proto : LineRules R) (code : Mac M) {B D : ℕ} (old : 
   bytes : live_bytes rules e ≡ b ∷ []
   bytes = start-bytes rules proto.lawful line b
 
+  pub start-live : live_bytes_so_far rules (line ++ Byte b ∷ []) ≡ b ∷ []
+  start-live = ap (λ o. live_bytes_in rules o) last-is ∙ bytes
+
   ends : live_end rules e ≡ m + 1
   ends = begun-end profile rules proto.lawful m b bytes
 
@@ -226,6 +230,15 @@ module _ {R M : Type 0} (proto : LineRules R) (code : Mac M) {B D : ℕ} (old : 
           let out : Q 0 = subst Q unowed turn in
           let none : owed_by new.outlet ≡ 0 - 1 = out.2 in
           (out.0, out.1, omega arith)
+
+      pub start-quiet : step.tick ≡ Silent
+      start-quiet = quiet.0
+
+      pub start-still : get_or (ring_ticks new.ring) 0 Silent ≡ Silent
+      start-still =
+          let delay_is = between.delay_is in
+          ap (λ l. get_or l 0 Silent) (turned.ring ∙ ap (λ l. drop 1 l ++ Byte b ∷ []) empty)
+          ∙ ring-still D b (omega arith)
 
       abbrev entered : List Tick
       entered = drop 1 (silent D ++ Byte b ∷ [])

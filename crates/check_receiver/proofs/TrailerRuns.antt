@@ -1,11 +1,11 @@
 -- Runs of bytes of the trailer of the burst whose verdict is open.
-use Rattle.std.proofs.Common.{◌≡◌, ◌∙◌, ℕ, zero, suc, ◌+◌, ◌-◌, ◌<◌, ◌≤◌, true, false, List, []}
+use Rattle.std.proofs.Common.{◌≡◌, ◌∙◌, ℕ, ◌+◌, ◌-◌, ◌<◌, ◌≤◌, true, false, List, []}
 use Rattle.std.proofs.Common.{◌∷◌, ◌++◌, map, ⊎_elim}
 use Rattle.std.proofs.Common.{length, length-append, take, drop, get_or, refl, sym, ap, subst, arith}
-use Rattle.std.proofs.Common.{append_assoc, Option, Some, None}
+use Rattle.std.proofs.Common.{append_assoc, Some, None}
 use Rattle.std.proofs.lemmas.Bool.{cases_Bool, cases_lt}
-use Rattle.std.proofs.lemmas.List.{append-nil, length-drop, get_or-drop, take-append-drop}
-use Rattle.yasir_ticks.specs.Ticks.{silent, bytes_in}
+use Rattle.std.proofs.lemmas.List.{append-nil, get_or-drop, take-append-drop}
+use Rattle.yasir_ticks.specs.Ticks.{bytes_in}
 use Rattle.yasir_ticks.specs.Bursts.{Burst, bursts, end_of}
 use Rattle.yasir_ticks.specs.BurstsOf.{IsContiguous}
 use Rattle.yasir_ticks.specs.declared.tick.Tick.{Tick}

@@ -1,5 +1,5 @@
 -- What the receiver's calls for a run of ticks answer.
-use Rattle.std.specs.Prelude.{◌≡◌, ◌⊎◌, ℕ, ◌<◌, ◌≤◌, false, List, [], ◌∷◌, ◌++◌, length, map, take}
+use Rattle.std.specs.Prelude.{◌≡◌, ◌⊎◌, ℕ, ◌<◌, ◌≤◌, true, false, List, [], ◌∷◌, ◌++◌, length, map, take}
 use Rattle.std.specs.Prelude.{slice_index_or}
 use Rattle.yasir_ticks.specs.declared.tick.Tick.{Tick}
 use Rattle.yasir_ticks.specs.declared.tick.Tick.TheVariants.{Silent, Byte}
@@ -45,3 +45,9 @@ pub record IsFront (ticks : List Tick) (most : ℕ) (x : List ℕ) : Type 0 wher
 -- After these bytes there is room for each of those.
 abbrev pub HaveRoom : Rules → List ℕ → List ℕ → Type 0
 HaveRoom rules x more = (n : ℕ) → n < length more → fills_room rules (x ++ take n more) ≡ false
+
+-- After these bytes a header that is whole stays a good one with each of those.
+abbrev pub KeepsHeader : Rules → List ℕ → List ℕ → Type 0
+KeepsHeader rules x more = (n : ℕ) → n ≤ length more
+    → rules.header_len ≤ length (x ++ take n more)
+    → rules.is_good_header (take rules.header_len (x ++ take n more)) ≡ true

@@ -1,6 +1,6 @@
 use crate::CheckStep;
 use crate::arriving::Arriving;
-use crate::runs::{RunBytes, cut_some, lend};
+use crate::runs::{RunBytes, begin_well, cut_some, lend};
 use delay_ring::DelayRing;
 use frame_ending::{BurstCut, Cut};
 use hmac_tag::{Dir, Mac};
@@ -69,6 +69,10 @@ impl<R: LineRules, M: Mac, const B: usize, const D: usize> Checker<R, M, B, D> {
     ghost use Rattle.link_verdicts.specs.declared.note.DroppedWhy.TheVariants.{Head as NoHead};
     ghost use Rattle.link_verdicts.specs.Verdicts.{whole_verdict};
     ghost use Rattle.check_receiver.specs.Arrivals.{Arrives};
+    ghost use Rattle.check_receiver.specs.Runs.{KeepsHeader};
+    ghost use Rattle.frame_ending.specs.Cuts.{cut_of};
+    ghost use Rattle.line_rules.specs.declared.head.Head.TheVariants.{Bad};
+    ghost use Rattle.std.specs.Prelude.{slice_index_or};
     ghost use Rattle.link_verdicts.specs.Holding.{trailer_so_far};
     ghost use Rattle.check_receiver.specs.Turning.{Turned, TurnedClear, with_until};
     ghost use Rattle.check_receiver.specs.Between.{IsBetween, IsWhole, IsSilence, IsNoPass};
@@ -168,7 +172,7 @@ impl<R: LineRules, M: Mac, const B: usize, const D: usize> Checker<R, M, B, D> {
             return 0;
         }
         if self.until == 0 {
-            return cut_some(&mut self.cut, bytes);
+            return self.start_some(bytes, left);
         }
         self.pass_over(bytes, left)
     }
@@ -225,6 +229,25 @@ impl<R: LineRules, M: Mac, const B: usize, const D: usize> Checker<R, M, B, D> {
         if !self.has_good_head() {
             return 0;
         }
+        self.follow_on(bytes, left)
+    }
+
+    // The same where the header stays a good one as far as it is whole.
+    #[inline]
+    fn follow_on(&mut self, bytes: &[u8], left: &mut RunBytes) -> usize
+        requires room { ticks_taken self.old + length bytes.now ≤ MAX_TICKS }
+        requires empty { left.old.items ≡ [] }
+        ensures within { result ≤ length bytes.now }
+        ensures taken { ticks_taken self.new ≡ ticks_taken self.old + result }
+        ensures run { (last : ℕ) (setup : Setup) (line : List Tick)
+            → StandsAt R.LineRules M.Mac self.old last setup line
+            → self.old.waits ≡ true
+            → KeepsHeader R.rules (live_bytes_so_far R.rules line) bytes.now
+            → HasTakenRun R.LineRules M.Mac self.new last setup line
+            (map Byte (take result bytes.now)) (answered result left.new.items) }
+        ensures silent { slice_index_or (ring_ticks self.old.ring) 0 Silent ≡ Silent
+            → left.new.items ≡ [] }
+    {
         let most = bytes.len().min(D);
         let count = self.ring.front_alike(most);
         let part = &bytes[..count];
@@ -327,6 +350,60 @@ impl<R: LineRules, M: Mac, const B: usize, const D: usize> Checker<R, M, B, D> {
         taken
     }
 
+    // Bytes where nothing is left to leave: those of a burst that is noted, or the first ones of
+    // another burst, if they begin with a good header and the burst isn't early.
+    fn start_some(&mut self, bytes: &[u8], left: &mut RunBytes) -> usize
+        requires room { ticks_taken self.old + length bytes.now ≤ MAX_TICKS }
+        requires rests { self.old.waits ≡ false }
+        requires unowed { owed_by self.old.outlet ≡ 0 }
+        requires none { self.old.until ≡ 0 }
+        requires empty { left.old.items ≡ [] }
+        ensures within { result ≤ length bytes.now }
+        ensures taken { ticks_taken self.new ≡ ticks_taken self.old + result }
+        ensures run { (last : ℕ) (setup : Setup) (line : List Tick)
+            → StandsAt R.LineRules M.Mac self.old last setup line
+            → HasTakenRun R.LineRules M.Mac self.new last setup line
+            (map Byte (take result bytes.now)) (answered result left.new.items) }
+    {
+        let passed = cut_some(&mut self.cut, bytes);
+        if passed > 0 {
+            return passed;
+        }
+        if bytes.is_empty() {
+            return 0;
+        }
+        if self.cut.ticks() < self.earliest_start {
+            return 0;
+        }
+        if !begin_well::<R>(bytes) {
+            return 0;
+        }
+        let first = bytes[0];
+        self.start(first);
+        1 + self.follow_on(&bytes[1..], left)
+    }
+
+    // The first byte of a burst that isn't early, and that doesn't begin with a bad header, while
+    // nothing is left to leave.
+    #[inline]
+    fn start(&mut self, first: u8)
+        requires room { ticks_taken self.old < MAX_TICKS }
+        ensures taken { ticks_taken self.new ≡ ticks_taken self.old + 1 }
+        ensures run { (last : ℕ) (setup : Setup) (line : List Tick)
+            → StandsAt R.LineRules M.Mac self.old last setup line
+            → cut_of R.rules line (Byte first) ≡ Start first
+            → self.old.until ≡ 0 → self.old.earliest_start ≤ length line
+            → (head_of R.rules (first ∷ []) ≡ Bad → ⊥)
+            → HasTakenRun R.LineRules M.Mac self.new last setup line
+            (Byte first ∷ []) (Silent ∷ [])
+            × (self.new.waits ≡ true)
+            × (slice_index_or (ring_ticks self.new.ring) 0 Silent ≡ Silent)
+            × (live_bytes_so_far R.rules (line ++ Byte first ∷ []) ≡ first ∷ []) }
+    {
+        let _ = self.cut.step(Tick::Byte(first));
+        let _ = self.begin(first);
+    }
+
     // Silence while live ticks of a burst that is noted still leave, but for the last of them.
     fn rest_some(&mut self, ticks: u32, left: &mut RunBytes) -> u32
         requires room { ticks_taken self.old + ticks ≤ MAX_TICKS }
@@ -400,6 +477,12 @@ impl<R: LineRules, M: Mac, const B: usize, const D: usize> Checker<R, M, B, D> {
         ensures step { (last : ℕ) (setup : Setup) (line : List Tick) (t : Tick)
             → IsBetween R.LineRules M.Mac self.old last setup line t (Start byte)
             → HasTaken R.LineRules M.Mac self.new last setup line t result }
+        ensures opens { (last : ℕ) (setup : Setup) (line : List Tick)
+            → IsBetween R.LineRules M.Mac self.old last setup line (Byte byte) (Start byte)
+            → self.old.earliest_start ≤ length line
+            → (head_of R.rules (byte ∷ []) ≡ Bad → ⊥)
+            → (result.note ≡ None) × (result.tick ≡ Silent) × (self.new.waits ≡ true)
+            × (slice_index_or (ring_ticks self.new.ring) 0 Silent ≡ Silent) }
     {
         if self.cut.start() < self.earliest_start {
             return self.drop_busy();

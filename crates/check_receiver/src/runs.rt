@@ -1,4 +1,4 @@
-ghost use Rattle.std.specs.Prelude.{◌≡◌, ℕ, ◌+◌, ◌≤◌, List, [], ◌++◌, length, map, take};
+ghost use Rattle.std.specs.Prelude.{◌≡◌, ℕ, ◌+◌, ◌<◌, ◌≤◌, List, [], ◌++◌, length, map, take, true};
 ghost use Rattle.yasir_ticks.specs.declared.tick.Tick.{Tick};
 ghost use Rattle.yasir_ticks.specs.declared.tick.Tick.TheVariants.{Byte};
 ghost use Rattle.yasir_ticks.specs.declared.TheConstants.{MAX_TICKS};
@@ -7,11 +7,15 @@ ghost use Rattle.frame_ending.specs.Stands.{StandsFor as CutStandsFor};
 ghost use Rattle.delay_ring.specs.DelayRing.{ring_ticks};
 ghost use Rattle.spoiler.specs.Outlet.{StandsFor as OutletStandsFor, owed_by};
 ghost use Rattle.check_receiver.specs.Runs.{BeginNone, IsFront, HaveRoom};
+ghost use Rattle.frame_ending.specs.Cuts.{cut_of};
+ghost use Rattle.frame_ending.specs.declared.cut.Cut.TheVariants.{Start};
+ghost use Rattle.line_rules.specs.Rules.{head_of};
+ghost use Rattle.line_rules.specs.declared.head.Head.TheVariants.{Good};
 
 use arrayvec::ArrayVec;
 use delay_ring::DelayRing;
 use frame_ending::BurstCut;
-use line_rules::LineRules;
+use line_rules::{Head, LineRules};
 use spoiler::Outlet;
 
 /// The bytes that leave in a run of ticks, one in each; none where silence leaves.
@@ -28,12 +32,31 @@ pub fn cut_some<R: LineRules>(cut: &mut BurstCut<R>, bytes: &[u8]) -> usize
         → CutStandsFor R.LineRules cut.new (line ++ map Byte (take result bytes.now)) }
     ensures none { (line : List Tick) → CutStandsFor R.LineRules cut.old line
         → BeginNone R.rules line (map Byte (take result bytes.now)) }
+    ensures starts { result ≡ 0 → 0 < length bytes.now → (line : List Tick) (b : ℕ)
+        → CutStandsFor R.LineRules cut.old line → cut_of R.rules line (Byte b) ≡ Start b }
 {
     let live = cut.go_on_some(bytes);
     if live > 0 {
         return live;
     }
     cut.pass_over_some(bytes)
+}
+
+// How many bytes a header has at most.
+const HEADER_MOST: usize = 10;
+
+// Whether these bytes begin with a whole and good header.
+#[inline]
+pub fn begin_well<R: LineRules>(bytes: &[u8]) -> bool
+    ensures { result ≡ true → (n : ℕ) × (n ≤ length bytes.now)
+        × (head_of R.rules (take n bytes.now) ≡ Good) }
+{
+    let mut rules = R::fresh();
+    let _ = rules.take_some(&bytes[..bytes.len().min(HEADER_MOST)]);
+    match rules.head() {
+        Head::Good => true,
+        Head::Short | Head::Bad => false,
+    }
 }
 
 // Lends the bytes that leave in the next ticks, so many and none of them a burst's last one. The

@@ -244,14 +244,7 @@ fn answers_runs_as_ticks(alloc: Global, link: &[u8], longest: usize) -> Result<b
     let mut other: Checker<Rtu, HmacSha1, 2, 18> = Checker::new(&KEY, Dir::Ab);
     let mut disk = SteadySlots::new(slot_of(0), [0; 16]);
     let mut journal = Journal::load(&mut disk)?;
-    let by_runs = runs(
-        alloc,
-        &mut other,
-        &mut journal,
-        &mut disk,
-        link,
-        longest,
-    )?;
+    let by_runs = runs(alloc, &mut other, &mut journal, &mut disk, link, longest)?;
     Ok(by_steps.as_slice() == by_runs.as_slice())
 }
 
@@ -261,7 +254,10 @@ fn runs_are_answered_as_their_ticks(rt: HostRuntime) -> Result<(), Fail> {
     let link = mixed_link(rt.alloc(), &distances)?;
     let link = &link[..link.len().min(999)];
     for longest in 1..200 {
-        assert!(rt; answers_runs_as_ticks(rt.alloc(), link, longest)?, "runs of {longest}");
+        assert!(rt;
+            answers_runs_as_ticks(rt.alloc(), link, longest)?,
+            "runs of {longest}"
+        );
     }
     Ok(())
 }

@@ -1,7 +1,7 @@
-use Rattle.std.proofs.Common.{◌≡◌, ◌∙◌, ◌+◌, ◌≤◌, ◌<◌, ◌++◌, [], sym, ap, subst, arith, length, List}
+use Rattle.std.proofs.Common.{◌≡◌, ◌∙◌, ◌++◌, sym, ap, subst, arith, length, List}
 use Rattle.std.proofs.Common.{ℕ, take}
 use Rattle.delay_ring.specs.DelayRing.{ring_ticks}
-use Rattle.spoiler.specs.Outlet.{StandsFor as OutletStandsFor, has_room}
+use Rattle.spoiler.specs.Outlet.{StandsFor as OutletStandsFor}
 use Rattle.check_receiver.specs.Runs.{IsFront}
 use Rattle.check_receiver.proofs.Lending.{of-ok, all-left}
 use Rattle.check_receiver.proofs.runs.lend.Goals as goal

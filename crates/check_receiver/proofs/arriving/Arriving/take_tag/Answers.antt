@@ -1,5 +1,5 @@
-use Rattle.std.proofs.Common.{◌≡◌, ◌∙◌, ◌+◌, ◌-◌, ◌≤◌, ◌<◌, ◌++◌, [], ◌∷◌, sym, ap, subst, arith}
-use Rattle.std.proofs.Common.{length, length-append, take, ℕ, List, append_assoc, slice_index_or}
+use Rattle.std.proofs.Common.{◌≡◌, ◌∙◌, ◌+◌, ◌++◌, [], ◌∷◌, sym, ap, subst, arith}
+use Rattle.std.proofs.Common.{length-append, take, ℕ, List, append_assoc, slice_index_or}
 use Rattle.std.proofs.lemmas.List.{take_more, length-take-le}
 use Rattle.check_receiver.specs.Arrivals.{Arrives}
 use Rattle.check_receiver.proofs.Comparing.{arrives-more}

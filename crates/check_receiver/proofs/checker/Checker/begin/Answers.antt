@@ -7,7 +7,9 @@ use Rattle.frame_ending.proofs.Running.{start-tick}
 use Rattle.link_verdicts.specs.declared.note.CheckNote.{CheckNote}
 use Rattle.check_receiver.specs.Between.{IsNoPass, IsBetween}
 use Rattle.check_receiver.specs.Stands.{HasTaken}
+use Rattle.line_rules.specs.Rules.{head_of}
 use Rattle.check_receiver.proofs.Starting.{start-is, start-busy, start-bad, start-open, start-coded}
+use Rattle.check_receiver.proofs.Starting.{start-live, start-quiet, start-still}
 use Rattle.check_receiver.proofs.checker.Checker.begin.Goals as goal
 
 pub returns-then-start-self-clause-step : goal.returns-then-start-self-clause-step
@@ -83,4 +85,32 @@ returns-in-Short g c = record {
       c.update.new.self c.begin.new.self (λ tags floor. c.begin.ensures tags floor)
       (subst D to (subst L label begun))) in
       subst P (sym is) taken between;
+  opens = λ last setup line at early good.
+      let start = c.start.ensures (line ++ Byte c.args.byte ∷ []) at.cuts in
+      let here = start-is g.R.LineRules g.M.Mac c.args.self.now last setup line c.args.byte at in
+      let free = c.if-start-self.false in (
+        c.enter.ensures.note,
+        start-quiet g.R.LineRules g.M.Mac c.args.self.now last setup line c.args.byte at
+            c.update.new.self c.begin.new.self c.begin-2.new.self c.begin-2.ensures.stands
+            c.begin-2.ensures.owed (omega arith) c.enter.new.self c.enter.result
+            c.enter.new.self.until c.enter.ensures.turned,
+        ap (λ v. v.waits) c.enter.ensures.turned.rest,
+        start-still g.R.LineRules g.M.Mac c.args.self.now last setup line c.args.byte at
+            c.update.new.self c.begin.new.self c.begin-2.new.self c.begin-2.ensures.stands
+            c.begin-2.ensures.owed (omega arith) c.enter.new.self c.enter.result
+            c.enter.new.self.until c.enter.ensures.turned,
+      );
 }
+
+pub returns-then-start-self-clause-opens : goal.returns-then-start-self-clause-opens
+returns-then-start-self-clause-opens g c = λ last setup line at early good.
+    let start = c.start.ensures (line ++ Byte c.args.byte ∷ []) at.cuts in
+    let here = start-is g.R.LineRules g.M.Mac c.args.self.now last setup line c.args.byte at in
+    let busy = c.if-start-self.true in
+    absurd (omega arith)
+
+pub returns-in-Bad-clause-opens : goal.returns-in-Bad-clause-opens
+returns-in-Bad-clause-opens g c = λ last setup line at early good.
+    let live = start-live g.R.LineRules g.M.Mac c.args.self.now last setup line c.args.byte at in
+    absurd (good (ap (λ x. head_of g.R.LineRules.rules x) (sym live)
+    ∙ (sym (c.head.ensures (line ++ Byte c.args.byte ∷ []) at.cuts) ∙ c.in-Bad.is)))

@@ -1,8 +1,7 @@
-use Rattle.std.proofs.Common.{◌≡◌, ◌∙◌, ◌+◌, ◌-◌, ◌≤◌, ◌<◌, ◌++◌, sym, ap, subst, arith, length, List}
-use Rattle.std.proofs.Common.{ℕ, take, drop, map, min}
+use Rattle.std.proofs.Common.{◌≡◌, ◌-◌, ◌++◌, sym, subst, arith, length, List}
+use Rattle.std.proofs.Common.{ℕ, take, drop, map}
 use Rattle.std.proofs.lemmas.List.{take-take, length-take-le}
 use Rattle.yasir_ticks.specs.Ticks.{silent}
-use Rattle.yasir_ticks.specs.declared.tick.Tick.{Tick}
 use Rattle.yasir_ticks.specs.declared.tick.Tick.TheVariants.{Byte}
 use Rattle.delay_ring.specs.DelayRing.{ring_ticks}
 use Rattle.burst_walk.specs.Answered.{answered}

@@ -1,7 +1,6 @@
-use Rattle.std.proofs.Common.{◌≡◌, ◌∙◌, ◌≤◌, ◌++◌, [], sym, ap, subst, arith, length, List, ℕ}
+use Rattle.std.proofs.Common.{◌∙◌, sym, subst, arith, List, ℕ}
 use Rattle.std.proofs.lemmas.List.{length-replicate}
 use Rattle.yasir_ticks.specs.Ticks.{silent}
-use Rattle.yasir_ticks.specs.declared.tick.Tick.{Tick}
 use Rattle.yasir_ticks.specs.declared.tick.Tick.TheVariants.{Silent}
 use Rattle.burst_walk.specs.Answered.{answered}
 use Rattle.check_receiver.specs.Runs.{HasTakenRun}

@@ -1,4 +1,4 @@
-use Rattle.std.proofs.Common.{◌≡◌, ◌+◌, ◌-◌, ◌≤◌, arith, ℕ, List}
+use Rattle.std.proofs.Common.{◌-◌, arith, ℕ}
 use Rattle.check_receiver.proofs.Lending.{same-taken}
 use Rattle.check_receiver.proofs.RunsTaken.{pause-taken}
 use Rattle.check_receiver.proofs.checker.Checker.pause_some.Goals as goal

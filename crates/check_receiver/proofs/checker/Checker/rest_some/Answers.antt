@@ -1,4 +1,4 @@
-use Rattle.std.proofs.Common.{◌≡◌, ◌+◌, ◌-◌, ◌≤◌, ◌<◌, arith, ℕ}
+use Rattle.std.proofs.Common.{◌-◌, arith, ℕ}
 use Rattle.std.proofs.lemmas.List.{length-replicate}
 use Rattle.yasir_ticks.specs.Ticks.{silent}
 use Rattle.yasir_ticks.specs.declared.tick.Tick.TheVariants.{Silent}
@@ -13,7 +13,7 @@ returns-clause-run g c = λ last setup line stands.
     let within = c.front_alike-count.ensures.within in
     let most = c.min-most.ensures in
     let first = c.min.ensures in
-    let widened = c.from.ensures in
+    let widened = c.from-still.ensures in
     let some = c.requires.some in
     flow-counted g.R.LineRules g.M.Mac old last setup line stands c.wait_some.new.self
     c.pass_silence.new.self c.lend.new.outlet n c.lend.new.left.items (old.until - n)

@@ -1,0 +1,98 @@
+use Rattle.std.proofs.Common.{◌≡◌, ◌∙◌, ◌+◌, ◌-◌, ◌<◌, ◌++◌, [], ◌∷◌, sym, ap, subst, arith}
+use Rattle.std.proofs.Common.{length, List, ℕ, take, drop, map, refl, slice_index_or}
+use Rattle.std.proofs.lemmas.Bool.{eqb-false}
+use Rattle.std.proofs.lemmas.List.{length-take-le, length-drop, take_all}
+use Rattle.yasir_ticks.specs.Ticks.{silent}
+use Rattle.yasir_ticks.specs.declared.tick.Tick.{Tick}
+use Rattle.yasir_ticks.specs.declared.tick.Tick.TheVariants.{Silent, Byte}
+use Rattle.burst_walk.specs.Answered.{answered}
+use Rattle.check_receiver.specs.Runs.{HasTakenRun, KeepsHeader}
+use Rattle.check_receiver.proofs.Beginnings.{answer-whole, first-byte, more-taken, not-bad}
+use Rattle.check_receiver.proofs.Beginnings.{run-whole, start-keeps, still-stands}
+use Rattle.check_receiver.proofs.Lending.{bytes-long, same-taken}
+use Rattle.check_receiver.proofs.RunsTaken.{idle-taken}
+use Rattle.check_receiver.proofs.checker.Checker.start_some.Goals as goal
+
+pub returns-then-passed-gt0-clause-run : goal.returns-then-passed-gt0-clause-run
+returns-then-passed-gt0-clause-run g c = λ last setup line stands.
+    let bytes : List ℕ = take c.cut_some-passed.result c.args.bytes.now in
+    let run : List Tick = map (λ b. Byte b) bytes in
+    let within = c.cut_some-passed.ensures.within in
+    let size : length run ≡ c.cut_some-passed.result = bytes-long bytes
+    ∙ length-take-le c.cut_some-passed.result c.args.bytes.now (omega arith) in
+    let new = record c.args.self.now { cut = c.cut_some-passed.new.cut } in
+    let Len : ℕ → Type 0 = λ k. HasTakenRun g.R.LineRules g.M.Mac new last setup line run
+    (silent k) in
+    let A : List ℕ → Type 0 = λ y. HasTakenRun g.R.LineRules g.M.Mac new last setup line run
+    (answered c.cut_some-passed.result y) in
+    subst A (sym c.requires.empty) (subst Len size
+    (idle-taken g.R.LineRules g.M.Mac c.args.self.now last setup line stands
+    c.cut_some-passed.new.cut run c.requires.rests c.requires.unowed c.requires.none
+    (c.cut_some-passed.ensures.stands line stands.cuts)
+    (c.cut_some-passed.ensures.none line stands.cuts)))
+
+pub returns-then-is_empty-clause-run : goal.returns-then-is_empty-clause-run
+returns-then-is_empty-clause-run g c = λ last setup line stands.
+    let some = c.if-passed-gt0.false in
+    same-taken g.R.LineRules g.M.Mac
+    (record c.args.self.now { cut = c.cut_some-passed.new.cut }) last setup line
+    (still-stands g.R.LineRules g.M.Mac c.args.self.now last setup line
+    c.cut_some-passed.new.cut c.cut_some-passed.result c.args.bytes.now stands (omega arith)
+    (c.cut_some-passed.ensures.stands line stands.cuts)) c.args.left.now.items c.requires.empty
+
+pub returns-then-ticks-self-clause-run : goal.returns-then-ticks-self-clause-run
+returns-then-ticks-self-clause-run g c = λ last setup line stands.
+    let some = c.if-passed-gt0.false in
+    same-taken g.R.LineRules g.M.Mac
+    (record c.args.self.now { cut = c.cut_some-passed.new.cut }) last setup line
+    (still-stands g.R.LineRules g.M.Mac c.args.self.now last setup line
+    c.cut_some-passed.new.cut c.cut_some-passed.result c.args.bytes.now stands (omega arith)
+    (c.cut_some-passed.ensures.stands line stands.cuts)) c.args.left.now.items c.requires.empty
+
+pub returns-then-not-begin_well-clause-run : goal.returns-then-not-begin_well-clause-run
+returns-then-not-begin_well-clause-run g c = λ last setup line stands.
+    let some = c.if-passed-gt0.false in
+    same-taken g.R.LineRules g.M.Mac
+    (record c.args.self.now { cut = c.cut_some-passed.new.cut }) last setup line
+    (still-stands g.R.LineRules g.M.Mac c.args.self.now last setup line
+    c.cut_some-passed.new.cut c.cut_some-passed.result c.args.bytes.now stands (omega arith)
+    (c.cut_some-passed.ensures.stands line stands.cuts)) c.args.left.now.items c.requires.empty
+
+pub returns-clause-run : goal.returns-clause-run
+returns-clause-run g c = λ last setup line stands.
+    let passed = c.if-passed-gt0.false in
+    let none : c.cut_some-passed.result ≡ 0 = omega arith in
+    let rules = g.R.LineRules.rules in
+    let bytes : List ℕ = c.args.bytes.now in
+    let other = eqb-false (length bytes) 0 (sym c.is_empty.ensures ∙ c.if-is_empty.false) in
+    let some : 0 < length bytes = omega arith in
+    let here = still-stands g.R.LineRules g.M.Mac c.args.self.now last setup line
+    c.cut_some-passed.new.cut c.cut_some-passed.result bytes stands none
+    (c.cut_some-passed.ensures.stands line stands.cuts) in
+    let first : ℕ = slice_index_or bytes 0 0 in
+    let tail : List ℕ = take (length bytes - 1) (drop 1 bytes) in
+    let less = length-drop 1 bytes in
+    let tail_is : tail ≡ drop 1 bytes = take_all (length bytes - 1) (drop 1 bytes) (omega arith) in
+    let whole : first ∷ tail ≡ bytes = ap (λ l. first ∷ l) tail_is ∙ first-byte bytes some in
+    let well = c.begin_well.ensures c.if-not-begin_well.false in
+    let keeps = start-keeps rules first tail bytes well.0 whole well.1 well.2 in
+    let count = c.ticks.ensures.count line here.cuts in
+    let early = c.if-ticks-self.false in
+    let begun = c.start.ensures.run last setup line here
+    (c.cut_some-passed.ensures.starts none some line first stands.cuts) c.requires.none
+    (omega arith) (not-bad rules first tail keeps) in
+    let K : List ℕ → Type 0 = λ x. KeepsHeader rules x tail in
+    let rest = c.follow_on.ensures.run last setup (line ++ Byte first ∷ []) begun.0.stands begun.1
+    (subst K (sym begun.3) keeps) in
+    let items : List ℕ = c.follow_on.new.left.items in
+    let quiet : items ≡ [] = c.follow_on.ensures.silent begun.2 in
+    let more : ℕ = c.follow_on.result in
+    let A : List Tick → List Tick → Type 0 = λ run answer. HasTakenRun g.R.LineRules g.M.Mac
+    c.follow_on.new.self last setup line run answer in
+    subst (λ run. A run (answered (1 + more) items))
+    (run-whole first tail bytes more (1 + more) whole refl)
+    (subst (λ answer. A (Byte first ∷ map (λ b. Byte b) (take more tail)) answer)
+    (answer-whole items more (1 + more) quiet refl)
+    (more-taken g.R.LineRules g.M.Mac c.follow_on.new.self last setup line c.start.new.self
+    (Byte first ∷ []) (map (λ b. Byte b) (take more tail)) (Silent ∷ []) (answered more items)
+    begun.0 rest))
