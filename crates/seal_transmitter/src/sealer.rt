@@ -160,6 +160,9 @@ impl<R: LineRules, M: Mac, const B: usize> Sealer<R, M, B> {
             return 0;
         }
         let count = self.cut.go_on_some(bytes);
+        if count == 0 {
+            return 0;
+        }
         self.mac.update(&bytes[..count]);
         count
     }
@@ -303,6 +306,7 @@ impl<R: LineRules, M: Mac, const B: usize> Sealer<R, M, B> {
     /// early burst goes on, or bytes come that aren't live. Puts into `left` what is sent meanwhile
     /// of a trailer, a byte for each, or nothing where the link is silent. With 0 the caller goes on
     /// by another call. At most `MAX_TICKS` ticks are taken then.
+    #[inline]
     pub fn pass_bytes(&mut self, bytes: &[u8], left: &mut RunBytes) -> usize
         requires { ticks_taken self.old + length bytes.now ≤ MAX_TICKS }
         ensures within { result ≤ length bytes.now }
@@ -321,6 +325,7 @@ impl<R: LineRules, M: Mac, const B: usize> Sealer<R, M, B> {
     }
 
     /// The same of silence, as far as it closes no burst: what is left of a trailer is sent.
+    #[inline]
     pub fn pass_silence(&mut self, ticks: u32, left: &mut RunBytes) -> u32
         requires { ticks_taken self.old + ticks ≤ MAX_TICKS }
         ensures within { result ≤ ticks }
@@ -330,6 +335,10 @@ impl<R: LineRules, M: Mac, const B: usize> Sealer<R, M, B> {
             → HasTakenRun R.LineRules M.Mac self.new (journal_floor journal) setup line
             (silent result) (answered result left.new.items) }
     {
+        if self.trailer.left().len() == 0 {
+            left.clear();
+            return 0;
+        }
         put(left, &self.send_some(ticks)) as u32
     }
 

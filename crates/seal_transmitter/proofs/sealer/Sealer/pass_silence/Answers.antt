@@ -4,8 +4,15 @@ use Rattle.yasir_ticks.specs.declared.tick.Tick.{Tick}
 use Rattle.yasir_ticks.specs.declared.tick.Tick.TheVariants.{Byte}
 use Rattle.sequence_journal.specs.Journal.{journal_floor}
 use Rattle.seal_transmitter.specs.Runs.{HasTakenRun}
-use Rattle.seal_transmitter.proofs.RunSteps.{answered-all}
+use Rattle.seal_transmitter.proofs.RunSteps.{answered-all, answered-none, nothing-taken}
 use Rattle.seal_transmitter.proofs.sealer.Sealer.pass_silence.Goals as goal
+
+pub returns-then-left-eq0-clause-run : goal.returns-then-left-eq0-clause-run
+returns-then-left-eq0-clause-run g c = λ journal setup line stands.
+    subst (λ (x : List Tick). HasTakenRun g.R.LineRules g.M.Mac c.args.self.now
+    (journal_floor journal) setup line (silent 0) x)
+    (answered-none 0 c.clear.new.self.items c.clear.ensures)
+    (nothing-taken g.R.LineRules g.M.Mac c.args.self.now (journal_floor journal) setup line stands)
 
 pub returns-clause-run : goal.returns-clause-run
 returns-clause-run g c = λ journal setup line stands.
