@@ -1,2 +1,3 @@
 pub mod Xoring
 pub mod StandardFacts
+pub mod Sha1Blocks

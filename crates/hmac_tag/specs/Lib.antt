@@ -1,4 +1,5 @@
 pub mod Hmac
+pub mod Sha1Words
 pub mod Tag
 pub mod Stands
 pub mod Digests

@@ -4,6 +4,7 @@
 mod dir;
 mod hash;
 mod keyed_hash;
+mod sha1_block;
 mod tag;
 #[cfg(test)]
 mod tests;
