@@ -1,3 +1,4 @@
 pub mod Xoring
 pub mod StandardFacts
 pub mod Sha1Blocks
+pub mod Hashing

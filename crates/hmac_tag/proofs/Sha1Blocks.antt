@@ -1,9 +1,10 @@
 -- SHA-1's schedule by fours, and the rounds over words that come with their constants.
 use Rattle.std.proofs.Common.{◌≡◌, ℕ, zero, suc, ◌+◌, ◌-◌, ◌*◌, ◌/◌, ◌%◌, ◌^◌, ◌<◌, ◌≤◌, List, []}
-use Rattle.std.proofs.Common.{◌∷◌, ◌++◌, length, slice_index, map, refl, sym, ap, ap₂, ◌∙◌, arith, inl, inr}
+use Rattle.std.proofs.Common.{◌∷◌, ◌++◌, length, slice_index, map, refl}
+use Rattle.std.proofs.Common.{sym, ap, ap₂, ◌∙◌, arith, inl, inr}
 use Rattle.std.proofs.Common.{bit_or, bit_xor}
 use Rattle.std.proofs.lemmas.Bool.{cases_lt}
-use Rattle.std.proofs.lemmas.Nat.{or_shifted, xor_mod, xor_shr, xor_block, xor_lt, or_lt, xor_comm}
+use Rattle.std.proofs.lemmas.Nat.{or_shifted, xor_mod, xor_shr, xor_block, xor_lt, xor_comm}
 use Rattle.std.proofs.lemmas.Nat.Bits.{bit_at-lt, bit_at_xor, same_from_bits}
 use Rattle.std.specs.Int.{w32, rotate_left}
 use Rattle.std.specs.Int.Bits.{xor_assoc, xor_zero_r, xor_zero_l}
@@ -13,7 +14,7 @@ use Rattle.std.proofs.Common.{take, drop, get_or, add-zero, length-drop}
 use Rattle.std.proofs.lemmas.List.{length-take-le, get_or_append_left, get_or-append_right}
 use Rattle.std.proofs.lemmas.List.{get_or-take}
 use Rattle.std.proofs.lemmas.Simd.{put_chunk_whole}
-use Rattle.sha1.specs.Sha1.{add32, word_at, schedule, rounds, round, round_fn, round_constant}
+use Rattle.sha1.specs.Sha1.{add32, schedule, rounds, round, round_fn, round_constant}
 use Rattle.sha1.proofs.Schedule.{slice_index-schedule_first, slice_index-schedule_next, rounds_next}
 use Rattle.hmac_tag.specs.Sha1Words.{AreBytes, four_at, IsFour, AreKeyed}
 
@@ -69,13 +70,14 @@ turned_xor : (x y : ℕ) → x < 2 ^ 32 → y < 2 ^ 32
     → turned (bit_xor x y) ≡ bit_xor (turned x) (turned y)
 turned_xor x y fx fy =
     let both : bit_xor (turned x) (turned y)
-        ≡ bit_xor (x % 2 ^ 31 * 2 ^ 1 + x / 2 ^ 31) (y % 2 ^ 31 * 2 ^ 1 + y / 2 ^ 31) =
+    ≡ bit_xor (x % 2 ^ 31 * 2 ^ 1 + x / 2 ^ 31) (y % 2 ^ 31 * 2 ^ 1 + y / 2 ^ 31) =
     rw (turned_is x fx, turned_is y fy) refl in
     let parts : turned (bit_xor x y)
-        ≡ bit_xor (x % 2 ^ 31) (y % 2 ^ 31) * 2 ^ 1 + bit_xor (x / 2 ^ 31) (y / 2 ^ 31) =
+    ≡ bit_xor (x % 2 ^ 31) (y % 2 ^ 31) * 2 ^ 1 + bit_xor (x / 2 ^ 31) (y / 2 ^ 31) =
     rw (← xor_mod x y 31, ← xor_shr x y 31) (turned_is (bit_xor x y) (xor_lt 32 x y fx fy)) in
     parts
-    ∙ sym (xor_block 1 (x % 2 ^ 31) (y % 2 ^ 31) (x / 2 ^ 31) (y / 2 ^ 31) (omega arith) (omega arith))
+    ∙ sym (xor_block 1 (x % 2 ^ 31) (y % 2 ^ 31) (x / 2 ^ 31) (y / 2 ^ 31) (omega arith)
+    (omega arith))
     ∙ sym both
 
 twice_by_parts : (x y : ℕ) → x < 2 ^ 32 → y ≡ x % 2 ^ 31 * 2 ^ 1 + x / 2 ^ 31
@@ -204,7 +206,7 @@ module _ (block : List ℕ) where
       word_after n (l + 29) (l + 24) (l + 18) (l + 16)
       (omega arith) (omega arith) (omega arith) (omega arith) (omega arith) in
       let both : xor_four (W (l + 29)) (W (l + 24)) (W (l + 18)) (W (l + 16))
-          ≡ turned (xor_four a b c d) =
+      ≡ turned (xor_four a b c d) =
       rw (wa, wb, wc, wd) (turned_xor_four a b c d fa fb fc fd) in
       here ∙ ap turned both ∙ turned_twice (xor_four a b c d) (xor_four_lt a b c d fa fb fc fd)
       ∙ ap (λ (x : ℕ). rotate_left w32 x 2)
@@ -233,22 +235,22 @@ module _ (block : List ℕ) where
       ≡ four_at (schedule block 64) (t + 16)
   near_four t le =
       let w0 : turned (xor_four (W (t + 12 + 1)) (W (t + 8)) (W (t + 2)) (W t)) ≡ W (t + 16) =
-      sym (word_after (t + 16) (t + 12 + 1) (t + 8) (t + 2) t (omega arith) (omega arith)
-      (omega arith) (omega arith) (omega arith)) in
+      sym (word_after (t + 16) (t + 12 + 1) (t + 8) (t + 2) t (omega arith)
+      (omega arith) (omega arith) (omega arith) (omega arith)) in
       let w1 : turned (xor_four (W (t + 12 + 2)) (W (t + 8 + 1)) (W (t + 3)) (W (t + 1)))
-          ≡ W (t + 16 + 1) =
-      sym (word_after (t + 16 + 1) (t + 12 + 2) (t + 8 + 1) (t + 3) (t + 1) (omega arith) (omega arith)
-      (omega arith) (omega arith) (omega arith)) in
+      ≡ W (t + 16 + 1) =
+      sym (word_after (t + 16 + 1) (t + 12 + 2) (t + 8 + 1) (t + 3) (t + 1) (omega arith)
+      (omega arith) (omega arith) (omega arith) (omega arith)) in
       let w2 : turned (xor_four (W (t + 12 + 3)) (W (t + 8 + 2)) (W (t + 4)) (W (t + 2)))
-          ≡ W (t + 16 + 2) =
-      sym (word_after (t + 16 + 2) (t + 12 + 3) (t + 8 + 2) (t + 4) (t + 2) (omega arith) (omega arith)
-      (omega arith) (omega arith) (omega arith)) in
+      ≡ W (t + 16 + 2) =
+      sym (word_after (t + 16 + 2) (t + 12 + 3) (t + 8 + 2) (t + 4) (t + 2) (omega arith)
+      (omega arith) (omega arith) (omega arith) (omega arith)) in
       let w3 : turned (xor_four (W (t + 16)) (W (t + 8 + 3)) (W (t + 4 + 1)) (W (t + 3)))
-          ≡ W (t + 16 + 3) =
-      sym (word_after (t + 16 + 3) (t + 16) (t + 8 + 3) (t + 4 + 1) (t + 3) (omega arith) (omega arith)
-      (omega arith) (omega arith) (omega arith)) in
+      ≡ W (t + 16 + 3) =
+      sym (word_after (t + 16 + 3) (t + 16) (t + 8 + 3) (t + 4 + 1) (t + 3) (omega arith)
+      (omega arith) (omega arith) (omega arith) (omega arith)) in
       let last : bit_xor (xor_four 0 (W (t + 8 + 3)) (W (t + 4 + 1)) (W (t + 3))) (W (t + 16))
-          ≡ xor_four (W (t + 16)) (W (t + 8 + 3)) (W (t + 4 + 1)) (W (t + 3)) =
+      ≡ xor_four (W (t + 16)) (W (t + 8 + 3)) (W (t + 4 + 1)) (W (t + 3)) =
       last_first (W (t + 8 + 3)) (W (t + 4 + 1)) (W (t + 3)) (W (t + 16)) in
       same_four _ _ _ _ _ _ _ _
       (ap turned (xor_zero_r _) ∙ w0) (ap turned (xor_zero_r _) ∙ w1)

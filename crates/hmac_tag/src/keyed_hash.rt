@@ -5,9 +5,8 @@ ghost use Rattle.hmac_tag.specs.Hmac.{xored, filled, key_block, hmac};
 ghost use Rattle.hmac_tag.specs.Stands.{StandsFor};
 ghost use Rattle.hmac_tag.specs.Tag.{hmac_cut};
 
-use crate::{Digest, Mac, TagBytes};
+use crate::{Digest, Mac, Sha1Hasher, TagBytes};
 use arrayvec::ArrayVec;
-use sha1::Sha1;
 use sha2::Sha256;
 use std::mem;
 
@@ -29,7 +28,7 @@ pub struct Hmac<D, const N: usize> {
 }
 
 /// HMAC over SHA-1, whose tags are its first 12 bytes (RFC 2404).
-pub type HmacSha1 = Hmac<Sha1, 20>;
+pub type HmacSha1 = Hmac<Sha1Hasher, 20>;
 
 /// HMAC over SHA-256, whose tags are its first 16 bytes (RFC 4868).
 pub type HmacSha256 = Hmac<Sha256, 32>;

@@ -5,6 +5,7 @@ mod dir;
 mod hash;
 mod keyed_hash;
 mod sha1_block;
+mod sha1_hasher;
 mod tag;
 #[cfg(test)]
 mod tests;
@@ -12,4 +13,5 @@ mod tests;
 pub use dir::Dir;
 pub use hash::Digest;
 pub use keyed_hash::{Hmac, HmacSha1, HmacSha256};
+pub use sha1_hasher::Sha1Hasher;
 pub use tag::{Mac, TagBytes};

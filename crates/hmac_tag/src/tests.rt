@@ -1,4 +1,5 @@
-use crate::{Dir, HmacSha1, HmacSha256, Mac, TagBytes};
+use crate::{Digest, Dir, HmacSha1, HmacSha256, Mac, Sha1Hasher, TagBytes};
+use sha1::Sha1;
 
 // HMAC-SHA-1 by Python's `hmac`: of the text whose byte i is 5 i + 1 (modulo 256), whole with 150
 // bytes and empty, under the first bytes of the key whose byte i is 7 i + 3.
@@ -116,6 +117,26 @@ fn texts_cut_at_every_place(rt: HostRuntime) {
             &empty[..12],
             "a key of {len} bytes, no text"
         );
+    }
+}
+
+// The crate `sha1` is another body of the same hash, whose blocks are scalar.
+#[test]
+fn digests_of_each_length_cut_at_every_place(rt: HostRuntime) {
+    let text: [u8; 200] = bytes(11, 9);
+    for len in 0..201 {
+        let message = &text[..len];
+        let whole = Sha1::digest(message);
+        for cut in 0..len + 1 {
+            let mut hasher = <Sha1Hasher as Digest<20>>::new();
+            Digest::update(&mut hasher, &message[..cut]);
+            Digest::update(&mut hasher, &message[cut..]);
+            assert_eq!(rt;
+                Digest::finalize(hasher),
+                whole,
+                "{len} bytes, cut at {cut}"
+            );
+        }
     }
 }
 

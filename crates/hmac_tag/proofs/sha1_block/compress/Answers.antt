@@ -1,4 +1,3 @@
-use Rattle.std.proofs.Common.{◌∙◌, sym}
 use Rattle.sha1.specs.Sha1.{compress, schedule}
 use Rattle.hmac_tag.proofs.sha1_block.compress.Goals as goal
 

@@ -1,7 +1,7 @@
 use Rattle.std.proofs.Common.{ℕ, List, ◌+◌, ◌*◌, arith}
 use Rattle.sha1.specs.Sha1.{schedule}
-use Rattle.hmac_tag.specs.Sha1Words.{AreBytes, IsFour}
-use Rattle.hmac_tag.proofs.Sha1Blocks.{keyed_none, AreKeyed_at, IsFour_at, AreEight, eight_on}
+use Rattle.hmac_tag.specs.Sha1Words.{AreBytes}
+use Rattle.hmac_tag.proofs.Sha1Blocks.{keyed_none, AreKeyed_at, IsFour_at, eight_on}
 use Rattle.hmac_tag.proofs.sha1_block.keyed_schedule.Goals as goal
 
 pub loop-i-init : goal.loop-i-init
@@ -34,11 +34,12 @@ loop-i-preserved c =
     let eight = c.loop-i.invariant.1 in
     let bytes : AreBytes block = c.fits-block in
     let next = c.far_four-next.ensures block (4 * i) bytes (omega arith) eight.is_a eight.is_b
-        eight.is_e eight.is_g eight.is_h in
+    eight.is_e eight.is_g eight.is_h in
     let keyed = c.write_keyed-in-loop-i.ensures words c.loop-i.invariant.0
-        (IsFour_at words (4 * i + 32) (4 * (i + 8)) _ (omega arith) next) in
-    (AreKeyed_at words _ (4 * (i + 8 + 1)) (4 * (i + 1 + 8)) (omega arith) keyed,
-    eight_on words (4 * i) (4 * (i + 1)) _ _ _ _ _ _ _ _ _ (omega arith) eight next)
+    (IsFour_at words (4 * i + 32) (4 * (i + 8)) _ (omega arith) next) in (
+      AreKeyed_at words _ (4 * (i + 8 + 1)) (4 * (i + 1 + 8)) (omega arith) keyed,
+      eight_on words (4 * i) (4 * (i + 1)) _ _ _ _ _ _ _ _ _ (omega arith) eight next,
+    )
 
 pub returns : goal.returns
 returns c = AreKeyed_at _ _ (4 * (c.loop-i.i + 8)) 80 (omega arith) c.loop-i.invariant.0

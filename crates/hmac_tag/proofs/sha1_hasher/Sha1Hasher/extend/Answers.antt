@@ -1,0 +1,9 @@
+use Rattle.std.proofs.Common.{refl, arith}
+use Rattle.hmac_tag.proofs.Hashing.{taken_short}
+use Rattle.hmac_tag.proofs.sha1_hasher.Sha1Hasher.extend.Goals as goal
+
+pub returns : goal.returns
+returns c = λ m held.
+    taken_short c.args.self.now _ m c.args.part.now _ _ _ held (omega arith) refl (omega arith)
+    (omega arith)
+    c.copy_from_slice.ensures.after refl refl refl

@@ -1,0 +1,7 @@
+use Rattle.std.proofs.Common.{refl}
+use Rattle.sha1.specs.Sha1.{hash_after}
+use Rattle.hmac_tag.proofs.sha1_hasher.Sha1Hasher.new.Goals as goal
+
+pub returns : goal.returns
+unfolding hash_after
+returns c = record { total = refl; absorbed = (refl, refl); zeros = refl }
