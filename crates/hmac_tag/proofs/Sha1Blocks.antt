@@ -372,3 +372,23 @@ eight_on words t u a b c d e f g h next on eight new =
       is_g = at (t + 28) (u + 24) h (omega arith) eight.is_h;
       is_h = at (t + 32) (u + 28) next (omega arith) new;
     }
+
+-- an array's five words, written out
+pub five_words : (v : List ℕ) → length v ≡ 5
+    → slice_index v 0 ∷ slice_index v 1 ∷ slice_index v 2 ∷ slice_index v 3 ∷ slice_index v 4 ∷ []
+    ≡ v
+five_words (a ∷ b ∷ c ∷ d ∷ e ∷ []) h = refl
+five_words [] h = absurd (omega arith)
+five_words (a ∷ []) h = absurd (omega arith)
+five_words (a ∷ b ∷ []) h = absurd (omega arith)
+five_words (a ∷ b ∷ c ∷ []) h = absurd (omega arith)
+five_words (a ∷ b ∷ c ∷ d ∷ []) h = absurd (omega arith)
+five_words (a ∷ b ∷ c ∷ d ∷ e ∷ g ∷ v) h = absurd (omega arith)
+
+-- what a round gave, written out
+pub five_rounds : (h words v : List ℕ) (t : ℕ) → v ≡ rounds h words (t + 1)
+    → slice_index v 0 ∷ slice_index v 1 ∷ slice_index v 2 ∷ slice_index v 3 ∷ slice_index v 4 ∷ []
+    ≡ rounds h words (t + 1)
+five_rounds h words v t held =
+    let len : length v ≡ 5 = ap length (held ∙ rounds_next h words t) in
+    five_words v len ∙ held

@@ -208,11 +208,11 @@ fn last_step(keyed: &[u32; 80], v: [u32; 5], t: usize) -> [u32; 5]
     round(v, parity(v[1], v[2], v[3]), keyed[t])
 }
 
-// The 80 rounds, five at a time, so that no variable has to move.
-#[inline(never)]
-fn run_rounds(state: &mut [u32; 5], keyed: &[u32; 80])
+// The first 40 rounds, five at a time, so that no variable has to move.
+#[inline(always)]
+fn first_rounds(state: &mut [u32; 5], keyed: &[u32; 80])
     ensures { (words : List ℕ) → AreKeyed words keyed.now 80
-        → state.new ≡ add_state state.old (rounds state.old words 80) }
+        → state.new ≡ rounds state.old words 40 }
 {
     let mut v = *state;
     'choose: for group in 0..4 {
@@ -231,6 +231,16 @@ fn run_rounds(state: &mut [u32; 5], keyed: &[u32; 80])
         v = parity_step(keyed, v, t + 3);
         v = parity_step(keyed, v, t + 4);
     }
+    *state = [v[0], v[1], v[2], v[3], v[4]];
+}
+
+// The last 40 rounds.
+#[inline(always)]
+fn last_rounds(state: &mut [u32; 5], keyed: &[u32; 80])
+    ensures { (words h : List ℕ) → AreKeyed words keyed.now 80 → state.old ≡ rounds h words 40
+        → state.new ≡ rounds h words 80 }
+{
+    let mut v = *state;
     'majority: for group in 0..4 {
         let t = 40 + 5 * group;
         v = majority_step(keyed, v, t);
@@ -247,6 +257,18 @@ fn run_rounds(state: &mut [u32; 5], keyed: &[u32; 80])
         v = last_step(keyed, v, t + 3);
         v = last_step(keyed, v, t + 4);
     }
+    *state = [v[0], v[1], v[2], v[3], v[4]];
+}
+
+// The 80 rounds, and the hash value with what they give.
+#[inline(never)]
+fn run_rounds(state: &mut [u32; 5], keyed: &[u32; 80])
+    ensures { (words : List ℕ) → AreKeyed words keyed.now 80
+        → state.new ≡ add_state state.old (rounds state.old words 80) }
+{
+    let mut v = *state;
+    first_rounds(&mut v, keyed);
+    last_rounds(&mut v, keyed);
     *state = [
         state[0].wrapping_add(v[0]),
         state[1].wrapping_add(v[1]),
