@@ -13,4 +13,6 @@ pub use note::{SealNote, SealStep, UnsealedWhy};
 pub use sealer::{RunBytes, Sealer};
 
 #[cfg(test)]
+mod run_tests;
+#[cfg(test)]
 mod tests;

@@ -1,0 +1,8 @@
+use Rattle.std.proofs.Common.{◌≡◌, ◌+◌}
+use Rattle.sequence_journal.specs.Journal.{Fits}
+use Rattle.seal_transmitter.specs.Stands.{ticks_taken}
+use Rattle.seal_transmitter.proofs.run_tests.step_times.Given as goal
+
+abbrev pub invariant-loop-taken : goal.invariant-loop-taken
+invariant-loop-taken g l = (ticks_taken l.sealer ≡ ticks_taken l.initial.sealer + l.taken)
+    × Fits l.journal (g.D.SlotDisk.told l.disk)

@@ -1,0 +1,189 @@
+//! Runs of ticks come to what their single ticks come to.
+ghost use Rattle.std.specs.Prelude.{◌≡◌, ◌+◌, ◌≤◌, OnOk};
+ghost use Rattle.sequence_journal.specs.Journal.{Fits};
+ghost use Rattle.seal_transmitter.specs.Stands.{ticks_taken};
+
+use super::*;
+use hmac_tag::HmacSha1;
+use line_rules::FourBytes;
+use sequence_journal::{Journal, slot_of};
+use std::alloc::{AllocError, Global};
+use std::test::Fail;
+use yasir_io::{SlotDisk, SteadySlots};
+use yasir_ticks::Tick;
+
+type FourSealer = Sealer<FourBytes, HmacSha1, 2>;
+
+// As four of these bytes are a frame, the line has no other ones.
+const BYTE: u8 = 0;
+
+fn add(link: &mut Vec<Tick>, tick: Tick, times: usize) -> Result<(), AllocError> {
+    for _ in 0..times {
+        link.push(tick)?;
+    }
+    Ok(())
+}
+
+// What a run is answered with: these bytes, or so many silent ticks.
+fn add_answered(link: &mut Vec<Tick>, count: usize, left: &[u8]) -> Result<(), AllocError> {
+    if left.is_empty() {
+        return add(link, Tick::Silent, count);
+    }
+    for byte in left {
+        link.push(Tick::Byte(*byte))?;
+    }
+    Ok(())
+}
+
+// Takes the same tick so many times, a step each.
+fn step_times<D: SlotDisk>(
+    sealer: &mut FourSealer,
+    journal: &mut Journal,
+    disk: &mut D,
+    tick: Tick,
+    times: u32,
+    link: &mut Vec<Tick>,
+) -> Result<(), Fail>
+    requires room { ticks_taken sealer.old + times ≤ 1000 }
+    requires fits { Fits journal.old (D.told disk.old) }
+    ensures taken { OnOk result (ticks_taken sealer.new ≡ ticks_taken sealer.old + times) }
+    ensures fits { OnOk result (Fits journal.new (D.told disk.new)) }
+{
+    for taken in 0..times {
+        let step = sealer.step(tick, journal, disk)?;
+        link.push(step.tick)?;
+    }
+    Ok(())
+}
+
+// Takes so many silent ticks: as runs if asked, and those that no run takes by steps.
+fn wait<D: SlotDisk>(
+    sealer: &mut FourSealer,
+    journal: &mut Journal,
+    disk: &mut D,
+    by_runs: bool,
+    ticks: u32,
+    link: &mut Vec<Tick>,
+) -> Result<(), Fail>
+    requires room { ticks_taken sealer.old + ticks ≤ 1000 }
+    requires fits { Fits journal.old (D.told disk.old) }
+    ensures taken { OnOk result (ticks_taken sealer.new ≡ ticks_taken sealer.old + ticks) }
+    ensures fits { OnOk result (Fits journal.new (D.told disk.new)) }
+{
+    if !by_runs {
+        return step_times(sealer, journal, disk, Tick::Silent, ticks, link);
+    }
+    let mut left = RunBytes::new();
+    let sent = sealer.pass_silence(ticks, &mut left);
+    add_answered(link, sent as usize, left.as_slice())?;
+    let rested = sealer.rest(ticks - sent);
+    add(link, Tick::Silent, rested as usize)?;
+    let others = ticks - sent - rested;
+    step_times(sealer, journal, disk, Tick::Silent, others, link)
+}
+
+// The same of so many bytes.
+fn hear<D: SlotDisk>(
+    sealer: &mut FourSealer,
+    journal: &mut Journal,
+    disk: &mut D,
+    by_runs: bool,
+    count: u32,
+    link: &mut Vec<Tick>,
+) -> Result<(), Fail>
+    requires few { count ≤ 8 }
+    requires room { ticks_taken sealer.old + count ≤ 1000 }
+    requires fits { Fits journal.old (D.told disk.old) }
+    ensures taken { OnOk result (ticks_taken sealer.new ≡ ticks_taken sealer.old + count) }
+    ensures fits { OnOk result (Fits journal.new (D.told disk.new)) }
+{
+    if !by_runs {
+        return step_times(sealer, journal, disk, Tick::Byte(BYTE), count, link);
+    }
+    let bytes = [BYTE; 8];
+    let bytes = &bytes[..count as usize];
+    let sent = sealer.forward(bytes);
+    add(link, Tick::Byte(BYTE), sent)?;
+    let mut left = RunBytes::new();
+    let passed = sealer.pass_bytes(&bytes[sent..], &mut left);
+    add_answered(link, passed, left.as_slice())?;
+    let others = count - (sent + passed) as u32;
+    step_times(sealer, journal, disk, Tick::Byte(BYTE), others, link)
+}
+
+// The link of a frame, so many silent ticks, so many bytes and then silence, each of the two cut in
+// two, and the last number used.
+fn link_of(
+    alloc: Global,
+    by_runs: bool,
+    silence: (u32, u32),
+    bytes: (u32, u32),
+) -> Result<(Vec<Tick>, u64), Fail>
+    requires silence { silence.0 + silence.1 ≤ 100 }
+    requires bytes { bytes.0 + bytes.1 ≤ 8 }
+{
+    let mut sealer: FourSealer = Sealer::new(b"a key of sixteen", Dir::Ab);
+    let mut disk = SteadySlots::new(slot_of(7), [0; 16]);
+    let mut journal = Journal::load(&mut disk)?;
+    let mut link = Vec::new(alloc);
+    hear(&mut sealer, &mut journal, &mut disk, by_runs, 4, &mut link)?;
+    wait(
+        &mut sealer,
+        &mut journal,
+        &mut disk,
+        by_runs,
+        silence.0,
+        &mut link,
+    )?;
+    wait(
+        &mut sealer,
+        &mut journal,
+        &mut disk,
+        by_runs,
+        silence.1,
+        &mut link,
+    )?;
+    hear(
+        &mut sealer,
+        &mut journal,
+        &mut disk,
+        by_runs,
+        bytes.0,
+        &mut link,
+    )?;
+    hear(
+        &mut sealer,
+        &mut journal,
+        &mut disk,
+        by_runs,
+        bytes.1,
+        &mut link,
+    )?;
+    wait(&mut sealer, &mut journal, &mut disk, by_runs, 3, &mut link)?;
+    wait(&mut sealer, &mut journal, &mut disk, by_runs, 27, &mut link)?;
+    Ok((link, journal.floor()))
+}
+
+// Behind a frame comes a burst that joins it, one that starts over its trailer or too soon behind
+// it, and one that is sealed too.
+#[test]
+fn runs_are_sealed_as_their_ticks(rt: HostRuntime) -> Result<(), Fail> {
+    for silence in [1, 2, 3, 4, 5, 10, 17, 18, 19, 20, 21, 25] {
+        for count in [1, 4, 6] {
+            let (steps, floor) = link_of(rt.alloc(), false, (silence, 0), (count, 0))?;
+            for at in 0..silence + 1 {
+                for cut in 0..count + 1 {
+                    let (runs, number) = link_of(
+                        rt.alloc(),
+                        true,
+                        (at, silence - at),
+                        (cut, count - cut),
+                    )?;
+                    assert_eq!(rt; number, floor);
+                    assert_eq!(rt; runs.as_slice(), steps.as_slice(), "cut at {at}, {cut}");
+                }
+            }
+        }
+    }
+    Ok(())
+}
