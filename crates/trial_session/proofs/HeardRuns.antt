@@ -1,14 +1,14 @@
 -- Runs that a device hears.
-use Rattle.std.proofs.Common.{◌≡◌, ◌∙◌, ℕ, ◌+◌, ◌-◌, List, ◌++◌, length, Option, take, drop}
-use Rattle.std.proofs.Common.{ap, sym, subst, append_assoc, length-append}
-use Rattle.std.proofs.lemmas.List.{take_rest}
+use Rattle.std.proofs.Common.{◌≡◌, ◌∙◌, ℕ, ◌+◌, List, ◌++◌, length, Option, ap, sym, subst}
+use Rattle.std.proofs.Common.{length-append}
 use Rattle.yasir_ticks.specs.declared.tick.Tick.{Tick}
 use Rattle.device_model.specs.Frames.{frames_of}
 use Rattle.device_model.specs.declared.device.Device.{Ghosts as Device}
 use Rattle.device_model.specs.declared.device.FrameAt.{FrameAt}
-use Rattle.trial_session.specs.Sides.{HasHeard}
+use Rattle.trial_session.specs.Sides.{HasTaken, HasPassed, HasHeard, HasReceived}
+use Rattle.trial_session.specs.declared.counting_box.CountingBox.{Ghosts as CountingBox}
 use Rattle.trial_session.specs.declared.listening.Listening.{Listening}
-use Rattle.trial_session.proofs.SentRuns.{take-some}
+use Rattle.trial_session.specs.declared.receiving.Receiving.{Receiving}
 
 module _ {V : Type 0} (device : Device V) where
   -- a run in which a frame is read at most in the last tick
@@ -28,15 +28,19 @@ module _ {V : Type 0} (device : Device V) where
             ∙ sym (ap length reads ∙ length-append (device.reads line) (frames_of frame));
       })
 
-  -- the ticks up to a place are heard, and then some more
-  pub hears-some : (value next : Listening V) (line ticks : List Tick) (at n : ℕ)
-      → HasHeard device value (line ++ take at ticks)
-      → ((before : List Tick) → HasHeard device value before
-      → HasHeard device next (before ++ take n (take (length ticks - at) (drop at ticks))))
-      → HasHeard device next (line ++ take (at + n) ticks)
-  hears-some value next line ticks at n so some =
-      subst (HasHeard device next)
-      (ap (λ l. line ++ take at ticks ++ take n l) (take_rest ticks at)
-      ∙ append_assoc line (take at ticks) (take n (drop at ticks))
-      ∙ ap (λ l. line ++ l) (sym (take-some at n ticks)))
-      (some (line ++ take at ticks) so)
+module _ {C V : Type 0} (checks : CountingBox C) (device : Device V) where
+  -- a run more is checked, and what the receiver makes of it is heard
+  pub receives-run : (old new : Receiving C V) (link run answer : List Tick)
+      → HasReceived checks device old link
+      → ((l : List Tick) → HasTaken checks old.checking l
+      → HasPassed checks new.checking l run answer)
+      → ((l : List Tick) → HasHeard device old.listening l
+      → HasHeard device new.listening (l ++ answer))
+      → HasReceived checks device new (link ++ run)
+  receives-run old new link run answer so check hear =
+      let passed = check link so.checks_link in
+      record {
+        checks_link = passed.sent.taken;
+        hears_line = subst (HasHeard device new.listening) (sym passed.sent.answered)
+            (hear (checks.counting.other_line link) so.hears_line);
+      }

@@ -4,7 +4,6 @@ pub mod Lists
 pub mod Starting
 pub mod Counting
 pub mod Fates
-pub mod SentTicks
 pub mod Periods
 pub mod Placed
 pub mod SealsAll
@@ -12,3 +11,4 @@ pub mod Tellings
 pub mod Worked
 pub mod SentRuns
 pub mod HeardRuns
+pub mod Marked

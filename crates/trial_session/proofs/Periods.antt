@@ -15,7 +15,7 @@ use Rattle.trial_session.specs.DrawnFrames.{Drawing}
 use Rattle.trial_session.specs.Runs.{HasRun}
 use Rattle.trial_session.specs.Session.{period_len, period_line, state_at, session_line}
 use Rattle.trial_session.specs.Session.{altered_link, alteration_in, after_frame, ticks_of}
-use Rattle.trial_session.specs.Sides.{HasTaken, HasSent, HasHeard}
+use Rattle.trial_session.specs.Sides.{HasTaken, HasSent, HasReceived}
 use Rattle.trial_session.specs.declared.alteration.Alteration.{Alteration}
 use Rattle.trial_session.specs.declared.counting_box.CountingBox.{Ghosts as CountingBox}
 use Rattle.trial_session.specs.declared.session.Session.{Session}
@@ -84,7 +84,7 @@ module _ (drawing : Drawing) (behind seed : ℕ) where
 
 module _ {S C V : Type 0} (seals : CountingBox S) (checks : CountingBox C) (device : Device V)
     (drawing : Drawing) (behind : ℕ) (old new : Session S C V) (frame : List ℕ) (mid : ℕ)
-    (alteration : Alteration) (sent received : List Tick) where
+    (alteration : Alteration) (sent : List Tick) where
   pub run-suc : frame ≡ drawing.frame (draw_state old.draws)
       → mid ≡ state_after (drawing.draws (draw_state old.draws)) (draw_state old.draws)
       → draw_state new.draws ≡ state_after 3 mid
@@ -93,13 +93,11 @@ module _ {S C V : Type 0} (seals : CountingBox S) (checks : CountingBox C) (devi
       → length sent ≡ period_len
       → ((line : List Tick) → HasTaken seals old.sealing line
       → HasSent seals new.sealing line (period_line frame) sent)
-      → ((line : List Tick) → HasTaken checks old.checking line
-      → HasSent checks new.checking line (altered alteration sent) received)
-      → ((line : List Tick) → HasHeard device old.listening line
-      → HasHeard device new.listening (line ++ received))
+      → ((link : List Tick) → HasReceived checks device old.receiving link
+      → HasReceived checks device new.receiving (link ++ altered alteration sent))
       → (seed n : ℕ) → HasRun seals checks device drawing behind old seed n
       → HasRun seals checks device drawing behind new seed (suc n)
-  run-suc frame_is mid_is end_is alteration_is long seal check hear seed n run =
+  run-suc frame_is mid_is end_is alteration_is long seal receive seed n run =
       let x = state_at drawing seed n in
       let line = session_line drawing seed n in
       let link = altered_link drawing behind seed n (seals.counting.other_line line) in
@@ -125,7 +123,6 @@ module _ {S C V : Type 0} (seals : CountingBox S) (checks : CountingBox C) (devi
       ap (λ a. link ++ altered a sent) alter_at
       ∙ sym (ap (altered_link drawing behind seed (suc n)) now
       ∙ link-suc drawing behind seed n (seals.counting.other_line line) sent run.link_long long) in
-      let checked = check link run.checks_link in
       record {
         state_is = end_is ∙ ap (state_after 3) mid_at ∙ sym (state-suc drawing behind seed n);
         seals_line = subst (HasTaken seals new.sealing) whole sealed.taken;
@@ -135,10 +132,8 @@ module _ {S C V : Type 0} (seals : CountingBox S) (checks : CountingBox C) (devi
           run.link_long,
           long,
         ));
-        checks_link = subst (HasTaken checks new.checking) linked checked.taken;
-        hears_line = subst (HasHeard device new.listening)
-            (sym checked.answered ∙ ap checks.counting.other_line linked)
-            (hear (checks.counting.other_line link) run.hears_line);
+        receives_link = subst (HasReceived checks device new.receiving) linked
+            (receive link run.receives_link);
       }
 
 pub period-long : (frame : List ℕ) → length frame ≤ period_len

@@ -1,9 +1,10 @@
 -- Runs that are sent.
-use Rattle.std.proofs.Common.{◌≡◌, ◌∙◌, ℕ, zero, suc, ◌+◌, ◌-◌, ◌≤◌, List, [], ◌∷◌, ◌++◌, length}
-use Rattle.std.proofs.Common.{take, drop, map, ap, sym, subst, append_assoc, append-nil, arith}
-use Rattle.std.proofs.Common.{refl}
-use Rattle.std.proofs.lemmas.List.{take_all, take-replicate, take-map, take_rest}
-use Rattle.std.proofs.lemmas.List.{drop_all, drop-drop, length-drop}
+use Rattle.std.proofs.Common.{◌≡◌, ◌∙◌, ℕ, zero, suc, ◌+◌, ◌-◌, ◌<◌, ◌≤◌, List, [], ◌∷◌, ◌++◌}
+use Rattle.std.proofs.Common.{length, take, drop, map, ap, sym, subst, append_assoc, append-nil}
+use Rattle.std.proofs.Common.{refl, arith, length-append}
+use Rattle.std.specs.Prelude.{slice_index_or}
+use Rattle.std.proofs.lemmas.List.{take_all, take_at, take_rest, map-append, length-map}
+use Rattle.std.proofs.lemmas.List.{length-take-le, length-replicate, replicate-append-replicate}
 use borrow.Rule.Slice.PartMut.{put_mid, post_of}
 use Rattle.yasir_ticks.specs.Ticks.{silent}
 use Rattle.yasir_ticks.specs.declared.tick.Tick.{Tick}
@@ -29,84 +30,69 @@ answered-all n x left count items =
 pub answered-none : (n : ℕ) (left : List ℕ) → left ≡ [] → silent n ≡ answered n left
 answered-none n left none = sym (ap (λ l. answered n l) none)
 
--- ---- ticks by places
+-- ---- lists by places
 
-take-of-take : (n all : ℕ) (l : List Tick) → n ≤ all → take n (take all l) ≡ take n l
+pub take-of-take : {A : Type 0} (n all : ℕ) (l : List A) → n ≤ all
+    → take n (take all l) ≡ take n l
 take-of-take zero all l within = refl
 take-of-take (suc n) zero l within = absurd (omega (arith, within))
 take-of-take (suc n) (suc all) [] within = refl
-take-of-take (suc n) (suc all) (x ∷ xs) within =
-    ap (λ (r : List Tick). x ∷ r) (take-of-take n all xs (omega (arith, within)))
+take-of-take {A} (suc n) (suc all) (x ∷ xs) within =
+    ap (λ (r : List A). x ∷ r) (take-of-take n all xs (omega (arith, within)))
 
-pub take-some : (at n : ℕ) (l : List Tick) → take (at + n) l ≡ take at l ++ take n (drop at l)
+pub take-some : {A : Type 0} (at n : ℕ) (l : List A)
+    → take (at + n) l ≡ take at l ++ take n (drop at l)
 take-some zero n l = let on : zero + n ≡ n = omega arith in ap (λ k. take k l) on
 take-some (suc at) n [] =
     take_all (suc at + n) [] (omega arith) ∙ sym (take_all n [] (omega arith))
-take-some (suc at) n (x ∷ xs) =
+take-some {A} (suc at) n (x ∷ xs) =
     let on : suc at + n ≡ suc (at + n) = omega arith in
-    ap (λ k. take k (x ∷ xs)) on ∙ ap (λ (r : List Tick). x ∷ r) (take-some at n xs)
+    ap (λ k. take k (x ∷ xs)) on ∙ ap (λ (r : List A). x ∷ r) (take-some at n xs)
 
-pub take-front : (at n : ℕ) (ticks front : List Tick) → at ≤ length ticks
-    → take (at + n) (take at ticks ++ front) ≡ take at ticks ++ take n front
-take-front zero n ticks front within =
-    let on : zero + n ≡ n = omega arith in ap (λ k. take k front) on
-take-front (suc at) n [] front within = absurd (omega (arith, within))
-take-front (suc at) n (x ∷ xs) front within =
-    let on : suc at + n ≡ suc (at + n) = omega arith in
-    ap (λ k. take k (x ∷ (take at xs ++ front))) on
-    ∙ ap (λ (r : List Tick). x ∷ r) (take-front at n xs front (omega (arith, within)))
+pub take-one : {A : Type 0} (l : List A) (d : A) → 0 < length l
+    → take 1 l ≡ slice_index_or l 0 d ∷ []
+take-one [] d some = absurd (omega (arith, some))
+take-one (x ∷ xs) d some = refl
 
-pub drop-front : (at n : ℕ) (ticks front : List Tick) → at ≤ length ticks
-    → drop (at + n) (take at ticks ++ front) ≡ drop n front
-drop-front zero n ticks front within =
-    let on : zero + n ≡ n = omega arith in ap (λ k. drop k front) on
-drop-front (suc at) n [] front within = absurd (omega (arith, within))
-drop-front (suc at) n (x ∷ xs) front within =
-    let on : suc at + n ≡ suc (at + n) = omega arith in
-    ap (λ k. drop k (x ∷ (take at xs ++ front))) on
-    ∙ drop-front at n xs front (omega (arith, within))
+-- ticks that are written at a place, as far as they reach
+pub put-more : (at n : ℕ) (ticks front : List Tick) → at ≤ length ticks → length front ≡ n
+    → take (at + n) (put_mid at n ticks front) ≡ take at ticks ++ front
+put-more at n ticks front within long =
+    ap (λ l. take (at + n) l) (sym (append_assoc (take at ticks) front (post_of at n ticks)))
+    ∙ take_at (take at ticks ++ front) (post_of at n ticks) (at + n) (omega (
+      arith,
+      length-append (take at ticks) front,
+      length-take-le at ticks within,
+      long,
+    ))
 
--- the ticks from a place on, as a slice has them
-pub rest-of : (at : ℕ) (l given : List Tick) → drop at l ≡ drop at given
-    → take (length l - at) (drop at l) ≡ drop at given
-rest-of at l given same = take_rest l at ∙ same
+-- bytes up to a place, and the next ones
+pub bytes-more : (at n : ℕ) (bytes : List ℕ) (before : List Tick)
+    → before ++ map (λ b. Byte b) (take at bytes)
+    ++ map (λ b. Byte b) (take n (take (length bytes - at) (drop at bytes)))
+    ≡ before ++ map (λ b. Byte b) (take (at + n) bytes)
+bytes-more at n bytes before =
+    append_assoc before (map (λ b. Byte b) (take at bytes)) _
+    ∙ ap (λ l. before ++ l)
+    (ap (λ l. map (λ b. Byte b) (take at bytes) ++ map (λ b. Byte b) (take n l))
+    (take_rest bytes at)
+    ∙ sym (map-append (λ b. Byte b) (take at bytes) (take n (drop at bytes)))
+    ∙ ap (map (λ b. Byte b)) (sym (take-some at n bytes)))
 
--- they are written over
-pub put-rest : (at : ℕ) (ticks front : List Tick)
-    → put_mid at (length ticks - at) ticks front ≡ take at ticks ++ front
-put-rest at ticks front =
-    let none : post_of at (length ticks - at) ticks ≡ [] =
-    drop_all (length ticks - at) (drop at ticks) (omega (arith, length-drop at ticks)) in
-    ap (λ l. take at ticks ++ (front ++ l)) none ∙ ap (λ l. take at ticks ++ l) (append-nil front)
+pub silence-more : (at n : ℕ) (before : List Tick)
+    → before ++ silent at ++ silent n ≡ before ++ silent (at + n)
+silence-more at n before =
+    append_assoc before (silent at) (silent n)
+    ∙ ap (λ l. before ++ l) (replicate-append-replicate at n Silent)
 
-pub rest-same : (given ticks front : List Tick) (at n : ℕ) → at ≤ length ticks
-    → drop at ticks ≡ drop at given
-    → drop n front ≡ drop n (take (length ticks - at) (drop at ticks))
-    → drop (at + n) (put_mid at (length ticks - at) ticks front) ≡ drop (at + n) given
-rest-same given ticks front at n within same rest =
-    ap (λ l. drop (at + n) l) (put-rest at ticks front)
-    ∙ drop-front at n ticks front within
-    ∙ rest
-    ∙ ap (λ l. drop n l) (rest-of at ticks given same)
-    ∙ drop-drop n at given
+-- how many ticks runs have
+pub bytes-long : (n : ℕ) (bytes : List ℕ) → n ≤ length bytes
+    → length (map (λ b. Byte b) (take n bytes)) ≡ n
+bytes-long n bytes within =
+    length-map (take n bytes) (λ b. Byte b) ∙ length-take-le n bytes within
 
--- the front of a run of silent ticks
-pub front-silent : (n all : ℕ) (ticks : List Tick) → n ≤ all → take all ticks ≡ silent all
-    → silent n ≡ take n ticks
-front-silent n all ticks within run =
-    sym (take-replicate n all Silent within) ∙ ap (λ l. take n l) (sym run)
-    ∙ take-of-take n all ticks within
-
--- the front of a run of bytes
-pub front-bytes : (n : ℕ) (items bytes : List ℕ) (ticks : List Tick) → bytes ≡ items
-    → n ≤ length bytes → take (length items) ticks ≡ map (λ b. Byte b) items
-    → map (λ b. Byte b) (take n bytes) ≡ take n ticks
-front-bytes n items bytes ticks value within run =
-    let few : n ≤ length items = subst (λ l. n ≤ length l) value within in
-    ap (λ l. map (λ b. Byte b) (take n l)) value
-    ∙ sym (take-map (λ b. Byte b) n items)
-    ∙ ap (λ l. take n l) (sym run)
-    ∙ take-of-take n (length items) ticks few
+pub silence-long : (n : ℕ) → length (silent n) ≡ n
+silence-long n = length-replicate n Silent
 
 module _ {X : Type 0} (counter : CountingBox X) where
   -- a run that the box takes, of which nothing is counted
@@ -136,29 +122,47 @@ module _ {X : Type 0} (counter : CountingBox X) where
       subst (HasTaken counter side) (ap (λ l. line ++ l) none ∙ append-nil line)
       passed.sent.taken
 
-  -- the ticks up to a place are sent, and then some more
-  pub sends-some : (side next : Side X) (line given ticks front : List Tick) (at n : ℕ)
-      → at ≤ length ticks
-      → HasSent counter side line (take at given) (take at ticks)
-      → drop at ticks ≡ drop at given
-      → ((before : List Tick) → HasTaken counter side before
-      → HasSent counter next before (take n (take (length ticks - at) (drop at ticks)))
-      (take n front))
-      → HasSent counter next line (take (at + n) given)
-      (take (at + n) (put_mid at (length ticks - at) ticks front))
-  sends-some side next line given ticks front at n within so same some =
-      let these = subst (λ l. HasSent counter next (line ++ take at given) (take n l)
-      (take n front)) (rest-of at ticks given same) (some (line ++ take at given) so.taken) in
-      let more : line ++ take at given ++ take n (drop at given) ≡ line ++ take (at + n) given =
-      append_assoc line (take at given) (take n (drop at given))
-      ∙ ap (λ l. line ++ l) (sym (take-some at n given)) in
+  -- one tick that is sent is a run
+  pub passes-tick : (next : Side X) (line : List Tick) (t answer : Tick) (run answers : List Tick)
+      → run ≡ t ∷ [] → answers ≡ answer ∷ []
+      → HasSent counter next line (t ∷ []) (answer ∷ [])
+      → HasPassed counter next line run answers
+  passes-tick next line t answer run answers run_is answers_are sent =
+      subst (λ l. HasPassed counter next line l answers) (sym run_is)
+      (subst (λ l. HasPassed counter next line (t ∷ []) l) (sym answers_are) (record {
+        sent = sent;
+        long = refl;
+      }))
+
+  -- the same answer by other names
+  pub passes-as : (next : Side X) (line run : List Tick) (n : ℕ) (left items : List ℕ)
+      → left ≡ items → HasPassed counter next line run (answered n items)
+      → HasPassed counter next line run (answered n left)
+  passes-as next line run n left items is =
+      subst (λ l. HasPassed counter next line run (answered n l)) (sym is)
+
+  -- nothing is sent yet
+  pub sends-none : (side : Side X) (line : List Tick) → HasTaken counter side line
+      → HasSent counter side line [] []
+  sends-none side line taken = record {
+    taken = subst (HasTaken counter side) (sym (append-nil line)) taken;
+    answered = ap counter.counting.other_line (append-nil line)
+        ∙ sym (append-nil (counter.counting.other_line line));
+  }
+
+  -- a run more is sent
+  pub sends-run : (side next : Side X) (line more run answer before after : List Tick)
+      → HasSent counter side line more before
+      → ((l : List Tick) → HasTaken counter side l → HasPassed counter next l run answer)
+      → after ≡ before ++ answer
+      → HasSent counter next line (more ++ run) after
+  sends-run side next line more run answer before after so pass is =
+      let one = (pass (line ++ more) so.taken).sent in
       record {
-        taken = subst (λ l. HasTaken counter next l) more these.taken;
-        answered = ap counter.counting.other_line (sym more)
-            ∙ these.answered
-            ∙ ap (λ l. l ++ take n front) so.answered
-            ∙ append_assoc (counter.counting.other_line line) (take at ticks) (take n front)
-            ∙ ap (λ l. counter.counting.other_line line ++ l)
-            (sym (ap (λ l. take (at + n) l) (put-rest at ticks front)
-            ∙ take-front at n ticks front within));
+        taken = subst (HasTaken counter next) (append_assoc line more run) one.taken;
+        answered = ap counter.counting.other_line (sym (append_assoc line more run))
+            ∙ one.answered
+            ∙ ap (λ l. l ++ answer) so.answered
+            ∙ append_assoc (counter.counting.other_line line) before answer
+            ∙ ap (λ l. counter.counting.other_line line ++ l) (sym is);
       }

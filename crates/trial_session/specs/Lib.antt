@@ -8,6 +8,7 @@ pub mod Session
 pub mod Counting
 pub mod Boxes
 pub mod Summaries
+pub mod Links
 pub mod Sides
 pub mod Runs
 pub mod TrialLine

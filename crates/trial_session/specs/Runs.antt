@@ -1,10 +1,10 @@
 -- How far a session has come.
-use Rattle.std.specs.Prelude.{◌≡◌, ℕ, ◌*◌, ◌≤◌, length}
+use Rattle.std.specs.Prelude.{◌≡◌, ℕ, ◌*◌, length}
 use Rattle.device_model.specs.declared.device.Device.{Ghosts as Device}
 use Rattle.trial_session.specs.Draws.{draw_state}
 use Rattle.trial_session.specs.DrawnFrames.{Drawing}
 use Rattle.trial_session.specs.Session.{period_len, state_at, session_line, altered_link}
-use Rattle.trial_session.specs.Sides.{MayTake, HasTaken, HasHeard}
+use Rattle.trial_session.specs.Sides.{MayTake, HasTaken, MayReceive, HasReceived}
 use Rattle.trial_session.specs.declared.counting_box.CountingBox.{Ghosts as CountingBox}
 use Rattle.trial_session.specs.declared.session.Session.{Session}
 
@@ -12,11 +12,9 @@ use Rattle.trial_session.specs.declared.session.Session.{Session}
 pub record MayGoOn {S C V : Type 0} (seals : CountingBox S) (checks : CountingBox C)
     (device : Device V) (session : Session S C V) (ticks : ℕ) : Type 0 where
   pub may_seal : MayTake seals session.sealing
-  pub may_check : MayTake checks session.checking
-  pub read_few : session.listening.read ≤ device.taken session.listening.device
+  pub may_receive : MayReceive checks device session.receiving
   pub sealed_ticks : seals.taken session.sealing.line_box ≡ ticks
-  pub checked_ticks : checks.taken session.checking.line_box ≡ ticks
-  pub heard_ticks : device.taken session.listening.device ≡ ticks
+  pub checked_ticks : checks.taken session.receiving.checking.line_box ≡ ticks
 
 -- So many periods of the session of a seed have gone through both boxes and the device.
 pub record HasRun {S C V : Type 0} (seals : CountingBox S) (checks : CountingBox C)
@@ -27,10 +25,6 @@ pub record HasRun {S C V : Type 0} (seals : CountingBox S) (checks : CountingBox
   -- the link has as many ticks
   pub link_long : length (seals.counting.other_line (session_line drawing seed count))
       ≡ period_len * count
-  pub checks_link : HasTaken checks session.checking
+  pub receives_link : HasReceived checks device session.receiving
       (altered_link drawing behind seed count
       (seals.counting.other_line (session_line drawing seed count)))
-  pub hears_line : HasHeard device session.listening
-      (checks.counting.other_line
-      (altered_link drawing behind seed count
-      (seals.counting.other_line (session_line drawing seed count))))

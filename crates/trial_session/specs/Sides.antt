@@ -6,6 +6,7 @@ use Rattle.device_model.specs.declared.device.Device.{Ghosts as Device}
 use Rattle.sequence_journal.specs.Journal.{Fits}
 use Rattle.trial_session.specs.declared.counting_box.CountingBox.{Ghosts as CountingBox}
 use Rattle.trial_session.specs.declared.listening.Listening.{Listening}
+use Rattle.trial_session.specs.declared.receiving.Receiving.{Receiving}
 use Rattle.trial_session.specs.declared.side.Side.{Side}
 
 module _ {X : Type 0} (counter : CountingBox X) where
@@ -40,3 +41,17 @@ pub record HasHeard {V : Type 0} (device : Device V) (value : Listening V) (line
     : Type 0 where
   pub stands : device.stands value.device line
   pub counts : value.read ≡ length (device.reads line)
+
+-- The receiver has taken this link, and the device has heard what it made of it.
+pub record HasReceived {C V : Type 0} (checks : CountingBox C) (device : Device V)
+    (receiving : Receiving C V) (link : List Tick) : Type 0 where
+  pub checks_link : HasTaken checks receiving.checking link
+  pub hears_line : HasHeard device receiving.listening (checks.counting.other_line link)
+
+-- The receiver and the device have taken as many ticks, and may take more.
+pub record MayReceive {C V : Type 0} (checks : CountingBox C) (device : Device V)
+    (receiving : Receiving C V) : Type 0 where
+  pub may_check : MayTake checks receiving.checking
+  pub read_few : receiving.listening.read ≤ device.taken receiving.listening.device
+  pub heard_ticks : device.taken receiving.listening.device
+      ≡ checks.taken receiving.checking.line_box

@@ -1,9 +1,8 @@
 ghost use Rattle.std.specs.Prelude.{◌≡◌, ◌≤◌, length};
 ghost use Rattle.device_model.specs.Frames.{frames_of};
 
-use crate::runs::{byte_run, silent_run};
 use device_model::{Device, FrameAt};
-use yasir_ticks::{MAX_TICKS, Tick};
+use yasir_ticks::MAX_TICKS;
 
 /// A device, and how many frames it has read.
 #[derive(Drop)]
@@ -24,7 +23,10 @@ fn frames_in(frame: Option<FrameAt>) -> u64
 }
 
 impl<V: Device + Drop> Listening<V> {
-    ghost use Rattle.std.specs.Prelude.{◌+◌, ◌<◌, List, [], ◌∷◌, ◌++◌, take};
+    ghost use Rattle.std.specs.Prelude.{◌+◌, List, [], ◌++◌, map};
+    ghost use Rattle.yasir_ticks.specs.Ticks.{silent};
+    ghost use Rattle.yasir_ticks.specs.declared.tick.Tick.TheVariants.{Byte};
+    ghost use Rattle.burst_walk.specs.Answered.{answered};
     ghost use Rattle.yasir_ticks.specs.declared.tick.Tick.{Tick};
     ghost use Rattle.trial_session.specs.Sides.{HasHeard};
 
@@ -47,77 +49,54 @@ impl<V: Device + Drop> Listening<V> {
         self.read
     }
 
-    // Hears the next tick.
-    #[inline]
-    fn step(&mut self, t: Tick)
+    /// Hears the next ticks, which have these bytes.
+    pub fn hear_bytes(&mut self, bytes: &[u8])
         requires few { self.old.read ≤ V.taken self.old.device }
-        requires room { V.taken self.old.device < MAX_TICKS }
+        requires room { V.taken self.old.device + length bytes.now ≤ MAX_TICKS }
         ensures few { self.new.read ≤ V.taken self.new.device }
-        ensures level { V.taken self.new.device ≡ V.taken self.old.device + 1 }
+        ensures level { V.taken self.new.device ≡ V.taken self.old.device + length bytes.now }
         ensures heard { (line : List Tick) → HasHeard V.Device self.old line
-            → HasHeard V.Device self.new (line ++ t ∷ []) }
-    {
-        self.read += frames_in(self.device.step(t));
-    }
-
-    // Hears the first of these ticks, as far as they are a run, and answers how many.
-    fn hear_run(&mut self, ticks: &[Tick]) -> usize
-        requires few { self.old.read ≤ V.taken self.old.device }
-        requires room { V.taken self.old.device + length ticks.now ≤ MAX_TICKS }
-        ensures few { self.new.read ≤ V.taken self.new.device }
-        ensures within { result ≤ length ticks.now }
-        ensures level { V.taken self.new.device ≡ V.taken self.old.device + result }
-        ensures heard { (line : List Tick) → HasHeard V.Device self.old line
-            → HasHeard V.Device self.new (line ++ take result ticks.now) }
-    {
-        let silent = silent_run(ticks);
-        if silent > 0 {
-            let heard = self.device.wait_some(silent);
-            self.read += frames_in(heard.frame);
-            return heard.taken;
-        }
-        let bytes = byte_run(ticks);
-        if bytes.is_empty() {
-            return 0;
-        }
-        let heard = self.device.hear_some(bytes.as_slice());
-        self.read += frames_in(heard.frame);
-        heard.taken
-    }
-
-    // Hears the first of these ticks, one at least, and answers how many.
-    fn hear_some(&mut self, ticks: &[Tick]) -> usize
-        requires some { 0 < length ticks.now }
-        requires few { self.old.read ≤ V.taken self.old.device }
-        requires room { V.taken self.old.device + length ticks.now ≤ MAX_TICKS }
-        ensures few { self.new.read ≤ V.taken self.new.device }
-        ensures some { 0 < result }
-        ensures within { result ≤ length ticks.now }
-        ensures level { V.taken self.new.device ≡ V.taken self.old.device + result }
-        ensures heard { (line : List Tick) → HasHeard V.Device self.old line
-            → HasHeard V.Device self.new (line ++ take result ticks.now) }
-    {
-        let taken = self.hear_run(ticks);
-        if taken > 0 {
-            return taken;
-        }
-        self.step(ticks[0]);
-        1
-    }
-
-    /// Hears the next ticks.
-    pub fn hear(&mut self, ticks: &[Tick])
-        requires few { self.old.read ≤ V.taken self.old.device }
-        requires room { V.taken self.old.device + length ticks.now ≤ MAX_TICKS }
-        ensures few { self.new.read ≤ V.taken self.new.device }
-        ensures level { V.taken self.new.device
-            ≡ V.taken self.old.device + length ticks.now }
-        ensures heard { (line : List Tick) → HasHeard V.Device self.old line
-            → HasHeard V.Device self.new (line ++ ticks.now) }
+            → HasHeard V.Device self.new (line ++ map Byte bytes.now) }
     {
         let mut at = 0;
-        while at < ticks.len() {
-            at += self.hear_some(&ticks[at..]);
+        while at < bytes.len() {
+            let heard = self.device.hear_some(&bytes[at..]);
+            self.read += frames_in(heard.frame);
+            at += heard.taken;
+        }
+    }
+
+    /// Hears so many silent ticks.
+    pub fn wait(&mut self, ticks: usize)
+        requires few { self.old.read ≤ V.taken self.old.device }
+        requires room { V.taken self.old.device + ticks ≤ MAX_TICKS }
+        ensures few { self.new.read ≤ V.taken self.new.device }
+        ensures level { V.taken self.new.device ≡ V.taken self.old.device + ticks }
+        ensures heard { (line : List Tick) → HasHeard V.Device self.old line
+            → HasHeard V.Device self.new (line ++ silent ticks) }
+    {
+        let mut at = 0;
+        while at < ticks {
+            let heard = self.device.wait_some(ticks - at);
+            self.read += frames_in(heard.frame);
+            at += heard.taken;
+        }
+    }
+
+    /// Hears an answer to so many ticks: as many bytes, or silence where there is none.
+    pub fn hear(&mut self, count: usize, left: &[u8])
+        requires few { self.old.read ≤ V.taken self.old.device }
+        requires room { V.taken self.old.device + count ≤ MAX_TICKS }
+        ensures few { self.new.read ≤ V.taken self.new.device }
+        ensures level { V.taken self.new.device ≡ V.taken self.old.device + count }
+        ensures heard { length (answered count left.now) ≡ count
+            → (line : List Tick) → HasHeard V.Device self.old line
+            → HasHeard V.Device self.new (line ++ answered count left.now) }
+    {
+        if left.len() == count {
+            self.hear_bytes(left);
+        } else {
+            self.wait(count);
         }
     }
 }

@@ -77,8 +77,13 @@ impl<R: LineRules, M: Mac, const B: usize> CountingBox for SealCounting<R, M, B>
         count
     }
 
+    // It has what is left of a trailer, and then silence.
     #[inline]
     fn pass_silence(&mut self, ticks: u32, left: &mut RunBytes) -> u32 {
+        let sent = self.sealer.pass_silence(ticks, left);
+        if sent > 0 {
+            return sent;
+        }
         left.clear();
         self.sealer.rest(ticks)
     }

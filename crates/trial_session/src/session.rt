@@ -4,15 +4,15 @@ ghost use Rattle.trial_session.specs.Draws.{draw_state, state_after, nth_drawn};
 ghost use Rattle.trial_session.specs.Summaries.{session_summary};
 
 use crate::alteration::{Alteration, alteration_of};
-use crate::listening::Listening;
-use crate::period::{alter, period_line};
+use crate::link::{Link, PERIOD};
+use crate::receiving::Receiving;
 use crate::side::Side;
 use crate::{CountingBox, DrawnFrames, Draws, Summary};
 use device_model::Device;
-use yasir_ticks::{MAX_TICKS, Tick};
+use yasir_ticks::MAX_TICKS;
 
 /// So many silent ticks follow the link of a session, so that all that has passed is read.
-const REST: usize = 320;
+const REST: u32 = 320;
 
 /// A session on its way: frames go through the transmitter `S`, over the link, through the receiver
 /// `C` and to the device `V`.
@@ -20,8 +20,7 @@ const REST: usize = 320;
 pub struct Session<S, C, V> {
     draws: Draws,
     sealing: Side<S>,
-    checking: Side<C>,
-    listening: Listening<V>,
+    receiving: Receiving<C, V>,
 }
 
 // Draws what becomes of the link in the period of a packet of so many ticks.
@@ -54,8 +53,7 @@ impl<S: CountingBox, C: CountingBox, V: Device + Drop> Session<S, C, V> {
         Session {
             draws: Draws::new(seed),
             sealing: Side::new(),
-            checking: Side::new(),
-            listening: Listening::new(),
+            receiving: Receiving::new(),
         }
     }
 
@@ -75,11 +73,12 @@ impl<S: CountingBox, C: CountingBox, V: Device + Drop> Session<S, C, V> {
     {
         let frame = R::draw_frame(&mut self.draws);
         let alteration = draw_alteration(&mut self.draws, frame.len() + behind);
-        let mut ticks = period_line(frame.as_slice());
-        self.sealing.send(&mut ticks);
-        alter(&mut ticks, alteration);
-        self.checking.send(&mut ticks);
-        self.listening.hear(&ticks);
+        let mut link = Link::new();
+        self.sealing.forward_bytes(frame.as_slice(), &mut link);
+        self.sealing
+            .forward_silence((PERIOD - frame.len()) as u32, &mut link);
+        link.alter(alteration);
+        self.receiving.take(&link);
     }
 
     // The silence behind the link, and what was counted.
@@ -91,15 +90,13 @@ impl<S: CountingBox, C: CountingBox, V: Device + Drop> Session<S, C, V> {
             → HasRun S.CountingBox C.CountingBox V.Device drawing behind self.old seed count
             → result ≡ session_summary drawing behind S.counting C.counting V.reads seed count }
     {
-        let mut ticks = [Tick::Silent; REST];
-        self.checking.send(&mut ticks);
-        self.listening.hear(&ticks);
+        self.receiving.take_silence(REST);
         Summary {
             sealed: self.sealing.through(),
-            passed: self.checking.through(),
-            refused: self.checking.refused(),
-            dropped: self.checking.dropped(),
-            read: self.listening.read(),
+            passed: self.receiving.passed(),
+            refused: self.receiving.refused(),
+            dropped: self.receiving.dropped(),
+            read: self.receiving.read(),
         }
     }
 }

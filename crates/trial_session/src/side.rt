@@ -1,9 +1,13 @@
 use crate::counting_box::{CountingBox, Fate};
-use crate::runs::{byte_run, put_answer, silent_run};
+use crate::link::Link;
+use crate::runs::put_tick;
 use check_receiver::RunBytes;
 use sequence_journal::Journal;
 use yasir_io::SteadySlots;
 use yasir_ticks::{MAX_TICKS, Tick};
+
+/// How many bytes a box takes at once at most.
+const MAX_RUN: usize = 64;
 
 /// A box over a new journal on a disk that never fails, and how many bursts have each fate.
 #[derive(Drop)]
@@ -18,7 +22,10 @@ pub struct Side<X> {
 
 impl<X: CountingBox> Side<X> {
     ghost use Rattle.std.specs.Prelude.{◌≡◌, ◌+◌, ◌<◌, ◌≤◌, List, [], ◌∷◌, ◌++◌, length};
-    ghost use Rattle.std.specs.Prelude.{take, drop};
+    ghost use Rattle.std.specs.Prelude.{take, map};
+    ghost use Rattle.yasir_ticks.specs.Ticks.{silent};
+    ghost use Rattle.yasir_ticks.specs.declared.tick.Tick.TheVariants.{Byte};
+    ghost use Rattle.trial_session.specs.Links.{link_sent};
     ghost use Rattle.yasir_ticks.specs.declared.tick.Tick.{Tick};
     ghost use Rattle.trial_session.specs.Counting.{through_in, refused_in, dropped_in};
     ghost use Rattle.trial_session.specs.Counting.{CountsNothing};
@@ -104,67 +111,93 @@ impl<X: CountingBox> Side<X> {
         step.tick
     }
 
-    // Takes the first of these ticks, as far as the box takes them as a run, and answers how many.
-    // Its answer is in `left`.
-    fn pass_some(&mut self, ticks: &[Tick], left: &mut RunBytes) -> usize
+    /// Takes the first of these bytes, one at least, one a tick, and answers how many. `left` gets
+    /// the bytes of the other line, one for each, or none where that is silent.
+    pub fn send_bytes(&mut self, bytes: &[u8], left: &mut RunBytes) -> usize
+        requires some { 0 < length bytes.now }
         requires able { MayTake X.CountingBox self.old }
-        requires few { length ticks.now ≤ 640 }
-        requires room { X.taken self.old.line_box + length ticks.now ≤ MAX_TICKS }
-        ensures able { MayTake X.CountingBox self.new }
-        ensures within { result ≤ length ticks.now }
-        ensures level { X.taken self.new.line_box ≡ X.taken self.old.line_box + result }
-        ensures sent { (line : List Tick) → HasTaken X.CountingBox self.old line
-            → HasPassed X.CountingBox self.new line (take result ticks.now)
-            (answered result left.new.items) }
-    {
-        let silent = silent_run(ticks);
-        if silent > 0 {
-            return self.line_box.pass_silence(silent as u32, left) as usize;
-        }
-        let bytes = byte_run(ticks);
-        self.line_box.pass_bytes(bytes.as_slice(), left)
-    }
-
-    // Takes the first of these ticks, one at least, and puts those of the other line in their
-    // place. Answers how many.
-    fn send_some(&mut self, ticks: &mut [Tick]) -> usize
-        requires some { 0 < length ticks.old }
-        requires able { MayTake X.CountingBox self.old }
-        requires few { length ticks.old ≤ 640 }
-        requires room { X.taken self.old.line_box + length ticks.old ≤ MAX_TICKS }
+        requires room { X.taken self.old.line_box + length bytes.now ≤ MAX_TICKS }
         ensures able { MayTake X.CountingBox self.new }
         ensures some { 0 < result }
-        ensures within { result ≤ length ticks.old }
+        ensures within { result ≤ length bytes.now }
         ensures level { X.taken self.new.line_box ≡ X.taken self.old.line_box + result }
-        ensures rest { drop result ticks.new ≡ drop result ticks.old }
         ensures sent { (line : List Tick) → HasTaken X.CountingBox self.old line
-            → HasSent X.CountingBox self.new line (take result ticks.old)
-            (take result ticks.new) }
+            → HasPassed X.CountingBox self.new line (map Byte (take result bytes.now))
+            (answered result left.new.items) }
     {
-        let mut left = RunBytes::new();
-        let taken = self.pass_some(ticks, &mut left);
+        let part = &bytes[..bytes.len().min(MAX_RUN)];
+        let taken = self.line_box.pass_bytes(part, left);
         if taken > 0 {
-            put_answer(&mut ticks[..taken], left.as_slice());
             return taken;
         }
-        ticks[0] = self.step(ticks[0]);
+        let answer = self.step(Tick::Byte(bytes[0]));
+        put_tick(left, answer);
         1
     }
 
-    /// Takes the next ticks, and puts those of the other line in their place.
-    pub fn send(&mut self, ticks: &mut [Tick])
+    /// The same of so many silent ticks.
+    pub fn send_silence(&mut self, ticks: u32, left: &mut RunBytes) -> u32
+        requires some { 0 < ticks }
         requires able { MayTake X.CountingBox self.old }
-        requires few { length ticks.old ≤ 640 }
-        requires room { X.taken self.old.line_box + length ticks.old ≤ MAX_TICKS }
+        requires room { X.taken self.old.line_box + ticks ≤ MAX_TICKS }
+        ensures able { MayTake X.CountingBox self.new }
+        ensures some { 0 < result }
+        ensures within { result ≤ ticks }
+        ensures level { X.taken self.new.line_box ≡ X.taken self.old.line_box + result }
+        ensures sent { (line : List Tick) → HasTaken X.CountingBox self.old line
+            → HasPassed X.CountingBox self.new line (silent result)
+            (answered result left.new.items) }
+    {
+        let taken = self.line_box.pass_silence(ticks, left);
+        if taken > 0 {
+            return taken;
+        }
+        let answer = self.step(Tick::Silent);
+        put_tick(left, answer);
+        1
+    }
+
+    /// Takes these bytes, one a tick, and sends what the other line has.
+    pub fn forward_bytes(&mut self, bytes: &[u8], link: &mut Link)
+        requires able { MayTake X.CountingBox self.old }
+        requires room { X.taken self.old.line_box + length bytes.now ≤ MAX_TICKS }
+        requires link { link.old.len + length bytes.now ≤ 640 }
         ensures able { MayTake X.CountingBox self.new }
         ensures level { X.taken self.new.line_box
-            ≡ X.taken self.old.line_box + length ticks.old }
-        ensures sent { (line : List Tick) → HasTaken X.CountingBox self.old line
-            → HasSent X.CountingBox self.new line ticks.old ticks.new }
+            ≡ X.taken self.old.line_box + length bytes.now }
+        ensures len { link.new.len ≡ link.old.len + length bytes.now }
+        ensures sent { (line more : List Tick)
+            → HasSent X.CountingBox self.old line more (link_sent link.old)
+            → HasSent X.CountingBox self.new line (more ++ map Byte bytes.now)
+            (link_sent link.new) }
     {
+        let mut left = RunBytes::new();
         let mut at = 0;
-        while at < ticks.len() {
-            at += self.send_some(&mut ticks[at..]);
+        while at < bytes.len() {
+            let taken = self.send_bytes(&bytes[at..], &mut left);
+            link.add(taken, left.as_slice());
+            at += taken;
+        }
+    }
+
+    /// The same of so many silent ticks.
+    pub fn forward_silence(&mut self, ticks: u32, link: &mut Link)
+        requires able { MayTake X.CountingBox self.old }
+        requires room { X.taken self.old.line_box + ticks ≤ MAX_TICKS }
+        requires link { link.old.len + ticks ≤ 640 }
+        ensures able { MayTake X.CountingBox self.new }
+        ensures level { X.taken self.new.line_box ≡ X.taken self.old.line_box + ticks }
+        ensures len { link.new.len ≡ link.old.len + ticks }
+        ensures sent { (line more : List Tick)
+            → HasSent X.CountingBox self.old line more (link_sent link.old)
+            → HasSent X.CountingBox self.new line (more ++ silent ticks) (link_sent link.new) }
+    {
+        let mut left = RunBytes::new();
+        let mut at = 0;
+        while at < ticks {
+            let taken = self.send_silence(ticks - at, &mut left);
+            link.add(taken as usize, left.as_slice());
+            at += taken;
         }
     }
 }

@@ -1,6 +1,6 @@
 use Rattle.std.proofs.Common.{◌∙◌, sym, ap, subst, length}
 use Rattle.trial_session.specs.Session.{session_line}
-use Rattle.trial_session.specs.Sides.{HasTaken, HasHeard}
+use Rattle.trial_session.specs.Sides.{HasTaken, HasReceived}
 use Rattle.trial_session.proofs.Periods.{line-none, state-none, link-none}
 use Rattle.trial_session.proofs.session.Session.new.Goals as goal
 
@@ -16,9 +16,6 @@ returns-clause-run g c = λ drawing behind.
           c.new-2.ensures.taken;
       link_long = ap (λ l. length (g.S.CountingBox.counting.other_line l)) none
           ∙ ap length c.new-2.ensures.nothing.no_tick;
-      checks_link = subst (HasTaken g.C.CountingBox c.new-3.result) (sym link)
-          c.new-3.ensures.taken;
-      hears_line = subst (HasHeard g.V.Device c.new-4.result)
-          (sym (ap g.C.CountingBox.counting.other_line link ∙ c.new-3.ensures.nothing.no_tick))
-          c.new-4.ensures.heard;
+      receives_link = subst (HasReceived g.C.CountingBox g.V.Device c.new-3.result) (sym link)
+          c.new-3.ensures.received;
     }

@@ -1,0 +1,42 @@
+use Rattle.std.proofs.Common.{◌∙◌, ◌++◌, ap, subst, arith, length, map, refl}
+use Rattle.std.proofs.lemmas.List.{take_all, take_rest, length-drop}
+use Rattle.yasir_ticks.specs.declared.tick.Tick.TheVariants.{Byte}
+use Rattle.trial_session.specs.Sides.{HasHeard}
+use Rattle.trial_session.proofs.SentRuns.{bytes-more}
+use Rattle.trial_session.proofs.HeardRuns.{hears-run}
+use Rattle.trial_session.proofs.listening.Listening.hear_bytes.Goals as goal
+
+pub loop-at-preserved : goal.loop-at-preserved
+loop-at-preserved g c =
+    let at = c.loop-at.at in
+    let bytes = c.args.bytes.now in
+    let n = c.hear_some-heard.result.taken in
+    let before = c.loop-at.invariant in
+    let left = ap length (take_rest bytes at) ∙ length-drop at bytes in
+    let within = c.hear_some-heard.ensures.within in (
+      omega (arith, before.0, left, within),
+      omega (
+        arith,
+        before.1,
+        c.frames_in.ensures.few,
+        c.hear_some-heard.ensures.taken,
+        c.hear_some-heard.ensures.some,
+        left,
+        c.loop-at-test.true,
+      ),
+      omega (arith, c.hear_some-heard.ensures.taken, before.2),
+      λ line heard.
+          let so = before.3 line heard in
+          subst (HasHeard g.V.Device _) (bytes-more at n bytes line)
+          (hears-run g.V.Device c.loop-at.self _ _ _ _ c.hear_some-heard.result.frame
+          c.frames_in.result refl
+          (c.hear_some-heard.ensures.stands _ so.stands)
+          (c.hear_some-heard.ensures.answer _ so.stands)
+          c.frames_in.ensures.value so refl),
+    )
+
+pub returns-clause-heard : goal.returns-clause-heard
+returns-clause-heard g c = λ line heard.
+    subst (λ l. HasHeard g.V.Device c.loop-at.self (line ++ map (λ b. Byte b) l))
+    (take_all c.loop-at.at c.args.bytes.now c.loop-at-test.false)
+    (c.loop-at.invariant.3 line heard)

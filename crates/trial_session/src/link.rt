@@ -1,0 +1,182 @@
+ghost use Rattle.std.specs.Prelude.{◌≡◌, ◌<◌, ◌≤◌, ◌++◌, length, take};
+ghost use Rattle.trial_session.specs.Alterations.{altered};
+
+use crate::Alteration;
+use crate::marks::{bytes_in_front, overwrite, silence_in_front};
+
+/// How many ticks each frame has for itself, on the device's line and on the link.
+pub const PERIOD: usize = 640;
+
+const HALF: usize = 320;
+
+// The marks of so many bytes, and of so many silent ticks.
+const BYTES: [u8; PERIOD] = [1; PERIOD];
+
+const SILENCE: [u8; PERIOD] = [0; PERIOD];
+
+// The first half of all places stands again in place of the second one.
+fn repeat_half(places: &mut [u8; 640])
+    ensures half { places.new ≡ take 320 places.old ++ take 320 places.old }
+    ensures long { length places.new ≡ 640 }
+{
+    let (first, second) = places.split_at_mut(HALF);
+    second.copy_from_slice(first);
+}
+
+/// The link of a period, as far as it is sent.
+#[derive(Drop)]
+pub struct Link {
+    // The byte of each tick, and whether there is one: a mark that isn't 0.
+    bytes: [u8; 640],
+    marks: [u8; 640],
+    len: usize,
+    ghost within: { len ≤ 640 },
+    ghost byte_room: { length bytes ≡ 640 },
+    ghost mark_room: { length marks ≡ 640 },
+}
+
+impl Link {
+    ghost use Rattle.std.specs.Prelude.{◌+◌, [], map, drop, slice_index_or};
+    ghost use Rattle.yasir_ticks.specs.Ticks.{silent};
+    ghost use Rattle.yasir_ticks.specs.declared.tick.Tick.TheVariants.{Byte};
+    ghost use Rattle.burst_walk.specs.Answered.{answered};
+    ghost use Rattle.trial_session.specs.Links.{link_sent};
+
+    /// Nothing is sent.
+    pub fn new() -> Link
+        ensures len { result.len ≡ 0 }
+        ensures sent { link_sent result ≡ [] }
+    {
+        Link {
+            bytes: [0; PERIOD],
+            marks: [0; PERIOD],
+            len: 0,
+        }
+    }
+
+    // Sends these bytes.
+    #[inline]
+    fn add_bytes(&mut self, bytes: &[u8])
+        requires { self.old.len + length bytes.now ≤ 640 }
+        ensures len { self.new.len ≡ self.old.len + length bytes.now }
+        ensures sent { link_sent self.new ≡ link_sent self.old ++ map Byte bytes.now }
+    {
+        let count = bytes.len();
+        overwrite(&mut self.bytes, self.len, bytes);
+        overwrite(&mut self.marks, self.len, &BYTES[..count]);
+        self.len += count;
+    }
+
+    // Sends so many silent ticks.
+    #[inline]
+    fn add_silence(&mut self, ticks: usize)
+        requires { self.old.len + ticks ≤ 640 }
+        ensures len { self.new.len ≡ self.old.len + ticks }
+        ensures sent { link_sent self.new ≡ link_sent self.old ++ silent ticks }
+    {
+        overwrite(&mut self.marks, self.len, &SILENCE[..ticks]);
+        self.len += ticks;
+    }
+
+    /// Sends an answer to so many ticks: as many bytes, or silence where there is none.
+    #[inline]
+    pub fn add(&mut self, count: usize, left: &[u8])
+        requires { self.old.len + count ≤ 640 }
+        ensures len { self.new.len ≡ self.old.len + count }
+        ensures sent { length (answered count left.now) ≡ count
+            → link_sent self.new ≡ link_sent self.old ++ answered count left.now }
+    {
+        if left.len() == count {
+            self.add_bytes(left);
+        } else {
+            self.add_silence(count);
+        }
+    }
+
+    // Turns the bits of this value in a byte, or makes a byte of silence.
+    fn change(&mut self, place: usize, value: u8)
+        requires whole { self.old.len ≡ 640 }
+        requires within { place < 640 }
+        ensures len { self.new.len ≡ 640 }
+        ensures sent { link_sent self.new ≡ altered (Alteration.Change place value)
+            (link_sent self.old) }
+    {
+        if self.marks[place] == 0 {
+            self.bytes[place] = value;
+            self.marks[place] = 1;
+        } else {
+            self.bytes[place] ^= value;
+        }
+    }
+
+    // Makes all ticks from a place on silent.
+    fn silence_behind(&mut self, place: usize)
+        requires whole { self.old.len ≡ 640 }
+        requires within { place ≤ 640 }
+        ensures len { self.new.len ≡ 640 }
+        ensures sent { link_sent self.new ≡ altered (Alteration.CutOff place)
+            (link_sent self.old) }
+    {
+        overwrite(&mut self.marks, place, &SILENCE[..PERIOD - place]);
+    }
+
+    // The first half of a period stands again in place of the second one.
+    fn repeat(&mut self)
+        requires { self.old.len ≡ 640 }
+        ensures len { self.new.len ≡ 640 }
+        ensures sent { link_sent self.new ≡ altered Alteration.Repeat (link_sent self.old) }
+    {
+        repeat_half(&mut self.bytes);
+        repeat_half(&mut self.marks);
+    }
+
+    /// Alters a whole period.
+    pub fn alter(&mut self, alteration: Alteration)
+        requires { self.old.len ≡ 640 }
+        ensures len { self.new.len ≡ 640 }
+        ensures sent { link_sent self.new ≡ altered alteration (link_sent self.old) }
+    {
+        match alteration {
+            Alteration::Nothing => {}
+            Alteration::Change { place, value } => {
+                if place < PERIOD {
+                    self.change(place, value);
+                }
+            }
+            Alteration::Lose => self.silence_behind(0),
+            Alteration::Repeat => self.repeat(),
+            Alteration::CutOff { place } => self.silence_behind(place.min(PERIOD)),
+        }
+    }
+
+    /// How many ticks are sent.
+    pub fn len(&self) -> usize
+        ensures { result ≡ self.now.len }
+    {
+        self.len
+    }
+
+    /// How many of the ticks from a place on are silent, up to the first byte.
+    #[inline]
+    pub fn silence_from(&self, at: usize) -> usize
+        requires { at < self.now.len }
+        ensures within { at + result ≤ self.now.len }
+        ensures silent { take result (drop at (link_sent self.now)) ≡ silent result }
+        ensures all { result ≡ 0 → slice_index_or self.now.marks at 0 ≡ 0 → ⊥ }
+    {
+        silence_in_front(&self.marks[at..self.len])
+    }
+
+    /// The bytes that stand from a place on, up to the first silent tick.
+    #[inline]
+    pub fn bytes_from(&self, at: usize) -> &[u8]
+        requires { at < self.now.len }
+        ensures within { at + length result.now ≤ self.now.len }
+        ensures bytes { take (length result.now) (drop at (link_sent self.now))
+            ≡ map Byte result.now }
+        ensures all { length result.now ≡ 0 → slice_index_or self.now.marks at 0 ≡ 0 }
+    {
+        let count = bytes_in_front(&self.marks[at..self.len]);
+        &self.bytes[at..at + count]
+    }
+}
