@@ -1,21 +1,13 @@
 use crate::outside::{Failing, STEADY};
 use crate::over_boxes::{
-    AT_0, AT_1, AT_2, AT_LIMIT, DiskFault, FRESH, KEY, NO_NUMBER, NOTHING, Row, compare,
+    AT_0, AT_1, AT_2, AT_LIMIT, BoxKind, DiskFault, FRESH, KEY, NO_NUMBER, NOTHING, Row, compare,
     fail_each_call, replay,
 };
 use crate::reading::read;
-use check_replay::CheckBox;
-use hmac_tag::{Dir, HmacSha1};
+use hmac_tag::Dir;
 use replay_status::Status;
-use rtu_frame::Rtu;
 use std::test::Fail;
 use yasir_ticks::{BadTicks, TickFault};
-
-/// The receiver of a link of Modbus RTU, with words of two bytes and a delay of 18 ticks.
-type RtuCheckBox = CheckBox<Rtu, HmacSha1, 2, 18>;
-
-/// The silent ticks behind a whole input, as the program has them.
-const REST: u32 = 320;
 
 /// Slots that hold these numbers.
 const AT_3: u128 = 0x0000000000000003_fffffffffffffffc;
@@ -200,7 +192,7 @@ const EDGES: [Row; 8] = [
 #[test]
 fn checks_the_packets_of_a_link(rt: HostRuntime) -> Result<(), Fail> {
     for row in CHECKED {
-        compare::<HostRuntime, RtuCheckBox>(&rt, rt.alloc(), REST, &row)?;
+        compare(&rt, rt.alloc(), BoxKind::CheckRtu, &row)?;
     }
     Ok(())
 }
@@ -208,7 +200,7 @@ fn checks_the_packets_of_a_link(rt: HostRuntime) -> Result<(), Fail> {
 #[test]
 fn checks_links_at_the_edges(rt: HostRuntime) -> Result<(), Fail> {
     for row in EDGES {
-        compare::<HostRuntime, RtuCheckBox>(&rt, rt.alloc(), REST, &row)?;
+        compare(&rt, rt.alloc(), BoxKind::CheckRtu, &row)?;
     }
     Ok(())
 }
@@ -301,7 +293,7 @@ const ALTERED: [Row; 8] = [
 #[test]
 fn notes_how_a_link_was_altered(rt: HostRuntime) -> Result<(), Fail> {
     for row in ALTERED {
-        compare::<HostRuntime, RtuCheckBox>(&rt, rt.alloc(), REST, &row)?;
+        compare(&rt, rt.alloc(), BoxKind::CheckRtu, &row)?;
     }
     Ok(())
 }
@@ -346,7 +338,7 @@ const READ: [(&[u8], &[u8], &[u8]); 4] = [
 fn a_device_reads_what_passed(rt: HostRuntime) -> Result<(), Fail> {
     for (text, notes, frames) in READ {
         let alloc = rt.alloc();
-        let checked = replay::<RtuCheckBox>(alloc, REST, Dir::Ab, KEY, FRESH, text, &STEADY)?;
+        let checked = replay(alloc, BoxKind::CheckRtu, Dir::Ab, KEY, FRESH, text, &STEADY)?;
         assert_eq!(rt; checked.log.held(), notes);
         let device = read(&rt, alloc, checked.out.held(), &STEADY)?;
         assert_eq!(rt; device.status, Status::Done);
@@ -379,23 +371,23 @@ const THREE_PASSED: &[u8] =
     b"-18\n+01030000000ac5cd\n-21\n+010300000001840a\n-21\n+1103006b00037687\n-326\n";
 
 const DISK_FAULTS: [DiskFault; 9] = [
-    (&[1], b"", 0, 0),
-    (&[2], b"", 0, 0),
-    (&[3], BEFORE_ONE, 0, 0),
-    (&[4], BEFORE_ONE, 0, 1),
-    (&[5], BEFORE_TWO, 1, 1),
-    (&[6], BEFORE_TWO, 1, 2),
-    (&[7], BEFORE_THREE, 2, 2),
-    (&[8], BEFORE_THREE, 2, 3),
-    (&[9], THREE_PASSED, 3, 3),
+    (1, b"", 0, 0),
+    (2, b"", 0, 0),
+    (3, BEFORE_ONE, 0, 0),
+    (4, BEFORE_ONE, 0, 1),
+    (5, BEFORE_TWO, 1, 1),
+    (6, BEFORE_TWO, 1, 2),
+    (7, BEFORE_THREE, 2, 2),
+    (8, BEFORE_THREE, 2, 3),
+    (9, THREE_PASSED, 3, 3),
 ];
 
 #[test]
 fn a_failed_call_of_the_disk_passes_no_number_twice(rt: HostRuntime) -> Result<(), Fail> {
-    fail_each_call::<HostRuntime, RtuCheckBox>(
+    fail_each_call(
         &rt,
         rt.alloc(),
-        REST,
+        BoxKind::CheckRtu,
         THREE_PACKETS,
         &THREE_NOTES,
         &DISK_FAULTS,
@@ -460,34 +452,22 @@ const NOT_DONE: [Row; 7] = [
     },
     // The first read gives the whole text, the next one fails.
     Row {
-        failing: Failing {
-            input: &[2],
-            ..STEADY
-        },
+        failing: Failing { input: 2, ..STEADY },
         ..CUT_SHORT
     },
     // The notes are written before the ticks.
     Row {
-        failing: Failing {
-            log: &[1],
-            ..STEADY
-        },
+        failing: Failing { log: 1, ..STEADY },
         log: b"",
         ..WRITE_FAULT
     },
     Row {
-        failing: Failing {
-            out: &[1],
-            ..STEADY
-        },
+        failing: Failing { out: 1, ..STEADY },
         ..WRITE_FAULT
     },
     // The flush.
     Row {
-        failing: Failing {
-            out: &[2],
-            ..STEADY
-        },
+        failing: Failing { out: 2, ..STEADY },
         out: PASSED_LINE,
         ..WRITE_FAULT
     },
@@ -496,7 +476,7 @@ const NOT_DONE: [Row; 7] = [
 #[test]
 fn answers_why_a_link_is_not_checked_whole(rt: HostRuntime) -> Result<(), Fail> {
     for row in NOT_DONE {
-        compare::<HostRuntime, RtuCheckBox>(&rt, rt.alloc(), REST, &row)?;
+        compare(&rt, rt.alloc(), BoxKind::CheckRtu, &row)?;
     }
     Ok(())
 }

@@ -1,25 +1,12 @@
 use crate::outside::STEADY;
-use crate::over_boxes::{AT_0, AT_1, AT_2, FRESH, KEY, Row, compare, replay};
+use crate::over_boxes::{AT_0, AT_1, AT_2, BoxKind, FRESH, KEY, Row, compare, replay};
 use crate::reading::read_by;
-use check_replay::CheckBox;
 use device_model::DnpDevice;
-use dnp_link_frame::Dnp;
-use hmac_tag::{Dir, HmacSha1};
+use hmac_tag::Dir;
 use replay_status::Status;
-use seal_replay::SealBox;
 use std::alloc::{AllocError, Global};
 use std::process::Abort;
 use std::test::Fail;
-
-/// Transmitter and receiver of a line of DNP3, with words of two bytes and a delay of 18 ticks.
-type DnpSealBox = SealBox<Dnp, HmacSha1, 2>;
-
-type DnpCheckBox = CheckBox<Dnp, HmacSha1, 2, 18>;
-
-/// The silent ticks behind a whole input, as the program has them.
-const SEAL_REST: u32 = 24;
-
-const CHECK_REST: u32 = 320;
 
 /// A packet of number 1, of a frame without user data.
 const PACKET: &[u8] = b"+056405c001000004e921\n-3\n+0001793484b9bdf858bbd82b559e\n-47\n";
@@ -96,7 +83,7 @@ const SEALS: [Row; 5] = [
 #[test]
 fn seals_frames_of_dnp3(rt: HostRuntime) -> Result<(), Fail> {
     for row in SEALS {
-        compare::<HostRuntime, DnpSealBox>(&rt, rt.alloc(), SEAL_REST, &row)?;
+        compare(&rt, rt.alloc(), BoxKind::SealDnp, &row)?;
     }
     Ok(())
 }
@@ -218,7 +205,7 @@ const CHECKS: [Row; 10] = [
 #[test]
 fn checks_packets_of_dnp3(rt: HostRuntime) -> Result<(), Fail> {
     for row in CHECKS {
-        compare::<HostRuntime, DnpCheckBox>(&rt, rt.alloc(), CHECK_REST, &row)?;
+        compare(&rt, rt.alloc(), BoxKind::CheckDnp, &row)?;
     }
     Ok(())
 }
@@ -231,7 +218,7 @@ fn has_read(
     notes: &[u8],
     frames: &[u8],
 ) -> Result<(), Fail> {
-    let checked = replay::<DnpCheckBox>(alloc, CHECK_REST, Dir::Ab, KEY, FRESH, text, &STEADY)?;
+    let checked = replay(alloc, BoxKind::CheckDnp, Dir::Ab, KEY, FRESH, text, &STEADY)?;
     assert_eq!(rt; checked.log.held(), notes);
     let device = read_by::<DnpDevice>(rt, alloc, checked.out.held(), &STEADY)?;
     assert_eq!(rt; device.status, Status::Done);

@@ -2,8 +2,12 @@ ghost use Rattle.std.specs.Prelude.{◌≡◌};
 
 use crate::outside::{Failing, STEADY, plan};
 use box_replay::{LineBox, replay_box};
-use hmac_tag::Dir;
+use check_replay::CheckBox;
+use dnp_link_frame::Dnp;
+use hmac_tag::{Dir, HmacSha1, HmacSha256};
 use replay_status::{Status, write_fault};
+use rtu_frame::Rtu;
+use seal_replay::SealBox;
 use sequence_journal::Journal;
 use std::alloc::Global;
 use std::process::Abort;
@@ -27,6 +31,19 @@ pub const NOTHING: u128 = 0;
 pub const NO_NUMBER: u128 = 0x11111111111111111111111111111111;
 
 pub const FRESH: (u128, u128) = (AT_0, NOTHING);
+
+/// A box of the program: what its words ask for.
+#[derive(Clone, Copy, Drop)]
+pub enum BoxKind {
+    SealRtu,
+    SealDnp,
+    SealRtu24,
+    SealDnp24,
+    CheckRtu,
+    CheckDnp,
+    CheckRtu24,
+    CheckDnp24,
+}
 
 /// How a run ended, what its sinks hold, and its disk.
 #[derive(Drop)]
@@ -52,8 +69,8 @@ pub struct Row {
     pub slots_now: (u128, u128),
 }
 
-/// The line of this text through a box with this key, with the fault line behind its notes.
-pub fn replay<B: LineBox>(
+// The line of this text through a box with this key, with the fault line behind its notes.
+fn replay_by<B: LineBox>(
     alloc: Global,
     rest: u32,
     dir: Dir,
@@ -67,13 +84,13 @@ pub fn replay<B: LineBox>(
     let (a, b) = slots;
     let mut key = MemSource::new(key, 512, plan(failing.key));
     let mut input = MemSource::new(text, 512, plan(failing.input));
-    let mut out = MemSink::with_room(alloc, 2000, 512, plan(failing.out))?;
-    let mut log = MemSink::with_room(alloc, 400, 512, plan(failing.log))?;
+    let mut out = MemSink::with_room(alloc, 8000, 512, plan(failing.out))?;
+    let mut log = MemSink::with_room(alloc, 40000, 512, plan(failing.log))?;
     let mut disk = MemSlots::with_room(
         alloc,
         a.to_be_bytes(),
         b.to_be_bytes(),
-        16,
+        2000,
         plan(failing.disk),
     )?;
     let status = replay_box::<B, MemSource, MemSource, MemSink, MemSink, MemSlots>(
@@ -88,6 +105,49 @@ pub fn replay<B: LineBox>(
     })
 }
 
+/// The line of this text through a box with this key, with the fault line behind its notes. The
+/// silent ticks behind a whole input are as many as the program has.
+pub fn replay(
+    alloc: Global,
+    kind: BoxKind,
+    dir: Dir,
+    key: &[u8],
+    slots: (u128, u128),
+    text: &[u8],
+    failing: &Failing,
+) -> Result<Ran, Fail> {
+    match kind {
+        BoxKind::SealRtu => {
+            replay_by::<SealBox<Rtu, HmacSha1, 2>>(alloc, 24, dir, key, slots, text, failing)
+        }
+        BoxKind::SealDnp => {
+            replay_by::<SealBox<Dnp, HmacSha1, 2>>(alloc, 24, dir, key, slots, text, failing)
+        }
+        BoxKind::SealRtu24 => {
+            replay_by::<SealBox<Rtu, HmacSha256, 4>>(alloc, 30, dir, key, slots, text, failing)
+        }
+        BoxKind::SealDnp24 => {
+            replay_by::<SealBox<Dnp, HmacSha256, 4>>(alloc, 30, dir, key, slots, text, failing)
+        }
+        BoxKind::CheckRtu => {
+            replay_by::<CheckBox<Rtu, HmacSha1, 2, 18>>(alloc, 320, dir, key, slots, text, failing)
+        }
+        BoxKind::CheckDnp => {
+            replay_by::<CheckBox<Dnp, HmacSha1, 2, 18>>(alloc, 320, dir, key, slots, text, failing)
+        }
+        BoxKind::CheckRtu24 => {
+            replay_by::<CheckBox<Rtu, HmacSha256, 4, 24>>(
+                alloc, 320, dir, key, slots, text, failing,
+            )
+        }
+        BoxKind::CheckDnp24 => {
+            replay_by::<CheckBox<Dnp, HmacSha256, 4, 24>>(
+                alloc, 320, dir, key, slots, text, failing,
+            )
+        }
+    }
+}
+
 fn slots_of(disk: &MemSlots) -> (u128, u128) {
     (
         u128::from_be_bytes(disk.slot(Slot::A)),
@@ -96,17 +156,10 @@ fn slots_of(disk: &MemSlots) -> (u128, u128) {
 }
 
 /// A row comes out as it says.
-pub fn compare<A: Abort, B: LineBox>(
-    rt: &A,
-    alloc: Global,
-    rest: u32,
-    row: &Row,
-) -> Result<(), Fail>
-    requires { B.widths_fit }
-{
-    let ran = replay::<B>(
+pub fn compare(rt: &impl Abort, alloc: Global, kind: BoxKind, row: &Row) -> Result<(), Fail> {
+    let ran = replay(
         alloc,
-        rest,
+        kind,
         row.dir,
         row.key,
         row.slots,
@@ -133,27 +186,25 @@ fn floor_of(slots: (u128, u128)) -> Option<u64> {
 
 /// The call of the disk that fails, what is answered, how many of the notes are written, and the
 /// floor that a later run loads.
-pub type DiskFault = (&'static [u32], &'static [u8], usize, u64);
+pub type DiskFault = (u32, &'static [u8], usize, u64);
 
 /// A line of three frames, from a fresh journal on, in whose run each call of the disk fails in
 /// turn: a journal is loaded with two calls, and each number costs a write and a sync. `notes` are
 /// those of none of the frames, of one, of two and of all.
-pub fn fail_each_call<A: Abort, B: LineBox>(
-    rt: &A,
+pub fn fail_each_call(
+    rt: &impl Abort,
     alloc: Global,
-    rest: u32,
+    kind: BoxKind,
     text: &[u8],
     notes: &[&[u8]; 4],
     faults: &[DiskFault; 9],
-) -> Result<(), Fail>
-    requires { B.widths_fit }
-{
+) -> Result<(), Fail> {
     for (disk, out, noted, floor) in faults {
         let failing = Failing {
             disk: *disk,
             ..STEADY
         };
-        let ran = replay::<B>(alloc, rest, Dir::Ab, KEY, FRESH, text, &failing)?;
+        let ran = replay(alloc, kind, Dir::Ab, KEY, FRESH, text, &failing)?;
         assert!(rt; *noted < 4);
         let mut log = notes[*noted].to_vec(alloc)?;
         if *noted < 3 {
@@ -169,8 +220,8 @@ pub fn fail_each_call<A: Abort, B: LineBox>(
         assert_eq!(rt; floor_of((a, b)), Some(*floor));
         // Where a sync failed, the slot that was written may be torn.
         match *disk {
-            [4] => assert_eq!(rt; floor_of((a, NO_NUMBER)), Some(0)),
-            [6] => assert_eq!(rt; floor_of((NO_NUMBER, b)), Some(1)),
+            4 => assert_eq!(rt; floor_of((a, NO_NUMBER)), Some(0)),
+            6 => assert_eq!(rt; floor_of((NO_NUMBER, b)), Some(1)),
             _ => {}
         }
     }

@@ -207,12 +207,7 @@ fn takes_as_many_ticks_as_the_limit(rt: HostRuntime) -> Result<(), Fail> {
     Ok(())
 }
 
-const fn failing(
-    piece: u16,
-    input: &'static [u32],
-    out: &'static [u32],
-    log: &'static [u32],
-) -> Failing {
+const fn failing(piece: u16, input: u32, out: u32, log: u32) -> Failing {
     Failing {
         piece,
         input,
@@ -248,23 +243,23 @@ const fn write_fault_of(text: &'static [u8], outside: Failing, out: &'static [u8
 fn answers_what_failed_outside(rt: HostRuntime) -> Result<(), Fail> {
     let rows = [
         // The first read gives the whole text, the next one fails.
-        read_fault(failing(512, &[2], &[], &[]), REQUEST_LINE),
-        read_fault(failing(512, &[1], &[], &[]), b""),
+        read_fault(failing(512, 2, 0, 0), REQUEST_LINE),
+        read_fault(failing(512, 1, 0, 0), b""),
         // The first read gives the line of the request alone, without the silence behind it.
-        read_fault(failing(18, &[2], &[], &[]), b""),
+        read_fault(failing(18, 2, 0, 0), b""),
         // The first call on an empty output is its flush.
-        write_fault_of(b"", failing(512, &[], &[1], &[]), b""),
-        write_fault_of(REQUEST, failing(512, &[], &[1], &[]), b""),
+        write_fault_of(b"", failing(512, 0, 1, 0), b""),
+        write_fault_of(REQUEST, failing(512, 0, 1, 0), b""),
         // A write in the middle of the line, and the flush behind it.
-        write_fault_of(REQUEST, failing(10, &[], &[2], &[]), b"read at 0 "),
-        write_fault_of(REQUEST, failing(512, &[], &[2], &[]), REQUEST_LINE),
+        write_fault_of(REQUEST, failing(10, 0, 2, 0), b"read at 0 "),
+        write_fault_of(REQUEST, failing(512, 0, 2, 0), REQUEST_LINE),
         // The flush of the log.
-        write_fault_of(REQUEST, failing(512, &[], &[], &[1]), REQUEST_LINE),
+        write_fault_of(REQUEST, failing(512, 0, 0, 1), REQUEST_LINE),
         // A read fails, and then the write of the lines so far.
-        write_fault_of(REQUEST, failing(512, &[2], &[1], &[]), b""),
+        write_fault_of(REQUEST, failing(512, 2, 1, 0), b""),
         // The fault line fails, which changes no answer.
         Row {
-            outside: failing(512, &[], &[], &[1]),
+            outside: failing(512, 0, 0, 1),
             ..refused(b"-0", 1, TickFault::Count, b"", b"")
         },
     ];
@@ -288,13 +283,8 @@ fn writes_a_front_of_a_long_answer(rt: HostRuntime) -> Result<(), Fail> {
     let ran = read(&rt, rt.alloc(), text.as_slice(), &STEADY)?;
     assert_eq!(rt; ran.status, Status::Done);
     assert_eq!(rt; ran.out.held(), lines.as_slice());
-    for fail in [&[1], &[9], &[20]] {
-        let ran = read(
-            &rt,
-            rt.alloc(),
-            text.as_slice(),
-            &failing(512, &[], fail, &[]),
-        )?;
+    for fail in [1, 9, 20] {
+        let ran = read(&rt, rt.alloc(), text.as_slice(), &failing(512, 0, fail, 0))?;
         assert_eq!(rt; ran.status, Status::WriteFault);
         assert!(rt; lines.starts_with(ran.out.held()));
         assert!(rt; ran.out.held().len() < lines.len());
@@ -306,7 +296,7 @@ fn writes_a_front_of_a_long_answer(rt: HostRuntime) -> Result<(), Fail> {
 #[test]
 fn flushes_for_an_answer_alone(rt: HostRuntime) -> Result<(), Fail> {
     // No call is made on the output, so the next one is its first, which fails.
-    let mut ran = read(&rt, rt.alloc(), b"x", &failing(512, &[], &[1], &[]))?;
+    let mut ran = read(&rt, rt.alloc(), b"x", &failing(512, 0, 1, 0))?;
     assert_eq!(rt; ran.log.held(), b"fault: line 1 char\n".as_slice());
     assert!(rt; ran.out.flush().is_err());
     assert!(rt; ran.out.flush().is_ok());

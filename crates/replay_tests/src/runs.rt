@@ -2,16 +2,11 @@
 ghost use Rattle.std.specs.Prelude.{◌<◌, ◌≤◌};
 
 use crate::outside::STEADY;
-use crate::over_boxes::{FRESH, KEY, Ran, replay};
-use hmac_tag::{Dir, HmacSha1};
+use crate::over_boxes::{BoxKind, FRESH, KEY, Ran, replay};
+use hmac_tag::Dir;
 use replay_status::Status;
-use rtu_frame::Rtu;
-use seal_replay::SealBox;
 use std::alloc::Global;
 use std::test::Fail;
-
-/// The transmitter of a line of Modbus RTU, with words of two bytes.
-type RtuSealBox = SealBox<Rtu, HmacSha1, 2>;
 
 // Adds a burst of so many bytes, in lines of at most so many.
 fn push_burst(text: &mut Vec<u8>, len: usize, most: usize) -> Result<(), Fail>
@@ -38,7 +33,15 @@ fn seal_bursts(alloc: Global, len: usize, most: usize) -> Result<Ran, Fail>
     push_burst(&mut text, len, most)?;
     text.extend_from_slice(b"-30\n")?;
     push_burst(&mut text, len, most)?;
-    replay::<RtuSealBox>(alloc, 24, Dir::Ab, KEY, FRESH, text.as_slice(), &STEADY)
+    replay(
+        alloc,
+        BoxKind::SealRtu,
+        Dir::Ab,
+        KEY,
+        FRESH,
+        text.as_slice(),
+        &STEADY,
+    )
 }
 
 // Bursts of each length, past the room of a frame too, in single bytes and in lines of each length:

@@ -1,20 +1,12 @@
 use crate::outside::{Failing, STEADY};
 use crate::over_boxes::{
-    AT_0, AT_1, AT_2, AT_LIMIT, DiskFault, FRESH, KEY, NO_NUMBER, NOTHING, Row, compare,
+    AT_0, AT_1, AT_2, AT_LIMIT, BoxKind, DiskFault, FRESH, KEY, NO_NUMBER, NOTHING, Row, compare,
     fail_each_call, replay,
 };
-use hmac_tag::{Dir, HmacSha1};
+use hmac_tag::Dir;
 use replay_status::Status;
-use rtu_frame::Rtu;
-use seal_replay::SealBox;
 use std::test::Fail;
 use yasir_ticks::{BadTicks, TickFault};
-
-/// The transmitter of a line of Modbus RTU, with words of two bytes.
-type RtuSealBox = SealBox<Rtu, HmacSha1, 2>;
-
-/// The silent ticks behind a whole input, as the program has them.
-const REST: u32 = 24;
 
 /// Slots that hold these numbers.
 const AT_5: u128 = 0x0000000000000005_fffffffffffffffa;
@@ -115,7 +107,7 @@ const SEALED: [Row; 10] = [
 #[test]
 fn seals_the_frames_of_a_line(rt: HostRuntime) -> Result<(), Fail> {
     for row in SEALED {
-        compare::<HostRuntime, RtuSealBox>(&rt, rt.alloc(), REST, &row)?;
+        compare(&rt, rt.alloc(), BoxKind::SealRtu, &row)?;
     }
     Ok(())
 }
@@ -132,9 +124,9 @@ fn seals_the_longest_frame(rt: HostRuntime) -> Result<(), Fail> {
     text.extend_from_slice(b"+000000000000000000000000000000000000000000000000000000000000554e\n")?;
     let mut out = text.clone()?;
     out.extend_from_slice(b"-3\n+000101c84727bb115a36d1402d21\n-7\n")?;
-    let ran = replay::<RtuSealBox>(
+    let ran = replay(
         rt.alloc(),
-        REST,
+        BoxKind::SealRtu,
         Dir::Ab,
         KEY,
         FRESH,
@@ -173,23 +165,23 @@ const THREE_SEALED: &[u8] =
         -7\n";
 
 const DISK_FAULTS: [DiskFault; 9] = [
-    (&[1], b"", 0, 0),
-    (&[2], b"", 0, 0),
-    (&[3], ONE_CLOSED, 0, 0),
-    (&[4], ONE_CLOSED, 0, 1),
-    (&[5], TWO_CLOSED, 1, 1),
-    (&[6], TWO_CLOSED, 1, 2),
-    (&[7], THREE_CLOSED, 2, 2),
-    (&[8], THREE_CLOSED, 2, 3),
-    (&[9], THREE_SEALED, 3, 3),
+    (1, b"", 0, 0),
+    (2, b"", 0, 0),
+    (3, ONE_CLOSED, 0, 0),
+    (4, ONE_CLOSED, 0, 1),
+    (5, TWO_CLOSED, 1, 1),
+    (6, TWO_CLOSED, 1, 2),
+    (7, THREE_CLOSED, 2, 2),
+    (8, THREE_CLOSED, 2, 3),
+    (9, THREE_SEALED, 3, 3),
 ];
 
 #[test]
 fn a_failed_call_of_the_disk_loses_no_number(rt: HostRuntime) -> Result<(), Fail> {
-    fail_each_call::<HostRuntime, RtuSealBox>(
+    fail_each_call(
         &rt,
         rt.alloc(),
-        REST,
+        BoxKind::SealRtu,
         THREE_FRAMES,
         &THREE_NOTES,
         &DISK_FAULTS,
@@ -225,10 +217,7 @@ const WRITE_FAULT: Row = Row {
 
 const NOT_DONE: [Row; 9] = [
     Row {
-        failing: Failing {
-            key: &[1],
-            ..STEADY
-        },
+        failing: Failing { key: 1, ..STEADY },
         ..REFUSED
     },
     Row {
@@ -269,34 +258,22 @@ const NOT_DONE: [Row; 9] = [
     },
     // The first read gives the whole text, the next one fails.
     Row {
-        failing: Failing {
-            input: &[2],
-            ..STEADY
-        },
+        failing: Failing { input: 2, ..STEADY },
         ..CUT_SHORT
     },
     // The notes are written before the ticks.
     Row {
-        failing: Failing {
-            log: &[1],
-            ..STEADY
-        },
+        failing: Failing { log: 1, ..STEADY },
         log: b"",
         ..WRITE_FAULT
     },
     Row {
-        failing: Failing {
-            out: &[1],
-            ..STEADY
-        },
+        failing: Failing { out: 1, ..STEADY },
         ..WRITE_FAULT
     },
     // The flush.
     Row {
-        failing: Failing {
-            out: &[2],
-            ..STEADY
-        },
+        failing: Failing { out: 2, ..STEADY },
         out: SEALED_WHOLE,
         ..WRITE_FAULT
     },
@@ -305,7 +282,7 @@ const NOT_DONE: [Row; 9] = [
 #[test]
 fn answers_why_a_line_is_not_sealed_whole(rt: HostRuntime) -> Result<(), Fail> {
     for row in NOT_DONE {
-        compare::<HostRuntime, RtuSealBox>(&rt, rt.alloc(), REST, &row)?;
+        compare(&rt, rt.alloc(), BoxKind::SealRtu, &row)?;
     }
     Ok(())
 }

@@ -1,31 +1,16 @@
 //! Both boxes by the profile with words of four bytes and tags of sixteen by HMAC-SHA-256.
 
 use crate::outside::STEADY;
-use crate::over_boxes::{AT_0, AT_1, AT_2, AT_LIMIT, FRESH, KEY, NOTHING, Row, compare, replay};
+use crate::over_boxes::{
+    AT_0, AT_1, AT_2, AT_LIMIT, BoxKind, FRESH, KEY, NOTHING, Row, compare, replay,
+};
 use crate::reading::read_by;
-use check_replay::CheckBox;
 use device_model::{Device, DnpDevice, RtuDevice};
-use dnp_link_frame::Dnp;
-use hmac_tag::{Dir, HmacSha256};
+use hmac_tag::Dir;
 use replay_status::Status;
-use rtu_frame::Rtu;
-use seal_replay::SealBox;
 use std::alloc::Global;
 use std::process::Abort;
 use std::test::Fail;
-
-type RtuSealBox = SealBox<Rtu, HmacSha256, 4>;
-
-type RtuCheckBox = CheckBox<Rtu, HmacSha256, 4, 24>;
-
-type DnpSealBox = SealBox<Dnp, HmacSha256, 4>;
-
-type DnpCheckBox = CheckBox<Dnp, HmacSha256, 4, 24>;
-
-/// The silent ticks behind a whole input, as the program has them.
-const SEAL_REST: u32 = 30;
-
-const CHECK_REST: u32 = 320;
 
 /// Slots that hold these numbers.
 const AT_65535: u128 = 0x000000000000ffff_ffffffffffff0000;
@@ -239,9 +224,9 @@ const DNP3_CHECKS: [(&[u8], &[u8], &[u8]); 3] = [
 #[test]
 fn seals_with_words_of_four_bytes(rt: HostRuntime) -> Result<(), Fail> {
     for row in SEALS {
-        compare::<HostRuntime, RtuSealBox>(&rt, rt.alloc(), SEAL_REST, &row)?;
+        compare(&rt, rt.alloc(), BoxKind::SealRtu24, &row)?;
     }
-    compare::<HostRuntime, DnpSealBox>(&rt, rt.alloc(), SEAL_REST, &SEALED_DNP3)
+    compare(&rt, rt.alloc(), BoxKind::SealDnp24, &SEALED_DNP3)
 }
 
 // What a device reads of a receiver's line.
@@ -260,13 +245,13 @@ fn has_read<D: Device + Drop>(
 #[test]
 fn checks_words_of_four_bytes(rt: HostRuntime) -> Result<(), Fail> {
     for (row, frames) in CHECKS {
-        compare::<HostRuntime, RtuCheckBox>(&rt, rt.alloc(), CHECK_REST, &row)?;
+        compare(&rt, rt.alloc(), BoxKind::CheckRtu24, &row)?;
         has_read::<RtuDevice>(&rt, rt.alloc(), row.out, frames)?;
     }
     for (text, notes, frames) in DNP3_CHECKS {
-        let checked = replay::<DnpCheckBox>(
+        let checked = replay(
             rt.alloc(),
-            CHECK_REST,
+            BoxKind::CheckDnp24,
             Dir::Ab,
             KEY,
             FRESH,
