@@ -1,7 +1,7 @@
 //! Each call outside fails in turn over a short run of each command, in pieces of ten bytes: what
 //! stands then is a cut of what stands after a whole run.
-use crate::run;
-use crate::tests::{CHECK, INIT, KEY, READ, Row, SEAL, VECTORS, plan, strings};
+use crate::running::{Ends, KEY, plan, run_words};
+use crate::tests::{CHECK, INIT, READ, Row, SEAL, VECTORS};
 use replay_status::Status;
 use std::alloc::Global;
 use std::process::Abort;
@@ -24,6 +24,14 @@ enum Object {
     Disk,
 }
 
+const OBJECTS: [Object; 5] = [
+    Object::Key,
+    Object::Input,
+    Object::Out,
+    Object::Log,
+    Object::Disk,
+];
+
 /// What stands after a run: what its sinks hold, the log without the fault line, and whether the
 /// slots are those after a whole run, or those before it.
 #[derive(Clone, Copy, Drop)]
@@ -45,72 +53,65 @@ struct Case {
     disk_calls: &'static [Left],
 }
 
-/// How a run ended, and what it left.
-#[derive(Drop)]
-struct Ran {
+/// How a run ends where a call fails: its status, what it leaves, the fault line behind the log, and
+/// how often each sink was flushed.
+#[derive(Clone, Copy, Drop)]
+struct Ending {
     status: Status,
-    out: MemSink,
-    log: MemSink,
-    disk: MemSlots,
+    left: Left,
+    fault: &'static [u8],
+    flushes: (u64, u64),
 }
 
 // The plan of an object's calls, where this call of one object fails.
 fn plan_of(object: Object, failing: Object, call: u32) -> Plan {
     if object == failing {
-        plan(&[call])
+        plan(call)
     } else {
         Plan::new()
     }
 }
 
-fn run_failing(alloc: Global, row: &Row, failing: Object, call: u32) -> Result<Ran, Fail> {
-    let words = strings(alloc, row.words)?;
-    let (a, b) = row.slots;
-    let mut key = MemSource::new(KEY, 10, plan_of(Object::Key, failing, call));
-    let mut input = MemSource::new(row.text, 10, plan_of(Object::Input, failing, call));
-    let mut out = MemSink::with_room(alloc, 500, 10, plan_of(Object::Out, failing, call))?;
-    let mut log = MemSink::with_room(alloc, 100, 10, plan_of(Object::Log, failing, call))?;
-    let mut disk = MemSlots::with_room(alloc, a, b, 16, plan_of(Object::Disk, failing, call))?;
-    let status = run(
-        alloc,
-        words.as_slice(),
-        &mut key,
-        &mut input,
-        &mut out,
-        &mut log,
-        &mut disk,
-    );
-    Ok(Ran {
-        status,
-        out,
-        log,
-        disk,
+// What a run is handed, but for its disk, where this call of one object fails.
+fn ends_of(
+    alloc: Global,
+    text: &'static [u8],
+    failing: Object,
+    call: u32,
+) -> Result<Ends<'static>, Fail> {
+    Ok(Ends {
+        key: MemSource::new(KEY, 10, plan_of(Object::Key, failing, call)),
+        input: MemSource::new(text, 10, plan_of(Object::Input, failing, call)),
+        out: MemSink::with_room(alloc, 500, 10, plan_of(Object::Out, failing, call))?,
+        log: MemSink::with_room(alloc, 100, 10, plan_of(Object::Log, failing, call))?,
     })
 }
 
-// The run ended so, left this with this line behind the log, and flushed each sink so often.
+// A run in which this call of one object fails ends so.
 fn compare(
     rt: &impl Abort,
     alloc: Global,
     row: &Row,
-    ran: &Ran,
-    status: Status,
-    left: &Left,
-    fault: &[u8],
-    flushes: (u64, u64),
+    failing: Object,
+    call: u32,
+    ending: &Ending,
 ) -> Result<(), Fail> {
-    let mut log = left.log.to_vec(alloc)?;
-    log.extend_from_slice(fault)?;
-    let slots = if left.committed {
+    let (a, b) = row.slots;
+    let mut disk = MemSlots::with_room(alloc, a, b, 16, plan_of(Object::Disk, failing, call))?;
+    let ends = ends_of(alloc, row.text, failing, call)?;
+    let ran = run_words(alloc, row.words, ends, &mut disk)?;
+    let mut log = ending.left.log.to_vec(alloc)?;
+    log.extend_from_slice(ending.fault)?;
+    let slots = if ending.left.committed {
         row.slots_now
     } else {
         row.slots
     };
-    assert_eq!(rt; ran.status, status);
-    assert_eq!(rt; ran.out.held(), left.out);
+    assert_eq!(rt; ran.status, ending.status);
+    assert_eq!(rt; ran.out.held(), ending.left.out);
     assert_eq!(rt; ran.log.held(), log.as_slice());
-    assert_eq!(rt; (ran.disk.slot(Slot::A), ran.disk.slot(Slot::B)), slots);
-    assert_eq!(rt; (ran.out.flushes(), ran.log.flushes()), flushes);
+    assert_eq!(rt; (disk.slot(Slot::A), disk.slot(Slot::B)), slots);
+    assert_eq!(rt; (ran.out.flushes(), ran.log.flushes()), ending.flushes);
     Ok(())
 }
 
@@ -123,16 +124,41 @@ fn whole(row: &Row) -> Left {
     }
 }
 
-// The call isn't made, so nothing fails.
-fn compare_whole(
-    rt: &impl Abort,
-    alloc: Global,
-    row: &Row,
-    failing: Object,
-    call: u32,
-) -> Result<(), Fail> {
-    let ran = run_failing(alloc, row, failing, call)?;
-    compare(rt, alloc, row, &ran, Status::Done, &whole(row), b"", (1, 1))
+// A run in which nothing fails.
+fn done(row: &Row) -> Ending {
+    Ending {
+        status: Status::Done,
+        left: whole(row),
+        fault: b"",
+        flushes: (1, 1),
+    }
+}
+
+fn read_fault(left: Left) -> Ending {
+    Ending {
+        status: Status::ReadFault,
+        left,
+        fault: b"fault: read\n",
+        flushes: (0, 0),
+    }
+}
+
+fn write_fault(left: Left, flushes: (u64, u64)) -> Ending {
+    Ending {
+        status: Status::WriteFault,
+        left,
+        fault: b"",
+        flushes,
+    }
+}
+
+fn journal_fault(left: Left) -> Ending {
+    Ending {
+        status: Status::JournalFault,
+        left,
+        fault: b"fault: journal\n",
+        flushes: (0, 0),
+    }
 }
 
 // How many bytes the calls before this one have moved.
@@ -150,28 +176,6 @@ fn front(bytes: &'static [u8], n: usize) -> &'static [u8] {
     if n < bytes.len() { &bytes[..n] } else { bytes }
 }
 
-// A read of the key fails: nothing else is touched.
-fn fail_key(rt: &impl Abort, alloc: Global, case: &Case) -> Result<(), Fail> {
-    let row = &case.row;
-    for call in 1..MANY {
-        if !case.keyed || !is_made(moved_before(call), KEY.len()) {
-            return compare_whole(rt, alloc, row, Object::Key, call);
-        }
-        let ran = run_failing(alloc, row, Object::Key, call)?;
-        compare(
-            rt,
-            alloc,
-            row,
-            &ran,
-            Status::ReadFault,
-            &NOTHING,
-            b"fault: read\n",
-            (0, 0),
-        )?;
-    }
-    Ok(())
-}
-
 // What stands where a read failed after so many bytes of the input.
 fn left_after(case: &Case, bytes: usize) -> Option<Left> {
     let mut left = None;
@@ -183,102 +187,89 @@ fn left_after(case: &Case, bytes: usize) -> Option<Left> {
     left
 }
 
-// A read of the input fails: of what was read the ended lines count.
-fn fail_input(rt: &impl Abort, alloc: Global, case: &Case) -> Result<(), Fail> {
-    let row = &case.row;
-    for call in 1..MANY {
-        let moved = moved_before(call);
-        if !is_made(moved, row.text.len()) {
-            return compare_whole(rt, alloc, row, Object::Input, call);
-        }
-        let Some(left) = left_after(case, moved) else {
-            return compare_whole(rt, alloc, row, Object::Input, call);
-        };
-        let ran = run_failing(alloc, row, Object::Input, call)?;
-        compare(
-            rt,
-            alloc,
-            row,
-            &ran,
-            Status::ReadFault,
-            &left,
-            b"fault: read\n",
-            (0, 0),
-        )?;
+// A read of the key fails: nothing else is touched.
+fn key_fails(case: &Case, moved: usize) -> Option<Ending> {
+    if case.keyed && is_made(moved, KEY.len()) {
+        Some(read_fault(NOTHING))
+    } else {
+        None
     }
-    Ok(())
+}
+
+// A read of the input fails: of what was read the ended lines count.
+fn input_fails(case: &Case, moved: usize) -> Option<Ending> {
+    if !is_made(moved, case.row.text.len()) {
+        return None;
+    }
+    match left_after(case, moved) {
+        Some(left) => Some(read_fault(left)),
+        None => None,
+    }
 }
 
 // A write to `out`, or its flush, fails: it has got a front, and all notes went to the log before.
-fn fail_out(rt: &impl Abort, alloc: Global, case: &Case) -> Result<(), Fail> {
-    let row = &case.row;
-    for call in 1..MANY {
-        let moved = moved_before(call);
-        if !is_made(moved, row.out.len()) {
-            return compare_whole(rt, alloc, row, Object::Out, call);
-        }
-        let ran = run_failing(alloc, row, Object::Out, call)?;
-        let left = Left {
-            out: front(row.out, moved),
-            ..whole(row)
-        };
-        compare(rt, alloc, row, &ran, Status::WriteFault, &left, b"", (0, 0))?;
+fn out_fails(row: &Row, moved: usize) -> Option<Ending> {
+    if !is_made(moved, row.out.len()) {
+        return None;
     }
-    Ok(())
+    let left = Left {
+        out: front(row.out, moved),
+        ..whole(row)
+    };
+    Some(write_fault(left, (0, 0)))
 }
 
 // A write to the log fails, before anything goes out, or its flush, behind that of `out`.
-fn fail_log(rt: &impl Abort, alloc: Global, case: &Case) -> Result<(), Fail> {
-    let row = &case.row;
-    for call in 1..MANY {
-        let moved = moved_before(call);
-        if !is_made(moved, row.log.len()) {
-            return compare_whole(rt, alloc, row, Object::Log, call);
-        }
-        let ran = run_failing(alloc, row, Object::Log, call)?;
-        if moved < row.log.len() {
-            let left = Left {
-                out: b"",
-                log: front(row.log, moved),
-                ..whole(row)
-            };
-            compare(rt, alloc, row, &ran, Status::WriteFault, &left, b"", (0, 0))?;
-        } else {
-            compare(
-                rt,
-                alloc,
-                row,
-                &ran,
-                Status::WriteFault,
-                &whole(row),
-                b"",
-                (1, 0),
-            )?;
-        }
+fn log_fails(row: &Row, moved: usize) -> Option<Ending> {
+    if !is_made(moved, row.log.len()) {
+        return None;
     }
-    Ok(())
+    if moved >= row.log.len() {
+        return Some(write_fault(whole(row), (1, 0)));
+    }
+    let left = Left {
+        out: b"",
+        log: front(row.log, moved),
+        ..whole(row)
+    };
+    Some(write_fault(left, (0, 0)))
 }
 
 // A call of the disk fails.
-fn fail_disk(rt: &impl Abort, alloc: Global, case: &Case) -> Result<(), Fail> {
-    let row = &case.row;
-    let mut call = 1u32;
-    for left in case.disk_calls {
-        let ran = run_failing(alloc, row, Object::Disk, call)?;
-        let fault = b"fault: journal\n";
-        compare(
-            rt,
-            alloc,
-            row,
-            &ran,
-            Status::JournalFault,
-            left,
-            fault,
-            (0, 0),
-        )?;
-        call = call.saturating_add(1);
+fn disk_fails(case: &Case, call: u32) -> Option<Ending> {
+    match case.disk_calls.get(call.saturating_sub(1) as usize) {
+        Some(left) => Some(journal_fault(*left)),
+        None => None,
     }
-    compare_whole(rt, alloc, row, Object::Disk, call)
+}
+
+// How a run ends where this call of one object fails; none where the call isn't made.
+fn ending_of(case: &Case, failing: Object, call: u32) -> Option<Ending> {
+    let moved = moved_before(call);
+    match failing {
+        Object::Key => key_fails(case, moved),
+        Object::Input => input_fails(case, moved),
+        Object::Out => out_fails(&case.row, moved),
+        Object::Log => log_fails(&case.row, moved),
+        Object::Disk => disk_fails(case, call),
+    }
+}
+
+// Each call on one object fails in turn, up to the first one that isn't made, so that nothing fails.
+fn fail_each_call(
+    rt: &impl Abort,
+    alloc: Global,
+    case: &Case,
+    failing: Object,
+) -> Result<(), Fail> {
+    for call in 1..MANY {
+        let Some(ending) = ending_of(case, failing, call) else {
+            return compare(rt, alloc, &case.row, failing, call, &done(&case.row));
+        };
+        compare(rt, alloc, &case.row, failing, call, &ending)?;
+    }
+    assert!(rt; false, "more calls than {MANY}");
+    Ok(())
 }
 
 /// Nothing, and the slots as they were.
@@ -418,7 +409,7 @@ const CHECK_CASE: Case = Case {
 // One frame, and its packet. Nothing is printed before the input's end.
 const REPLAY_CASE: Case = Case {
     row: Row {
-        words: &["replay", "rtu", "ab", "key"],
+        words: "replay rtu ab key",
         text: b"+01030000000ac5cd\n-4\n%\n\
           +01030000000ac5cd\n-3\n+0001014c5b8d33c6d29a347013b0\n-11\n",
         out: b"sealed 1 at 0 01030000000ac5cd\n\
@@ -434,7 +425,7 @@ const REPLAY_CASE: Case = Case {
 // The counts are those of scripts/trial_model.py. Nothing is read.
 const TRIAL_CASE: Case = Case {
     row: Row {
-        words: &["trial", "rtu", "7", "3"],
+        words: "trial rtu 7 3",
         out: b"trial rtu 7 3 sealed 3 passed 2 refused 2 dropped 0 read 2\n",
         ..READ
     },
@@ -456,11 +447,9 @@ const CASES: [Case; 7] = [
 #[test]
 fn stops_where_a_call_fails(rt: HostRuntime) -> Result<(), Fail> {
     for case in CASES {
-        fail_key(&rt, rt.alloc(), &case)?;
-        fail_input(&rt, rt.alloc(), &case)?;
-        fail_out(&rt, rt.alloc(), &case)?;
-        fail_log(&rt, rt.alloc(), &case)?;
-        fail_disk(&rt, rt.alloc(), &case)?;
+        for failing in OBJECTS {
+            fail_each_call(&rt, rt.alloc(), &case, failing)?;
+        }
     }
     Ok(())
 }

@@ -12,6 +12,8 @@ mod program;
 #[cfg(test)]
 mod recording_tests;
 #[cfg(test)]
+mod running;
+#[cfg(test)]
 mod tests;
 #[cfg(test)]
 mod trial_tests;

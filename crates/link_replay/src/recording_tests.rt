@@ -1,5 +1,5 @@
-use crate::run;
-use crate::tests::{KEY, plan, run_over, strings};
+use crate::running::{Ends, KEY, plan, run_words};
+use crate::tests::run_over;
 use replay_status::Status;
 use std::alloc::Global;
 use std::process::Abort;
@@ -10,7 +10,7 @@ use yasir_ticks::{BadTicks, TickFault};
 /// An input of `replay`, and what comes of it.
 #[derive(Clone, Copy, Drop)]
 struct Row {
-    proto: &'static str,
+    words: &'static str,
     text: &'static [u8],
     status: Status,
     out: &'static [u8],
@@ -21,7 +21,7 @@ struct Row {
 /// the third one comes twice, and the sixth before the fifth. All tags of this file are those of
 /// Python's `hmac`.
 const POLLS: Row = Row {
-    proto: "rtu",
+    words: "replay rtu ab key",
     text: b"+01030000000ac5cd\n-92\n\
       +010300000001840a\n-92\n\
       +1103006b00037687\n-92\n\
@@ -99,7 +99,7 @@ const ROWS: [Row; 10] = [
         ..POLLS
     },
     Row {
-        proto: "dnp3",
+        words: "replay dnp3 ab key",
         text: b"+056405c001000004e921\n-40\n%\n+056405c001000004e921\n-3\n\
           +0001793484b9bdf858bbd82b559e\n-47\n",
         out: b"sealed 1 at 0 056405c001000004e921\n\
@@ -146,7 +146,7 @@ const ROWS: [Row; 10] = [
 
 /// The same polls by the profile y24.
 const POLLS_Y24: Row = Row {
-    proto: "rtu24",
+    words: "replay rtu24 ab key",
     text: b"+01030000000ac5cd\n-92\n\
       +010300000001840a\n-92\n\
       +1103006b00037687\n-92\n\
@@ -184,7 +184,7 @@ const ROWS_Y24: [Row; 3] = [
     Row {
         text: b"+056405c001000004e921\n-40\n%\n+056405c001000004e921\n-3\n\
           +00000001cd525d6a6c119047d45db5ba9f9e4290\n-47\n",
-        proto: "dnp24",
+        words: "replay dnp24 ab key",
         out: b"sealed 1 at 0 056405c001000004e921\n\
           passed 1 at 0 056405c001000004e921\n\
           read at 24 056405c001000004e921\n",
@@ -193,7 +193,7 @@ const ROWS_Y24: [Row; 3] = [
     Row {
         text: b"+01030000000ac5cd\n-40\n%\n+01030000000ac5cd\n-3\n\
           +0001014c5b8d33c6d29a347013b0\n-47\n",
-        proto: "rtu24",
+        words: "replay rtu24 ab key",
         out: b"sealed 1 at 0 01030000000ac5cd\n",
         ..POLLS
     },
@@ -201,8 +201,7 @@ const ROWS_Y24: [Row; 3] = [
 
 fn compare(rt: &impl Abort, alloc: Global, row: &Row) -> Result<(), Fail> {
     let mut disk = SteadySlots::new([0; 16], [0; 16]);
-    let words = ["replay", row.proto, "ab", "key"];
-    let ran = run_over(alloc, &words, KEY, row.text, &[], &mut disk)?;
+    let ran = run_over(alloc, row.words, KEY, row.text, 0, &mut disk)?;
     assert_eq!(rt; ran.status, row.status);
     assert_eq!(rt; ran.out.held(), row.out);
     assert_eq!(rt; ran.log.held(), row.log);
@@ -224,9 +223,9 @@ fn replays_recordings(rt: HostRuntime) -> Result<(), Fail> {
 /// comes of it.
 #[derive(Clone, Copy, Drop)]
 struct Faulty {
-    key_fails: &'static [u32],
-    input_fails: &'static [u32],
-    out_fails: &'static [u32],
+    key_fails: u32,
+    input_fails: u32,
+    out_fails: u32,
     room: usize,
     status: Status,
     got: usize,
@@ -234,9 +233,9 @@ struct Faulty {
 }
 
 const CALM: Faulty = Faulty {
-    key_fails: &[],
-    input_fails: &[],
-    out_fails: &[],
+    key_fails: 0,
+    input_fails: 0,
+    out_fails: 0,
     room: 800,
     status: Status::Done,
     got: 441,
@@ -246,7 +245,7 @@ const CALM: Faulty = Faulty {
 const FAULTY: [Faulty; 6] = [
     CALM,
     Faulty {
-        key_fails: &[1],
+        key_fails: 1,
         status: Status::ReadFault,
         got: 0,
         log: b"fault: read\n",
@@ -254,14 +253,14 @@ const FAULTY: [Faulty; 6] = [
     },
     // a read in mid-stream
     Faulty {
-        input_fails: &[4],
+        input_fails: 4,
         status: Status::ReadFault,
         got: 0,
         log: b"fault: read\n",
         ..CALM
     },
     Faulty {
-        out_fails: &[1],
+        out_fails: 1,
         status: Status::WriteFault,
         got: 0,
         ..CALM
@@ -275,32 +274,25 @@ const FAULTY: [Faulty; 6] = [
     },
     // the flush
     Faulty {
-        out_fails: &[2],
+        out_fails: 2,
         status: Status::WriteFault,
         ..CALM
     },
 ];
 
 fn compare_faulty(rt: &impl Abort, alloc: Global, row: &Faulty) -> Result<(), Fail> {
-    let words = strings(alloc, &["replay", "rtu", "ab", "key"])?;
-    let mut key = MemSource::new(KEY, 512, plan(row.key_fails));
-    let mut input = MemSource::new(POLLS.text, 100, plan(row.input_fails));
-    let mut out = MemSink::with_room(alloc, row.room, 512, plan(row.out_fails))?;
-    let mut log = MemSink::with_room(alloc, 100, 512, plan(&[]))?;
+    let ends = Ends {
+        key: MemSource::new(KEY, 512, plan(row.key_fails)),
+        input: MemSource::new(POLLS.text, 100, plan(row.input_fails)),
+        out: MemSink::with_room(alloc, row.room, 512, plan(row.out_fails))?,
+        log: MemSink::with_room(alloc, 100, 512, plan(0))?,
+    };
     let mut disk = SteadySlots::new([0; 16], [0; 16]);
-    let status = run(
-        alloc,
-        words.as_slice(),
-        &mut key,
-        &mut input,
-        &mut out,
-        &mut log,
-        &mut disk,
-    );
-    assert_eq!(rt; status, row.status);
+    let ran = run_words(alloc, "replay rtu ab key", ends, &mut disk)?;
+    assert_eq!(rt; ran.status, row.status);
     assert!(rt; row.got <= POLLS.out.len());
-    assert_eq!(rt; out.held(), &POLLS.out[..row.got]);
-    assert_eq!(rt; log.held(), row.log);
+    assert_eq!(rt; ran.out.held(), &POLLS.out[..row.got]);
+    assert_eq!(rt; ran.log.held(), row.log);
     Ok(())
 }
 

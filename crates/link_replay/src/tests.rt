@@ -1,6 +1,7 @@
-use crate::{Command, Dir, Profile, Proto, journal_word, key_word, makes_journal, read_words, run};
+use crate::running::{Ends, KEY, Ran, plan, run_words, words_of};
+use crate::{Command, Dir, Profile, Proto, journal_word, key_word, makes_journal, read_words};
 use replay_status::Status;
-use std::alloc::{AllocError, Global};
+use std::alloc::Global;
 use std::process::Abort;
 use std::test::Fail;
 use std::{env, fs};
@@ -11,8 +12,6 @@ use yasir_ticks::{BadTicks, TickFault};
 const REQUEST: &[u8] = b"+01030000000ac5cd\n-4\n";
 
 const REQUEST_LINE: &[u8] = b"read at 0 01030000000ac5cd\n";
-
-pub const KEY: &[u8] = b"000102030405060708090a0b0c0d0e0f";
 
 /// A slot that holds number 0, one that holds number 1, and one that holds none.
 const NUMBER_0: [u8; 16] = [
@@ -25,97 +24,67 @@ const NUMBER_1: [u8; 16] = [
 
 const NO_NUMBER: [u8; 16] = [0x11; 16];
 
-/// How a run ended, and what its sinks hold.
-#[derive(Drop)]
-pub struct Ran {
-    pub status: Status,
-    pub out: MemSink,
-    pub log: MemSink,
-}
-
-pub fn plan(calls: &[u32]) -> Plan {
-    let mut plan = Plan::new();
-    let _ = plan.try_extend_from_slice(calls);
-    plan
-}
-
-pub fn strings(alloc: Global, words: &[&str]) -> Result<Vec<String>, AllocError> {
-    let mut strings = Vec::new(alloc);
-    for word in words {
-        strings.push(String::from_str(alloc, *word)?)?;
-    }
-    Ok(strings)
-}
-
-// A run with this key and this input, in which these calls of the output fail.
+/// A run with this key and this input, in which these calls of the output fail.
 pub fn run_over<D: SlotDisk>(
     alloc: Global,
-    words: &[&str],
-    key: &[u8],
-    text: &[u8],
-    fail: &[u32],
+    words: &str,
+    key: &'static [u8],
+    text: &'static [u8],
+    fail: u32,
     disk: &mut D,
 ) -> Result<Ran, Fail> {
-    let words = strings(alloc, words)?;
-    let mut key = MemSource::new(key, 512, Plan::new());
-    let mut input = MemSource::new(text, 512, Plan::new());
-    let mut out = MemSink::with_room(alloc, 800, 512, plan(fail))?;
-    let mut log = MemSink::with_room(alloc, 100, 512, Plan::new())?;
-    let status = run(
-        alloc,
-        words.as_slice(),
-        &mut key,
-        &mut input,
-        &mut out,
-        &mut log,
-        disk,
-    );
-    Ok(Ran { status, out, log })
+    let ends = Ends {
+        key: MemSource::new(key, 512, Plan::new()),
+        input: MemSource::new(text, 512, Plan::new()),
+        out: MemSink::with_room(alloc, 800, 512, plan(fail))?,
+        log: MemSink::with_room(alloc, 100, 512, Plan::new())?,
+    };
+    run_words(alloc, words, ends, disk)
 }
 
 #[test]
 fn refuses_words_of_no_command(rt: HostRuntime) -> Result<(), Fail> {
-    let rows: [&[&str]; 29] = [
-        &[],
-        &["read"],
-        &["read", "dnp"],
-        &["read", "rtu", "x"],
-        &["read", "rtu24"],
-        &["read", "dnp24"],
-        &["read", "RTU"],
-        &["rtu", "read"],
-        &["seal", "rtu"],
-        &["seal", "rtu", "ab", "key"],
-        &["seal", "rtu", "ab", "", "journal"],
-        &["seal", "rtu", "ab", "key", ""],
-        &["seal", "rtu", "AB", "key", "journal"],
-        &["seal", "dnp", "ab", "key", "journal"],
-        &["seal", "dnp324", "ab", "key", "journal"],
-        &["seal", "rtu", "ab", "key", "journal", "x"],
-        &["check", "rtu", "ab", "key"],
-        &["check", "rtu", "ab", "", "journal"],
-        &["check", "rtu", "ab", "key", ""],
-        &["check", "dnp33", "ab", "key", "journal"],
-        &["checks", "rtu", "ab", "key", "journal"],
-        &["replay", "rtu", "ab"],
-        &["replay", "rtu", "ab", ""],
-        &["replay", "dnp", "ab", "key"],
-        &["replay", "rtu", "AB", "key"],
-        &["replay", "rtu", "ab", "key", "journal"],
-        &["init"],
-        &["init", ""],
-        &["vectors", "x"],
+    let rows: [&str; 29] = [
+        "",
+        "read",
+        "read dnp",
+        "read rtu x",
+        "read rtu24",
+        "read dnp24",
+        "read RTU",
+        "rtu read",
+        "seal rtu",
+        "seal rtu ab key",
+        "seal rtu ab  journal",
+        "seal rtu ab key ",
+        "seal rtu AB key journal",
+        "seal dnp ab key journal",
+        "seal dnp324 ab key journal",
+        "seal rtu ab key journal x",
+        "check rtu ab key",
+        "check rtu ab  journal",
+        "check rtu ab key ",
+        "check dnp33 ab key journal",
+        "checks rtu ab key journal",
+        "replay rtu ab",
+        "replay rtu ab ",
+        "replay dnp ab key",
+        "replay rtu AB key",
+        "replay rtu ab key journal",
+        "init",
+        "init ",
+        "vectors x",
     ];
     for words in rows {
         let mut disk = SteadySlots::new([0; 16], [0; 16]);
-        let mut ran = run_over(rt.alloc(), words, KEY, REQUEST, &[1], &mut disk)?;
+        let mut ran = run_over(rt.alloc(), words, KEY, REQUEST, 1, &mut disk)?;
         assert_eq!(rt; ran.status, Status::Usage);
         assert_eq!(rt; ran.status.code(), 2);
         assert_eq!(rt; ran.out.held(), b"".as_slice());
         assert_eq!(rt; ran.log.held(), b"fault: usage\n".as_slice());
         // No call was made on the output, so the next one is its first, which fails.
         assert!(rt; ran.out.flush().is_err());
-        let words = strings(rt.alloc(), words)?;
+        let words = words_of(rt.alloc(), words)?;
         assert_eq!(rt; key_word(words.as_slice()), None);
         assert_eq!(rt; journal_word(words.as_slice()), None);
         assert!(rt; !makes_journal(words.as_slice()));
@@ -126,14 +95,14 @@ fn refuses_words_of_no_command(rt: HostRuntime) -> Result<(), Fail> {
 #[test]
 fn finds_no_path_of_a_key_among_the_words(rt: HostRuntime) -> Result<(), Fail> {
     // words, command, place of the journal's path, whether the journal is made
-    let rows: [(&[&str], Command, Option<usize>, bool); 4] = [
-        (&["init", "journal"], Command::Init, Some(1), true),
-        (&["read", "rtu"], Command::Read(Proto::Rtu), None, false),
-        (&["read", "dnp3"], Command::Read(Proto::Dnp3), None, false),
-        (&["vectors"], Command::Vectors, None, false),
+    let rows: [(&str, Command, Option<usize>, bool); 4] = [
+        ("init journal", Command::Init, Some(1), true),
+        ("read rtu", Command::Read(Proto::Rtu), None, false),
+        ("read dnp3", Command::Read(Proto::Dnp3), None, false),
+        ("vectors", Command::Vectors, None, false),
     ];
     for (words, command, journal, makes) in rows {
-        let words = strings(rt.alloc(), words)?;
+        let words = words_of(rt.alloc(), words)?;
         assert_eq!(rt; read_words(words.as_slice()), Ok(command));
         assert_eq!(rt; key_word(words.as_slice()), None);
         assert_eq!(rt; journal_word(words.as_slice()), journal);
@@ -146,39 +115,18 @@ fn finds_no_path_of_a_key_among_the_words(rt: HostRuntime) -> Result<(), Fail> {
 fn finds_the_paths_among_the_words(rt: HostRuntime) -> Result<(), Fail> {
     let (rtu, dnp, y18, y24) = (Proto::Rtu, Proto::Dnp3, Profile::Y18, Profile::Y24);
     // words, command; the key's path is word 3, and word 4 is the journal's, where there is one
-    let rows: [(&[&str], Command); 7] = [
-        (
-            &["seal", "rtu", "ab", "k", "j"],
-            Command::Seal(rtu, y18, Dir::Ab),
-        ),
-        (
-            &["seal", "rtu", "ba", "k", "j"],
-            Command::Seal(rtu, y18, Dir::Ba),
-        ),
-        (
-            &["seal", "dnp3", "ba", "k", "j"],
-            Command::Seal(dnp, y18, Dir::Ba),
-        ),
-        (
-            &["check", "dnp24", "ab", "k", "j"],
-            Command::Check(dnp, y24, Dir::Ab),
-        ),
-        (
-            &["check", "rtu", "ba", "k", "j"],
-            Command::Check(rtu, y18, Dir::Ba),
-        ),
-        (
-            &["replay", "rtu", "ab", "k"],
-            Command::Replay(rtu, y18, Dir::Ab),
-        ),
-        (
-            &["replay", "dnp24", "ba", "k"],
-            Command::Replay(dnp, y24, Dir::Ba),
-        ),
+    let rows: [(&str, Command); 7] = [
+        ("seal rtu ab k j", Command::Seal(rtu, y18, Dir::Ab)),
+        ("seal rtu ba k j", Command::Seal(rtu, y18, Dir::Ba)),
+        ("seal dnp3 ba k j", Command::Seal(dnp, y18, Dir::Ba)),
+        ("check dnp24 ab k j", Command::Check(dnp, y24, Dir::Ab)),
+        ("check rtu ba k j", Command::Check(rtu, y18, Dir::Ba)),
+        ("replay rtu ab k", Command::Replay(rtu, y18, Dir::Ab)),
+        ("replay dnp24 ba k", Command::Replay(dnp, y24, Dir::Ba)),
     ];
     for (words, command) in rows {
+        let words = words_of(rt.alloc(), words)?;
         let journal = if words.len() == 5 { Some(4) } else { None };
-        let words = strings(rt.alloc(), words)?;
         assert_eq!(rt; read_words(words.as_slice()), Ok(command));
         assert_eq!(rt; key_word(words.as_slice()), Some(3));
         assert_eq!(rt; journal_word(words.as_slice()), journal);
@@ -191,11 +139,11 @@ fn finds_the_paths_among_the_words(rt: HostRuntime) -> Result<(), Fail> {
 /// the output and the disk fail.
 #[derive(Clone, Copy, Drop)]
 pub struct Row {
-    pub words: &'static [&'static str],
+    pub words: &'static str,
     pub text: &'static [u8],
     pub slots: ([u8; 16], [u8; 16]),
-    pub out_fails: &'static [u32],
-    pub disk_fails: &'static [u32],
+    pub out_fails: u32,
+    pub disk_fails: u32,
     pub status: Status,
     pub code: u8,
     pub out: &'static [u8],
@@ -204,11 +152,11 @@ pub struct Row {
 }
 
 pub const READ: Row = Row {
-    words: &["read", "rtu"],
+    words: "read rtu",
     text: REQUEST,
     slots: (NO_NUMBER, NO_NUMBER),
-    out_fails: &[],
-    disk_fails: &[],
+    out_fails: 0,
+    disk_fails: 0,
     status: Status::Done,
     code: 0,
     out: REQUEST_LINE,
@@ -217,13 +165,13 @@ pub const READ: Row = Row {
 };
 
 pub const VECTORS: Row = Row {
-    words: &["vectors"],
+    words: "vectors",
     out: b"crc 4 ok\nhmac 7 ok\nframes 7 ok\nuser 2 ok\n",
     ..READ
 };
 
 pub const INIT: Row = Row {
-    words: &["init", "journal"],
+    words: "init journal",
     out: b"",
     slots_now: (NUMBER_0, NO_NUMBER),
     ..READ
@@ -246,7 +194,7 @@ const DISK_FAULT: Row = Row {
 
 // A start of a frame within passed over bytes, by the hunt of a DNP3 device.
 const READ_DNP3: Row = Row {
-    words: &["read", "dnp3"],
+    words: "read dnp3",
     text: b"+ff05056405c001000004e921\n",
     out: b"read at 2 056405c001000004e921\n",
     ..READ
@@ -266,7 +214,7 @@ const ROWS: [Row; 14] = [
         ..READ
     },
     Row {
-        out_fails: &[1],
+        out_fails: 1,
         status: Status::WriteFault,
         code: 6,
         out: b"",
@@ -274,14 +222,14 @@ const ROWS: [Row; 14] = [
     },
     VECTORS,
     Row {
-        out_fails: &[1],
+        out_fails: 1,
         status: Status::WriteFault,
         code: 6,
         out: b"",
         ..VECTORS
     },
     Row {
-        out_fails: &[2],
+        out_fails: 2,
         status: Status::WriteFault,
         code: 6,
         ..VECTORS
@@ -298,20 +246,20 @@ const ROWS: [Row; 14] = [
         ..STANDS
     },
     Row {
-        disk_fails: &[1],
+        disk_fails: 1,
         ..DISK_FAULT
     },
     Row {
-        disk_fails: &[2],
+        disk_fails: 2,
         ..DISK_FAULT
     },
     Row {
-        disk_fails: &[3],
+        disk_fails: 3,
         ..DISK_FAULT
     },
     // The last call is the one that makes the slot outlive a crash.
     Row {
-        disk_fails: &[4],
+        disk_fails: 4,
         slots_now: (NUMBER_0, NO_NUMBER),
         ..DISK_FAULT
     },
@@ -321,7 +269,7 @@ const ROWS: [Row; 14] = [
 const SEALED_REQUEST: &[u8] = b"+01030000000ac5cd\n-3\n+0001014c5b8d33c6d29a347013b0\n-11\n";
 
 pub const SEAL: Row = Row {
-    words: &["seal", "rtu", "ab", "key", "journal"],
+    words: "seal rtu ab key journal",
     slots: (NUMBER_0, NO_NUMBER),
     out: SEALED_REQUEST,
     log: b"sealed 1 at 0 len 8\n",
@@ -331,7 +279,7 @@ pub const SEAL: Row = Row {
 
 // What `seal` has made of the request, checked.
 pub const CHECK: Row = Row {
-    words: &["check", "rtu", "ab", "key", "journal"],
+    words: "check rtu ab key journal",
     text: SEALED_REQUEST,
     out: b"-18\n+01030000000ac5cd\n-330\n",
     log: b"passed 1 at 0 len 8\n",
@@ -345,7 +293,7 @@ pub const CHECK: Row = Row {
 const SEALED_RESET: &[u8] = b"+056405c001000004e921\n-3\n+0001793484b9bdf858bbd82b559e\n-11\n";
 
 const SEAL_DNP3: Row = Row {
-    words: &["seal", "dnp3", "ab", "key", "journal"],
+    words: "seal dnp3 ab key journal",
     text: b"+056405c001000004e921\n-4\n",
     out: SEALED_RESET,
     log: b"sealed 1 at 0 len 10\n",
@@ -353,7 +301,7 @@ const SEAL_DNP3: Row = Row {
 };
 
 const CHECK_DNP3: Row = Row {
-    words: &["check", "dnp3", "ab", "key", "journal"],
+    words: "check dnp3 ab key journal",
     text: SEALED_RESET,
     out: b"-18\n+056405c001000004e921\n-330\n",
     log: b"passed 1 at 0 len 10\n",
@@ -362,26 +310,26 @@ const CHECK_DNP3: Row = Row {
 
 // By the profile y24; the tags as those of its rows in `replay_tests`.
 const SEAL_RTU24: Row = Row {
-    words: &["seal", "rtu24", "ab", "key", "journal"],
+    words: "seal rtu24 ab key journal",
     out: b"+01030000000ac5cd\n-3\n+0000000165d245ba109509aa6c32ac3cfa228fd6\n-11\n",
     ..SEAL
 };
 
 const CHECK_RTU24: Row = Row {
-    words: &["check", "rtu24", "ab", "key", "journal"],
+    words: "check rtu24 ab key journal",
     text: b"+01030000000ac5cd\n-3\n+0000000165d245ba109509aa6c32ac3cfa228fd6\n-11\n",
     out: b"-24\n+01030000000ac5cd\n-330\n",
     ..CHECK
 };
 
 const SEAL_DNP24: Row = Row {
-    words: &["seal", "dnp24", "ab", "key", "journal"],
+    words: "seal dnp24 ab key journal",
     out: b"+056405c001000004e921\n-3\n+00000001cd525d6a6c119047d45db5ba9f9e4290\n-11\n",
     ..SEAL_DNP3
 };
 
 const CHECK_DNP24: Row = Row {
-    words: &["check", "dnp24", "ab", "key", "journal"],
+    words: "check dnp24 ab key journal",
     text: b"+056405c001000004e921\n-3\n+00000001cd525d6a6c119047d45db5ba9f9e4290\n-11\n",
     out: b"-24\n+056405c001000004e921\n-330\n",
     ..CHECK_DNP3
@@ -419,7 +367,7 @@ const BOXES: [Row; 12] = [
     CHECK,
     // It was sealed for the other direction.
     Row {
-        words: &["check", "rtu", "ba", "key", "journal"],
+        words: "check rtu ba key journal",
         out: b"-18\n+01030000000ac5cc\n-330\n",
         log: b"refused at 0 tag\n",
         slots_now: (NUMBER_0, NO_NUMBER),
@@ -427,7 +375,7 @@ const BOXES: [Row; 12] = [
     },
     // The number isn't committed, so the frame doesn't pass.
     Row {
-        disk_fails: &[4],
+        disk_fails: 4,
         status: Status::JournalFault,
         code: 7,
         out: b"-18\n+01030000000a\n",
@@ -503,7 +451,7 @@ fn makes_a_journal_in_a_file(rt: HostRuntime) -> Result<(), Fail> {
     ];
     for (path, status, fault) in rows {
         let mut disk = FileSlots::new(&rt, path, true);
-        let ran = run_over(rt.alloc(), INIT.words, KEY, b"", &[], &mut disk)?;
+        let ran = run_over(rt.alloc(), INIT.words, KEY, b"", 0, &mut disk)?;
         assert_eq!(rt; ran.status, status);
         assert_eq!(rt; ran.log.held(), fault);
     }
