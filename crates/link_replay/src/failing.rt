@@ -53,8 +53,8 @@ struct Case {
     disk_calls: &'static [Left],
 }
 
-/// How a run ends where a call fails: its status, what it leaves, the fault line behind the log, and
-/// how often each sink was flushed.
+/// How a run ends where a call fails: its status, what it leaves, the fault line behind the log,
+/// and how often each sink was flushed.
 #[derive(Clone, Copy, Drop)]
 struct Ending {
     status: Status,
@@ -255,7 +255,7 @@ fn ending_of(case: &Case, failing: Object, call: u32) -> Option<Ending> {
     }
 }
 
-// Each call on one object fails in turn, up to the first one that isn't made, so that nothing fails.
+// Each call on one object fails in turn, up to the first one that isn't made, where nothing fails.
 fn fail_each_call(
     rt: &impl Abort,
     alloc: Global,

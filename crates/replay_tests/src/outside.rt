@@ -1,7 +1,7 @@
 use yasir_io::Plan;
 
-/// What fails outside: the call of the key, the input, the output, the log and the disk, counted from
-/// 1, or none where it is 0, and the most bytes that a call moves.
+/// What fails outside: the call of the key, the input, the output, the log and the disk, counted
+/// from 1, or none where it is 0, and the most bytes that a call moves.
 #[derive(Clone, Copy, Drop)]
 pub struct Failing {
     pub piece: u16,
