@@ -5,8 +5,9 @@ ghost use Rattle.yasir_io.specs.Output.{Buffered, GotPrefix};
 ghost use Rattle.yasir_io.specs.TextBuffer.{waiting_bytes};
 ghost use Rattle.device_replay.specs.Lines.{frame_line, read_at};
 
-use crate::text::frame_line;
+use crate::text::write_read;
 use device_model::{Device, FrameAt, Heard};
+use replay_status::Line;
 use tick_drive::{Consumer, Stop};
 use yasir_io::{Failed, Sink, SlotDisk, TextBuffer};
 use yasir_ticks::{MAX_TICKS, Tick};
@@ -31,7 +32,9 @@ fn push_frame<O: Sink>(lines: &mut TextBuffer, out: &mut O, frame: &FrameAt) -> 
     ensures cause { HasCause (O.faults out.old) (O.faults out.new) result }
     ensures flushes { O.flushes out.new ≡ O.flushes out.old }
 {
-    lines.push(out, frame_line(frame).as_slice())
+    let mut line = Line::new();
+    write_read(&mut line, frame.start, frame.bytes.as_slice());
+    lines.push(out, line.as_slice())
 }
 
 impl<V: Device + Drop> FrameLines<V> {

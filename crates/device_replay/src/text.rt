@@ -1,9 +1,23 @@
-ghost use Rattle.std.specs.Prelude.{◌≡◌, ◌≤◌, length};
+ghost use Rattle.std.specs.Prelude.{◌≡◌, ◌≤◌, [], length};
 ghost use Rattle.device_replay.specs.Lines.{frame_line, read_at};
 
 use device_model::FrameAt;
 use hex_digits::push_digits;
 use replay_status::{Line, push_decimal};
+
+/// Writes `read at S HEX` into an empty line: the bytes of a frame, and the tick of its first byte.
+/// The line is the caller's, since one that is answered is copied.
+pub(crate) fn write_read(line: &mut Line, start: u64, bytes: &[u8])
+    requires empty { line.old.items ≡ [] }
+    requires frame { length bytes.now ≤ 292 }
+    ensures { line.new.items ≡ frame_line (record { start = start; frame = bytes.now }) }
+{
+    line.try_extend_from_slice(b"read at ").unwrap();
+    push_decimal(line, start);
+    line.push(b' ');
+    push_digits(line, bytes);
+    line.push(b'\n');
+}
 
 /// `read at S HEX`: the bytes of a frame, and the tick of its first byte.
 pub fn read_line(start: u64, bytes: &[u8]) -> Line
@@ -11,11 +25,7 @@ pub fn read_line(start: u64, bytes: &[u8]) -> Line
     ensures { result.items ≡ frame_line (record { start = start; frame = bytes.now }) }
 {
     let mut line = Line::new();
-    line.try_extend_from_slice(b"read at ").unwrap();
-    push_decimal(&mut line, start);
-    line.push(b' ');
-    push_digits(&mut line, bytes);
-    line.push(b'\n');
+    write_read(&mut line, start, bytes);
     line
 }
 
