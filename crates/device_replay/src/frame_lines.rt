@@ -5,7 +5,7 @@ ghost use Rattle.yasir_io.specs.Output.{Buffered, GotPrefix};
 ghost use Rattle.yasir_io.specs.TextBuffer.{waiting_bytes};
 ghost use Rattle.device_replay.specs.Lines.{frame_line, read_at};
 
-use crate::text::write_read;
+use crate::text::write_read_line;
 use device_model::{Device, FrameAt, Heard};
 use replay_status::Line;
 use tick_drive::{Consumer, Stop};
@@ -33,7 +33,7 @@ fn push_frame<O: Sink>(lines: &mut TextBuffer, out: &mut O, frame: &FrameAt) -> 
     ensures flushes { O.flushes out.new ≡ O.flushes out.old }
 {
     let mut line = Line::new();
-    write_read(&mut line, frame.start, frame.bytes.as_slice());
+    write_read_line(&mut line, frame.start, frame.bytes.as_slice());
     lines.push(out, line.as_slice())
 }
 

@@ -7,7 +7,7 @@ use replay_status::{Line, push_decimal};
 
 /// Writes `read at S HEX` into an empty line: the bytes of a frame, and the tick of its first byte.
 /// The line is the caller's, since one that is answered is copied.
-pub(crate) fn write_read(line: &mut Line, start: u64, bytes: &[u8])
+pub fn write_read_line(line: &mut Line, start: u64, bytes: &[u8])
     requires empty { line.old.items ≡ [] }
     requires frame { length bytes.now ≤ 292 }
     ensures { line.new.items ≡ frame_line (record { start = start; frame = bytes.now }) }
@@ -25,7 +25,7 @@ pub fn read_line(start: u64, bytes: &[u8]) -> Line
     ensures { result.items ≡ frame_line (record { start = start; frame = bytes.now }) }
 {
     let mut line = Line::new();
-    write_read(&mut line, start, bytes);
+    write_read_line(&mut line, start, bytes);
     line
 }
 

@@ -12,9 +12,10 @@ ghost use Rattle.replay_lists.specs.ReplayLists.{kept_reads};
 ghost use Rattle.recordings_replay.specs.Listing.{numbered_lines};
 ghost use Rattle.recordings_replay.specs.Printing.{AddsText, BreaksOff, on_the_way, line_if_forged};
 
-use crate::lines::numbered_line;
-use device_replay::read_line;
+use crate::lines::write_numbered_line;
+use device_replay::write_read_line;
 use replay_lists::{FrameList, Numbered};
+use replay_status::Line;
 use yasir_io::{Failed, Sink, TextBuffer};
 
 /// Adds a line for each of these frames, with their numbers.
@@ -36,7 +37,8 @@ pub fn push_numbered<O: Sink>(
     ensures flushes { O.flushes out.new ≡ O.flushes out.old }
 {
     for index in 0..frames.len() {
-        let line = numbered_line(name, frames.head(index), frames.bytes(index));
+        let mut line = Line::new();
+        write_numbered_line(&mut line, name, frames.head(index), frames.bytes(index));
         let Ok(()) = text.push(out, line.as_slice()) else {
             return Err(Failed);
         };
@@ -61,7 +63,8 @@ pub fn push_reads<O: Sink>(
     ensures flushes { O.flushes out.new ≡ O.flushes out.old }
 {
     for index in 0..frames.len() {
-        let line = read_line(frames.head(index), frames.bytes(index));
+        let mut line = Line::new();
+        write_read_line(&mut line, frames.head(index), frames.bytes(index));
         let Ok(()) = text.push(out, line.as_slice()) else {
             return Err(Failed);
         };
@@ -113,7 +116,8 @@ fn push_if_forged<O: Sink>(
     if is_sealed(sealed, head.number, bytes) {
         return Ok(());
     }
-    let line = numbered_line(b"forged", head, bytes);
+    let mut line = Line::new();
+    write_numbered_line(&mut line, b"forged", head, bytes);
     match text.push(out, line.as_slice()) {
         Ok(()) => Ok(()),
         Err(Failed) => Err(Failed),

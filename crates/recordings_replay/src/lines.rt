@@ -1,9 +1,28 @@
-ghost use Rattle.std.specs.Prelude.{◌≡◌, ◌≤◌, length};
+ghost use Rattle.std.specs.Prelude.{◌≡◌, ◌≤◌, [], length};
 ghost use Rattle.recordings_replay.specs.Listing.{numbered_line};
 
 use hex_digits::push_digits;
 use replay_lists::Numbered;
 use replay_status::{Line, push_decimal};
+
+/// Writes `NAME N at S HEX` into an empty line: the bytes of a frame, its number, and the tick of
+/// its first byte. The line is the caller's, since one that is answered is copied.
+pub(crate) fn write_numbered_line(line: &mut Line, name: &[u8], head: Numbered, bytes: &[u8])
+    requires empty { line.old.items ≡ [] }
+    requires name { length name.now ≤ 6 }
+    requires frame { length bytes.now ≤ 292 }
+    ensures { line.new.items ≡ numbered_line name.now
+        (record { number = head.number; start = head.start; frame = bytes.now }) }
+{
+    line.try_extend_from_slice(name).unwrap();
+    line.push(b' ');
+    push_decimal(line, head.number);
+    line.try_extend_from_slice(b" at ").unwrap();
+    push_decimal(line, head.start);
+    line.push(b' ');
+    push_digits(line, bytes);
+    line.push(b'\n');
+}
 
 /// `NAME N at S HEX`: the bytes of a frame, its number, and the tick of its first byte.
 pub fn numbered_line(name: &[u8], head: Numbered, bytes: &[u8]) -> Line
@@ -13,13 +32,6 @@ pub fn numbered_line(name: &[u8], head: Numbered, bytes: &[u8]) -> Line
         (record { number = head.number; start = head.start; frame = bytes.now }) }
 {
     let mut line = Line::new();
-    line.try_extend_from_slice(name).unwrap();
-    line.push(b' ');
-    push_decimal(&mut line, head.number);
-    line.try_extend_from_slice(b" at ").unwrap();
-    push_decimal(&mut line, head.start);
-    line.push(b' ');
-    push_digits(&mut line, bytes);
-    line.push(b'\n');
+    write_numbered_line(&mut line, name, head, bytes);
     line
 }

@@ -16,7 +16,7 @@ returns-in_default-clause-err g c = λ listed holds.
     (λ frames other. c.bytes.ensures.frame frames other) first
     (on_the_way (g.O.Sink.held c.loop-index.out) c.loop-index.text.text.items)
     (kept_frames listed) holds (c.loop-index.invariant.adds (kept_frames listed) holds)
-    c.as_slice.result.now (c.as_slice.ensures.value ∙ c.numbered_line-line.ensures) last
+    c.as_slice.result.now (c.as_slice.ensures.value ∙ c.write_numbered_line.ensures) last
     (λ start text. c.in_default.ensures.err start text))
 
 pub loop-index-preserved : goal.loop-index-preserved
@@ -30,7 +30,7 @@ loop-index-preserved g c = record {
       (on_the_way (g.O.Sink.held c.args.out.now) c.args.text.now.text.items)
       (on_the_way (g.O.Sink.held c.loop-index.out) c.loop-index.text.text.items)
       kept holds (c.loop-index.invariant.adds kept holds) c.as_slice.result.now
-      (c.as_slice.ensures.value ∙ c.numbered_line-line.ensures)
+      (c.as_slice.ensures.value ∙ c.write_numbered_line.ensures)
       (on_the_way (g.O.Sink.held c.push.new.sink) c.push.new.self.text.items)
       (λ start text. c.in-Ok.ensures.ok start text);
 }
