@@ -1,5 +1,5 @@
 //! A line comes to the same however many of its bytes stand in one line of text.
-ghost use Rattle.std.specs.Prelude.{◌<◌, ◌≤◌};
+ghost use Rattle.std.specs.Prelude.{◌<◌};
 
 use crate::outside::STEADY;
 use crate::over_boxes::{BoxKind, FRESH, KEY, Ran, replay};
@@ -12,15 +12,17 @@ use std::test::Fail;
 fn push_burst(text: &mut Vec<u8>, len: usize, most: usize) -> Result<(), Fail>
     requires { 0 < most }
 {
-    let mut left = len;
-    while left > 0 {
-        let now = left.min(most);
-        text.push(b'+')?;
-        for _ in 0..now {
-            text.extend_from_slice(b"41")?;
+    for place in 0..len {
+        if place % most == 0 {
+            if place > 0 {
+                text.push(b'\n')?;
+            }
+            text.push(b'+')?;
         }
+        text.extend_from_slice(b"41")?;
+    }
+    if len > 0 {
         text.push(b'\n')?;
-        left -= now;
     }
     Ok(())
 }
