@@ -1,0 +1,141 @@
+#!/usr/bin/env python3
+"""Refuses each growth of memory of `link_replay` in turn, and looks at how the run ends.
+
+    python3 scripts/refused_memory.py [PROGRAM]
+
+A small library, compiled by `cc` and loaded before the C library's, counts the calls that take or grow memory: of a run, the
+N-th is refused alone, or it and each one behind it, for every N up to the last call that a whole run makes. `replay` must
+answer NoMemory with nothing in its output and its fault line in the log, or what it answers when nothing is refused; the
+other commands take no memory once their words are read. It ends with 1 where a run ends otherwise. It is no part of the gate.
+"""
+import os, subprocess, sys, tempfile
+
+ROOT = os.path.dirname(os.path.dirname(os.path.abspath(__file__)))
+EXAMPLES = os.path.join(ROOT, "examples")
+JOURNAL = bytes(8) + b"\xff" * 8 + bytes(16)
+NO_MEMORY, NO_WORDS = 9, 13
+
+LIBRARY = r"""
+#define _GNU_SOURCE
+#include <dlfcn.h>
+#include <errno.h>
+#include <stdio.h>
+#include <stdlib.h>
+
+static long calls, refused = -1, all_behind, started;
+static char spare[4096];
+
+__attribute__((constructor)) static void start(void) {
+    const char *at = getenv("REFUSED_CALL"), *behind = getenv("REFUSED_BEHIND");
+    refused = at ? atol(at) : -1;
+    all_behind = behind != NULL;
+    calls = 0;
+    started = 1;
+}
+
+__attribute__((destructor)) static void end(void) {
+    const char *path = getenv("REFUSED_COUNT");
+    long made = calls;
+    started = 0;
+    FILE *file = path ? fopen(path, "w") : NULL;
+    if (file) { fprintf(file, "%ld", made); fclose(file); }
+}
+
+static int refuse(void) {
+    if (!started) return 0;
+    calls++;
+    if (calls == refused || (all_behind && refused > 0 && calls > refused)) { errno = ENOMEM; return 1; }
+    return 0;
+}
+
+void *malloc(size_t size) {
+    static void *(*real)(size_t);
+    if (!real) real = dlsym(RTLD_NEXT, "malloc");
+    return refuse() ? NULL : real(size);
+}
+
+void *calloc(size_t count, size_t size) {
+    static void *(*real)(size_t, size_t);
+    static int looking;
+    if (looking) return spare;
+    if (!real) { looking = 1; real = dlsym(RTLD_NEXT, "calloc"); looking = 0; }
+    return refuse() ? NULL : real(count, size);
+}
+
+void *realloc(void *old, size_t size) {
+    static void *(*real)(void *, size_t);
+    if (!real) real = dlsym(RTLD_NEXT, "realloc");
+    return refuse() ? NULL : real(old, size);
+}
+
+void *aligned_alloc(size_t alignment, size_t size) {
+    static void *(*real)(size_t, size_t);
+    if (!real) real = dlsym(RTLD_NEXT, "aligned_alloc");
+    return refuse() ? NULL : real(alignment, size);
+}
+
+int posix_memalign(void **to, size_t alignment, size_t size) {
+    static int (*real)(void **, size_t, size_t);
+    if (!real) real = dlsym(RTLD_NEXT, "posix_memalign");
+    return refuse() ? ENOMEM : real(to, alignment, size);
+}
+"""
+
+
+def recordings(device, link):
+    """One text of two recordings, with the mark between them."""
+    return b"%\n".join(open(os.path.join(EXAMPLES, name), "rb").read() for name in (device, link))
+
+
+class Runs:
+    def __init__(self, program, folder):
+        self.program, self.folder = os.path.abspath(program), folder
+        source, self.library = os.path.join(folder, "refuse.c"), os.path.join(folder, "refuse.so")
+        open(source, "w").write(LIBRARY)
+        subprocess.run(["cc", "-shared", "-fPIC", "-O1", "-fno-builtin", "-o", self.library, source, "-ldl"], check=True)
+
+    def run(self, words, text, refused=None, behind=False):
+        """Status, output, log and the count of calls that take memory."""
+        count, journal = os.path.join(self.folder, "count"), os.path.join(self.folder, "journal")
+        open(journal, "wb").write(JOURNAL)
+        around = dict(os.environ, LD_PRELOAD=self.library, REFUSED_COUNT=count)
+        if refused:
+            around["REFUSED_CALL"] = str(refused)
+            if behind:
+                around["REFUSED_BEHIND"] = "1"
+        words = [{"JOURNAL": journal, "KEY": os.path.join(EXAMPLES, "key.txt")}.get(word, word) for word in words]
+        done = subprocess.run([self.program] + words, input=text, capture_output=True, env=around)
+        return done.returncode, done.stdout, done.stderr, int(open(count).read() or 0)
+
+
+def main():
+    program = sys.argv[1] if len(sys.argv) > 1 else "crates/link_replay/out/link_replay"
+    requests, device = recordings("requests.ticks", "altered.ticks"), recordings("outstation.ticks", "outstation_altered.ticks")
+    long = b"%\n".join([b"+01030000000ac5cd\n-40\n" * 3000] * 2)
+    cases = [
+        ("replay rtu ab KEY", requests), ("replay dnp3 ab KEY", device), ("replay rtu ab KEY", long), ("read rtu", requests.split(b"%\n")[0]),
+        ("seal rtu ab KEY JOURNAL", requests.split(b"%\n")[0]), ("check rtu ab KEY JOURNAL", requests.split(b"%\n")[1]), ("vectors", b""), ("trial rtu 7 20", b""),
+    ]
+    wrong = 0
+    with tempfile.TemporaryDirectory() as folder:
+        runs = Runs(program, folder)
+        for words, text in cases:
+            words = words.split()
+            status, out, log, calls = runs.run(words, text)
+            ends, wrong_here = {}, status != 0
+            for n in range(1, calls + 1):
+                for behind in (False, True):
+                    end = runs.run(words, text, n, behind)[:3]
+                    right = end == (status, out, log) or end[:2] == (NO_WORDS, b"") or end == (NO_MEMORY, b"", b"")
+                    if words[0] == "replay":
+                        right = right or end == (NO_MEMORY, b"", b"fault: memory\n")
+                    ends[end[0]] = ends.get(end[0], 0) + 1
+                    if not right:
+                        print("wrong:", " ".join(words), "call", n, "and behind" if behind else "alone", end[0], end[1][:60], end[2][-60:])
+                        wrong_here += 1
+            print("%-28s %5d bytes  %3d calls, how the runs ended: %s" % (" ".join(words), len(text), calls, " ".join("%d: %d times" % it for it in sorted(ends.items()))))
+            wrong += bool(wrong_here)
+    sys.exit(wrong > 0)
+
+
+main()
