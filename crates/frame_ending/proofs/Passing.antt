@@ -1,5 +1,6 @@
 -- Bytes of a burst that aren't live, taken as a run.
-use Rattle.std.proofs.Common.{◌≡◌, ◌∙◌, ℕ, ◌+◌, ◌-◌, ◌<◌, ◌≤◌, Bool, true, ◌||◌, List, [], ◌∷◌, ◌++◌}
+use Rattle.std.proofs.Common.{◌≡◌, ◌∙◌, ℕ, ◌+◌, ◌-◌, ◌<◌, ◌≤◌, Bool, true, ◌||◌, List, [], ◌∷◌}
+use Rattle.std.proofs.Common.{◌++◌}
 use Rattle.std.proofs.Common.{length, map, refl, subst, ap, arith, append_assoc, false}
 use Rattle.std.proofs.lemmas.List.{replicate-append-replicate}
 use Rattle.yasir_ticks.specs.Ticks.{silent}

@@ -1,5 +1,5 @@
--- The words of SHA-1's schedule as the block function holds them: by fours, and with the constants of
--- their rounds added.
+-- The words of SHA-1's schedule as the block function holds them: by fours, and with the constants
+-- of their rounds added.
 use Rattle.std.specs.Prelude.{◌≡◌, ℕ, ◌+◌, ◌<◌, List, [], ◌∷◌, slice_index}
 use Rattle.sha1.specs.Sha1.{add32, round_constant}
 

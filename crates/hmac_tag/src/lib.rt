@@ -1,4 +1,5 @@
-//! HMAC (RFC 2104) as a stream over one key, and the tags that are its first bytes (RFC 2404, RFC 4868).
+//! HMAC (RFC 2104) as a stream over one key, and the tags that are its first bytes (RFC 2404,
+//! RFC 4868).
 #![tactic(auto)]
 
 mod dir;

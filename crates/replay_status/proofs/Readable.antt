@@ -72,7 +72,8 @@ module _ (marks : ℕ) (text : List ℕ) (items : List Item) (right : IsTickText
           few in
           omega (arith, short, h.sum, h.above)
       | inr e ↦
-          let same : items ≡ taken ++ h.line = IsTickText-one marks text items (taken ++ h.line) right
+          let same : items ≡ taken ++ h.line = IsTickText-one marks text items
+              (taken ++ h.line) right
           (subst (λ x. IsTickText marks x (taken ++ h.line))
           (sym (all_of_told text h.text now e.met.met.came e.met.at_end)) e.ended) in
           let short : AreFew (taken ++ h.line) = subst AreFew same few in
@@ -99,9 +100,11 @@ module _ {marks : ℕ} (rest : ℕ) (before now : Option (List ℕ)) (taken : Li
   -- nor is it too long
   pub not_too_long : (what : TooMuch) (count : ℕ)
       → Takes marks rest before now taken (TooLong what count) → ⊥
-  not_too_long Ticks count h = no_line_too_long marks readable.text readable.items readable.right now
+  not_too_long Ticks count h = no_line_too_long marks readable.text readable.items
+      readable.right now
       taken count readable.few_ticks
       (subst (λ left. HasTooManyTicks marks left now taken count) readable.told h)
-  not_too_long Bytes count h = no_byte_too_many marks readable.text readable.items readable.right taken
+  not_too_long Bytes count h = no_byte_too_many marks readable.text readable.items
+      readable.right taken
       count readable.few_bytes
       (subst (λ left. HasTooManyBytes marks left taken count) readable.told h)

@@ -258,7 +258,8 @@ module _ {C O L D : Type 0} (meaning : Consuming C D) (o : Sink O) (l : Sink L)
       → MeetsLine next marks before later p.text line
       → HandAnswer meaning o l d mid new ticks line (Err end)
       → Drives meaning o l d marks 0 before later start new end × (is_read_fault end ≡ false)
-  line_ends marks before now later intake next start mid new ticks line (TooLong Ticks count) p met h =
+  line_ends marks before now later intake next start mid new ticks line
+      (TooLong Ticks count) p met h =
       let some : line ≢ [] = λ none. let nothing : length (ticks_in line) ≡ 0 =
       ap (λ items. length (ticks_in items)) none in
       omega (arith, nothing, h.sum, h.above, p.few) in (
@@ -297,8 +298,10 @@ module _ {C O L D : Type 0} (meaning : Consuming C D) (o : Sink O) (l : Sink L)
         },
         refl,
       )
-  line_ends marks before now later intake next start mid new ticks line (TooLong Bytes count) p met h = absurd h
-  line_ends marks before now later intake next start mid new ticks line (Refused bad) p met h = absurd h
+  line_ends marks before now later intake next start mid new ticks line
+      (TooLong Bytes count) p met h = absurd h
+  line_ends marks before now later intake next start mid new ticks line
+      (Refused bad) p met h = absurd h
   line_ends marks before now later intake next start mid new ticks line ReadFault p met h =
       absurd h
   line_ends marks before now later intake next start mid new ticks line Whole p met h =

@@ -241,7 +241,8 @@ module _ (reader : TickReader) (marks : ℕ) (text : List ℕ)
   pub ended_right : (result : Result Run BadTicks) → Stops reader result
       → IfOk result (λ run. IsTickText marks text (ended_items text ++ items_of_run run))
   ended_right (Ok run) s = record {
-    lines = items_whole text (items_of_run run) (s.case.0 (lines_of text).last stood.at.last) stood.at.ended;
+    lines = items_whole text (items_of_run run) (s.case.0 (lines_of text).last stood.at.last)
+        stood.at.ended;
     marked = omega (
       arith,
       marks_in-append (ended_items text) (items_of_run run),

@@ -1,7 +1,9 @@
 -- Vectors that decode pairs of hex digits, lane by lane.
-use Rattle.std.proofs.Common.{◌≡◌, ◌↔◌, ◌∙◌, ◌==◌, ◌&&◌, ℕ, zero, suc, ◌+◌, ◌*◌, ◌-◌, ◌%◌, ◌<◌, ◌≤◌, ◌++◌}
+use Rattle.std.proofs.Common.{◌≡◌, ◌↔◌, ◌∙◌, ◌==◌, ◌&&◌, ℕ, zero, suc, ◌+◌, ◌*◌, ◌-◌, ◌%◌, ◌<◌, ◌≤◌}
+use Rattle.std.proofs.Common.{◌++◌}
 use Rattle.std.proofs.Common.{inl, inr, Bool, true, false, List, [], ◌∷◌, length, get_or, take, map}
-use Rattle.std.proofs.Common.{replicate, Option, Some, None, unwrap_or, Ok, refl, ap, sym, cond, w64}
+use Rattle.std.proofs.Common.{replicate, Option, Some, None, unwrap_or, Ok, refl, ap, sym, cond}
+use Rattle.std.proofs.Common.{w64}
 use Rattle.std.proofs.Common.{subst, arith, bit_and, ltb, ◌^◌, min, ◌⊎◌}
 use Rattle.std.proofs.lemmas.Bool.{and_parts, cases_eq, cases_lt, lt-ltb, le-ltb}
 use Rattle.std.proofs.lemmas.List.{take_more, get_or-map, length-map, get_or_past}
@@ -163,7 +165,8 @@ raised_one a =
     ap (λ m. add8 m 112) (raised_by_steps a (ltb a 143)) ∙ small a (cases_lt a 143)
   where
     small : (a : ℕ) → (a < 143) ⊎ (143 ≤ a) → add8 (cond (ltb a 143) a 143) 112 ≡ lane_raised a
-    small a (inl less) = rw (lt-ltb a 143 less) (let e : (a + 112) % 256 ≡ a + 112 = omega arith in e)
+    small a (inl less) = rw (lt-ltb a 143 less)
+        (let e : (a + 112) % 256 ≡ a + 112 = omega arith in e)
     small a (inr more) = rw (le-ltb a 143 more) refl
 
 raised_are : (n : ℕ) (v : List ℕ) → length v ≡ n

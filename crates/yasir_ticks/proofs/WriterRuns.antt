@@ -1,6 +1,7 @@
 -- What a run of ticks does to the line of a writer that isn't filled.
 use Rattle.std.proofs.Common.{◌≡◌, ◌∙◌, ℕ, zero, suc, ◌+◌, ◌<◌, List, [], ◌∷◌, ◌++◌, length, map}
-use Rattle.std.proofs.Common.{replicate, take, get_or, refl, sym, ap, subst, arith, append-nil, append_assoc}
+use Rattle.std.proofs.Common.{replicate, take, get_or, refl, sym, ap, subst, arith, append-nil}
+use Rattle.std.proofs.Common.{append_assoc}
 use Rattle.arrayvec.specs.ArrayVec.{ArrayVec}
 use Rattle.std.proofs.lemmas.List.{length-append}
 use Rattle.yasir_ticks.specs.CanonicalText.{stretches}

@@ -9,5 +9,6 @@ loop-preserved g c =
     ∙ c.loop.invariant
 
 pub returns : goal.returns
-returns g c = sym (bit_steps-done g.row.POLY c.args.count c.loop.counter c.loop.shifted (omega arith))
+returns g c = sym (bit_steps-done g.row.POLY c.args.count c.loop.counter c.loop.shifted
+    (omega arith))
     ∙ c.loop.invariant

@@ -13,7 +13,8 @@ pub loop-byte-preserved : goal.loop-byte-preserved
 loop-byte-preserved g c =
     crc-more g.row.POLY c.loop-byte.register _ _ c.loop-byte.byte-index c.loop-eight.rest.now
     (omega arith)
-    (c.step_by_table-register.ensures ∙ crc-one g.row.POLY c.loop-byte.register _) c.loop-byte.invariant
+    (c.step_by_table-register.ensures ∙ crc-one g.row.POLY c.loop-byte.register _)
+        c.loop-byte.invariant
 
 pub returns : goal.returns
 returns g c =

@@ -5,7 +5,8 @@ use Rattle.frame_ending.specs.SoFar.{start_so_far}
 use Rattle.yasir_ticks.specs.Ticks.{silent}
 use Rattle.sequence_journal.specs.Journal.{journal_floor}
 use Rattle.link_format.specs.Trailers.{bytes_left}
-use Rattle.seal_transmitter.proofs.RunSteps.{sent, sent-silent, drop-none, nothing-taken, early-taken}
+use Rattle.seal_transmitter.proofs.RunSteps.{sent, sent-silent, drop-none, nothing-taken}
+use Rattle.seal_transmitter.proofs.RunSteps.{early-taken}
 use Rattle.seal_transmitter.proofs.sealer.Sealer.hold.Goals as goal
 
 pub returns-then-left-gt0-clause-run : goal.returns-then-left-gt0-clause-run

@@ -3,7 +3,8 @@ use Rattle.std.proofs.lemmas.List.{nil_from_length}
 use Rattle.yasir_ticks.specs.Ticks.{silent}
 use Rattle.sequence_journal.specs.Journal.{journal_floor}
 use Rattle.link_format.specs.Trailers.{bytes_left}
-use Rattle.seal_transmitter.proofs.RunSteps.{sent, sent-silent, drop-none, nothing-taken, open-taken}
+use Rattle.seal_transmitter.proofs.RunSteps.{sent, sent-silent, drop-none, nothing-taken}
+use Rattle.seal_transmitter.proofs.RunSteps.{open-taken}
 use Rattle.seal_transmitter.proofs.sealer.Sealer.rest.Goals as goal
 
 pub returns-then-left-gt0-clause-run : goal.returns-then-left-gt0-clause-run
