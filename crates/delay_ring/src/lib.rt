@@ -3,6 +3,7 @@
 
 mod delay_ring;
 mod lanes;
+pub mod mark_runs;
 #[cfg(test)]
 mod tests;
 

@@ -1,3 +1,4 @@
+use super::mark_runs::silence_in_front;
 use super::*;
 use yasir_ticks::Tick;
 
@@ -92,4 +93,28 @@ fn runs_are_as_their_ticks(rt: HostRuntime) {
     assert!(rt; takes_runs_as_ticks::<18>(&lengths));
     assert!(rt; takes_runs_as_ticks::<63>(&lengths));
     assert!(rt; takes_runs_as_ticks::<64>(&lengths));
+}
+
+// Whether the silence in front of so many marks, silent up to this place, ends there.
+fn silence_ends_at(marks: &mut [u8; 71], place: usize) -> bool {
+    if place >= 71 {
+        return false;
+    }
+    marks[place] = 1;
+    let mut ends = true;
+    for length in 0..71 {
+        if silence_in_front(&marks[..length]) != place.min(length) {
+            ends = false;
+        }
+    }
+    marks[place] = 0;
+    ends
+}
+
+#[test]
+fn silence_ends_at_each_place(rt: HostRuntime) {
+    let mut marks = [0u8; 71];
+    for place in 0..71 {
+        assert!(rt; silence_ends_at(&mut marks, place));
+    }
 }

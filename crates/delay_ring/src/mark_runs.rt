@@ -1,0 +1,36 @@
+//! Runs among marks of ticks: a mark that is 0 stands for a silent tick, any other one for a byte.
+ghost use Rattle.std.specs.Prelude.{◌≡◌, ℕ, ◌<◌, ◌≤◌, length, slice_index_or};
+
+use crate::lanes::{LANES, silence_from};
+
+// So many of these marks are of silence: all up to the first one of a byte, or all whole vectors.
+#[inline]
+fn silence_in_vectors(marks: &[u8]) -> usize
+    ensures within { result ≤ length marks.now }
+    ensures silent { (k : ℕ) → k < result → slice_index_or marks.now k 0 ≡ 0 }
+{
+    let mut at = 0;
+    while at + LANES <= marks.len() {
+        let silent = silence_from(marks, at);
+        if silent < LANES {
+            return at + silent;
+        }
+        at += LANES;
+    }
+    at
+}
+
+/// How many of these marks are of silence, up to the first one of a byte.
+#[inline]
+pub fn silence_in_front(marks: &[u8]) -> usize
+    ensures within { result ≤ length marks.now }
+    ensures silent { (k : ℕ) → k < result → slice_index_or marks.now k 0 ≡ 0 }
+    ensures byte { result < length marks.now → slice_index_or marks.now result 0 ≡ 0 → ⊥ }
+{
+    for at in silence_in_vectors(marks)..marks.len() {
+        if marks[at] != 0 {
+            return at;
+        }
+    }
+    marks.len()
+}
