@@ -50,7 +50,7 @@ module _ (p : ℕ) (high : 2 ^ 15 ≤ p) (fits : p < 2 ^ 16) where
       (λ odd. let most = odd-high r small odd in
       let power : 2 ^ k ≤ 2 ^ 15 = pow-le-pow_right {n = 2} (omega arith) low in omega arith)
       (λ even. let e = bit_step-even p r (parity r even) in let power = pow-succ' 2 k
-          in omega arith)
+      in omega arith)
       (cases_eq (r % 2) 1)
 
   bit_steps-above : (n k r : ℕ) → n + k ≤ 15 → r < 2 ^ 16 → 2 ^ (n + k) ≤ r
@@ -100,7 +100,7 @@ module _ (p : ℕ) (high : 2 ^ 15 ≤ p) (fits : p < 2 ^ 16) where
       xor_shr r (r % 256) 8 ∙ (ap (λ x. bit_xor (r / 2 ^ 8) x) none ∙ xor_zero_r (r / 2 ^ 8)) in
       let whole : bit_xor r (r % 256) ≡ 2 ^ 8 * (r / 256) = omega arith in
       byte_step_lem p r (r % 256) ∙ (ap (λ x. bit_steps p 8 x) whole
-          ∙ bit_steps-shift p 8 (r / 256))
+      ∙ bit_steps-shift p 8 (r / 256))
 
   -- and no other byte leaves it below 256.
   pub byte_step-low : (r b : ℕ) → r < 2 ^ 16 → b < 256 → byte_step p r b < 256

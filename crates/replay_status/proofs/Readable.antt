@@ -73,7 +73,7 @@ module _ (marks : ℕ) (text : List ℕ) (items : List Item) (right : IsTickText
           omega (arith, short, h.sum, h.above)
       | inr e ↦
           let same : items ≡ taken ++ h.line = IsTickText-one marks text items
-              (taken ++ h.line) right
+          (taken ++ h.line) right
           (subst (λ x. IsTickText marks x (taken ++ h.line))
           (sym (all_of_told text h.text now e.met.met.came e.met.at_end)) e.ended) in
           let short : AreFew (taken ++ h.line) = subst AreFew same few in

@@ -43,5 +43,5 @@ parity-preserved c = λ words keyed.
 pub returns : goal.returns
 returns c = λ words keyed.
     five_rounds c.args.state.now words c.parity.v 39
-        (rounds_at c.args.state.now words c.parity.v (20 + 5 * c.parity.group) 40 (omega arith)
+    (rounds_at c.args.state.now words c.parity.v (20 + 5 * c.parity.group) 40 (omega arith)
     (c.parity.invariant words keyed))

@@ -40,5 +40,5 @@ last-preserved c = λ words h keyed held.
 pub returns : goal.returns
 returns c = λ words h keyed held.
     five_rounds h words c.last.v 79 (rounds_at h words c.last.v
-        (60 + 5 * c.last.group) 80 (omega arith)
+    (60 + 5 * c.last.group) 80 (omega arith)
     (c.last.invariant words h keyed held))

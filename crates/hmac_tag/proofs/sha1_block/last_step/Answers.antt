@@ -9,6 +9,6 @@ returns c = λ words h keyed held.
     let v = c.args.v in
     rounds_step h words v c.args.t _ _ held
     (c.parity.ensures ∙ sym (round_fn_last c.args.t (slice_index v 1) (slice_index v 2)
-        (slice_index v 3) (omega arith)))
+    (slice_index v 3) (omega arith)))
     (c.round.ensures (round_constant c.args.t) (slice_index words c.args.t)
     (keyed.is c.args.t (omega arith)))

@@ -14,7 +14,7 @@ loop-byte-preserved g c =
     crc-more g.row.POLY c.loop-byte.register _ _ c.loop-byte.byte-index c.loop-eight.rest.now
     (omega arith)
     (c.step_by_table-register.ensures ∙ crc-one g.row.POLY c.loop-byte.register _)
-        c.loop-byte.invariant
+    c.loop-byte.invariant
 
 pub returns : goal.returns
 returns g c =

@@ -130,7 +130,7 @@ loop-taken-preserved g c =
       within = omega arith;
       given = gives_more (driving g.B.LineBox g.D.SlotDisk) g.O.Sink g.L.Sink g.D.SlotDisk s0 s2 s3
           (silent_items c.loop-taken.taken) (tick Silent ∷ [])
-              (silent_items (c.loop-taken.taken + 1))
+          (silent_items (c.loop-taken.taken + 1))
           (silent_items-more c.loop-taken.taken)
           (gives_more (driving g.B.LineBox g.D.SlotDisk) g.O.Sink g.L.Sink g.D.SlotDisk s0 s1 s2
           (silent_items c.loop-taken.taken) [] (silent_items c.loop-taken.taken)

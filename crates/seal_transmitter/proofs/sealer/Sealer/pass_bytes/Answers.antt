@@ -9,7 +9,7 @@ use Rattle.seal_transmitter.proofs.sealer.Sealer.pass_bytes.Goals as goal
 pub returns-then-held-gt0-clause-run : goal.returns-then-held-gt0-clause-run
 returns-then-held-gt0-clause-run g c = λ journal setup line stands.
     subst (λ (x : List Tick). HasTakenRun g.R.LineRules g.M.Mac c.hold_some-held.new.self
-        (journal_floor journal) setup line
+    (journal_floor journal) setup line
     (map Byte (take c.hold_some-held.result c.args.bytes.now)) x)
     (answered-none c.hold_some-held.result c.clear.new.self.items c.clear.ensures)
     (c.hold_some-held.ensures.run journal setup line stands)
@@ -23,11 +23,11 @@ returns-clause-run g c = λ journal setup line stands.
     (c.hold_some-held.ensures.run journal setup line stands)
     (λ still. c.send_over.ensures.run journal setup line still) in
     subst (λ (x : List Tick). HasTakenRun g.R.LineRules g.M.Mac c.send_over.new.self
-        (journal_floor journal) setup line
+    (journal_floor journal) setup line
     (map Byte (take c.put.result c.args.bytes.now)) x)
     (answered-all c.put.result c.send_over.result.items c.put.new.left.items
     c.put.ensures.count c.put.ensures.items)
     (subst (λ n. HasTakenRun g.R.LineRules g.M.Mac c.send_over.new.self
-        (journal_floor journal) setup line
+    (journal_floor journal) setup line
     (map Byte (take n c.args.bytes.now)) (map Byte c.send_over.result.items))
     (sym c.put.ensures.count) sent)

@@ -17,12 +17,12 @@ returns-then-left-eq0-clause-run g c = λ journal setup line stands.
 pub returns-clause-run : goal.returns-clause-run
 returns-clause-run g c = λ journal setup line stands.
     subst (λ (x : List Tick). HasTakenRun g.R.LineRules g.M.Mac c.send_some.new.self
-        (journal_floor journal) setup line
+    (journal_floor journal) setup line
     (silent c.put.result) x)
     (answered-all c.put.result c.send_some.result.items c.put.new.left.items
     c.put.ensures.count c.put.ensures.items)
     (subst (λ n. HasTakenRun g.R.LineRules g.M.Mac c.send_some.new.self
-        (journal_floor journal) setup line
+    (journal_floor journal) setup line
     (silent n) (map Byte c.send_some.result.items))
     (sym c.put.ensures.count)
     (c.send_some.ensures.run journal setup line stands))

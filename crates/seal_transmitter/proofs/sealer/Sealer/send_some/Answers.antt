@@ -24,6 +24,6 @@ returns-clause-run g c = λ journal setup line stands.
     (open-taken g.R.LineRules g.M.Mac c.args.self.now (journal_floor journal) setup line stands
     c.wait_open-count.new.cut c.send_some.new.self count (map Byte c.send_some.result.items)
     (c.wait_open-count.ensures.stands line stands.cuts)
-        (c.wait_open-count.ensures.open line stands.cuts)
+    (c.wait_open-count.ensures.open line stands.cuts)
     c.send_some.ensures.left
     (sent-bytes count left few ∙ ap (λ x. map Byte x) (sym c.send_some.ensures.sent)))
