@@ -4,7 +4,8 @@ use Rattle.std.proofs.Common.{◌≡◌, ◌∙◌, ℕ, zero, suc, ◌+◌, ◌
 use Rattle.std.proofs.Common.{◌∷◌, ◌++◌, length, take, map, get_or, refl, sym, ap, subst, arith}
 use Rattle.std.proofs.Common.{length-append, append_assoc, ⊎_elim, min, drop, Bool, not}
 use Rattle.std.proofs.lemmas.Bool.{cases_lt, eqb-true, lt-ltb, cond-true}
-use Rattle.std.proofs.lemmas.List.{append-nil, length-map, map-append, length-take, take_all, length-drop}
+use Rattle.std.proofs.lemmas.List.{append-nil, length-map, map-append, length-take, take_all}
+use Rattle.std.proofs.lemmas.List.{length-drop}
 use Rattle.std.proofs.lemmas.List.{take-append-le, take_more, take-take}
 use Rattle.std.proofs.Math.Seq.{take-append-add, take-add}
 use Rattle.line_rules.specs.Rules.{Rules, head_of, left_of, left_by}

@@ -398,7 +398,8 @@ module _ {R : Type 0} (proto : LineRules R) (first second : ℕ)
           bytes (omega arith) ∙ ap (λ y. y ++ t.byte ∷ []) empty in
           record {
             held = t ∷ [];
-            goes_on = goes-after x heard.held (t ∷ []) (t ∷ []) [] heard.goes_on one-undecided steps-in;
+            goes_on = goes-after x heard.held (t ∷ [])
+                (t ∷ []) [] heard.goes_on one-undecided steps-in;
             bytes_are = is;
             stands = subst (proto.stands rest.rules) (sym is)
                 (rules (undecided-open before.rules [] fresh nothing) [] fresh);
@@ -406,7 +407,8 @@ module _ {R : Type 0} (proto : LineRules R) (first second : ℕ)
           }
 
       pub begins-reads : hunts (x ++ t ∷ []) ≡ hunts x ++ []
-      begins-reads = reads-after x heard.held (t ∷ []) (t ∷ []) [] heard.goes_on one-undecided steps-in
+      begins-reads = reads-after x heard.held (t ∷ [])
+          (t ∷ []) [] heard.goes_on one-undecided steps-in
 
   -- ---- a line
 

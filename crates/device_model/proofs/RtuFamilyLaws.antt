@@ -291,7 +291,8 @@ module _ (cut gap : ℕ) where
                   (parted-ends cut line heard.closed old.silence.quiet d at_cut parted)) tt;
               is = reads-ends line old.silence.quiet heard.closed d parted at_cut
                   ∙ ap (λ x. reads line ++ x)
-                  (sym (tells ∙ gives old.broken old.start old.bytes.items d kept.start_is kept.broken_is
+                  (sym (tells ∙ gives old.broken old.start old.bytes.items d kept.start_is
+                  kept.broken_is
                   kept.bytes_are));
             }
 

@@ -13,7 +13,8 @@ returns-then-passed-gt0-clause-takes g c = λ on.
     (λ k below is.
     let count = length-take c.bytes_before-passed.result c.args.rest.now in
     c.bytes_before-passed.ensures.other k (omega arith)
-    (sym (get_or-take c.bytes_before-passed.result c.args.rest.now k 0 (omega arith)) ∙ (is ∙ sym c.FIRST.ensures)))
+    (sym (get_or-take c.bytes_before-passed.result c.args.rest.now k 0 (omega arith))
+    ∙ (is ∙ sym c.FIRST.ensures)))
 
 pub returns-then-len-lt2-clause-takes : goal.returns-then-len-lt2-clause-takes
 returns-then-len-lt2-clause-takes g c = λ on.

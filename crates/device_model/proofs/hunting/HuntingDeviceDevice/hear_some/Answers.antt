@@ -11,7 +11,8 @@ use Rattle.device_model.proofs.hunting.HuntingDeviceDevice.hear_some.Goals as go
 pub loop-taken-init : goal.loop-taken-init
 loop-taken-init g c = (
   omega arith,
-  no-run g.R.LineRules g.R.Hunted.FIRST g.R.Hunted.SECOND g.met.R.Hunted.hunted c.args.self.now c.args.self.now.ticks,
+  no-run g.R.LineRules g.R.Hunted.FIRST g.R.Hunted.SECOND g.met.R.Hunted.hunted c.args.self.now
+      c.args.self.now.ticks,
 )
 
 pub loop-taken-preserved-then-not-part : goal.loop-taken-preserved-then-not-part
@@ -40,12 +41,14 @@ returns-in-Some-clause-stands g c =
     (omega (arith, length-drop c.loop-taken.taken c.args.bytes.now)) in
     let takes = part-ended g.R.LineRules g.R.Hunted.FIRST g.R.Hunted.SECOND g.met.R.Hunted.hunted
     c.args.self.now c.loop-taken.self c.hear_part-part.new.self c.end.new.self c.args.self.now.ticks
-    c.args.bytes.now _ c.loop-taken.taken c.hear_part-part.result.taken (frames_of c.end.result) same
+    c.args.bytes.now _ c.loop-taken.taken c.hear_part-part.result.taken
+    (frames_of c.end.result) same
     c.loop-taken-test.true c.loop-taken.invariant.1
     (c.hear_part-part.ensures.one (not-false _ c.if-not-part.false))
     (c.hear_part-part.ensures.ends (not-false _ c.if-not-part.false)) c.end.ensures.ticks
     c.end.ensures.bytes c.end.ensures.rules c.end.ensures.frame in
-    λ line heard. run-stands g.R.LineRules g.R.Hunted.FIRST g.R.Hunted.SECOND g.met.R.Hunted.hunted c.args.self.now c.end.new.self
+    λ line heard. run-stands g.R.LineRules g.R.Hunted.FIRST g.R.Hunted.SECOND g.met.R.Hunted.hunted
+    c.args.self.now c.end.new.self
     (take (c.loop-taken.taken + c.hear_part-part.result.taken) c.args.bytes.now)
     (frames_of c.end.result) takes line heard _
     (omega (
@@ -66,12 +69,14 @@ returns-in-Some-clause-answer g c =
     (omega (arith, length-drop c.loop-taken.taken c.args.bytes.now)) in
     let takes = part-ended g.R.LineRules g.R.Hunted.FIRST g.R.Hunted.SECOND g.met.R.Hunted.hunted
     c.args.self.now c.loop-taken.self c.hear_part-part.new.self c.end.new.self c.args.self.now.ticks
-    c.args.bytes.now _ c.loop-taken.taken c.hear_part-part.result.taken (frames_of c.end.result) same
+    c.args.bytes.now _ c.loop-taken.taken c.hear_part-part.result.taken
+    (frames_of c.end.result) same
     c.loop-taken-test.true c.loop-taken.invariant.1
     (c.hear_part-part.ensures.one (not-false _ c.if-not-part.false))
     (c.hear_part-part.ensures.ends (not-false _ c.if-not-part.false)) c.end.ensures.ticks
     c.end.ensures.bytes c.end.ensures.rules c.end.ensures.frame in
-    λ line heard. run-reads g.R.LineRules g.R.Hunted.FIRST g.R.Hunted.SECOND g.met.R.Hunted.hunted c.args.self.now c.end.new.self
+    λ line heard. run-reads g.R.LineRules g.R.Hunted.FIRST g.R.Hunted.SECOND g.met.R.Hunted.hunted
+    c.args.self.now c.end.new.self
     (take (c.loop-taken.taken + c.hear_part-part.result.taken) c.args.bytes.now)
     (frames_of c.end.result) takes line heard
     ∙ ap (λ o. hunt_line g.R.Hunted.FIRST g.R.Hunted.SECOND g.R.LineRules.rules line
@@ -86,15 +91,18 @@ returns-in-Some-clause-before g c =
     (omega (arith, length-drop c.loop-taken.taken c.args.bytes.now)) in
     let takes = part-ended g.R.LineRules g.R.Hunted.FIRST g.R.Hunted.SECOND g.met.R.Hunted.hunted
     c.args.self.now c.loop-taken.self c.hear_part-part.new.self c.end.new.self c.args.self.now.ticks
-    c.args.bytes.now _ c.loop-taken.taken c.hear_part-part.result.taken (frames_of c.end.result) same
+    c.args.bytes.now _ c.loop-taken.taken c.hear_part-part.result.taken
+    (frames_of c.end.result) same
     c.loop-taken-test.true c.loop-taken.invariant.1
     (c.hear_part-part.ensures.one (not-false _ c.if-not-part.false))
     (c.hear_part-part.ensures.ends (not-false _ c.if-not-part.false)) c.end.ensures.ticks
     c.end.ensures.bytes c.end.ensures.rules c.end.ensures.frame in
     let count = ap length same in
     let within = c.hear_part-part.ensures.within in
-    λ n below line heard. run-unread-front g.R.LineRules g.R.Hunted.FIRST g.R.Hunted.SECOND g.met.R.Hunted.hunted
-    c.args.self.now c.end.new.self (take (c.loop-taken.taken + c.hear_part-part.result.taken) c.args.bytes.now)
+    λ n below line heard. run-unread-front g.R.LineRules g.R.Hunted.FIRST g.R.Hunted.SECOND
+    g.met.R.Hunted.hunted
+    c.args.self.now c.end.new.self (take (c.loop-taken.taken + c.hear_part-part.result.taken)
+    c.args.bytes.now)
     (frames_of c.end.result) takes line heard c.args.bytes.now
     (c.loop-taken.taken + c.hear_part-part.result.taken) refl
     (omega (arith, length-drop c.loop-taken.taken c.args.bytes.now)) n below
@@ -108,7 +116,8 @@ loop-taken-preserved g c =
     (omega (arith, length-drop c.loop-taken.taken c.args.bytes.now)) in
     let takes = part-ended g.R.LineRules g.R.Hunted.FIRST g.R.Hunted.SECOND g.met.R.Hunted.hunted
     c.args.self.now c.loop-taken.self c.hear_part-part.new.self c.end.new.self c.args.self.now.ticks
-    c.args.bytes.now _ c.loop-taken.taken c.hear_part-part.result.taken (frames_of c.end.result) same
+    c.args.bytes.now _ c.loop-taken.taken c.hear_part-part.result.taken
+    (frames_of c.end.result) same
     c.loop-taken-test.true c.loop-taken.invariant.1
     (c.hear_part-part.ensures.one (not-false _ c.if-not-part.false))
     (c.hear_part-part.ensures.ends (not-false _ c.if-not-part.false)) c.end.ensures.ticks
@@ -117,7 +126,8 @@ loop-taken-preserved g c =
     let within = c.hear_part-part.ensures.within in (
       omega (arith, length-drop c.loop-taken.taken c.args.bytes.now, c.loop-taken.invariant.0),
       subst (λ f. TakesRun g.R.LineRules g.R.Hunted.FIRST g.R.Hunted.SECOND c.args.self.now
-          c.end.new.self c.args.self.now.ticks (take (c.loop-taken.taken + c.hear_part-part.result.taken) c.args.bytes.now) f)
+          c.end.new.self c.args.self.now.ticks (take
+          (c.loop-taken.taken + c.hear_part-part.result.taken) c.args.bytes.now) f)
           (ap frames_of c.in_default.is) takes,
     )
 
@@ -125,10 +135,12 @@ pub returns-clause-stands : goal.returns-clause-stands
 returns-clause-stands g c =
     let all : c.loop-taken.taken ≡ length c.args.bytes.now =
     omega (arith, c.loop-taken.invariant.0) in
-    let takes = subst (λ k. TakesRun g.R.LineRules g.R.Hunted.FIRST g.R.Hunted.SECOND c.args.self.now
+    let takes = subst (λ k. TakesRun g.R.LineRules g.R.Hunted.FIRST g.R.Hunted.SECOND
+    c.args.self.now
     c.loop-taken.self c.args.self.now.ticks (take k c.args.bytes.now) []) all
     c.loop-taken.invariant.1 in
-    λ line heard. run-stands g.R.LineRules g.R.Hunted.FIRST g.R.Hunted.SECOND g.met.R.Hunted.hunted c.args.self.now c.loop-taken.self
+    λ line heard. run-stands g.R.LineRules g.R.Hunted.FIRST g.R.Hunted.SECOND g.met.R.Hunted.hunted
+    c.args.self.now c.loop-taken.self
     (take (length c.args.bytes.now) c.args.bytes.now) [] takes line heard _
     (omega (arith, length-take (length c.args.bytes.now) c.args.bytes.now)) refl refl refl
 
@@ -136,10 +148,12 @@ pub returns-clause-answer : goal.returns-clause-answer
 returns-clause-answer g c =
     let all : c.loop-taken.taken ≡ length c.args.bytes.now =
     omega (arith, c.loop-taken.invariant.0) in
-    let takes = subst (λ k. TakesRun g.R.LineRules g.R.Hunted.FIRST g.R.Hunted.SECOND c.args.self.now
+    let takes = subst (λ k. TakesRun g.R.LineRules g.R.Hunted.FIRST g.R.Hunted.SECOND
+    c.args.self.now
     c.loop-taken.self c.args.self.now.ticks (take k c.args.bytes.now) []) all
     c.loop-taken.invariant.1 in
-    λ line heard. run-reads g.R.LineRules g.R.Hunted.FIRST g.R.Hunted.SECOND g.met.R.Hunted.hunted c.args.self.now c.loop-taken.self
+    λ line heard. run-reads g.R.LineRules g.R.Hunted.FIRST g.R.Hunted.SECOND g.met.R.Hunted.hunted
+    c.args.self.now c.loop-taken.self
     (take (length c.args.bytes.now) c.args.bytes.now) [] takes line heard
 
 pub returns-clause-before : goal.returns-clause-before

@@ -36,7 +36,8 @@ returns-in-Some-clause-stands c = λ cut gap line heard.
 
 pub returns-in-Some-clause-answer : goal.returns-in-Some-clause-answer
 returns-in-Some-clause-answer c = λ cut gap line heard.
-    read-last cut gap c.args.self.now line (c.from-left.result - 1) c.from-left.result _ (omega arith)
+    read-last cut gap c.args.self.now line (c.from-left.result - 1) c.from-left.result
+    _ (omega arith)
     (inr (omega arith)) heard
     (c.in-Some.ensures.answer cut gap (line ++ silent (c.from-left.result - 1))
     (c.rest-2.ensures.stands cut gap line heard))
