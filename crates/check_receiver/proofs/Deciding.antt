@@ -1,6 +1,7 @@
 -- The verdict on the burst with a whole trailer.
-use Rattle.std.proofs.Common.{◌≡◌, ◌∙◌, ℕ, ◌+◌, List, [], ◌∷◌, ◌++◌, length, sym, ap, Some}
-use Rattle.std.proofs.Common.{Result, Ok, Err, true, false}
+use Rattle.std.proofs.Common.{◌≡◌, ◌∙◌, ℕ, ◌+◌, ◌≤◌, List, [], ◌∷◌, ◌++◌, length, sym, ap, subst}
+use Rattle.std.proofs.Common.{Some, Result, Ok, Err, true, false}
+use Rattle.yasir_ticks.specs.declared.TheConstants.{MAX_TICKS}
 use Rattle.yasir_ticks.specs.Bursts.{Burst}
 use Rattle.yasir_ticks.specs.declared.tick.Tick.{Tick}
 use Rattle.yasir_ticks.specs.declared.tick.Tick.TheVariants.{Silent}
@@ -18,10 +19,9 @@ use Rattle.link_verdicts.specs.Verdicts.{trailer_of, whole_verdict}
 use Rattle.link_verdicts.specs.Holding.{trailer_so_far}
 use Rattle.link_verdicts.specs.declared.note.CheckNote.TheVariants.{Passed, Refused}
 use Rattle.link_verdicts.specs.declared.note.RefusedWhy.{RefusedWhy}
-use Rattle.check_receiver.specs.Arrivals.{Arrives}
 use Rattle.check_receiver.specs.Between.{IsWhole, verdict_told}
 use Rattle.check_receiver.specs.Checkings.{PassesWith}
-use Rattle.check_receiver.specs.Stands.{HasTaken}
+use Rattle.check_receiver.specs.Stands.{Codes, HasTaken}
 use Rattle.check_receiver.specs.Turning.{Turned, closed_at}
 use Rattle.check_receiver.specs.declared.checker.Checker.{Checker}
 use Rattle.check_receiver.specs.declared.step.CheckStep.{CheckStep}
@@ -33,15 +33,23 @@ abbrev pub Judges : {R M : Type 0} → LineRules R → Mac M → {B D : ℕ} →
     → Result ℕ RefusedWhy → Type 0
 Judges proto code {B = B} old last result = (setup : Setup) (line : List Tick) (d : Burst)
     → CutStandsFor proto old.cut line → last_burst line ≡ Some d
-    → Arrives (λ n. (profile_of proto code B LIMIT setup).tag n (live_bytes proto.rules d)) last
-    old.arriving (trailer_so_far proto.rules d)
+    → Codes proto code setup old.mac old.arriving d
     → length (trailer_so_far proto.rules d) ≡ B + code.TAG
     → verdict_told result ≡ whole_verdict (profile_of proto code B LIMIT setup) proto.rules last
     (live_bytes proto.rules d) (trailer_so_far proto.rules d)
 
+pub room-kept : {R M : Type 0} {B D : ℕ} (old told : Checker R M B D)
+    → told ≡ record old { mac = told.mac } → ticks_cut old.cut ≤ MAX_TICKS
+    → ticks_cut told.cut ≤ MAX_TICKS
+room-kept {R = R} {M = M} {B = B} {D = D} old told rest room =
+    let P : Checker R M B D → Type 0 = λ v. ticks_cut v.cut ≤ MAX_TICKS in
+    subst P (sym rest) room
+
 module _ {R M : Type 0} (proto : LineRules R) (code : Mac M) {B D : ℕ} (old : Checker R M B D)
     (last : ℕ) (setup : Setup) (line : List Tick) (t : Tick)
-    (whole : IsWhole proto code old last setup line t) where
+    (whole : IsWhole proto code old last setup line t) (told : Checker R M B D)
+    (rest : told ≡ record old { mac = told.mac })
+    (code_is : (text : List ℕ) × code.stands told.mac setup.key text) where
   abbrev rules : Rules
   rules = proto.rules
 
@@ -54,6 +62,28 @@ module _ {R M : Type 0} (proto : LineRules R) (code : Mac M) {B D : ℕ} (old : 
   abbrev e : Burst
   e = going_on hears.burst (length line) whole.byte
 
+  -- Where the verdict is told, the code has gone on.
+  abbrev after : Checker R M B D
+  after = record old { mac = told.mac }
+
+  abbrev hears-after : Hears proto code after last setup line t whole.byte
+  hears-after = record {
+    word_is = hears.word_is;
+    wide = hears.wide;
+    delay_is = hears.delay_is;
+    direction_is = hears.direction_is;
+    cuts = hears.cuts;
+    is_cut = hears.is_cut;
+    before = hears.before;
+    one_less = hears.one_less;
+    mac = hears.mac;
+    arriving = hears.arriving;
+    walks = hears.walks;
+    code_is = code_is;
+    burst = hears.burst;
+    waits_is = hears.waits_is;
+  }
+
   judged : (result : Result ℕ RefusedWhy) → Judges proto code old last result
       → whole_verdict profile rules last (live_bytes rules e) (trailer_of profile rules e)
       ≡ verdict_told result
@@ -61,34 +91,56 @@ module _ {R M : Type 0} (proto : LineRules R) (code : Mac M) {B D : ℕ} (old : 
       let is = next-last proto code old last setup line t whole.byte hears in
       ap (λ x. whole_verdict profile rules last (live_bytes rules e) x)
       (whole-trailer proto code old last setup line t whole.byte hears whole.last_place)
-      ∙ sym (judges setup (line ++ t ∷ []) e whole.cuts is (whole.arrives e is)
+      ∙ sym (judges setup (line ++ t ∷ []) e whole.cuts is (whole.coded e is)
       (whole-long proto code old last setup line t whole.byte hears whole.last_place))
 
   pub decide-refuses : (why : RefusedWhy) → Judges proto code old last (Err why)
       → (new : Checker R M B D) (step : CheckStep)
-      → Turned proto (closed_at new.earliest_start old) new Silent step.tick
-      → new.earliest_start ≡ length (line ++ t ∷ []) + old.until
-      + left_of rules (live_bytes_so_far rules (line ++ t ∷ []))
-      → step.note ≡ Some (Refused (start_so_far (line ++ t ∷ [])) why)
+      → Turned proto (closed_at new.earliest_start told) new Silent step.tick
+      → ((link : List Tick) → CutStandsFor proto told.cut link
+      → new.earliest_start ≡ length link + told.until
+      + left_of rules (live_bytes_so_far rules link))
+      → ((link : List Tick) → CutStandsFor proto told.cut link
+      → step.note ≡ Some (Refused (start_so_far link) why))
       → HasTaken proto code new last setup line t step
   decide-refuses why judges new step turned earliest noted =
-      refuse-taken proto code old last setup line t whole.byte hears new step turned earliest why
-      noted whole.last_place (judged (Err why) judges)
+      let link : List Tick = line ++ t ∷ [] in
+      let T : Checker R M B D → Type 0 = λ v. Turned proto (closed_at new.earliest_start v) new
+      Silent step.tick in
+      let E : Checker R M B D → Type 0 = λ v. CutStandsFor proto v.cut link
+      → new.earliest_start ≡ length link + v.until + left_of rules (live_bytes_so_far rules link) in
+      let N : Checker R M B D → Type 0 = λ v. CutStandsFor proto v.cut link
+      → step.note ≡ Some (Refused (start_so_far link) why) in
+      refuse-taken proto code after last setup line t whole.byte hears-after new step
+      (subst T rest turned) (subst E rest (earliest link) whole.cuts) why
+      (subst N rest (noted link) whole.cuts) whole.last_place (judged (Err why) judges)
 
   pub decide-passes : (number : ℕ) → Judges proto code old last (Ok number)
       → (new : Checker R M B D) (step : CheckStep)
-      → Turned proto (record old {
+      → Turned proto (record told {
         waits = false;
         passed = true;
         earliest_start = new.earliest_start;
       }) new Silent step.tick
-      → new.earliest_start ≡ ticks_cut old.cut + old.until
-      → step.note ≡ Some (Passed number (start_so_far (line ++ t ∷ []))
-      (length (live_bytes_so_far rules (line ++ t ∷ []))))
+      → new.earliest_start ≡ ticks_cut told.cut + told.until
+      → ((link : List Tick) → CutStandsFor proto told.cut link
+      → step.note ≡ Some (Passed number (start_so_far link)
+      (length (live_bytes_so_far rules link))))
       → HasTaken proto code new number setup line t step
   decide-passes number judges new step turned earliest noted =
-      pass-taken proto code old last setup line t whole.byte hears whole.last_place number
-      (judged (Ok number) judges) new step turned earliest noted
+      let link : List Tick = line ++ t ∷ [] in
+      let T : Checker R M B D → Type 0 = λ v. Turned proto (record v {
+        waits = false;
+        passed = true;
+        earliest_start = new.earliest_start;
+      }) new Silent step.tick in
+      let E : Checker R M B D → Type 0 = λ v. new.earliest_start ≡ ticks_cut v.cut + v.until in
+      let N : Checker R M B D → Type 0 = λ v. CutStandsFor proto v.cut link
+      → step.note ≡ Some (Passed number (start_so_far link)
+      (length (live_bytes_so_far rules link))) in
+      pass-taken proto code after last setup line t whole.byte hears-after whole.last_place number
+      (judged (Ok number) judges) new step (subst T rest turned) (subst E rest earliest)
+      (subst N rest (noted link) whole.cuts)
 
   -- and where its number can't be committed, it would have passed
   pub decide-fails : (number : ℕ) → Judges proto code old last (Ok number)

@@ -53,8 +53,6 @@ use Rattle.check_receiver.proofs.Silences.{timely}
 use Rattle.link_verdicts.specs.Holding.{Opens}
 use Rattle.link_verdicts.proofs.Growing.{over-end, open-end_is}
 use Rattle.link_verdicts.proofs.Settling.{open-bytes}
-use Rattle.check_receiver.specs.Arrivals.{Arrives}
-use Rattle.check_receiver.specs.declared.arriving.Arriving.{Arriving}
 use Rattle.link_format.specs.Profile.{trailer_len}
 
 -- a live byte finds its burst open
@@ -88,7 +86,7 @@ module _ {R M : Type 0} (proto : LineRules R) (code : Mac M) {B D : ℕ} (old : 
     (not_bad : head_of proto.rules (live_bytes_so_far proto.rules (line ++ Byte b ∷ [])) ≡ Bad → ⊥)
     (d : Burst) (is : between.walks.waiting ≡ Some d)
     (code_is : (text : List ℕ) × code.stands mac setup.key text)
-    (coded : Codes proto code setup last mac old.arriving (going_on d (length line) b)) where
+    (coded : Codes proto code setup mac old.arriving (going_on d (length line) b)) where
   pub live-taken : old.waits ≡ true → HasTaken proto code new last setup line (Byte b) step
   live-taken waits =
       let rules : Rules = proto.rules in
@@ -171,24 +169,13 @@ pub nothing-after : (x : List Tick) → length x ≡ 0 → bytes_in (drop 3 x) �
 nothing-after [] none = refl
 nothing-after (t ∷ x) none = absurd (omega arith)
 
--- nothing of a trailer has come, whatever the tags
-pub arrives-none : {B : ℕ} (tags others : ℕ → List ℕ) (floor : ℕ) (value : Arriving B) → 2 ≤ B
-    → Arrives tags floor value [] → Arrives others floor value []
-arrives-none tags others floor value wide arrived = record {
-  word_is = arrived.word_is;
-  fresh_is = arrived.fresh_is;
-  number_is = λ some. absurd (omega arith);
-  tag_is = λ some. absurd (omega arith);
-  same_is = λ some. absurd (omega arith);
-}
-
 module _ {R M : Type 0} (proto : LineRules R) (code : Mac M) {B D : ℕ} (old : Checker R M B D)
     (last : ℕ) (setup : Setup) (line : List Tick) (b : ℕ)
     (between : IsBetween proto code old last setup line (Byte b) (Live b)) (mac : M)
     (d : Burst) (is : between.walks.waiting ≡ Some d)
     (update : (key text : List ℕ) → code.stands old.mac key text
     → code.stands mac key (text ++ b ∷ [])) where
-  pub live-coded : Codes proto code setup last mac old.arriving (going_on d (length line) b)
+  pub live-coded : Codes proto code setup mac old.arriving (going_on d (length line) b)
   live-coded =
       let rules : Rules = proto.rules in
       let profile : Profile = profile_of proto code B LIMIT setup in
@@ -210,9 +197,9 @@ module _ {R M : Type 0} (proto : LineRules R) (code : Mac M) {B D : ℕ} (old : 
       let whose = ap (λ x. last_of x) walked.come.is ∙ last_of-more walked.come.settled d in
       let open' = live-open proto profile some line old.earliest_start d left live b may opens whose
       between.is_cut in
-      let C : Option Burst → Type 0 = λ o. IfSome o
-      (λ x. Codes proto code setup last old.mac old.arriving x) in
-      let coded : C (Some d) = subst C is between.walks.coded in
+      let S : Option Burst → Type 0 = λ o. IfSome o
+      (λ x. Codes proto code setup old.mac old.arriving x) in
+      let coded : S (Some d) = subst S is between.walks.coded in
       let gap = gap-is proto profile time setup.floor line b state walked.emissions d left live some
       walked.come may opens open' in
       let end = open-end_is profile rules proto.lawful proto.headed some m old.earliest_start d left
@@ -227,19 +214,11 @@ module _ {R M : Type 0} (proto : LineRules R) (code : Mac M) {B D : ℕ} (old : 
       nothing-after (after_live rules d) (omega arith) in
       let new_none : trailer_so_far rules e ≡ [] =
       nothing-after (after_live rules e) (omega arith) in
-      let fewer : length (trailer_so_far rules d) < B = let size = ap length old_none in
-      omega arith in
-      let A : List ℕ → Type 0 = λ x. Arrives (λ n. profile.tag n (live_bytes rules d)) last
-      old.arriving x in
-      let Z : List ℕ → Type 0 = λ x. Arrives (λ n. profile.tag n (live_bytes rules e)) last
-      old.arriving x in
+      let C : List ℕ → Type 0 = λ x. code.stands mac setup.key
+      (rules.label ∷ setup.direction ∷ x) in
       record {
-        text = coded.text ++ b ∷ [];
-        codes = update setup.key coded.text coded.codes;
-        text_is = λ few. ap (λ x. x ++ b ∷ []) (coded.text_is fewer)
-            ∙ ap (λ x. rules.label ∷ setup.direction ∷ x)
-            (sym (open-bytes profile rules proto.lawful proto.headed d m b may open'));
-        arrives = subst Z (sym new_none) (arrives-none (λ n. profile.tag n (live_bytes rules d))
-            (λ n. profile.tag n (live_bytes rules e)) last old.arriving wide
-            (subst A old_none coded.arrives));
+        codes = subst C
+            (sym (open-bytes profile rules proto.lawful proto.headed d m b may open'))
+            (update setup.key (rules.label ∷ setup.direction ∷ live_bytes rules d) coded.codes);
+        come = coded.come ∙ (old_none ∙ sym new_none);
       }

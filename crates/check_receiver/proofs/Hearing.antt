@@ -5,7 +5,6 @@ use Rattle.std.proofs.Common.{◌++◌, length, length-append, drop, get_or, ref
 use Rattle.std.proofs.Common.{arith, ⊎_elim, Option, Some, None, IfSome}
 use Rattle.std.proofs.lemmas.Bool.{cases_Bool, cases_lt, ne_eqb}
 use Rattle.std.proofs.lemmas.List.{length-drop, take_all}
-use Rattle.std.specs.Int.{w64, to_be_bytes}
 use Rattle.yasir_ticks.specs.Ticks.{silent, bytes_in}
 use Rattle.yasir_ticks.specs.Bursts.{Burst, bursts, end_of}
 use Rattle.yasir_ticks.specs.declared.tick.Tick.{Tick}
@@ -28,7 +27,7 @@ use Rattle.burst_walk.specs.HasCome.{HasCome}
 use Rattle.burst_walk.specs.Walk.{Noted}
 use Rattle.burst_walk.proofs.Coming.{come-joined, waiting-may, notes-step, note-now}
 use Rattle.hmac_tag.specs.declared.tag.Mac.{Ghosts as Mac}
-use Rattle.hmac_tag.specs.Tag.{direction_number, tag_text}
+use Rattle.hmac_tag.specs.Tag.{direction_number}
 use Rattle.link_format.specs.Profile.{Profile, profile_of, IsWordLen, delay, pause_len, trailer_len}
 use Rattle.link_format.specs.Setup.{Setup}
 use Rattle.sequence_journal.specs.declared.numbers.TheConstants.{LIMIT}
@@ -57,7 +56,7 @@ use Rattle.link_verdicts.proofs.Resting.{causal}
 use Rattle.link_verdicts.proofs.Rings.{ring-first}
 use Rattle.link_verdicts.proofs.Settling.{is_over, open-end, over-after, after-long}
 use Rattle.link_verdicts.proofs.Shaping.{kept-most}
-use Rattle.check_receiver.specs.Arrivals.{Arrives, MayArrive, HasArrived}
+use Rattle.check_receiver.specs.Arrivals.{bytes_come}
 use Rattle.check_receiver.specs.Between.{IsBetween, IsWhole}
 use Rattle.check_receiver.specs.Checkings.{PassesWith}
 use Rattle.check_receiver.specs.Stands.{Codes, Walks, HasTaken}
@@ -346,50 +345,21 @@ module _ {R M : Type 0} (proto : LineRules R) (code : Mac M) {B D : ℕ} (old : 
 
     -- ---- what stands for it
 
-    abbrev pub tags : ℕ → List ℕ
-    tags n = profile.tag n (live_bytes rules d)
-
-    pub coded : Codes proto code setup last hears.mac hears.arriving d
+    pub coded : Codes proto code setup hears.mac hears.arriving d
     coded =
         let C : Option Burst → Type 0 = λ o. IfSome o
-        (λ x. Codes proto code setup last hears.mac hears.arriving x) in
+        (λ x. Codes proto code setup hears.mac hears.arriving x) in
         subst C hears.waits_is hears.walks.coded
 
-    pub may-arrive : (place : ℕ) → place ≡ m - (live_end rules d + pause_len)
-        → MayArrive code tags last place hears.arriving hears.mac setup.key coded.text
-        (trailer_so_far rules d)
-    may-arrive place is =
-        let long = trailer-long in
-        let near = opens.near in
+    pub next-coded : (arriving : Arriving B)
+        → bytes_come arriving ≡ bytes_come hears.arriving ++ b ∷ []
+        → Codes proto code setup hears.mac arriving e
+    next-coded arriving more =
+        let C : List ℕ → Type 0 = λ x. code.stands hears.mac setup.key
+        (rules.label ∷ setup.direction ∷ x) in
         record {
-          arrived = coded.arrives;
-          place_is = omega arith;
-          within = omega arith;
-          codes = coded.codes;
-          tags = λ inside n. ap (λ x. code.tag_of setup.key (x ++ to_be_bytes w64 n))
-              (sym (coded.text_is (omega arith)));
-          sized = λ n. code.tag_len setup.key
-              (tag_text rules.label setup.direction (live_bytes rules d) n);
-        }
-
-    pub next-coded : (arriving : Arriving B) (mac : M)
-        → HasArrived code tags last arriving mac setup.key coded.text
-        (trailer_so_far rules d ++ b ∷ [])
-        → Codes proto code setup last mac arriving e
-    next-coded arriving mac arrived =
-        let P : List ℕ → List ℕ → Type 0 = λ frame x. Arrives (λ n. profile.tag n frame) last
-        arriving x in
-        let long = ap length trailer-next in
-        let grows = length-append (trailer_so_far rules d) (b ∷ []) in
-        record {
-          text = arrived.rest;
-          codes = arrived.codes;
-          text_is = λ few. arrived.text_is (omega arith)
-              ∙ (coded.text_is (omega arith)
-              ∙ ap (λ x. rules.label ∷ setup.direction ∷ x) (sym bytes-next));
-          arrives = subst (λ x. P (live_bytes rules e) x) (sym trailer-next)
-              (subst (λ f. P f (trailer_so_far rules d ++ b ∷ [])) (sym bytes-next)
-              arrived.arrived);
+          codes = subst C (sym bytes-next) coded.codes;
+          come = more ∙ (ap (λ x. x ++ b ∷ []) coded.come ∙ sym trailer-next);
         }
 
   -- ---- the receiver has taken it
@@ -401,7 +371,7 @@ module _ {R M : Type 0} (proto : LineRules R) (code : Mac M) {B D : ℕ} (old : 
   pub trailer-taken : (new : Checker R M B D) (step : CheckStep)
       → Turned proto old new Silent step.tick → step.note ≡ None → old.waits ≡ true
       → live_end rules d + pause_len ≤ m → m + 2 < live_end rules d + D
-      → Codes proto code setup last old.mac old.arriving e
+      → Codes proto code setup old.mac old.arriving e
       → HasTaken proto code new last setup line t step
   trailer-taken new step turned noted waits behind before coded' =
       let flow' = flow-open proto old new Silent step.tick turned left live hears.walks.outlet_is

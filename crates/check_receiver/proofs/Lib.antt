@@ -6,7 +6,6 @@ pub mod Resting
 pub mod Entering
 pub mod Dropping
 pub mod Starting
-pub mod Comparing
 pub mod Weighing
 pub mod Trailing
 pub mod Hearing

@@ -102,7 +102,7 @@ module _ {R M : Type 0} (proto : LineRules R) (code : Mac M) {B D : ℕ} where
         → ring_ticks new.ring ≡ live ++ silent (D - length live) → length live ≤ D
         → base.until ≡ length live → base.waits ≡ is_some waiting
         → ((text : List ℕ) × code.stands base.mac setup.key text)
-        → IfSome waiting (λ d. Codes proto code setup number base.mac base.arriving d)
+        → IfSome waiting (λ d. Codes proto code setup base.mac base.arriving d)
         → HasTaken proto code new number setup line t step
     assembled base new entering step turned word_is wide delay_is direction_is cuts number left live
         waiting told goes noted stands ring_is few until_is waits_is code_is coded =

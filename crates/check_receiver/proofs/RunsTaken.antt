@@ -42,11 +42,11 @@ use Rattle.link_verdicts.proofs.Growing.{live-long}
 use Rattle.link_verdicts.proofs.Judging.{head-short}
 use Rattle.link_verdicts.proofs.Resting.{causal}
 use Rattle.link_verdicts.proofs.Settling.{after-long}
-use Rattle.check_receiver.specs.Arrivals.{Arrives}
+use Rattle.check_receiver.specs.Arrivals.{bytes_come}
 use Rattle.check_receiver.specs.Runs.{HasTakenRun, BeginNone, IsFront, HaveRoom, KeepsHeader}
 use Rattle.check_receiver.specs.Stands.{Codes, StandsAt}
 use Rattle.check_receiver.specs.declared.checker.Checker.{Checker}
-use Rattle.check_receiver.proofs.Entering.{nothing-after, arrives-none}
+use Rattle.check_receiver.proofs.Entering.{nothing-after}
 use Rattle.check_receiver.proofs.LiveRuns.{LiveRun, live-run}
 use Rattle.check_receiver.proofs.Machine.{last_of-more, waiting-none, waiting-some}
 use Rattle.check_receiver.proofs.PauseRuns.{pause-run}
@@ -219,10 +219,10 @@ module _ {R M : Type 0} (proto : LineRules R) (code : Mac M) {B D : ℕ} (old : 
       subst F (last-opened waits) (proto.within _ _ stands.cuts.bytes)
 
   coded-opened : (waits : old.waits ≡ true)
-      → Codes proto code setup last old.mac old.arriving (opened waits).0
+      → Codes proto code setup old.mac old.arriving (opened waits).0
   coded-opened waits =
       let C : Option Burst → Type 0 = λ o. IfSome o
-      (λ e. Codes proto code setup last old.mac old.arriving e) in
+      (λ e. Codes proto code setup old.mac old.arriving e) in
       subst C (opened waits).1 stands.walks.coded
 
   -- ---- no verdict is open, and nothing is to leave
@@ -417,15 +417,14 @@ module _ {R M : Type 0} (proto : LineRules R) (code : Mac M) {B D : ℕ} (old : 
           answers = runs.answers;
         })
 
-    -- ---- bytes of the tag come of the burst whose verdict is open
+    -- ---- bytes of the trailer come of the burst whose verdict is open
 
-    pub tag-taken : (bytes : List ℕ) (arriving : Arriving B) (place : ℕ) → old.waits ≡ true
-        → length bytes ≤ c → old.until + (3 + (B + place)) ≡ D
-        → length bytes + 2 ≤ old.until
+    pub trailer-taken : (bytes : List ℕ) (arriving : Arriving B) → old.waits ≡ true
+        → length bytes ≤ c → old.until + 3 ≤ D → length bytes + 2 ≤ old.until
         → CutStandsFor proto cut (line ++ map (λ b. Byte b) bytes)
         → cuts_after rules line (map (λ b. Byte b) bytes) ≡ map (λ b. Extra b) bytes
-        → ((tag_of : ℕ → List ℕ) (floor : ℕ) (y : List ℕ) → Arrives tag_of floor old.arriving y
-        → length y ≡ B + place → Arrives tag_of floor arriving (y ++ bytes))
+        → (length (bytes_come old.arriving) + length bytes ≤ 20
+        → bytes_come arriving ≡ bytes_come old.arriving ++ bytes)
         → IsFront (ring_ticks old.ring) (length bytes) x
         → ring_ticks ring ≡ drop (length bytes) (ring_ticks old.ring ++ silent (length bytes))
         → until ≡ old.until - length bytes
@@ -437,7 +436,7 @@ module _ {R M : Type 0} (proto : LineRules R) (code : Mac M) {B D : ℕ} (old : 
           outlet = outlet;
           until = until;
         }) last setup line (map (λ b. Byte b) bytes) (answered (length bytes) x)
-    tag-taken bytes arriving place waits few where' left_over cuts are_extra takes is ring_is
+    trailer-taken bytes arriving waits few behind left_over cuts are_extra takes is ring_is
         until_is =
         let d : Burst = (opened waits).0 in
         let n : ℕ = length bytes in
@@ -457,20 +456,15 @@ module _ {R M : Type 0} (proto : LineRules R) (code : Mac M) {B D : ℕ} (old : 
         let e : Burst = after.burst in
         let before = coded-opened waits in
         let size = trailer-long proto profile time some setup.floor state line left live d walked in
-        let so_far : length (trailer_so_far rules d) ≡ B + place = omega arith in
-        let grown = ap length after.trailer in
-        let sum = length-append (trailer_so_far rules d) bytes in
-        let arrived = takes (λ k. profile.tag k (live_bytes rules d)) last (trailer_so_far rules d)
-        before.arrives so_far in
-        let T : List ℕ → Type 0 = λ y. Arrives (λ k. profile.tag k (live_bytes rules d)) last
-        arriving y in
-        let F : List ℕ → Type 0 = λ f. Arrives (λ k. profile.tag k f) last arriving
-        (trailer_so_far rules e) in
-        let coded : Codes proto code setup last old.mac arriving e = record {
-          text = before.text;
-          codes = before.codes;
-          text_is = λ short. absurd (omega arith);
-          arrives = subst F (sym after.bytes) (subst T (sym after.trailer) arrived);
+        let come = ap length before.come in
+        let short = stands.word_is.1 in
+        let room : length (bytes_come old.arriving) + n ≤ 20 =
+        ⊎_elim (λ twelve. omega arith) (λ sixteen. omega arith) code.tag_size in
+        let C : List ℕ → Type 0 = λ y. code.stands old.mac setup.key
+        (rules.label ∷ setup.direction ∷ y) in
+        let coded : Codes proto code setup old.mac arriving e = record {
+          codes = subst C (sym after.bytes) before.codes;
+          come = takes room ∙ (ap (λ y. y ++ bytes) before.come ∙ sym after.trailer);
         } in
         let fewer = length-drop n live in
         let more = more-opened waits in
@@ -520,7 +514,8 @@ module _ {R M : Type 0} (proto : LineRules R) (code : Mac M) {B D : ℕ} (old : 
 
     module _ (bytes : List ℕ) (mac : M) (waits : old.waits ≡ true) (any : 0 < length bytes)
         (few : length bytes ≤ c)
-        (keeps : KeepsHeader proto.rules (live_bytes_so_far proto.rules line) bytes) (cuts : CutStandsFor proto cut (line ++ map (λ b. Byte b) bytes))
+        (keeps : KeepsHeader proto.rules (live_bytes_so_far proto.rules line) bytes)
+        (cuts : CutStandsFor proto cut (line ++ map (λ b. Byte b) bytes))
         (are_live : cuts_after proto.rules line (map (λ b. Byte b) bytes)
         ≡ map (λ b. Live b) bytes)
         (codes : (key text : List ℕ) → code.stands old.mac key text
@@ -567,7 +562,7 @@ module _ {R M : Type 0} (proto : LineRules R) (code : Mac M) {B D : ℕ} (old : 
           (stands.walks.ring_is ∙ ap (λ n. live ++ silent (n - length live)) delay-is)
           (omega arith) walked-live headed fits are_live (omega arith)
 
-      coded-before : Codes proto code setup last old.mac old.arriving d
+      coded-before : Codes proto code setup old.mac old.arriving d
       coded-before = coded-opened waits
 
       none-after : trailer_so_far rules live-runs.burst ≡ []
@@ -581,27 +576,17 @@ module _ {R M : Type 0} (proto : LineRules R) (code : Mac M) {B D : ℕ} (old : 
           let long = after-long rules e in
           nothing-after (after_live rules e) (omega arith)
 
-      coded-after : Codes proto code setup last mac old.arriving live-runs.burst
+      coded-after : Codes proto code setup mac old.arriving live-runs.burst
       coded-after =
-          let e : Burst = live-runs.burst in
           let before = coded-before in
           let none = live-runs.none any in
-          let wide = stands.wide in
-          let A : List ℕ → Type 0 = λ y. Arrives (λ n. profile.tag n (live_bytes rules d)) last
-          old.arriving y in
-          let Z : List ℕ → Type 0 = λ y. Arrives (λ n. profile.tag n (live_bytes rules e)) last
-          old.arriving y in
-          let fewer : length (trailer_so_far rules d) < B =
-          let size = ap length none in omega arith in
+          let C : List ℕ → Type 0 = λ y. code.stands mac setup.key
+          (rules.label ∷ setup.direction ∷ y) in
           record {
-            text = before.text ++ bytes;
-            codes = codes setup.key before.text before.codes;
-            text_is = λ short. ap (λ y. y ++ bytes) (before.text_is fewer)
-                ∙ ap (λ y. rules.label ∷ setup.direction ∷ y) (sym live-runs.bytes);
-            arrives = subst Z (sym none-after)
-                (arrives-none (λ n. profile.tag n (live_bytes rules d))
-                (λ n. profile.tag n (live_bytes rules e)) last old.arriving wide
-                (subst A none before.arrives));
+            codes = subst C (sym live-runs.bytes)
+                (codes setup.key (rules.label ∷ setup.direction ∷ live_bytes rules d)
+                before.codes);
+            come = before.come ∙ (none ∙ sym none-after);
           }
 
       pub follow-taken : HasTakenRun proto code
@@ -643,7 +628,10 @@ module _ {R M : Type 0} (proto : LineRules R) (code : Mac M) {B D : ℕ} (old : 
                 few = let within' = after.few in omega arith;
                 until_is = omega arith;
                 waits_is = waits;
-                code_is = (coded-after.text, coded-after.codes);
+                code_is = (
+                  rules.label ∷ setup.direction ∷ live_bytes rules after.burst,
+                  coded-after.codes,
+                );
                 coded = coded-after;
               };
             };

@@ -150,7 +150,7 @@ module _ {R M : Type 0} (proto : LineRules R) (code : Mac M) {B D : ℕ} (old : 
       let Then : Bool → Type 0 = λ p. Goes profile proto.rules setup.floor line Silent state p
       flows.after (drop 1 live) (owed_by new.outlet) (Some d) step.tick None in
       let Coded : Option Burst → Type 0 = λ o. IfSome o
-      (λ e. Codes proto code setup last old.mac old.arriving e) in
+      (λ e. Codes proto code setup old.mac old.arriving e) in
       let come = come-silent w (causal proto profile time setup.floor line Silent)
       (at_floor setup.floor) line state walked.emissions (Some d) walked.come in
       let goes : Then false = open-goes proto profile time setup.floor line Silent state

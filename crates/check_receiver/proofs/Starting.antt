@@ -47,7 +47,7 @@ use Rattle.link_verdicts.proofs.Opening.{open-goes, length-silent}
 use Rattle.link_verdicts.proofs.Resting.{causal, rest-drops}
 use Rattle.link_verdicts.proofs.Rings.{ring-first, ring-begun}
 use Rattle.link_verdicts.proofs.Settling.{after-long}
-use Rattle.check_receiver.specs.Arrivals.{Arrives}
+use Rattle.check_receiver.specs.Arrivals.{bytes_come}
 use Rattle.check_receiver.specs.Between.{IsBetween}
 use Rattle.check_receiver.specs.Stands.{Codes, HasTaken}
 use Rattle.check_receiver.specs.Turning.{Turned, TurnedClear, with_until}
@@ -266,7 +266,7 @@ module _ {R M : Type 0} (proto : LineRules R) (code : Mac M) {B D : ℕ} (old : 
 
       pub start-open : (D ≤ 64 → n ≡ D) → step.note ≡ None
           → (head_of rules (live_bytes_so_far rules (line ++ Byte b ∷ [])) ≡ Bad → ⊥)
-          → Codes proto code setup last mac arriving e
+          → Codes proto code setup mac arriving e
           → HasTaken proto code new last setup line (Byte b) step
       start-open until noted not_bad coded =
           let F : Option Burst → Type 0 = λ o. length (live_bytes_in rules o)
@@ -299,23 +299,20 @@ module _ {R M : Type 0} (proto : LineRules R) (code : Mac M) {B D : ℕ} (old : 
           assembled proto code setup line (Byte b) (with_until n base) new (Byte b) step turned
           between.word_is between.wide between.delay_is between.direction_is between.cuts last []
           entered (Some e) None goes noted quiet.1 ring (omega arith) (omega arith) refl
-          (coded.text, coded.codes) coded
+          (rules.label ∷ setup.direction ∷ live_bytes rules e, coded.codes) coded
 
   -- its code and its trailer
-  pub start-coded : (mac : M) (arriving : Arriving B)
-      → ((tag_of : ℕ → List ℕ) (floor : ℕ) → Arrives tag_of floor arriving [])
+  pub start-coded : (mac : M) (arriving : Arriving B) → bytes_come arriving ≡ []
       → code.stands mac setup.key (rules.label ∷ setup.direction ∷ b ∷ [])
-      → Codes proto code setup last mac arriving e
+      → Codes proto code setup mac arriving e
   start-coded mac arriving begun codes =
       let end = ends in
       let all = after-long rules e in
       let none : trailer_so_far rules e ≡ [] =
       nothing-after (after_live rules e) (omega arith) in
-      let Z : List ℕ → Type 0 = λ x. Arrives (λ n. profile.tag n (live_bytes rules e)) last arriving
-      x in
+      let C : List ℕ → Type 0 = λ x. code.stands mac setup.key
+      (rules.label ∷ setup.direction ∷ x) in
       record {
-        text = rules.label ∷ setup.direction ∷ b ∷ [];
-        codes = codes;
-        text_is = λ few. ap (λ x. rules.label ∷ setup.direction ∷ x) (sym bytes);
-        arrives = subst Z (sym none) (begun (λ n. profile.tag n (live_bytes rules e)) last);
+        codes = subst C (sym bytes) codes;
+        come = begun ∙ sym none;
       }

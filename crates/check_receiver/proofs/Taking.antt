@@ -1,20 +1,19 @@
--- A byte of a trailer is weighed.
-use Rattle.std.proofs.Common.{◌≡◌, ℕ, ◌+◌, ◌-◌, ◌<◌, ◌≤◌, true, List, [], ◌∷◌, ◌++◌, length}
-use Rattle.std.proofs.Common.{subst, arith, None}
+-- A byte of a trailer is kept.
+use Rattle.std.proofs.Common.{◌≡◌, ℕ, ◌+◌, ◌<◌, ◌≤◌, true, List, [], ◌∷◌, ◌++◌, length}
+use Rattle.std.proofs.Common.{ap, subst, arith, None, ⊎_elim}
 use Rattle.yasir_ticks.specs.Bursts.{Burst}
 use Rattle.yasir_ticks.specs.declared.tick.Tick.{Tick}
 use Rattle.yasir_ticks.specs.declared.tick.Tick.TheVariants.{Silent}
 use Rattle.line_rules.specs.Rules.{Rules}
 use Rattle.line_rules.specs.declared.line_rules.LineRules.{Ghosts as LineRules}
 use Rattle.frame_ending.specs.declared.cut.Cut.TheVariants.{Extra}
-use Rattle.frame_ending.specs.LiveBytes.{live_bytes, live_end}
+use Rattle.frame_ending.specs.LiveBytes.{live_end}
 use Rattle.burst_walk.specs.Causal.{going_on}
 use Rattle.hmac_tag.specs.declared.tag.Mac.{Ghosts as Mac}
 use Rattle.link_format.specs.Profile.{Profile, profile_of, pause_len}
 use Rattle.link_format.specs.Setup.{Setup}
 use Rattle.sequence_journal.specs.declared.numbers.TheConstants.{LIMIT}
-use Rattle.link_verdicts.specs.Holding.{trailer_so_far}
-use Rattle.check_receiver.specs.Arrivals.{Arrives, MayArrive, HasArrived}
+use Rattle.check_receiver.specs.Arrivals.{bytes_come}
 use Rattle.check_receiver.specs.Between.{IsBetween, IsWhole}
 use Rattle.check_receiver.specs.Stands.{Codes, HasTaken}
 use Rattle.check_receiver.specs.Turning.{Turned}
@@ -22,30 +21,27 @@ use Rattle.check_receiver.specs.declared.arriving.Arriving.{Arriving}
 use Rattle.check_receiver.specs.declared.checker.Checker.{Checker}
 use Rattle.check_receiver.specs.declared.step.CheckStep.{CheckStep}
 use Rattle.check_receiver.proofs.Hearing.{Hears, hears-between, next-last, until-long, until-some}
-use Rattle.check_receiver.proofs.Hearing.{tags}
-use Rattle.check_receiver.proofs.Hearing.{coded, may-arrive, next-coded, trailer-taken}
+use Rattle.check_receiver.proofs.Hearing.{coded, next-coded, trailer-long, trailer-taken}
 
 module _ {R M : Type 0} (proto : LineRules R) (code : Mac M) {B D : ℕ} (old : Checker R M B D)
     (last : ℕ) (setup : Setup) (line : List Tick) (t : Tick) (b : ℕ)
     (between : IsBetween proto code old last setup line t (Extra b)) (waits : old.waits ≡ true)
-    (behind : old.until + pause_len < D) (arriving : Arriving B) (mac : M) (place : ℕ)
-    (place_is : place ≡ D - pause_len - 1 - old.until)
-    (takes : (tag_of : ℕ → List ℕ) (key text x : List ℕ)
-    → MayArrive code tag_of last place old.arriving old.mac key text x
-    → HasArrived code tag_of last arriving mac key text (x ++ b ∷ [])) where
+    (behind : old.until + pause_len < D) (arriving : Arriving B)
+    (takes : length (bytes_come old.arriving) < 20
+    → bytes_come arriving ≡ bytes_come old.arriving ++ b ∷ []) where
   abbrev rules : Rules
   rules = proto.rules
 
   abbrev profile : Profile
   profile = profile_of proto code B LIMIT setup
 
-  -- before the byte is weighed, and after
+  -- before the byte is kept, and after
   abbrev hears : Hears proto code old last setup line t b
   hears = hears-between proto code old last setup line t b between waits old.arriving old.mac
       between.walks.code_is
 
   abbrev after : Checker R M B D
-  after = record old { arriving = arriving; mac = mac }
+  after = record old { arriving = arriving }
 
   abbrev d : Burst
   d = hears.burst
@@ -59,23 +55,24 @@ module _ {R M : Type 0} (proto : LineRules R) (code : Mac M) {B D : ℕ} (old : 
   behind-pause : live_end rules d + pause_len ≤ length line
   behind-pause = let all = long in omega arith
 
-  abbrev text : List ℕ
-  text = (coded proto code old last setup line t b hears behind-pause).text
-
-  arrived : HasArrived code (tags proto code old last setup line t b hears behind-pause) last
-      arriving mac setup.key text (trailer_so_far rules d ++ b ∷ [])
-  arrived =
+  -- there is room for it
+  few-come : length (bytes_come old.arriving) < 20
+  few-come =
+      let before = coded proto code old last setup line t b hears behind-pause in
+      let come = ap length before.come in
+      let size = trailer-long proto code old last setup line t b hears in
       let all = long in
-      takes (tags proto code old last setup line t b hears behind-pause) setup.key text
-      (trailer_so_far rules d)
-      (may-arrive proto code old last setup line t b hears behind-pause place (omega arith))
+      let some = until-some proto code old last setup line t b hears in
+      let delay_is = between.delay_is in
+      let short = between.word_is.1 in
+      ⊎_elim (λ twelve. omega arith) (λ sixteen. omega arith) code.tag_size
 
-  codes : Codes proto code setup last mac arriving e
-  codes = next-coded proto code old last setup line t b hears behind-pause arriving mac arrived
+  codes : Codes proto code setup old.mac arriving e
+  codes = next-coded proto code old last setup line t b hears behind-pause arriving (takes few-come)
 
   abbrev hears-after : Hears proto code after last setup line t b
-  hears-after = hears-between proto code old last setup line t b between waits arriving mac
-      (arrived.rest, arrived.codes)
+  hears-after = hears-between proto code old last setup line t b between waits arriving old.mac
+      between.walks.code_is
 
   -- more bytes of the trailer are to come
   pub more-taken : 1 < old.until → (new : Checker R M B D) (step : CheckStep)
@@ -91,8 +88,7 @@ module _ {R M : Type 0} (proto : LineRules R) (code : Mac M) {B D : ℕ} (old : 
   whole-taken few =
       let some = until-some proto code old last setup line t b hears in
       let is = next-last proto code old last setup line t b hears in
-      let A : Burst → Type 0 = λ x. Arrives (λ n. profile.tag n (live_bytes rules x)) last arriving
-      (trailer_so_far rules x) in
+      let A : Burst → Type 0 = λ x. Codes proto code setup old.mac arriving x in
       record {
         word_is = between.word_is;
         wide = between.wide;
@@ -107,7 +103,7 @@ module _ {R M : Type 0} (proto : LineRules R) (code : Mac M) {B D : ℕ} (old : 
         one_less = between.one_less;
         last_place = omega arith;
         walks = hears.walks;
-        key_text = arrived.rest;
-        codes = arrived.codes;
-        arrives = λ x last_is. let same : e ≡ x = cc in subst A same codes.arrives;
+        key_text = between.walks.code_is.0;
+        codes = between.walks.code_is.1;
+        coded = λ x last_is. let same : e ≡ x = cc in subst A same codes;
       }

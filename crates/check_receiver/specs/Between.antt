@@ -13,18 +13,14 @@ use Rattle.hmac_tag.specs.declared.tag.Mac.{Ghosts as Mac}
 use Rattle.hmac_tag.specs.Tag.{direction_number}
 use Rattle.yasir_ticks.specs.Bursts.{Burst}
 use Rattle.frame_ending.specs.SoFar.{last_burst}
-use Rattle.frame_ending.specs.LiveBytes.{live_bytes}
-use Rattle.link_format.specs.Profile.{IsWordLen, profile_of}
+use Rattle.link_format.specs.Profile.{IsWordLen}
 use Rattle.link_format.specs.Setup.{Setup}
 use Rattle.link_verdicts.specs.declared.note.CheckNote.{CheckNote}
 use Rattle.link_verdicts.specs.declared.note.CheckNote.TheVariants.{Passed, Refused, Dropped}
-use Rattle.sequence_journal.specs.declared.numbers.TheConstants.{LIMIT}
 use Rattle.link_verdicts.specs.declared.note.RefusedWhy.{RefusedWhy}
 use Rattle.link_verdicts.specs.Verdicts.{Verdict}
 use Rattle.link_verdicts.specs.Verdicts.Verdict.{passed_with, refused}
-use Rattle.check_receiver.specs.Arrivals.{Arrives}
-use Rattle.link_verdicts.specs.Holding.{trailer_so_far}
-use Rattle.check_receiver.specs.Stands.{Walks}
+use Rattle.check_receiver.specs.Stands.{Codes, Walks}
 use Rattle.check_receiver.specs.declared.arriving.Arriving.{Arriving}
 use Rattle.check_receiver.specs.declared.checker.Checker.{Checker}
 
@@ -42,8 +38,7 @@ module _ {R M : Type 0} (proto : LineRules R) (code : Mac M) {B D : ℕ} (value 
     pub walks : Walks proto code B D last value.earliest_start value.waits value.passed value.mac
         value.arriving value.ring before value.outlet setup line
 
-  -- A byte has come that isn't live: the last one of a trailer of the burst whose verdict is open,
-  -- and it is weighed.
+  -- A byte has come that isn't live: the last one of a trailer of the burst whose verdict is open.
   pub record IsWhole (t : Tick) : Type 0 where
     pub word_is : IsWordLen B
     pub wide : 2 ≤ B
@@ -61,9 +56,8 @@ module _ {R M : Type 0} (proto : LineRules R) (code : Mac M) {B D : ℕ} (value 
         value.ring before value.outlet setup line
     pub key_text : List ℕ
     pub codes : code.stands value.mac setup.key key_text
-    pub arrives : (d : Burst) → last_burst (line ++ t ∷ []) ≡ Some d
-        → Arrives (λ n. (profile_of proto code B LIMIT setup).tag n (live_bytes proto.rules d))
-        last value.arriving (trailer_so_far proto.rules d)
+    pub coded : (d : Burst) → last_burst (line ++ t ∷ []) ≡ Some d
+        → Codes proto code setup value.mac value.arriving d
 
 -- the verdict on a burst with a whole trailer, by the number with which it passes or why not
 abbrev pub verdict_told : Result ℕ RefusedWhy → Verdict

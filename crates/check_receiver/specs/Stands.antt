@@ -1,5 +1,5 @@
 -- What a receiver stands for.
-use Rattle.std.specs.Prelude.{◌≡◌, ℕ, ◌+◌, ◌-◌, ◌<◌, ◌≤◌, Bool, List, ◌∷◌, ◌++◌, [], length}
+use Rattle.std.specs.Prelude.{◌≡◌, ℕ, ◌+◌, ◌-◌, ◌≤◌, Bool, List, ◌∷◌, ◌++◌, [], length}
 use Rattle.std.specs.Prelude.{Option, IfSome, is_some}
 use Rattle.yasir_ticks.specs.Ticks.{silent}
 use Rattle.yasir_ticks.specs.Bursts.{Burst, bursts}
@@ -20,7 +20,7 @@ use Rattle.sequence_journal.specs.declared.journal.Journal.{Journal}
 use Rattle.sequence_journal.specs.declared.numbers.TheConstants.{LIMIT}
 use Rattle.sequence_journal.specs.Journal.{journal_floor}
 use Rattle.link_verdicts.specs.Checking.{passed}
-use Rattle.check_receiver.specs.Arrivals.{Arrives}
+use Rattle.check_receiver.specs.Arrivals.{bytes_come}
 use Rattle.check_receiver.specs.Checkings.{AnswersTick}
 use Rattle.link_verdicts.specs.Holding.{HasWalked, trailer_so_far}
 use Rattle.check_receiver.specs.declared.arriving.Arriving.{Arriving}
@@ -28,15 +28,13 @@ use Rattle.check_receiver.specs.declared.checker.Checker.{Checker}
 use Rattle.check_receiver.specs.declared.step.CheckStep.{CheckStep}
 
 module _ {R M : Type 0} (proto : LineRules R) (code : Mac M) where
-  -- The code of a burst whose verdict is open: until the word has come its text is the burst's.
-  pub record Codes {B : ℕ} (setup : Setup) (last : ℕ) (mac : M) (arriving : Arriving B)
-      (d : Burst) : Type 0 where
-    pub text : List ℕ
-    pub codes : code.stands mac setup.key text
-    pub text_is : length (trailer_so_far proto.rules d) < B
-        → text ≡ proto.rules.label ∷ setup.direction ∷ live_bytes proto.rules d
-    pub arrives : Arrives (λ n. (profile_of proto code B LIMIT setup).tag n
-        (live_bytes proto.rules d)) last arriving (trailer_so_far proto.rules d)
+  -- Of a burst whose verdict is open the code has taken the live bytes, and the bytes of the
+  -- trailer are kept.
+  pub record Codes {B : ℕ} (setup : Setup) (mac : M) (arriving : Arriving B) (d : Burst) :
+      Type 0 where
+    pub codes : code.stands mac setup.key
+        (proto.rules.label ∷ setup.direction ∷ live_bytes proto.rules d)
+    pub come : bytes_come arriving ≡ trailer_so_far proto.rules d
 
   -- A receiver has come so far over a link: the last number that passed, the first tick at which a
   -- burst isn't too soon, and what it holds.
@@ -55,7 +53,7 @@ module _ {R M : Type 0} (proto : LineRules R) (code : Mac M) where
     pub until_is : until ≡ length live
     pub waits_is : waits ≡ is_some waiting
     pub code_is : (text : List ℕ) × code.stands mac setup.key text
-    pub coded : IfSome waiting (λ d. Codes setup last mac arriving d)
+    pub coded : IfSome waiting (λ d. Codes setup mac arriving d)
 
   -- Set up so, the receiver has taken these ticks, and the last number that passed is this one.
   pub record StandsAt {B D : ℕ} (value : Checker R M B D) (last : ℕ) (setup : Setup)

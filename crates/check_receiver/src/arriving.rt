@@ -2,53 +2,61 @@ ghost use Rattle.link_format.specs.Profile.{IsWordLen};
 
 use arrayvec::ArrayVec;
 use byteorder::{BigEndian, ByteOrder};
-use hmac_tag::{Mac, TagBytes};
+use hmac_tag::TagBytes;
 use sequence_journal::{LIMIT, full_with};
 
-/// How many bytes a word has at most.
-const WORD_ROOM: usize = 4;
+/// How many bytes a trailer has at most: a word of 4 and a tag of 16.
+const ROOM: usize = 20;
 
-/// What has come of a trailer with a word of `B` bytes: the word, the number that it stands for and
-/// the tag of that number, and whether the bytes behind the word have been that tag's.
+/// What has come of a trailer with a word of `B` bytes.
 #[derive(Drop)]
 pub struct Arriving<const B: usize> {
-    word: ArrayVec<u8, WORD_ROOM>,
-    number: Option<u64>,
-    tag: TagBytes,
-    same: bool,
+    bytes: ArrayVec<u8, ROOM>,
     ghost size: { IsWordLen B },
 }
 
 impl<const B: usize> Arriving<B> {
-    ghost use Rattle.std.specs.Prelude.{◌≡◌, ℕ, ◌^◌, ◌≤◌, ◌<◌, [], ◌∷◌, ◌++◌, List, length, true};
-    ghost use Rattle.std.specs.Prelude.{◌&&◌, ◌+◌};
+    ghost use Rattle.std.specs.Prelude.{◌≡◌, ◌+◌, ◌^◌, ◌≤◌, ◌<◌, [], ◌∷◌, ◌++◌, length, take, drop};
+    ghost use Rattle.std.specs.Prelude.{bytes_eq};
     ghost use Rattle.byteorder.specs.Endian.{big_number};
     ghost use Rattle.sequence_journal.specs.declared.numbers.TheConstants.{LIMIT};
     ghost use Rattle.sequence_journal.specs.Numbers.{full_of};
-    ghost use Rattle.check_receiver.specs.Arrivals.{Arrives, MayArrive, HasArrived, number_arrived};
-    ghost use Rattle.check_receiver.specs.Arrivals.{is_same_so_far, IsTagged, is_at};
+    ghost use Rattle.check_receiver.specs.Arrivals.{bytes_come};
 
     /// Nothing has come.
     pub fn none() -> Arriving<B>
         requires word { IsWordLen B }
-        ensures { (tag_of : ℕ → List ℕ) (floor : ℕ) → Arrives tag_of floor result [] }
+        ensures { bytes_come result ≡ [] }
     {
         Arriving {
-            word: ArrayVec::new(),
-            number: None,
-            tag: ArrayVec::new(),
-            same: true,
+            bytes: ArrayVec::new(),
         }
     }
 
     /// Begins with another trailer, of which nothing has come.
     #[inline]
     pub fn begin(&mut self)
-        ensures { (tag_of : ℕ → List ℕ) (floor : ℕ) → Arrives tag_of floor self.new [] }
+        ensures { bytes_come self.new ≡ [] }
     {
-        self.word.clear();
-        self.number = None;
-        self.same = true;
+        self.bytes = ArrayVec::new();
+    }
+
+    /// Takes the next byte.
+    #[inline]
+    pub fn take(&mut self, byte: u8)
+        ensures { length (bytes_come self.old) < 20
+            → bytes_come self.new ≡ bytes_come self.old ++ byte ∷ [] }
+    {
+        let _ = self.bytes.try_push(byte);
+    }
+
+    /// Takes the next bytes.
+    #[inline]
+    pub fn take_some(&mut self, bytes: &[u8])
+        ensures { length (bytes_come self.old) + length bytes.now ≤ 20
+            → bytes_come self.new ≡ bytes_come self.old ++ bytes.now }
+    {
+        let _ = self.bytes.try_extend_from_slice(bytes);
     }
 
     // How many words there are.
@@ -70,96 +78,32 @@ impl<const B: usize> Arriving<B> {
         4_294_967_296
     }
 
-    // The number of the word that has come, above this floor.
-    fn number_above(&self, floor: u64) -> Option<u64>
+    /// The number that the word stands for above this floor, if there is one.
+    pub fn number_above(&self, floor: u64) -> Option<u64>
         requires floor { floor ≤ LIMIT }
-        requires come { length self.now.word.items ≡ B }
-        ensures { result ≡ full_of LIMIT (256 ^ B) floor (big_number B self.now.word.items) }
+        ensures { B ≤ length (bytes_come self.now)
+            → result ≡ full_of LIMIT (256 ^ B) floor (big_number B (bytes_come self.now)) }
     {
-        let word = BigEndian::read_uint(self.word.as_slice(), B);
+        let bytes = self.bytes.as_slice();
+        if bytes.len() < B {
+            return None;
+        }
+        let word = BigEndian::read_uint(bytes, B);
         let words = Self::words();
         full_with(LIMIT, words, floor, word % words)
     }
 
-    /// Takes the byte at this place of the trailer; the floor is the last number that passed. With
-    /// the word's last byte the text of the code is complete, and the tag is known.
-    #[inline]
-    pub fn take<M: Mac>(&mut self, place: usize, byte: u8, floor: u64, mac: &mut M)
-        requires floor { floor ≤ LIMIT }
-        ensures { (tag_of : ℕ → List ℕ) (key text x : List ℕ)
-            → MayArrive M.Mac tag_of floor place self.old mac.old key text x
-            → HasArrived M.Mac tag_of floor self.new mac.new key text (x ++ byte ∷ []) }
+    /// Whether the bytes behind the word are those of this tag.
+    pub fn has_tag(&self, tag: &TagBytes) -> bool
+        ensures { B ≤ length (bytes_come self.now)
+            → result ≡ bytes_eq (drop B (bytes_come self.now)) tag.now.items }
     {
-        if place >= B {
-            self.compare(place - B, byte);
-            return;
+        let bytes = self.bytes.as_slice();
+        if bytes.len() < B {
+            return false;
         }
-        let _ = self.word.try_push(byte);
-        if self.word.len() == B {
-            self.weigh(floor, mac);
-        }
-    }
-
-    // The word has come.
-    fn weigh<M: Mac>(&mut self, floor: u64, mac: &mut M)
-        requires floor { floor ≤ LIMIT }
-        requires come { length self.old.word.items ≡ B }
-        ensures word { self.new.word ≡ self.old.word }
-        ensures same { self.new.same ≡ self.old.same }
-        ensures number { self.new.number
-            ≡ full_of LIMIT (256 ^ B) floor (big_number B self.old.word.items) }
-        ensures tag { (key text : List ℕ) → M.stands mac.old key text
-            → IsTagged M.Mac self.new key text }
-        ensures codes { (key text : List ℕ) → M.stands mac.old key text
-            → (rest : List ℕ) × M.stands mac.new key rest }
-    {
-        self.number = self.number_above(floor);
-        if let Some(number) = self.number {
-            mac.update(&number.to_be_bytes());
-            self.tag = mac.finish();
-        }
-    }
-
-    // A byte at this place behind the word.
-    #[inline]
-    fn compare(&mut self, place: usize, byte: u8)
-        ensures rest { self.new ≡ record self.old { same = self.new.same } }
-        ensures same { self.new.same
-            ≡ (self.old.same && is_at self.old.tag.items place byte) }
-    {
-        if self.tag.as_slice().get(place).copied() != Some(byte) {
-            self.same = false;
-        }
-    }
-
-    /// Takes bytes behind the word, from this place of the tag on.
-    #[inline]
-    pub fn take_tag(&mut self, place: usize, bytes: &[u8])
-        requires { place + length bytes.now ≤ 128 }
-        ensures { (tag_of : ℕ → List ℕ) (floor : ℕ) (x : List ℕ)
-            → Arrives tag_of floor self.old x → length x ≡ B + place
-            → Arrives tag_of floor self.new (x ++ bytes.now) }
-    {
-        let mut at = place;
-        for byte in bytes {
-            self.compare(at, *byte);
-            at += 1;
-        }
-    }
-
-    /// The number that the word stands for, if there is one.
-    #[inline]
-    pub fn number(&self) -> Option<u64>
-        ensures { result ≡ number_arrived self.now }
-    {
-        self.number
-    }
-
-    /// Whether the bytes behind the word have been those of the tag.
-    #[inline]
-    pub fn same(&self) -> bool
-        ensures { result ≡ is_same_so_far self.now }
-    {
-        self.same
+        let behind = &bytes[B..];
+        let of_tag = tag.as_slice();
+        behind == of_tag
     }
 }

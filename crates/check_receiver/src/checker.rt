@@ -20,8 +20,8 @@ const PAUSE: usize = 3;
 /// where the burst is refused. For that `D` is as long as the pause, the word and the tag, and one
 /// tick more.
 ///
-/// It keeps no frame: each live byte goes into the text of the tag as it comes, and each byte of a
-/// trailer is weighed as it comes.
+/// It keeps no frame: each live byte goes into the text of the tag as it comes. The bytes of a
+/// trailer are kept, and the tag is made where the burst is a frame with a whole trailer.
 #[derive(Drop)]
 pub struct Checker<R, M, const B: usize, const D: usize> {
     cut: BurstCut<R>,
@@ -68,11 +68,13 @@ impl<R: LineRules, M: Mac, const B: usize, const D: usize> Checker<R, M, B, D> {
     ghost use Rattle.link_verdicts.specs.declared.note.DroppedWhy.TheVariants.{Busy};
     ghost use Rattle.link_verdicts.specs.declared.note.DroppedWhy.TheVariants.{Head as NoHead};
     ghost use Rattle.link_verdicts.specs.Verdicts.{whole_verdict};
-    ghost use Rattle.check_receiver.specs.Arrivals.{Arrives};
+    ghost use Rattle.check_receiver.specs.Arrivals.{bytes_come};
+    ghost use Rattle.check_receiver.specs.Stands.{Codes};
     ghost use Rattle.check_receiver.specs.Runs.{KeepsHeader};
     ghost use Rattle.frame_ending.specs.Cuts.{cut_of};
     ghost use Rattle.line_rules.specs.declared.head.Head.TheVariants.{Bad};
-    ghost use Rattle.std.specs.Prelude.{slice_index_or};
+    ghost use Rattle.std.specs.Prelude.{slice_index_or, drop, bytes_eq};
+    ghost use Rattle.std.specs.Int.{w64, to_be_bytes};
     ghost use Rattle.link_verdicts.specs.Holding.{trailer_so_far};
     ghost use Rattle.check_receiver.specs.Turning.{Turned, TurnedClear, with_until};
     ghost use Rattle.check_receiver.specs.Between.{IsBetween, IsWhole, IsSilence, IsNoPass};
@@ -164,7 +166,7 @@ impl<R: LineRules, M: Mac, const B: usize, const D: usize> Checker<R, M, B, D> {
         left.clear();
         if self.waits {
             if self.cut.live_over() {
-                return self.hear_tag(bytes, left);
+                return self.hear_trailer(bytes, left);
             }
             return self.follow(bytes, left);
         }
@@ -264,8 +266,8 @@ impl<R: LineRules, M: Mac, const B: usize, const D: usize> Checker<R, M, B, D> {
         taken
     }
 
-    // Bytes of the tag of the burst whose verdict is open, but for the last one.
-    fn hear_tag(&mut self, bytes: &[u8], left: &mut RunBytes) -> usize
+    // Bytes of the trailer of the burst whose verdict is open, but for the last one.
+    fn hear_trailer(&mut self, bytes: &[u8], left: &mut RunBytes) -> usize
         requires room { ticks_taken self.old + length bytes.now ≤ MAX_TICKS }
         requires waits { self.old.waits ≡ true }
         requires empty { left.old.items ≡ [] }
@@ -283,10 +285,6 @@ impl<R: LineRules, M: Mac, const B: usize, const D: usize> Checker<R, M, B, D> {
         if D < until + PAUSE {
             return 0;
         }
-        let place = D - PAUSE - until;
-        if place < B {
-            return 0;
-        }
         let most = bytes.len().min(until - 2).min(D);
         let count = self.ring.front_alike(most);
         let part = &bytes[..count];
@@ -294,7 +292,7 @@ impl<R: LineRules, M: Mac, const B: usize, const D: usize> Checker<R, M, B, D> {
         let heard = &part[..taken];
         lend(&self.ring, &mut self.outlet, taken, left);
         self.ring.pass_silence(taken);
-        self.arriving.take_tag(place - B, heard);
+        self.arriving.take_some(heard);
         self.until -= taken as u8;
         taken
     }
@@ -604,9 +602,7 @@ impl<R: LineRules, M: Mac, const B: usize, const D: usize> Checker<R, M, B, D> {
         if usize::from(self.until) + PAUSE >= D {
             return Ok(self.refuse(RefusedWhy::Trailer));
         }
-        let place = D - PAUSE - 1 - usize::from(self.until);
-        self.arriving
-            .take(place, byte, journal.floor(), &mut self.mac);
+        self.arriving.take(byte);
         if self.until > 1 {
             return Ok(self.pass_by(None));
         }
@@ -644,15 +640,16 @@ impl<R: LineRules, M: Mac, const B: usize, const D: usize> Checker<R, M, B, D> {
     }
 
     // The number with which the burst with a whole trailer passes, or why it is refused.
-    fn verdict(&self, journal: &Journal) -> Result<u64, RefusedWhy>
+    fn verdict(&mut self, journal: &Journal) -> Result<u64, RefusedWhy>
+        ensures rest { self.new ≡ record self.old { mac = self.new.mac } }
+        ensures codes { (key text : List ℕ) → M.stands self.old.mac key text
+            → (rest : List ℕ) × M.stands self.new.mac key rest }
         ensures above { IfOk result (λ number. journal_floor journal.now < number) }
         ensures within { IfOk result (λ number. number ≤ LIMIT) }
         ensures judged { (setup : Setup) (line : List Tick) (d : Burst)
-            → CutStandsFor R.LineRules self.now.cut line
+            → CutStandsFor R.LineRules self.old.cut line
             → last_burst line ≡ Some d
-            → Arrives (λ n. (profile_of R.LineRules M.Mac B LIMIT setup).tag n
-            (live_bytes R.rules d)) (journal_floor journal.now) self.now.arriving
-            (trailer_so_far R.rules d)
+            → Codes R.LineRules M.Mac setup self.old.mac self.old.arriving d
             → length (trailer_so_far R.rules d) ≡ B + M.TAG
             → verdict_told result
             ≡ whole_verdict (profile_of R.LineRules M.Mac B LIMIT setup) R.rules
@@ -661,20 +658,36 @@ impl<R: LineRules, M: Mac, const B: usize, const D: usize> Checker<R, M, B, D> {
         if !self.cut.rules().good() {
             return Err(RefusedWhy::Form);
         }
-        let Some(number) = self.arriving.number() else {
+        let floor = journal.floor();
+        let Some(number) = self.arriving.number_above(floor) else {
             return Err(RefusedWhy::Number);
         };
         // what a word stands for is above the floor and within the limit
-        if number <= journal.floor() {
+        if number <= floor {
             return Err(RefusedWhy::Number);
         }
         if number > LIMIT {
             return Err(RefusedWhy::Number);
         }
-        if !self.arriving.same() {
+        if !self.has_tag_of(number) {
             return Err(RefusedWhy::Tag);
         }
         Ok(number)
+    }
+
+    // Whether the trailer has the tag of this number and the burst.
+    fn has_tag_of(&mut self, number: u64) -> bool
+        ensures rest { self.new ≡ record self.old { mac = self.new.mac } }
+        ensures codes { (key text : List ℕ) → M.stands self.old.mac key text
+            → (rest : List ℕ) × M.stands self.new.mac key rest }
+        ensures compared { (key text : List ℕ) → M.stands self.old.mac key text
+            → B ≤ length (bytes_come self.old.arriving)
+            → result ≡ bytes_eq (drop B (bytes_come self.old.arriving))
+            (M.tag_of key (text ++ to_be_bytes w64 number)) }
+    {
+        self.mac.update(&number.to_be_bytes());
+        let tag = self.mac.finish();
+        self.arriving.has_tag(&tag)
     }
 
     // The burst passes with a number that is committed.

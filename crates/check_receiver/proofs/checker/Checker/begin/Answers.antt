@@ -82,7 +82,7 @@ returns-in-Short g c = record {
       (λ bad. let head = c.head.ensures (line ++ Byte c.args.byte ∷ []) at.cuts in
       ⊎_elim (λ short. absurd cc) (λ good. absurd cc) c.in-Short.is)
       (start-coded g.R.LineRules g.M.Mac c.args.self.now last setup line c.args.byte at
-      c.update.new.self c.begin.new.self (λ tags floor. c.begin.ensures tags floor)
+      c.update.new.self c.begin.new.self c.begin.ensures
       (subst D to (subst L label begun))) in
       subst P (sym is) taken between;
   opens = λ last setup line at early good.

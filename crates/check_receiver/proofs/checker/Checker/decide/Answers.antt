@@ -1,19 +1,30 @@
-use Rattle.std.proofs.Common.{ℕ, [], ◌∷◌, ◌++◌, rules, sym, subst, Option}
+use Rattle.std.proofs.Common.{◌∙◌, ℕ, sym, ap, subst, rules, Option}
 use Rattle.link_verdicts.specs.declared.note.CheckNote.{CheckNote}
 use Rattle.sequence_journal.specs.Journal.{journal_floor}
 use Rattle.check_receiver.specs.Between.{IsNoPass}
 use Rattle.check_receiver.specs.Checkings.{CommitsNoted}
 use Rattle.check_receiver.specs.Stands.{HasTaken}
-use Rattle.check_receiver.proofs.Deciding.{decide-refuses, decide-passes, decide-fails}
+use Rattle.check_receiver.proofs.Deciding.{room-kept, decide-refuses, decide-passes, decide-fails}
 use Rattle.check_receiver.proofs.Journals.{journal-kept}
 use Rattle.check_receiver.proofs.checker.Checker.decide.Goals as goal
+
+pub refuse-requires : goal.refuse-requires
+refuse-requires g c = (
+  search rules,
+  room-kept c.args.self.now c.verdict.new.self c.verdict.ensures.rest c.requires.room,
+)
+
+pub returns-in-Err-clause-cut : goal.returns-in-Err-clause-cut
+returns-in-Err-clause-cut g c =
+    ap (λ v. v.cut) c.refuse.ensures.turned.rest ∙ ap (λ v. v.cut) c.verdict.ensures.rest
 
 pub returns-in-Err-clause-step : goal.returns-in-Err-clause-step
 returns-in-Err-clause-step g c = λ setup line t whole.
     decide-refuses g.R.LineRules g.M.Mac c.args.self.now (journal_floor c.args.journal.now) setup
-    line t whole c.in-Err.why c.in-Err.ensures.judged c.refuse.new.self c.refuse.result
-    c.refuse.ensures.turned (c.refuse.ensures.earliest (line ++ t ∷ []) whole.cuts)
-    (c.refuse.ensures.told (line ++ t ∷ []) whole.cuts)
+    line t whole c.verdict.new.self c.verdict.ensures.rest
+    (c.verdict.ensures.codes setup.key whole.key_text whole.codes) c.in-Err.why
+    c.in-Err.ensures.judged c.refuse.new.self c.refuse.result c.refuse.ensures.turned
+    c.refuse.ensures.earliest c.refuse.ensures.told
 
 pub returns-in-Err-clause-journal : goal.returns-in-Err-clause-journal
 returns-in-Err-clause-journal g c =
@@ -28,8 +39,20 @@ returns-in_default-clause-err_passes g c = (
   c.in-Ok.number,
   c.in_default.ensures.failed,
   λ setup line t whole. decide-fails g.R.LineRules g.M.Mac c.args.self.now
-      (journal_floor c.args.journal.now) setup line t whole c.in-Ok.number c.in-Ok.ensures.judged,
+      (journal_floor c.args.journal.now) setup line t whole c.verdict.new.self
+      c.verdict.ensures.rest (c.verdict.ensures.codes setup.key whole.key_text whole.codes)
+      c.in-Ok.number c.in-Ok.ensures.judged,
 )
+
+pub pass-requires : goal.pass-requires
+pass-requires g c = (
+  search rules,
+  room-kept c.args.self.now c.verdict.new.self c.verdict.ensures.rest c.requires.room,
+)
+
+pub returns-clause-cut : goal.returns-clause-cut
+returns-clause-cut g c =
+    ap (λ v. v.cut) c.pass.ensures.turned.rest ∙ ap (λ v. v.cut) c.verdict.ensures.rest
 
 pub returns-clause-step : goal.returns-clause-step
 returns-clause-step g c = λ setup line t whole.
@@ -37,9 +60,10 @@ returns-clause-step g c = λ setup line t whole.
     c.pass.result in
     subst S (sym c.in-Ok-commit.ensures.committed.floor)
     (decide-passes g.R.LineRules g.M.Mac c.args.self.now (journal_floor c.args.journal.now) setup
-    line t whole c.in-Ok.number c.in-Ok.ensures.judged c.pass.new.self c.pass.result
-    c.pass.ensures.turned c.pass.ensures.earliest
-    (c.pass.ensures.told (line ++ t ∷ []) whole.cuts))
+    line t whole c.verdict.new.self c.verdict.ensures.rest
+    (c.verdict.ensures.codes setup.key whole.key_text whole.codes) c.in-Ok.number
+    c.in-Ok.ensures.judged c.pass.new.self c.pass.result c.pass.ensures.turned
+    c.pass.ensures.earliest c.pass.ensures.told)
 
 pub returns-clause-journal : goal.returns-clause-journal
 returns-clause-journal g c =

@@ -1,4 +1,5 @@
 use Rattle.std.proofs.Common.{◌≡◌, ◌∙◌, ⊎_elim, ap, sym, subst, inl, Option, [], ◌∷◌, ◌++◌}
+use Rattle.std.proofs.Common.{ℕ, List, length}
 use Rattle.link_verdicts.specs.declared.note.CheckNote.{CheckNote}
 use Rattle.check_receiver.specs.Between.{IsNoPass, IsBetween}
 use Rattle.check_receiver.specs.Stands.{HasTaken}
@@ -8,6 +9,8 @@ use Rattle.yasir_ticks.specs.declared.tick.Tick.{Tick}
 use Rattle.frame_ending.specs.Cuts.{cut_of}
 use Rattle.frame_ending.specs.declared.cut.Cut.TheVariants.{Live}
 use Rattle.frame_ending.proofs.Running.{live-tick}
+use Rattle.frame_ending.specs.LiveBytes.{live_bytes}
+use Rattle.burst_walk.specs.Causal.{going_on}
 use Rattle.check_receiver.proofs.Resting.{rest-byte}
 use Rattle.check_receiver.proofs.Entering.{live-taken, live-coded}
 use Rattle.check_receiver.proofs.Dropping.{drop-live}
@@ -34,6 +37,8 @@ returns-in-Short g c = record {
       → HasTaken g.R.LineRules g.M.Mac c.enter.new.self last setup line u c.enter.result in
       let taken : P (Byte c.args.byte) = λ at.
       let d = waiting-some at.walks.waiting (sym at.walks.waits_is ∙ c.if-not-self.false) in
+      let text : List ℕ = g.R.LineRules.rules.label ∷ setup.direction
+      ∷ live_bytes g.R.LineRules.rules (going_on d.0 (length line) c.args.byte) in
       let coded = live-coded g.R.LineRules g.M.Mac c.args.self.now last setup line c.args.byte at
       c.update.new.self d.0 d.1 (λ key text codes. c.update.ensures key text codes) in
       live-taken g.R.LineRules g.M.Mac c.args.self.now last setup line c.args.byte at
@@ -41,7 +46,7 @@ returns-in-Short g c = record {
       c.enter.ensures.turned c.enter.ensures.until c.enter.ensures.note
       (λ bad. let head = c.head.ensures (line ++ Byte c.args.byte ∷ []) at.cuts in
       ⊎_elim (λ short. absurd cc) (λ good. absurd cc) c.in-Short.is)
-      d.0 d.1 (coded.text, coded.codes) coded c.if-not-self.false in
+      d.0 d.1 (text, coded.codes) coded c.if-not-self.false in
       subst P (sym is) taken between;
 }
 

@@ -1,4 +1,4 @@
-use Rattle.std.proofs.Common.{◌≡◌, ℕ, ◌-◌, List, [], ◌∷◌, ◌++◌, inr, sym, ap, subst, arith}
+use Rattle.std.proofs.Common.{◌≡◌, [], ◌∷◌, ◌++◌, inr, sym, subst, arith}
 use Rattle.std.proofs.Common.{refl, Option}
 use Rattle.std.proofs.lemmas.Result.{IfOk-weaker, on_err_weaker}
 use Rattle.yasir_ticks.specs.declared.tick.Tick.{Tick}
@@ -8,7 +8,6 @@ use Rattle.frame_ending.proofs.Running.{extra-tick}
 use Rattle.link_verdicts.specs.declared.note.CheckNote.{CheckNote}
 use Rattle.link_verdicts.specs.declared.note.RefusedWhy.TheVariants.{Trailer}
 use Rattle.sequence_journal.specs.Journal.{journal_floor}
-use Rattle.check_receiver.specs.Arrivals.{MayArrive, HasArrived}
 use Rattle.check_receiver.specs.Between.{IsNoPass}
 use Rattle.check_receiver.proofs.Hearing.{hears-between, until-long, break-taken}
 use Rattle.check_receiver.proofs.Journals.{journal-kept}
@@ -63,15 +62,9 @@ pub returns-then-self-gt1-clause-step : goal.returns-then-self-gt1-clause-step
 returns-then-self-gt1-clause-step g c = λ setup line t between.
     let until = c.from.ensures in
     let late = c.if-from.false in
-    let place : ℕ = g.row.D - 3 - 1 - c.from-2.result in
-    let T : ℕ → Type 0 = λ n. (tag_of : ℕ → List ℕ) (key text x : List ℕ)
-    → MayArrive g.M.Mac tag_of n place c.args.self.now.arriving c.args.self.now.mac key text x
-    → HasArrived g.M.Mac tag_of n c.take.new.self c.take.new.mac key text
-    (x ++ c.args.byte ∷ []) in
     more-taken g.R.LineRules g.M.Mac c.args.self.now (journal_floor c.args.journal.now) setup line t
-    c.args.byte between c.if-not-self.false (omega arith) c.take.new.self c.take.new.mac place
-    (ap (λ n. g.row.D - 3 - 1 - n) c.from-2.ensures)
-    (subst T c.floor.ensures.value c.take.ensures) c.if-self-gt1.true
+    c.args.byte between c.if-not-self.false (omega arith) c.take.new.self c.take.ensures
+    c.if-self-gt1.true
     c.pass_by-then-self-gt1.new.self c.pass_by-then-self-gt1.result
     c.pass_by-then-self-gt1.ensures.turned c.pass_by-then-self-gt1.ensures.note
 
@@ -86,28 +79,17 @@ pub returns-clause-step : goal.returns-clause-step
 returns-clause-step g c =
     let until = c.from.ensures in
     let late = c.if-from.false in
-    let place : ℕ = g.row.D - 3 - 1 - c.from-2.result in
-    let T : ℕ → Type 0 = λ n. (tag_of : ℕ → List ℕ) (key text x : List ℕ)
-    → MayArrive g.M.Mac tag_of n place c.args.self.now.arriving c.args.self.now.mac key text x
-    → HasArrived g.M.Mac tag_of n c.take.new.self c.take.new.mac key text
-    (x ++ c.args.byte ∷ []) in
     IfOk-weaker c.decide.result _ _
     (λ step takes setup line t between. takes setup line t
     (whole-taken g.R.LineRules g.M.Mac c.args.self.now (journal_floor c.args.journal.now) setup line
-    t c.args.byte between c.if-not-self.false (omega arith) c.take.new.self c.take.new.mac place
-    (ap (λ n. g.row.D - 3 - 1 - n) c.from-2.ensures)
-    (subst T c.floor.ensures.value c.take.ensures) c.if-self-gt1.false))
+    t c.args.byte between c.if-not-self.false (omega arith) c.take.new.self c.take.ensures
+    c.if-self-gt1.false))
     c.decide.ensures.step
 
 pub returns-clause-err_passes : goal.returns-clause-err_passes
 returns-clause-err_passes g c =
     let until = c.from.ensures in
     let late = c.if-from.false in
-    let place : ℕ = g.row.D - 3 - 1 - c.from-2.result in
-    let T : ℕ → Type 0 = λ n. (tag_of : ℕ → List ℕ) (key text x : List ℕ)
-    → MayArrive g.M.Mac tag_of n place c.args.self.now.arriving c.args.self.now.mac key text x
-    → HasArrived g.M.Mac tag_of n c.take.new.self c.take.new.mac key text
-    (x ++ c.args.byte ∷ []) in
     on_err_weaker c.decide.result
     (λ fails. (
       fails.0,
@@ -115,7 +97,6 @@ returns-clause-err_passes g c =
       λ setup line t between. fails.2 setup line t
           (whole-taken g.R.LineRules g.M.Mac c.args.self.now (journal_floor c.args.journal.now)
           setup line t c.args.byte between c.if-not-self.false (omega arith) c.take.new.self
-          c.take.new.mac place (ap (λ n. g.row.D - 3 - 1 - n) c.from-2.ensures)
-          (subst T c.floor.ensures.value c.take.ensures) c.if-self-gt1.false),
+          c.take.ensures c.if-self-gt1.false),
     ))
     c.decide.ensures.err_passes

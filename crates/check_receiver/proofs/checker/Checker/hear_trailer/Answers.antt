@@ -7,8 +7,8 @@ use Rattle.delay_ring.specs.DelayRing.{ring_ticks}
 use Rattle.burst_walk.specs.Answered.{answered}
 use Rattle.check_receiver.specs.Runs.{HasTakenRun, IsFront}
 use Rattle.check_receiver.proofs.Lending.{same-taken}
-use Rattle.check_receiver.proofs.RunsTaken.{tag-taken}
-use Rattle.check_receiver.proofs.checker.Checker.hear_tag.Goals as goal
+use Rattle.check_receiver.proofs.RunsTaken.{trailer-taken}
+use Rattle.check_receiver.proofs.checker.Checker.hear_trailer.Goals as goal
 
 pub returns-then-until-lt2-clause-run : goal.returns-then-until-lt2-clause-run
 returns-then-until-lt2-clause-run g c = λ last setup line stands.
@@ -17,11 +17,6 @@ returns-then-until-lt2-clause-run g c = λ last setup line stands.
 
 pub returns-then-until-clause-run : goal.returns-then-until-clause-run
 returns-then-until-clause-run g c = λ last setup line stands.
-    same-taken g.R.LineRules g.M.Mac c.args.self.now last setup line stands c.args.left.now.items
-    c.requires.empty
-
-pub returns-then-place-clause-run : goal.returns-then-place-clause-run
-returns-then-place-clause-run g c = λ last setup line stands.
     same-taken g.R.LineRules g.M.Mac c.args.self.now last setup line stands c.args.left.now.items
     c.requires.empty
 
@@ -38,18 +33,16 @@ returns-clause-run g c = λ last setup line stands.
     let widened = c.from-until.ensures in
     let many = c.if-until-lt2.false in
     let behind = c.if-until.false in
-    let tagged = c.if-place.false in
     let few = c.pass_over_some-taken.ensures.within in
     let long : length part ≡ count = length-take-le count c.args.bytes.now (omega arith) in
     let size : length heard ≡ taken = length-take-le taken part (omega arith) in
     let items : List ℕ = c.lend.new.left.items in
-    let place : ℕ = g.row.D - 3 - old.until - g.row.B in
     let F : ℕ → Type 0 = λ k. IsFront (ring_ticks old.ring) k items in
     let G : ℕ → Type 0 = λ k. ring_ticks c.pass_silence.new.self
     ≡ drop k (ring_ticks old.ring ++ silent k) in
     let new = record old {
       cut = c.pass_over_some-taken.new.self;
-      arriving = c.take_tag.new.self;
+      arriving = c.take_some.new.self;
       ring = c.pass_silence.new.self;
       outlet = c.lend.new.outlet;
       until = old.until - taken;
@@ -60,12 +53,12 @@ returns-clause-run g c = λ last setup line stands.
     (map (λ b. Byte b) y) (answered taken items) in
     subst Ticks (take-take taken count c.args.bytes.now (omega arith))
     (subst Len size
-    (tag-taken g.R.LineRules g.M.Mac old last setup line stands c.pass_over_some-taken.new.self
+    (trailer-taken g.R.LineRules g.M.Mac old last setup line stands c.pass_over_some-taken.new.self
     c.pass_silence.new.self c.lend.new.outlet count items (old.until - taken) (omega arith)
     c.front_alike-count.ensures.alike c.lend.ensures.stands c.lend.ensures.owed heard
-    c.take_tag.new.self place c.requires.waits (omega arith) (omega arith) (omega arith)
+    c.take_some.new.self c.requires.waits (omega arith) (omega arith) (omega arith)
     (c.pass_over_some-taken.ensures.stands line stands.cuts)
     (c.pass_over_some-taken.ensures.extra line stands.cuts)
-    (λ tag_of floor y arrived there. c.take_tag.ensures tag_of floor y arrived (omega arith))
+    c.take_some.ensures
     (subst F (sym size) c.lend.ensures.front) (subst G (sym size) c.pass_silence.ensures)
     (omega arith)))
