@@ -279,7 +279,8 @@ impl<R: LineRules, M: Mac, const B: usize, const D: usize> Checker<R, M, B, D> {
             (map Byte (take result bytes.now)) (answered result left.new.items) }
     {
         let until = usize::from(self.until);
-        if until < 2 {
+        // the next byte is the trailer's last one
+        if until < 3 {
             return 0;
         }
         if D < until + PAUSE {
@@ -417,6 +418,9 @@ impl<R: LineRules, M: Mac, const B: usize, const D: usize> Checker<R, M, B, D> {
             (silent result) (answered result left.new.items) }
     {
         let still = usize::from(self.until) - 1;
+        if still == 0 {
+            return 0;
+        }
         let most = (ticks as usize).min(still).min(D);
         let count = self.ring.front_alike(most);
         lend(&self.ring, &mut self.outlet, count, left);

@@ -45,6 +45,17 @@ pub fn cut_some<R: LineRules>(cut: &mut BurstCut<R>, bytes: &[u8]) -> usize
 // How many bytes a header has at most.
 const HEADER_MOST: usize = 10;
 
+// Whether there is a whole and good header so far.
+#[inline]
+fn has_good_head<R: LineRules>(rules: &R) -> bool
+    ensures { result ≡ true → (x : List ℕ) → R.stands rules.now x → head_of R.rules x ≡ Good }
+{
+    match rules.head() {
+        Head::Good => true,
+        Head::Short | Head::Bad => false,
+    }
+}
+
 // Whether these bytes begin with a whole and good header.
 #[inline]
 pub fn begin_well<R: LineRules>(bytes: &[u8]) -> bool
@@ -52,6 +63,10 @@ pub fn begin_well<R: LineRules>(bytes: &[u8]) -> bool
         × (head_of R.rules (take n bytes.now) ≡ Good) }
 {
     let mut rules = R::fresh();
+    // a protocol without headers
+    if has_good_head(&rules) {
+        return true;
+    }
     let _ = rules.take_some(&bytes[..bytes.len().min(HEADER_MOST)]);
     match rules.head() {
         Head::Good => true,

@@ -10,8 +10,8 @@ use Rattle.check_receiver.proofs.Lending.{same-taken}
 use Rattle.check_receiver.proofs.RunsTaken.{trailer-taken}
 use Rattle.check_receiver.proofs.checker.Checker.hear_trailer.Goals as goal
 
-pub returns-then-until-lt2-clause-run : goal.returns-then-until-lt2-clause-run
-returns-then-until-lt2-clause-run g c = λ last setup line stands.
+pub returns-then-until-lt3-clause-run : goal.returns-then-until-lt3-clause-run
+returns-then-until-lt3-clause-run g c = λ last setup line stands.
     same-taken g.R.LineRules g.M.Mac c.args.self.now last setup line stands c.args.left.now.items
     c.requires.empty
 
@@ -31,7 +31,7 @@ returns-clause-run g c = λ last setup line stands.
     let most = c.min-most.ensures in
     let first = c.min.ensures in
     let widened = c.from-until.ensures in
-    let many = c.if-until-lt2.false in
+    let many = c.if-until-lt3.false in
     let behind = c.if-until.false in
     let few = c.pass_over_some-taken.ensures.within in
     let long : length part ≡ count = length-take-le count c.args.bytes.now (omega arith) in

@@ -2,9 +2,15 @@ use Rattle.std.proofs.Common.{◌-◌, arith, ℕ}
 use Rattle.std.proofs.lemmas.List.{length-replicate}
 use Rattle.yasir_ticks.specs.Ticks.{silent}
 use Rattle.yasir_ticks.specs.declared.tick.Tick.TheVariants.{Silent}
+use Rattle.check_receiver.proofs.Lending.{same-taken}
 use Rattle.check_receiver.proofs.RestRuns.{silence-begin_none}
 use Rattle.check_receiver.proofs.RunsTaken.{flow-counted}
 use Rattle.check_receiver.proofs.checker.Checker.rest_some.Goals as goal
+
+pub returns-then-still-eq0-clause-run : goal.returns-then-still-eq0-clause-run
+returns-then-still-eq0-clause-run g c = λ last setup line stands.
+    same-taken g.R.LineRules g.M.Mac c.args.self.now last setup line stands c.args.left.now.items
+    c.requires.empty
 
 pub returns-clause-run : goal.returns-clause-run
 returns-clause-run g c = λ last setup line stands.
