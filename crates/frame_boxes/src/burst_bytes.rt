@@ -6,11 +6,8 @@ ghost use Rattle.yasir_ticks.specs.declared.TheConstants.{T3_5_TICKS};
 ghost use Rattle.replay_lists.specs.FrameList.{longest_frame};
 ghost use Rattle.frame_boxes.specs.BurstBytes.{BurstFor, burst_bytes_so_far};
 
-use arrayvec::ArrayVec;
+use crate::frame_room::{FrameRoom, LONGEST};
 use yasir_ticks::{T3_5_TICKS, Tick};
-
-/// How many bytes the longest frame has.
-const LONGEST: usize = 292;
 
 /// The first bytes of the burst of a line that is running or was the last, as many as the longest
 /// frame has. The live ones, which can be a frame, stand at their front, whatever the rules are.
@@ -18,7 +15,7 @@ const LONGEST: usize = 292;
 pub struct BurstBytes {
     // silent ticks since the last byte, counted up to `T3_5_TICKS`
     quiet: u8,
-    bytes: ArrayVec<u8, 292>,
+    bytes: FrameRoom,
 }
 
 impl BurstBytes {
@@ -28,7 +25,7 @@ impl BurstBytes {
     {
         BurstBytes {
             quiet: T3_5_TICKS,
-            bytes: ArrayVec::new(),
+            bytes: FrameRoom::new(),
         }
     }
 
@@ -41,7 +38,7 @@ impl BurstBytes {
     {
         let room = LONGEST - self.bytes.len();
         let count = room.min(bytes.len());
-        let _ = self.bytes.try_extend_from_slice(&bytes[..count]);
+        self.bytes.append(&bytes[..count]);
     }
 
     // A byte comes, which begins a burst behind silence that closes one.
@@ -53,7 +50,7 @@ impl BurstBytes {
             → self.new.bytes.items ≡ self.old.bytes.items }
     {
         if self.quiet >= T3_5_TICKS {
-            self.bytes.clear();
+            self.bytes.empty();
         }
         self.quiet = 0;
     }

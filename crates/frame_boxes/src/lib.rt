@@ -4,6 +4,7 @@
 
 mod burst_bytes;
 mod check_noting;
+mod frame_room;
 mod noting_box;
 mod seal_noting;
 mod shown_frames;
