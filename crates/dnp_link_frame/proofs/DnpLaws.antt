@@ -153,7 +153,7 @@ blocks-kept x b user goes_on =
     (omega (arith, length-drop 10 x)))
 
 -- no block is finished with the header
-blocks-none : (x : List ℕ) → length x ≤ 11 → blocks_so_far x ≡ true
+pub blocks-none : (x : List ℕ) → length x ≤ 11 → blocks_so_far x ≡ true
 blocks-none x header =
     let none : (length x - 11) / 18 ≡ 0 = omega arith in
     ap (λ n. end_in_crcs n (drop 10 x)) none ∙ end_in_crcs-none (drop 10 x)

@@ -5,13 +5,14 @@ use Rattle.std.proofs.Common.{arith, sym, ◌∙◌, ap, ⊎_elim}
 use Rattle.std.specs.Prelude.{if◌then◌else◌}
 use Rattle.std.proofs.lemmas.List.{length_push, get_or_append_left, get_or_push, get_or_past}
 use Rattle.std.proofs.lemmas.List.{get_or-take, length-take-le, take_all, take-append-le}
+use Rattle.std.proofs.lemmas.List.{get_or_default}
 use Rattle.std.proofs.lemmas.Bool.{cases_lt, cases_eq, cond-true, cond-false, and_from, and_left}
 use Rattle.std.proofs.lemmas.Bool.{and_right, lt-ltb, le-ltb, eq-eqb, ne_eqb}
 use Rattle.line_rules.specs.Bytes.{AreBytes}
 use Rattle.dnp_link_frame.specs.Crc.{register_of}
 use Rattle.dnp_link_frame.specs.Blocks.{ends_in_crc, begins_right, is_good_header, running_block}
 use Rattle.dnp_link_frame.specs.BlockLaws.{running_block-header}
-use Rattle.dnp_link_frame.specs.Steps.{residue, fits_header}
+use Rattle.dnp_link_frame.specs.Steps.{residue, fits_header, is_header}
 use Rattle.dnp_link_frame.specs.Dnp.{header_so_far}
 use Rattle.dnp_link_frame.proofs.Residue.{residue_decides}
 
@@ -228,3 +229,19 @@ header_so_far-whole x whole =
     ∙ (ap (λ t. t && ends_in_crc (take 10 x)) (sym (begins_right-take x))
     ∙ ap (λ t. t && begins_right (take 10 x) && ends_in_crc (take 10 x))
     (sym (eq-eqb (length (take 10 x)) 10 (length-take-le 10 x whole))))
+
+-- of ten bytes
+pub header_so_far-ten : (x : List ℕ) → length x ≡ 10 → AreBytes x
+    → header_so_far x ≡ is_header (get_or x 0 0) (get_or x 1 0) (get_or x 2 0) (register_of x)
+unfolding header_so_far begins_right
+header_so_far-ten x ten bytes =
+    let last : crc_so_far x ≡ (register_of x == residue) =
+    crc_so_far-whole x (omega arith)
+    ∙ (ap ends_in_crc (take_all 10 x (omega arith)) ∙ sym (residue_decides x bytes)) in
+    ap (λ t. begins_right x && t) last
+    ∙ (ap (λ b. ((b == 0x05 && get_or x 1 0x64 == 0x64) && nat_le 5 (get_or x 2 5))
+    && register_of x == residue) (get_or_default x 0 0x05 0 (omega arith))
+    ∙ (ap (λ b. ((get_or x 0 0 == 0x05 && b == 0x64) && nat_le 5 (get_or x 2 5))
+    && register_of x == residue) (get_or_default x 1 0x64 0 (omega arith))
+    ∙ ap (λ b. ((get_or x 0 0 == 0x05 && get_or x 1 0 == 0x64) && nat_le 5 b)
+    && register_of x == residue) (get_or_default x 2 5 0 (omega arith))))

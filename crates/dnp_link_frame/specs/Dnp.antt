@@ -1,6 +1,6 @@
 -- What a value of the rules of the DNP3 link layer stands for.
-use Rattle.std.specs.Prelude.{◌≡◌, ℕ, ◌-◌, ◌/◌, ◌≤◌, ◌==◌, ◌&&◌, ◌||◌, nat_le, nat_lt, Bool, List}
-use Rattle.std.specs.Prelude.{length, take, drop}
+use Rattle.std.specs.Prelude.{◌≡◌, ℕ, ◌+◌, ◌-◌, ◌/◌, ◌≤◌, ◌==◌, ◌&&◌, ◌||◌, nat_le, nat_lt, Bool, List}
+use Rattle.std.specs.Prelude.{◌++◌, length, take, drop}
 use Rattle.std.proofs.Common.{arith, ◌∙◌, sym, ap, ⊎_elim}
 use Rattle.std.proofs.lemmas.Bool.{cases_lt, le-leb, lt-leb, eq-eqb, ne_eqb}
 use Rattle.line_rules.specs.Bytes.{AreBytes}
@@ -27,6 +27,12 @@ pub record DnpStandsFor (value : Dnp) (x : List ℕ) : Type 0 where
   pub blocks : value.blocks_right ≡ blocks_so_far x
   pub short : length x ≤ room_of x
   pub bytes : AreBytes x
+
+-- The new value stands for what the old one does and these bytes, and they don't change LEN.
+pub record Appends (old new : Dnp) (run : List ℕ) : Type 0 where
+  pub stands : (x : List ℕ) → DnpStandsFor old x → DnpStandsFor new (x ++ run)
+  pub count : new.len ≡ old.len + length run
+  pub tells : new.len_byte ≡ old.len_byte
 
 abbrev pub is_full_dnp : Dnp → Bool
 is_full_dnp value = nat_le (room_by value.len_byte) value.len

@@ -1,6 +1,7 @@
 -- What one more byte does to what is kept of the bytes so far: functions of how many bytes there
 -- are before it, of what was kept, and of the byte.
-use Rattle.std.specs.Prelude.{ℕ, ◌-◌, ◌%◌, ◌==◌, ◌&&◌, nat_le, nat_lt, Bool, true, if◌then◌else◌}
+use Rattle.std.specs.Prelude.{ℕ, ◌+◌, ◌-◌, ◌%◌, ◌≤◌, ◌==◌, ◌&&◌, nat_le, nat_lt, Bool, true}
+use Rattle.std.specs.Prelude.{◌⊎◌, if◌then◌else◌}
 use Rattle.line_rules.specs.Crc.{byte_step}
 use Rattle.line_rules.specs.declared.head.Head.{Head}
 use Rattle.line_rules.specs.declared.head.Head.TheVariants.{Short, Good, Bad}
@@ -13,6 +14,15 @@ residue = 0x66C5
 -- the byte after so many is the first of a block of user data
 abbrev pub begins_block : ℕ → Bool
 begins_block n = nat_le 10 n && (n - 10) % 18 == 0
+
+-- of how many bytes more, after so many behind a header, the block is that of the byte before them
+abbrev pub left_in_block : ℕ → ℕ
+left_in_block n = (18 - (n - 10) % 18) % 18
+
+-- So many bytes more, after so many, are of the part that the byte before them is of: they stand
+-- between LEN and the last byte of a header, or in a block.
+abbrev pub GoOn : ℕ → ℕ → Type 0
+GoOn n more = ((3 ≤ n) × (n + more ≤ 9)) ⊎ ((10 ≤ n) × (more ≤ left_in_block n))
 
 -- the register before the byte of the block that the byte belongs to
 abbrev pub register_before : ℕ → ℕ → ℕ
@@ -31,6 +41,11 @@ fits_header n register byte =
     else if n == 2 then nat_le 5 byte
     else if n == 9 then register == residue
     else true
+
+-- whether a header is right that begins with these bytes, where the register is what all leave
+abbrev pub is_header : ℕ → ℕ → ℕ → ℕ → Bool
+is_header first second len register =
+    first == 0x05 && second == 0x64 && nat_le 5 len && register == residue
 
 -- what a header says of which so many bytes are there
 abbrev pub head_by : ℕ → Bool → Head

@@ -1,10 +1,10 @@
 use crate::crc::FIRST_REGISTER;
 use crate::size::{HEADER_LEN, LONGEST, room_by, size_by};
 use crate::steps::{
-    blocks_after, ends_right, head_by, header_after, is_whole, left_in_block, len_byte_after,
-    register_after, register_before,
+    blocks_after, blocks_at_beginning, ends_right, head_by, header_after, is_header, is_whole,
+    left_in_block, len_byte_after, register_after,
 };
-use crate::table::after_bytes;
+use crate::table::{after_byte, after_bytes};
 use line_rules::{Head, LineRules};
 
 /// The bytes of a burst so far, as the rules of the DNP3 link layer see them: how many there are,
@@ -24,44 +24,76 @@ pub struct Dnp {
 }
 
 impl Dnp {
-    ghost use Rattle.std.specs.Prelude.{◌≡◌, ℕ, ◌+◌, ◌-◌, ◌%◌, ◌<◌, ◌≤◌, false, List, ◌++◌};
+    ghost use Rattle.std.specs.Prelude.{◌≡◌, ℕ, ◌+◌, ◌<◌, ◌≤◌, true, false, List, ◌++◌};
     ghost use Rattle.std.specs.Prelude.{length, take};
     ghost use Rattle.line_rules.specs.Rules.{fills_room};
     ghost use Rattle.dnp_link_frame.specs.Blocks.{room_by};
     ghost use Rattle.dnp_link_frame.specs.Rules.{dnp_rules};
-    ghost use Rattle.dnp_link_frame.specs.Dnp.{DnpStandsFor, is_full_dnp};
+    ghost use Rattle.dnp_link_frame.specs.Steps.{begins_block, GoOn};
+    ghost use Rattle.dnp_link_frame.specs.Dnp.{DnpStandsFor, Appends, is_full_dnp};
 
-    // Appends bytes behind the header that all belong to one block.
+    // Appends a whole header to no bytes.
     #[inline]
-    fn take_in_block(&mut self, run: &[u8])
-        requires behind { 10 ≤ self.old.len }
-        requires some { 0 < length run.now }
-        requires block { (self.old.len - 10) % 18 + length run.now ≤ 18 }
-        requires room { self.old.len + length run.now ≤ room_by self.old.len_byte }
-        ensures { (x : List ℕ) → DnpStandsFor self.old x → DnpStandsFor self.new (x ++ run.now) }
+    fn take_header(&mut self, header: &[u8; 10])
+        requires { self.old.len ≡ 0 }
+        ensures { (x : List ℕ) → DnpStandsFor self.old x → DnpStandsFor self.new (x ++ header.now) }
     {
-        self.blocks_right = blocks_after(self.len, self.blocks_right, self.register);
-        self.register = after_bytes(register_before(self.len, self.register), run);
-        self.len += run.len() as u16;
+        self.len = HEADER_LEN;
+        self.len_byte = header[2];
+        self.register = after_bytes(FIRST_REGISTER, header);
+        self.header_right = is_header(header[0], header[1], header[2], self.register);
     }
 
-    // Appends bytes of a header between LEN and its last byte. No test is made of them.
+    // Appends bytes of the part, header or block, that the byte before them is of. No test is made
+    // of them.
     #[inline]
-    fn take_in_header(&mut self, run: &[u8])
-        requires behind { 3 ≤ self.old.len }
-        requires before { self.old.len + length run.now ≤ 9 }
-        ensures { (x : List ℕ) → DnpStandsFor self.old x → DnpStandsFor self.new (x ++ run.now) }
+    fn go_on(&mut self, run: &[u8])
+        requires part { GoOn self.old.len (length run.now) }
+        requires room { self.old.len + length run.now ≤ room_by self.old.len_byte }
+        ensures { Appends self.old self.new run.now }
     {
         self.register = after_bytes(self.register, run);
         self.len += run.len() as u16;
     }
 
-    // Appends the next byte of a header, or as many as stand between LEN and its last byte; says
-    // how many.
+    // Appends the first bytes of a block, or all of them.
+    #[inline]
+    fn begin_block(&mut self, run: &[u8])
+        requires begins { begins_block self.old.len ≡ true }
+        requires some { 0 < length run.now }
+        requires block { length run.now ≤ 18 }
+        requires room { self.old.len + length run.now ≤ room_by self.old.len_byte }
+        ensures { Appends self.old self.new run.now }
+    {
+        self.blocks_right = blocks_at_beginning(self.len, self.blocks_right, self.register);
+        self.register = after_bytes(FIRST_REGISTER, run);
+        self.len += run.len() as u16;
+    }
+
+    // Appends bytes behind the header, for all of which there is room.
+    #[inline]
+    fn take_blocks(&mut self, run: &[u8])
+        requires behind { 10 ≤ self.old.len }
+        requires room { self.old.len + length run.now ≤ room_by self.old.len_byte }
+        ensures { Appends self.old self.new run.now }
+    {
+        let first = run.len().min(left_in_block(self.len));
+        self.go_on(&run[..first]);
+        let mut rest = &run[first..];
+        while let Some((block, more)) = rest.split_first_chunk::<18>() {
+            self.begin_block(block);
+            rest = more;
+        }
+        if !rest.is_empty() {
+            self.begin_block(rest);
+        }
+    }
+
+    // Appends the next bytes of a header: all of it, the next byte, or as many as stand between LEN
+    // and its last byte; says how many.
     #[inline]
     fn take_of_header(&mut self, rest: &[u8]) -> usize
         requires short { self.old.len < 10 }
-        requires room { is_full_dnp self.old ≡ false }
         requires some { 0 < length rest.now }
         ensures some { 0 < result }
         ensures within { result ≤ length rest.now }
@@ -70,36 +102,39 @@ impl Dnp {
         ensures room { (x : List ℕ) (n : ℕ) → DnpStandsFor self.old x → n < result
             → fills_room dnp_rules (x ++ take n rest.now) ≡ false }
     {
+        if self.len == 0 {
+            if let Some((header, _)) = rest.split_first_chunk::<10>() {
+                self.take_header(header);
+                return header.len();
+            }
+        }
         if self.len < 3 || self.len >= HEADER_LEN - 1 {
             self.take(rest[0]);
             return 1;
         }
         let run = rest.len().min(usize::from(HEADER_LEN - 1 - self.len));
-        self.take_in_header(&rest[..run]);
+        self.go_on(&rest[..run]);
         run
     }
 
-    // Appends bytes of a header, or of what is behind it as many bytes as belong to one block and
-    // have room; says how many.
+    // Appends bytes behind the header, as many as there is room for; says how many.
     #[inline]
-    fn take_next(&mut self, rest: &[u8]) -> usize
-        requires room { is_full_dnp self.old ≡ false }
-        requires some { 0 < length rest.now }
-        ensures some { 0 < result }
+    fn take_user(&mut self, rest: &[u8]) -> usize
+        requires behind { 10 ≤ self.old.len }
         ensures within { result ≤ length rest.now }
         ensures stands { (x : List ℕ) → DnpStandsFor self.old x
             → DnpStandsFor self.new (x ++ take result rest.now) }
+        ensures all { result < length rest.now → is_full_dnp self.new ≡ true }
         ensures room { (x : List ℕ) (n : ℕ) → DnpStandsFor self.old x → n < result
             → fills_room dnp_rules (x ++ take n rest.now) ≡ false }
     {
-        if self.len < HEADER_LEN {
-            return self.take_of_header(rest);
+        if self.full() {
+            return 0;
         }
-        let room = room_by(self.len_byte) - self.len;
         let run = rest
             .len()
-            .min(usize::from(room.min(left_in_block(self.len))));
-        self.take_in_block(&rest[..run]);
+            .min(usize::from(room_by(self.len_byte) - self.len));
+        self.take_blocks(&rest[..run]);
         run
     }
 }
@@ -172,20 +207,25 @@ impl LineRules for Dnp {
 
     #[inline]
     fn take(&mut self, b: u8) {
-        self.blocks_right = blocks_after(self.len, self.blocks_right, self.register);
-        self.register = register_after(self.len, self.register, b);
-        self.header_right = header_after(self.len, self.header_right, self.register, b);
-        self.len_byte = len_byte_after(self.len, self.len_byte, b);
+        let len = self.len;
         self.len += 1;
+        if len < HEADER_LEN {
+            self.register = after_byte(self.register, b);
+            self.header_right = header_after(len, self.header_right, self.register, b);
+            self.len_byte = len_byte_after(len, self.len_byte, b);
+            return;
+        }
+        self.blocks_right = blocks_after(len, self.blocks_right, self.register);
+        self.register = register_after(len, self.register, b);
     }
 
     fn take_some(&mut self, part: &[u8]) -> usize {
         let mut taken = 0;
         while taken < part.len() {
-            if self.full() {
-                return taken;
+            if self.len >= HEADER_LEN {
+                return taken + self.take_user(&part[taken..]);
             }
-            taken += self.take_next(&part[taken..]);
+            taken += self.take_of_header(&part[taken..]);
         }
         taken
     }

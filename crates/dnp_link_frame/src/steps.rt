@@ -1,7 +1,7 @@
 //! What one more byte does to what is kept of the bytes so far.
-ghost use Rattle.std.specs.Prelude.{◌≡◌, ◌+◌, ◌-◌, ◌%◌, ◌≤◌, ◌&&◌};
-ghost use Rattle.dnp_link_frame.specs.Steps.{begins_block, register_before, register_after};
-ghost use Rattle.dnp_link_frame.specs.Steps.{fits_header, head_by};
+ghost use Rattle.std.specs.Prelude.{◌≡◌, ◌≤◌, ◌&&◌, true};
+ghost use Rattle.dnp_link_frame.specs.Steps.{begins_block, left_in_block, register_before};
+ghost use Rattle.dnp_link_frame.specs.Steps.{register_after, fits_header, is_header, head_by};
 ghost use Rattle.dnp_link_frame.specs.Steps.{blocks_after, len_byte_after, is_whole, ends_right};
 
 use crate::crc::{FIRST_REGISTER, RESIDUE};
@@ -22,13 +22,17 @@ fn begins_block(len: u16) -> bool
     len >= HEADER_LEN && (len - HEADER_LEN) % BLOCK_LEN == 0
 }
 
-// How many bytes more, after so many of a frame whose header is whole, belong to one block.
+// How many bytes more, after so many of a frame whose header is whole, belong to the block of the
+// byte before them.
 #[inline]
-pub(crate) fn left_in_block(len: u16) -> u16
+pub(crate) fn left_in_block(len: u16) -> usize
     requires { 10 ≤ len }
-    ensures { result + (len - 10) % 18 ≡ 18 }
+    ensures { result ≡ left_in_block len }
 {
-    BLOCK_LEN - (len - HEADER_LEN) % BLOCK_LEN
+    match (len - HEADER_LEN) % BLOCK_LEN {
+        0 => 0,
+        begun => usize::from(BLOCK_LEN - begun),
+    }
 }
 
 // The register that the block of the next byte begins with, where it begins with that byte, or has
@@ -71,6 +75,14 @@ pub(crate) fn header_after(len: u16, header_right: bool, register: u16, byte: u8
     header_right && fits_header(len, register, byte)
 }
 
+// Whether a header is right that begins with these three bytes and leaves this register.
+#[inline]
+pub(crate) fn is_header(first: u8, second: u8, len_byte: u8, register: u16) -> bool
+    ensures { result ≡ is_header first second len_byte register }
+{
+    first == START[0] && second == START[1] && len_byte >= COUNTED_OF_HEADER && register == RESIDUE
+}
+
 // What a header says of which so many bytes are there.
 #[inline]
 pub(crate) fn head_by(len: u16, header_right: bool) -> Head
@@ -82,13 +94,26 @@ pub(crate) fn head_by(len: u16, header_right: bool) -> Head
     if header_right { Head::Good } else { Head::Bad }
 }
 
+// Where the byte after so many begins a block: whether the blocks before it are right. The register
+// is that of the last of them.
+#[inline]
+pub(crate) fn blocks_at_beginning(len: u16, blocks_right: bool, register: u16) -> bool
+    requires { begins_block len ≡ true }
+    ensures { result ≡ blocks_after len blocks_right register }
+{
+    if len > HEADER_LEN {
+        return blocks_right && register == RESIDUE;
+    }
+    blocks_right
+}
+
 // The register is the one before the byte, so that of a block that it may end.
 #[inline]
 pub(crate) fn blocks_after(len: u16, blocks_right: bool, register: u16) -> bool
     ensures { result ≡ blocks_after len blocks_right register }
 {
-    if begins_block(len) && len > HEADER_LEN {
-        return blocks_right && register == RESIDUE;
+    if begins_block(len) {
+        return blocks_at_beginning(len, blocks_right, register);
     }
     blocks_right
 }

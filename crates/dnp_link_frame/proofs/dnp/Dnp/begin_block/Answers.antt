@@ -1,9 +1,8 @@
-use Rattle.std.proofs.Common.{◌<◌, ◌∙◌, refl, ap, arith}
+use Rattle.std.proofs.Common.{◌<◌, refl, arith}
 use Rattle.std.proofs.lemmas.List.Elements.{All-from_get_or}
-use Rattle.line_rules.specs.Crc.{crc}
 use Rattle.dnp_link_frame.specs.BlockLaws.{room_by-most}
-use Rattle.dnp_link_frame.proofs.DnpRuns.{dnp_take_in_block}
-use Rattle.dnp_link_frame.proofs.dnp.Dnp.take_in_block.Goals as goal
+use Rattle.dnp_link_frame.proofs.DnpRuns.{dnp_begin_block}
+use Rattle.dnp_link_frame.proofs.dnp.Dnp.begin_block.Goals as goal
 
 pub overflow_add-self : goal.overflow_add-self
 overflow_add-self c =
@@ -12,10 +11,8 @@ overflow_add-self c =
     omega arith
 
 pub returns : goal.returns
-returns c = dnp_take_in_block c.args.self.now _ c.args.run.now c.requires.behind c.requires.some
+returns c = dnp_begin_block c.args.self.now _ c.args.run.now c.requires.begins c.requires.some
     c.requires.block c.requires.room
     (All-from_get_or (λ b. b < 256) c.args.run.now 0
     (λ i within. let fits = c.type_inv.run i in omega arith))
-    refl refl
-    (c.after_bytes-self.ensures ∙ ap (λ r. crc 0xA6BC r c.args.run.now) c.register_before.ensures)
-    refl c.blocks_after-self.ensures
+    refl refl c.after_bytes-self.ensures refl c.blocks_at_beginning-self.ensures
