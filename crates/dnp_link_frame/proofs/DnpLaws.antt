@@ -27,11 +27,12 @@ use Rattle.dnp_link_frame.specs.BlockLaws.{end_in_crcs-last, end_in_crcs-append}
 use Rattle.dnp_link_frame.specs.BlockLaws.{block_start-header, block_start-user, blocks_for-last}
 use Rattle.dnp_link_frame.specs.BlockLaws.{running_block-header, running_block-user}
 use Rattle.dnp_link_frame.specs.BlockLaws.{is_good_header-begins}
-use Rattle.dnp_link_frame.specs.BlockLaws.{room_by-least}
+use Rattle.dnp_link_frame.specs.BlockLaws.{room_by-wrong}
 use Rattle.dnp_link_frame.specs.Rules.{dnp_rules}
 use Rattle.dnp_link_frame.specs.RulesLaws.{dnp_lawful, running_block-push, head_of-short}
 use Rattle.dnp_link_frame.specs.RulesLaws.{head_of-whole}
 use Rattle.dnp_link_frame.specs.Steps.{residue, begins_block, register_after, fits_header}
+use Rattle.dnp_link_frame.specs.Steps.{left_in_block}
 use Rattle.dnp_link_frame.specs.Steps.{blocks_after, len_byte_after, is_whole, ends_right, head_by}
 use Rattle.dnp_link_frame.specs.Dnp.{DnpStandsFor, header_so_far, blocks_so_far}
 use Rattle.dnp_link_frame.specs.Dnp.{is_full_dnp}
@@ -283,6 +284,8 @@ ends_right-push x b bytes =
 pub dnp_fresh : DnpStandsFor (record {
   len = 0;
   len_byte = 0;
+  room = 292;
+  block_left = 0;
   register = 0;
   header_right = true;
   blocks_right = true;
@@ -290,6 +293,8 @@ pub dnp_fresh : DnpStandsFor (record {
 dnp_fresh = record {
   count = refl;
   tells = refl;
+  room_is = sym (room_by-wrong 0 (omega arith));
+  lacks = omega arith;
   check = sym (ap register_of (running_block-header [] (omega arith)) ∙ crc-nil 0xA6BC 0);
   header = sym header_so_far-none;
   blocks = sym (blocks-none [] (omega arith));
@@ -303,8 +308,10 @@ pub dnp_take : (value next : Dnp) (b : ℕ) → value.len < room_by value.len_by
     → next.register ≡ register_after value.len value.register b
     → next.header_right ≡ (value.header_right && fits_header value.len next.register b)
     → next.blocks_right ≡ blocks_after value.len value.blocks_right value.register
+    → next.room ≡ room_by next.len_byte
+    → next.block_left ≡ left_in_block next.len
     → (x : List ℕ) → DnpStandsFor value x → DnpStandsFor next (x ++ b ∷ [])
-dnp_take value next b room byte count tells check header blocks x stands =
+dnp_take value next b room byte count tells check header blocks size lacks x stands =
     let longer : length (x ++ b ∷ []) ≡ length x + 1 = length_push x b in
     let bytes : AreBytes (x ++ b ∷ []) = All-push (λ n. n < 256) x b stands.bytes byte in
     let n : value.len ≡ length x = stands.count in
@@ -312,10 +319,15 @@ dnp_take value next b room byte count tells check header blocks x stands =
     check ∙ (ap (λ k. register_after k value.register b) n
     ∙ (ap (λ r. register_after (length x) r b) stands.check ∙ sym (register_of-push x b))) in
     let fits = dnp_lawful.fits x b (let e = ap room_by stands.tells in omega arith) in
+    let len_byte : next.len_byte ≡ length_byte (x ++ b ∷ []) =
+    tells ∙ (ap (λ k. len_byte_after k value.len_byte b) n
+    ∙ (ap (λ l. len_byte_after (length x) l b) stands.tells ∙ sym (length_byte-push x b))) in
+    let all : next.len ≡ length (x ++ b ∷ []) = omega arith in
     record {
-      count = omega arith;
-      tells = tells ∙ (ap (λ k. len_byte_after k value.len_byte b) n
-          ∙ (ap (λ l. len_byte_after (length x) l b) stands.tells ∙ sym (length_byte-push x b)));
+      count = all;
+      tells = len_byte;
+      room_is = size ∙ ap room_by len_byte;
+      lacks = lacks ∙ ap left_in_block all;
       check = register;
       header = header ∙ (ap (λ k. value.header_right && fits_header k next.register b) n
           ∙ (ap (λ t. t && fits_header (length x) next.register b) stands.header
@@ -363,11 +375,13 @@ dnp_ends_right value next b x stands byte is =
 pub dnp_fresh-room : is_full_dnp (record {
   len = 0;
   len_byte = 0;
+  room = 292;
+  block_left = 0;
   register = 0;
   header_right = true;
   blocks_right = true;
 }) ≡ false
-dnp_fresh-room = lt-leb (room_by 0) 0 (let least = room_by-least 0 in omega arith)
+dnp_fresh-room = refl
 
 -- what a value says of the header
 pub dnp_head : (value : Dnp) (x : List ℕ) → DnpStandsFor value x

@@ -1,15 +1,16 @@
 -- Bytes that are taken together: a whole header, bytes of one part, and runs of blocks.
 use Rattle.std.proofs.Common.{◌≡◌, ℕ, ◌+◌, ◌-◌, ◌*◌, ◌/◌, ◌%◌, ◌<◌, ◌≤◌, nat_le, nat_lt}
-use Rattle.std.proofs.Common.{◌&&◌, ◌==◌, true, false, List, [], ◌∷◌, ◌++◌, length, take}
-use Rattle.std.proofs.Common.{drop, get_or, min, refl, arith, sym, ◌∙◌, ap, subst, ⊎_elim}
+use Rattle.std.proofs.Common.{◌&&◌, ◌==◌, Bool, true, false, List, [], ◌∷◌, ◌++◌, length, take}
+use Rattle.std.proofs.Common.{drop, get_or, min, refl, arith, sym, ◌∙◌, ap, subst}
 use Rattle.std.proofs.Common.{append-nil, append_assoc, length-append}
+use Rattle.std.specs.Prelude.{if◌then◌else◌}
 use Rattle.std.proofs.Math.Bool.{and-true}
 use Rattle.std.proofs.lemmas.List.{length-take, length-drop, nil_from_length, take-append-drop}
 use Rattle.std.proofs.lemmas.List.{take_all}
 use Rattle.std.proofs.lemmas.List.Elements.{All-head, All-tail}
 use Rattle.std.proofs.lemmas.Bool.{cond-true, cond-false, ne_eqb, le-leb, and_left}
-use Rattle.std.proofs.lemmas.Bool.{lt-leb, and_right, cond_both, and_parts, and_from}
-use Rattle.std.proofs.lemmas.Bool.{leb-true, eqb-true, eq-eqb}
+use Rattle.std.proofs.lemmas.Bool.{lt-leb, and_right, cond_both, and_from}
+use Rattle.std.proofs.lemmas.Bool.{eq-eqb}
 use Rattle.line_rules.specs.Bytes.{AreBytes}
 use Rattle.line_rules.specs.Crc.{byte_step, crc}
 use Rattle.line_rules.specs.Rules.{fills_room}
@@ -20,8 +21,8 @@ use Rattle.dnp_link_frame.specs.BlockLaws.{length_byte-append, room_by-least}
 use Rattle.dnp_link_frame.specs.BlockLaws.{running_block-header}
 use Rattle.dnp_link_frame.specs.Rules.{dnp_rules}
 use Rattle.dnp_link_frame.specs.Steps.{begins_block, register_before, register_after, fits_header}
-use Rattle.dnp_link_frame.specs.Steps.{blocks_after, len_byte_after, is_header, left_in_block}
-use Rattle.dnp_link_frame.specs.Steps.{GoOn}
+use Rattle.dnp_link_frame.specs.Steps.{blocks_after, blocks_at_beginning, len_byte_after}
+use Rattle.dnp_link_frame.specs.Steps.{is_header, left_in_block, residue}
 use Rattle.dnp_link_frame.specs.Dnp.{DnpStandsFor, Appends, blocks_so_far}
 use Rattle.dnp_link_frame.specs.declared.dnp.Dnp.{Dnp}
 use Rattle.dnp_link_frame.proofs.HeaderLaws.{header_so_far-ten}
@@ -36,15 +37,17 @@ fits_header-behind n register byte behind =
     ∙ (cond-false (n == 2) _ _ (ne_eqb n 2 (λ e. omega arith))
     ∙ cond-false (n == 9) _ _ (ne_eqb n 9 (λ e. omega arith))))
 
-pub dnp_take-behind : (value next : Dnp) (b : ℕ) → 10 ≤ value.len
+dnp_take-behind : (value next : Dnp) (b : ℕ) → 10 ≤ value.len
     → value.len < room_by value.len_byte → b < 256
     → next.len ≡ value.len + 1
     → next.len_byte ≡ value.len_byte
     → next.register ≡ register_after value.len value.register b
     → next.header_right ≡ value.header_right
     → next.blocks_right ≡ blocks_after value.len value.blocks_right value.register
+    → next.room ≡ room_by next.len_byte
+    → next.block_left ≡ left_in_block next.len
     → (x : List ℕ) → DnpStandsFor value x → DnpStandsFor next (x ++ b ∷ [])
-dnp_take-behind value next b behind room byte count tells check header blocks x stands =
+dnp_take-behind value next b behind room byte count tells check header blocks size lacks x stands =
     dnp_take value next b room byte count
     (tells ∙ sym (cond-false (value.len == 2) b value.len_byte
     (ne_eqb value.len 2 (λ e. omega arith))))
@@ -52,7 +55,7 @@ dnp_take-behind value next b behind room byte count tells check header blocks x 
     (header ∙ (sym (and-true value.header_right)
     ∙ ap (λ t. value.header_right && t)
     (sym (fits_header-behind value.len next.register b behind))))
-    blocks x stands
+    blocks size lacks x stands
 
 -- ---- no byte
 
@@ -61,11 +64,15 @@ dnp_take_none : (value next : Dnp) → next.len ≡ value.len + 0
     → next.register ≡ crc 0xA6BC value.register []
     → next.header_right ≡ value.header_right
     → next.blocks_right ≡ value.blocks_right
+    → next.room ≡ room_by next.len_byte
+    → next.block_left ≡ left_in_block next.len
     → (x : List ℕ) → DnpStandsFor value x → DnpStandsFor next (x ++ [])
-dnp_take_none value next count tells check header blocks x stands =
+dnp_take_none value next count tells check header blocks size lacks x stands =
     subst (DnpStandsFor next) (sym (append-nil x)) (record {
       count = let e = stands.count in omega arith;
       tells = tells ∙ stands.tells;
+      room_is = size ∙ ap room_by (tells ∙ stands.tells);
+      lacks = lacks ∙ ap left_in_block (let e = stands.count in omega arith);
       check = check ∙ (crc-nil 0xA6BC value.register ∙ stands.check);
       header = header ∙ stands.header;
       blocks = blocks ∙ stands.blocks;
@@ -84,15 +91,17 @@ pub dnp_take-in_header : (value next : Dnp) (b : ℕ) → value.len < 10 → b <
     → next.register ≡ byte_step 0xA6BC value.register b
     → next.header_right ≡ (value.header_right && fits_header value.len next.register b)
     → next.blocks_right ≡ value.blocks_right
+    → next.room ≡ room_by next.len_byte
+    → next.block_left ≡ left_in_block next.len
     → (x : List ℕ) → DnpStandsFor value x → DnpStandsFor next (x ++ b ∷ [])
-dnp_take-in_header value next b few byte count tells check header blocks x stands =
+dnp_take-in_header value next b few byte count tells check header blocks size lacks x stands =
     let outside : begins_block value.len ≡ false = before-blocks value.len few in
     let least = room_by-least value.len_byte in
     dnp_take value next b (omega arith) byte count tells
     (check ∙ sym (cond-false (begins_block value.len) _ _ outside))
     header
     (blocks ∙ sym (cond-false (begins_block value.len && nat_lt 10 value.len) _ _
-    (and_left (begins_block value.len) (nat_lt 10 value.len) outside))) x stands
+    (and_left (begins_block value.len) (nat_lt 10 value.len) outside))) size lacks x stands
 
 -- ---- bytes of a header between LEN and its last byte
 
@@ -110,13 +119,19 @@ dnp_take_in_header : (value next : Dnp) (y : List ℕ) → 3 ≤ value.len
     → next.register ≡ crc 0xA6BC value.register y
     → next.header_right ≡ value.header_right
     → next.blocks_right ≡ value.blocks_right
+    → next.room ≡ room_by next.len_byte
+    → next.block_left ≡ left_in_block next.len
     → (x : List ℕ) → DnpStandsFor value x → DnpStandsFor next (x ++ y)
-dnp_take_in_header value next [] behind before bytes count tells check header blocks x stands =
-    dnp_take_none value next count tells check header blocks x stands
-dnp_take_in_header value next (b ∷ y) behind before bytes count tells check header blocks x stands =
+dnp_take_in_header value next [] behind before bytes count tells check header blocks
+    size lacks x stands =
+    dnp_take_none value next count tells check header blocks size lacks x stands
+dnp_take_in_header value next (b ∷ y) behind before bytes count tells check header blocks
+    size lacks x stands =
     let middle : Dnp = record {
       len = value.len + 1;
       len_byte = value.len_byte;
+      room = room_by value.len_byte;
+      block_left = left_in_block (value.len + 1);
       register = byte_step 0xA6BC value.register b;
       header_right = value.header_right;
       blocks_right = value.blocks_right;
@@ -130,11 +145,11 @@ dnp_take_in_header value next (b ∷ y) behind before bytes count tells check he
     (sym (and-true value.header_right)
     ∙ ap (λ t. value.header_right && t)
     (sym (fits_header-inside value.len middle.register b behind (omega arith))))
-    refl x stands in
+    refl refl refl x stands in
     subst (DnpStandsFor next) (append_assoc x (b ∷ []) y)
     (dnp_take_in_header middle next y (omega arith) (omega arith)
     (All-tail (λ n. n < 256) b y bytes) (omega arith) tells
-    (check ∙ crc-cons 0xA6BC value.register b y) header blocks (x ++ b ∷ []) first)
+    (check ∙ crc-cons 0xA6BC value.register b y) header blocks size lacks (x ++ b ∷ []) first)
 
 -- ---- bytes that go on in a block that has begun
 
@@ -150,15 +165,21 @@ goes_on : (value next : Dnp) (y : List ℕ) (q m : ℕ) → value.len ≡ 10 + 1
     → next.register ≡ crc 0xA6BC value.register y
     → next.header_right ≡ value.header_right
     → next.blocks_right ≡ value.blocks_right
+    → next.room ≡ room_by next.len_byte
+    → next.block_left ≡ left_in_block next.len
     → (x : List ℕ) → DnpStandsFor value x → DnpStandsFor next (x ++ y)
-goes_on value next [] q m at some few room bytes count tells check header blocks x stands =
-    dnp_take_none value next count tells check header blocks x stands
-goes_on value next (b ∷ y) q m at some few room bytes count tells check header blocks x stands =
+goes_on value next [] q m at some few room bytes count tells check header blocks
+    size lacks x stands =
+    dnp_take_none value next count tells check header blocks size lacks x stands
+goes_on value next (b ∷ y) q m at some few room bytes count tells check header blocks
+    size lacks x stands =
     let inside : begins_block value.len ≡ false =
     inside-block value.len q m at some (omega arith) in
     let middle : Dnp = record {
       len = value.len + 1;
       len_byte = value.len_byte;
+      room = room_by value.len_byte;
+      block_left = left_in_block (value.len + 1);
       register = byte_step 0xA6BC value.register b;
       header_right = value.header_right;
       blocks_right = value.blocks_right;
@@ -168,18 +189,13 @@ goes_on value next (b ∷ y) q m at some few room bytes count tells check header
     refl refl
     (sym (cond-false (begins_block value.len) _ _ inside)) refl
     (sym (cond-false (begins_block value.len && nat_lt 10 value.len) _ _
-    (and_left (begins_block value.len) (nat_lt 10 value.len) inside))) x stands in
+    (and_left (begins_block value.len) (nat_lt 10 value.len) inside))) refl refl x stands in
     subst (DnpStandsFor next) (append_assoc x (b ∷ []) y)
     (goes_on middle next y q (m + 1) (omega arith) (omega arith) (omega arith) (omega arith)
     (All-tail (λ n. n < 256) b y bytes) (omega arith) tells
-    (check ∙ crc-cons 0xA6BC value.register b y) header blocks (x ++ b ∷ []) first)
+    (check ∙ crc-cons 0xA6BC value.register b y) header blocks size lacks (x ++ b ∷ []) first)
 
 -- ---- bytes of one block, from its beginning or from further on
-
-begins_block-place : (n : ℕ) → begins_block n ≡ true → (10 ≤ n) × ((n - 10) % 18 ≡ 0)
-begins_block-place n begins =
-    let both = and_parts (nat_le 10 n) ((n - 10) % 18 == 0) begins in
-    (leb-true 10 n both.0, eqb-true ((n - 10) % 18) 0 both.1)
 
 register_before-byte : (n register byte : ℕ)
     → byte_step 0xA6BC (register_before n register) byte ≡ register_after n register byte
@@ -197,29 +213,35 @@ dnp_take_in_block : (value next : Dnp) (y : List ℕ) → 10 ≤ value.len → 0
     → next.register ≡ crc 0xA6BC (register_before value.len value.register) y
     → next.header_right ≡ value.header_right
     → next.blocks_right ≡ blocks_after value.len value.blocks_right value.register
+    → next.room ≡ room_by next.len_byte
+    → next.block_left ≡ left_in_block next.len
     → (x : List ℕ) → DnpStandsFor value x → DnpStandsFor next (x ++ y)
-dnp_take_in_block value next [] behind some few room bytes count tells check header blocks x
+dnp_take_in_block value next [] behind some few room bytes count tells check header blocks
+    size lacks x
     stands =
     absurd (omega arith)
-dnp_take_in_block value next (b ∷ y) behind some few room bytes count tells check header blocks x
+dnp_take_in_block value next (b ∷ y) behind some few room bytes count tells check header blocks
+    size lacks x
     stands =
     let middle : Dnp = record {
       len = value.len + 1;
       len_byte = value.len_byte;
+      room = room_by value.len_byte;
+      block_left = left_in_block (value.len + 1);
       register = register_after value.len value.register b;
       header_right = value.header_right;
       blocks_right = blocks_after value.len value.blocks_right value.register;
     } in
     let first : DnpStandsFor middle (x ++ b ∷ []) =
     dnp_take-behind value middle b behind (omega arith) (All-head (λ n. n < 256) b y bytes)
-    refl refl refl refl refl x stands in
+    refl refl refl refl refl refl refl x stands in
     subst (DnpStandsFor next) (append_assoc x (b ∷ []) y)
     (goes_on middle next y ((value.len - 10) / 18) ((value.len - 10) % 18 + 1) (omega arith)
     (omega arith) (omega arith) (omega arith)
     (All-tail (λ n. n < 256) b y bytes) (omega arith) tells
     (check ∙ (crc-cons 0xA6BC (register_before value.len value.register) b y
     ∙ ap (λ r. crc 0xA6BC r y) (register_before-byte value.len value.register b)))
-    header blocks (x ++ b ∷ []) first)
+    header blocks size lacks (x ++ b ∷ []) first)
 
 goes_on-block : (value next : Dnp) (y : List ℕ) → 10 ≤ value.len
     → length y ≤ left_in_block value.len → value.len + length y ≤ room_by value.len_byte
@@ -229,52 +251,118 @@ goes_on-block : (value next : Dnp) (y : List ℕ) → 10 ≤ value.len
     → next.register ≡ crc 0xA6BC value.register y
     → next.header_right ≡ value.header_right
     → next.blocks_right ≡ value.blocks_right
+    → next.room ≡ room_by next.len_byte
+    → next.block_left ≡ left_in_block next.len
     → (x : List ℕ) → DnpStandsFor value x → DnpStandsFor next (x ++ y)
-goes_on-block value next [] behind few room bytes count tells check header blocks x stands =
-    dnp_take_none value next count tells check header blocks x stands
-goes_on-block value next (b ∷ y) behind few room bytes count tells check header blocks x stands =
+goes_on-block value next [] behind few room bytes count tells check header blocks
+    size lacks x stands =
+    dnp_take_none value next count tells check header blocks size lacks x stands
+goes_on-block value next (b ∷ y) behind few room bytes count tells check header blocks
+    size lacks x stands =
     goes_on value next (b ∷ y) ((value.len - 10) / 18) ((value.len - 10) % 18) (omega arith)
-    (omega arith) (omega arith) room bytes count tells check header blocks x stands
+    (omega arith) (omega arith) room bytes count tells check header blocks size lacks x stands
 
--- bytes that go on in the part of the byte before them
-pub dnp_go_on : (value next : Dnp) (y : List ℕ) → GoOn value.len (length y)
-    → value.len + length y ≤ room_by value.len_byte → AreBytes y
+-- ---- the same of a value that keeps the room and what the block lacks
+
+-- the room of what a value stands for
+room_kept : (value next : Dnp) (x : List ℕ) → DnpStandsFor value x → next.len_byte ≡ value.len_byte
+    → next.room ≡ value.room → next.room ≡ room_by next.len_byte
+room_kept value next x stands tells room =
+    room ∙ (stands.room_is ∙ ap room_by (sym stands.tells ∙ sym tells))
+
+room_there : (value : Dnp) (x : List ℕ) → DnpStandsFor value x → value.room ≡ room_by value.len_byte
+room_there value x stands = room_kept value value x stands refl refl
+
+-- what the block lacks
+lacks_there : (value : Dnp) (x : List ℕ) → DnpStandsFor value x
+    → value.block_left ≡ left_in_block value.len
+lacks_there value x stands = stands.lacks ∙ ap left_in_block (sym stands.count)
+
+-- bytes of a header between LEN and its last byte
+pub dnp_in_header : (value next : Dnp) (y : List ℕ) → 3 ≤ value.len
+    → value.len + length y ≤ 9 → AreBytes y
     → next.len ≡ value.len + length y
     → next.len_byte ≡ value.len_byte
     → next.register ≡ crc 0xA6BC value.register y
     → next.header_right ≡ value.header_right
     → next.blocks_right ≡ value.blocks_right
+    → next.room ≡ value.room
+    → next.block_left ≡ value.block_left
+    → (x : List ℕ) → DnpStandsFor value x → DnpStandsFor next (x ++ y)
+dnp_in_header value next y behind before bytes count tells check header blocks room lacks x stands =
+    let lacked = lacks_there value x stands in
+    dnp_take_in_header value next y behind before bytes count tells check header blocks
+    (room_kept value next x stands tells room) (omega arith) x stands
+
+-- one byte of it
+pub dnp_header_byte : (value next : Dnp) (b : ℕ) → value.len < 10 → b < 256
+    → next.len ≡ value.len + 1
+    → next.len_byte ≡ len_byte_after value.len value.len_byte b
+    → next.register ≡ byte_step 0xA6BC value.register b
+    → next.header_right ≡ (value.header_right && fits_header value.len next.register b)
+    → next.blocks_right ≡ value.blocks_right
+    → next.room ≡ room_by next.len_byte
+    → next.block_left ≡ value.block_left
+    → (x : List ℕ) → DnpStandsFor value x → DnpStandsFor next (x ++ b ∷ [])
+dnp_header_byte value next b few byte count tells check header blocks room lacks x stands =
+    let lacked = lacks_there value x stands in
+    dnp_take-in_header value next b few byte count tells check header blocks room (omega arith) x
+    stands
+
+-- bytes of the block that has begun
+pub dnp_go_on : (value next : Dnp) (y : List ℕ) → 10 ≤ value.len → length y ≤ value.block_left
+    → value.len + length y ≤ value.room → AreBytes y
+    → next.len ≡ value.len + length y
+    → next.len_byte ≡ value.len_byte
+    → next.register ≡ crc 0xA6BC value.register y
+    → next.header_right ≡ value.header_right
+    → next.blocks_right ≡ value.blocks_right
+    → next.room ≡ value.room
+    → next.block_left ≡ value.block_left - length y
     → Appends value next y
-dnp_go_on value next y part room bytes count tells check header blocks = record {
-  stands = ⊎_elim
-      (λ (between : (3 ≤ value.len) × (value.len + length y ≤ 9)).
-      dnp_take_in_header value next y between.0 between.1 bytes count tells check header blocks)
-      (λ (in_block : (10 ≤ value.len) × (length y ≤ left_in_block value.len)).
-      goes_on-block value next y in_block.0 in_block.1 room bytes count tells check header blocks)
-      part;
+dnp_go_on value next y behind few room bytes count tells check header blocks same lacks = record {
+  stands = λ x stands.
+      let lacked = lacks_there value x stands in
+      let there = room_there value x stands in
+      goes_on-block value next y behind (omega arith) (omega arith) bytes count tells check header
+      blocks (room_kept value next x stands tells same) (omega arith) x stands;
   count = count;
-  tells = tells;
+  same_room = same;
 }
 
+-- where a block begins, the one before is judged
+blocks_at_beginning-is : (n : ℕ) (right : Bool) (register : ℕ) → begins_block n ≡ true
+    → blocks_at_beginning n right register ≡ blocks_after n right register
+blocks_at_beginning-is n right register begins =
+    sym (ap (λ t. if t && nat_lt 10 n then right && register == residue else right) begins)
+
 -- the first bytes of a block
-pub dnp_begin_block : (value next : Dnp) (y : List ℕ) → begins_block value.len ≡ true
-    → 0 < length y → length y ≤ 18 → value.len + length y ≤ room_by value.len_byte → AreBytes y
+pub dnp_begin_block : (value next : Dnp) (y : List ℕ) → 10 ≤ value.len → value.block_left ≡ 0
+    → 0 < length y → length y ≤ 18 → value.len + length y ≤ value.room → AreBytes y
     → next.len ≡ value.len + length y
     → next.len_byte ≡ value.len_byte
     → next.register ≡ crc 0xA6BC 0 y
     → next.header_right ≡ value.header_right
-    → next.blocks_right ≡ blocks_after value.len value.blocks_right value.register
+    → next.blocks_right ≡ blocks_at_beginning value.len value.blocks_right value.register
+    → next.room ≡ value.room
+    → next.block_left ≡ 18 - length y
     → Appends value next y
-dnp_begin_block value next y begins some few room bytes count tells check header blocks =
-    let behind : 10 ≤ value.len = (begins_block-place value.len begins).0 in
-    let first : (value.len - 10) % 18 ≡ 0 = (begins_block-place value.len begins).1 in
-    record {
-      stands = dnp_take_in_block value next y behind some (omega arith) room bytes count tells
+dnp_begin_block value next y behind none some few room bytes count tells check header blocks same
+    lacks = record {
+      stands = λ x stands.
+          let lacked = lacks_there value x stands in
+          let there = room_there value x stands in
+          let first : (value.len - 10) % 18 ≡ 0 = omega arith in
+          let begins : begins_block value.len ≡ true =
+          and_from _ _ (le-leb 10 value.len behind) (eq-eqb ((value.len - 10) % 18) 0 first) in
+          dnp_take_in_block value next y behind some (omega arith) (omega arith) bytes count tells
           (check ∙ ap (λ r. crc 0xA6BC r y)
           (sym (cond-true (begins_block value.len) 0 value.register begins)))
-          header blocks;
+          header
+          (blocks ∙ blocks_at_beginning-is value.len value.blocks_right value.register begins)
+          (room_kept value next x stands tells same) (omega arith) x stands;
       count = count;
-      tells = tells;
+      same_room = same;
     }
 
 -- ---- runs behind one another
@@ -288,7 +376,7 @@ pub appends-none : (value : Dnp) → Appends value value []
 appends-none value = record {
   stands = λ x stands. subst (DnpStandsFor value) (sym (append-nil x)) stands;
   count = omega arith;
-  tells = refl;
+  same_room = refl;
 }
 
 -- a run, and then another one
@@ -298,50 +386,47 @@ appends-more old value next y z first second = record {
   stands = λ x stands. subst (DnpStandsFor next) (append_assoc x y z)
       (second.stands (x ++ y) (first.stands x stands));
   count = let begun = first.count in let more = second.count in omega (arith, length-append y z);
-  tells = second.tells ∙ first.tells;
+  same_room = second.same_room ∙ first.same_room;
 }
 
 -- What is left of a run begins where a block does, or is nothing, and there is room for it. Who
 -- appends it too has appended the whole run.
 pub record IsBefore (old : Dnp) (run : List ℕ) (value : Dnp) (rest : List ℕ) : Type 0 where
-  pub begins : 0 < length rest → begins_block value.len ≡ true
-  pub room : value.len + length rest ≤ room_by value.len_byte
+  pub behind : 10 ≤ value.len
+  pub begins : 0 < length rest → value.block_left ≡ 0
+  pub room : value.len + length rest ≤ value.room
   pub ends : (next : Dnp) → Appends value next rest → Appends old next run
 
 -- behind the block that has begun
 pub is_before-first : (old value : Dnp) (run : List ℕ) (n : ℕ) → 10 ≤ old.len
-    → old.len + length run ≤ room_by old.len_byte → n ≡ min (length run) (left_in_block old.len)
+    → old.len + length run ≤ old.room → n ≡ min (length run) old.block_left
+    → value.block_left + length (take n run) ≡ old.block_left
     → Appends old value (take n run) → IsBefore old run value (drop n run)
-is_before-first old value run n behind room first begun = record {
-  begins = λ some.
-      let place : value.len ≡ old.len + left_in_block old.len =
-      let count = begun.count in omega (arith, length-take n run, length-drop n run) in
-      and_from _ _ (le-leb 10 value.len (omega arith))
-      (eq-eqb ((value.len - 10) % 18) 0 (omega arith));
-  room = let count = begun.count in let same = ap room_by begun.tells in
-      omega (arith, length-take n run, length-drop n run);
-  ends = λ next more. subst (Appends old next) (take-append-drop n run)
-      (appends-more old value next (take n run) (drop n run) begun more);
-}
+is_before-first old value run n behind room first lacks begun =
+    let count = begun.count in
+    let same = begun.same_room in
+    record {
+      behind = omega arith;
+      begins = λ some. omega (arith, length-take n run, length-drop n run);
+      room = omega (arith, length-take n run, length-drop n run);
+      ends = λ next more. subst (Appends old next) (take-append-drop n run)
+          (appends-more old value next (take n run) (drop n run) begun more);
+    }
 
 -- behind one more block
 pub is_before-next : (old value next : Dnp) (run rest block more : List ℕ) → length block ≡ 18
-    → block ≡ take 18 rest → more ≡ drop 18 rest → IsBefore old run value rest
-    → Appends value next block → IsBefore old run next more
-is_before-next old value next run rest block more whole front behind_it before begun =
+    → block ≡ take 18 rest → more ≡ drop 18 rest → next.block_left + length block ≡ 18
+    → IsBefore old run value rest → Appends value next block → IsBefore old run next more
+is_before-next old value next run rest block more whole front behind_it lacks before begun =
     let parts : rest ≡ block ++ more =
     sym (take-append-drop 18 rest)
     ∙ (ap (λ y. y ++ drop 18 rest) (sym front) ∙ ap (λ y. block ++ y) (sym behind_it)) in
+    let count = begun.count in
+    let same = begun.same_room in
     record {
-      begins = λ some.
-          let place = begins_block-place value.len
-          (before.begins (let e = ap length parts in omega (arith, length-append block more))) in
-          let count = begun.count in
-          and_from _ _ (le-leb 10 next.len (let behind = place.0 in omega arith))
-          (eq-eqb ((next.len - 10) % 18) 0
-          (let first = place.1 in let behind = place.0 in omega arith));
-      room = let count = begun.count in let same = ap room_by begun.tells in
-          let had = before.room in let e = ap length parts in
+      behind = let behind = before.behind in omega arith;
+      begins = λ some. omega arith;
+      room = let had = before.room in let e = ap length parts in
           omega (arith, length-append block more);
       ends = λ last more_of. before.ends last
           (subst (Appends value last) (sym parts)
@@ -357,8 +442,11 @@ pub dnp_take_header : (value next : Dnp) (y : List ℕ) → value.len ≡ 0 → 
     → next.header_right
     ≡ is_header (get_or y 0 0) (get_or y 1 0) (get_or y 2 0) next.register
     → next.blocks_right ≡ value.blocks_right
+    → next.room ≡ room_by next.len_byte
+    → next.block_left ≡ value.block_left
     → (x : List ℕ) → DnpStandsFor value x → DnpStandsFor next (x ++ y)
-dnp_take_header value next y none whole bytes count tells check header blocks x stands =
+dnp_take_header value next y none whole bytes count tells check header blocks room lacks x stands =
+    let lacked = lacks_there value x stands in
     let nothing : x ≡ [] = nil_from_length x (sym stands.count ∙ none) in
     let register : next.register ≡ register_of (running_block y) =
     check ∙ sym (ap register_of (running_block-header y (omega arith))) in
@@ -366,6 +454,8 @@ dnp_take_header value next y none whole bytes count tells check header blocks x 
     subst (λ z. DnpStandsFor next (z ++ y)) (sym nothing) (record {
       count = count ∙ sym whole;
       tells = tells;
+      room_is = room ∙ ap room_by tells;
+      lacks = omega arith;
       check = register;
       header = header ∙ (ap (is_header (get_or y 0 0) (get_or y 1 0) (get_or y 2 0)) check
           ∙ sym (header_so_far-ten y whole bytes));
@@ -385,10 +475,9 @@ header_has_room value x y stands few =
 
 -- there is room as long as there are fewer bytes than the room has
 pub has_room : (value : Dnp) (x y : List ℕ) → DnpStandsFor value x → 3 ≤ value.len
-    → value.len + length y < room_by value.len_byte → fills_room dnp_rules (x ++ y) ≡ false
+    → value.len + length y < value.room → fills_room dnp_rules (x ++ y) ≡ false
 has_room value x y stands behind below =
     let count = stands.count in
-    let tells : value.len_byte ≡ length_byte x = stands.tells in
     let same : length_byte (x ++ y) ≡ length_byte x = length_byte-append x y (omega arith) in
-    let room : room_of (x ++ y) ≡ room_by value.len_byte = ap room_by (same ∙ sym tells) in
+    let room : room_of (x ++ y) ≡ value.room = ap room_by same ∙ sym stands.room_is in
     ne_eqb (length (x ++ y)) (room_of (x ++ y)) (λ all. omega (arith, length-append x y))

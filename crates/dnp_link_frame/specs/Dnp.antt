@@ -1,12 +1,13 @@
 -- What a value of the rules of the DNP3 link layer stands for.
-use Rattle.std.specs.Prelude.{◌≡◌, ℕ, ◌+◌, ◌-◌, ◌/◌, ◌≤◌, ◌==◌, ◌&&◌, ◌||◌, nat_le, nat_lt, Bool, List}
-use Rattle.std.specs.Prelude.{◌++◌, length, take, drop}
-use Rattle.std.proofs.Common.{arith, ◌∙◌, sym, ap, ⊎_elim}
+use Rattle.std.specs.Prelude.{◌≡◌, ℕ, ◌+◌, ◌-◌, ◌/◌, ◌≤◌, ◌==◌, ◌&&◌, ◌||◌, nat_le, nat_lt}
+use Rattle.std.specs.Prelude.{Bool, List, ◌++◌, length, take, drop}
+use Rattle.std.proofs.Common.{arith, ◌∙◌, sym, ⊎_elim}
 use Rattle.std.proofs.lemmas.Bool.{cases_lt, le-leb, lt-leb, eq-eqb, ne_eqb}
 use Rattle.line_rules.specs.Bytes.{AreBytes}
 use Rattle.dnp_link_frame.specs.Crc.{register_of}
-use Rattle.dnp_link_frame.specs.Blocks.{length_byte, room_by, room_of, ends_in_crc, begins_right}
+use Rattle.dnp_link_frame.specs.Blocks.{length_byte, room_of, ends_in_crc, begins_right}
 use Rattle.dnp_link_frame.specs.Blocks.{end_in_crcs, running_block}
+use Rattle.dnp_link_frame.specs.Steps.{left_in_block}
 use Rattle.dnp_link_frame.specs.declared.dnp.Dnp.{Dnp}
 
 -- the header is right as far as it is there
@@ -17,39 +18,42 @@ header_so_far x = begins_right x && (nat_lt (length x) 10 || ends_in_crc (take 1
 abbrev pub blocks_so_far : List ℕ → Bool
 blocks_so_far x = end_in_crcs ((length x - 11) / 18) (drop 10 x)
 
--- It keeps how many bytes there are, LEN, the register of the last byte's block, whether the header
--- is right as far as it is there, and whether each finished block of user data is.
+-- It keeps how many bytes there are, LEN, the room, what the block of the last byte lacks, its
+-- register, whether the header is right as far as it is there, and whether each finished block of
+-- user data is.
 pub record DnpStandsFor (value : Dnp) (x : List ℕ) : Type 0 where
   pub count : value.len ≡ length x
   pub tells : value.len_byte ≡ length_byte x
+  pub room_is : value.room ≡ room_of x
+  pub lacks : value.block_left ≡ left_in_block (length x)
   pub check : value.register ≡ register_of (running_block x)
   pub header : value.header_right ≡ header_so_far x
   pub blocks : value.blocks_right ≡ blocks_so_far x
   pub short : length x ≤ room_of x
   pub bytes : AreBytes x
 
--- The new value stands for what the old one does and these bytes, and they don't change LEN.
+-- The new value stands for what the old one does and these bytes, and the room is the same.
 pub record Appends (old new : Dnp) (run : List ℕ) : Type 0 where
   pub stands : (x : List ℕ) → DnpStandsFor old x → DnpStandsFor new (x ++ run)
   pub count : new.len ≡ old.len + length run
-  pub tells : new.len_byte ≡ old.len_byte
+  pub same_room : new.room ≡ old.room
 
 abbrev pub is_full_dnp : Dnp → Bool
-is_full_dnp value = nat_le (room_by value.len_byte) value.len
+is_full_dnp value = nat_le value.room value.len
 
 -- the room is full where the value says so
 pub dnp_fullness : (value : Dnp) (x : List ℕ) → DnpStandsFor value x
     → is_full_dnp value ≡ (length x == room_of x)
 dnp_fullness value x stands =
     let count = stands.count in
-    let room = ap room_by stands.tells in
+    let room = stands.room_is in
     let short = stands.short in
     ⊎_elim
-    (λ below. lt-leb (room_by value.len_byte) value.len below
+    (λ below. lt-leb value.room value.len below
     ∙ sym (ne_eqb (length x) (room_of x) (λ all. omega arith)))
-    (λ full. le-leb (room_by value.len_byte) value.len full
+    (λ full. le-leb value.room value.len full
     ∙ sym (eq-eqb (length x) (room_of x) (omega arith)))
-    (cases_lt value.len (room_by value.len_byte))
+    (cases_lt value.len value.room)
 
 pub dnp_bytes : (value : Dnp) (x : List ℕ) → DnpStandsFor value x → AreBytes x
 dnp_bytes value x stands = stands.bytes

@@ -1,7 +1,7 @@
 -- What one more byte does to what is kept of the bytes so far: functions of how many bytes there
 -- are before it, of what was kept, and of the byte.
-use Rattle.std.specs.Prelude.{ℕ, ◌+◌, ◌-◌, ◌%◌, ◌≤◌, ◌==◌, ◌&&◌, nat_le, nat_lt, Bool, true}
-use Rattle.std.specs.Prelude.{◌⊎◌, if◌then◌else◌}
+use Rattle.std.specs.Prelude.{ℕ, ◌-◌, ◌%◌, ◌==◌, ◌&&◌, nat_le, nat_lt, Bool, true}
+use Rattle.std.specs.Prelude.{if◌then◌else◌}
 use Rattle.line_rules.specs.Crc.{byte_step}
 use Rattle.line_rules.specs.declared.head.Head.{Head}
 use Rattle.line_rules.specs.declared.head.Head.TheVariants.{Short, Good, Bad}
@@ -15,14 +15,9 @@ residue = 0x66C5
 abbrev pub begins_block : ℕ → Bool
 begins_block n = nat_le 10 n && (n - 10) % 18 == 0
 
--- of how many bytes more, after so many behind a header, the block is that of the byte before them
+-- how many bytes more, after so many, belong to the block of user data that has begun
 abbrev pub left_in_block : ℕ → ℕ
 left_in_block n = (18 - (n - 10) % 18) % 18
-
--- So many bytes more, after so many, are of the part that the byte before them is of: they stand
--- between LEN and the last byte of a header, or in a block.
-abbrev pub GoOn : ℕ → ℕ → Type 0
-GoOn n more = ((3 ≤ n) × (n + more ≤ 9)) ⊎ ((10 ≤ n) × (more ≤ left_in_block n))
 
 -- the register before the byte of the block that the byte belongs to
 abbrev pub register_before : ℕ → ℕ → ℕ
@@ -56,6 +51,10 @@ head_by n right = if nat_lt n 10 then Short else if right then Good else Bad
 abbrev pub blocks_after : ℕ → Bool → ℕ → Bool
 blocks_after n right register =
     if begins_block n && nat_lt 10 n then right && register == residue else right
+
+-- the same where the byte begins a block
+abbrev pub blocks_at_beginning : ℕ → Bool → ℕ → Bool
+blocks_at_beginning n right register = if nat_lt 10 n then right && register == residue else right
 
 -- LEN, once it is there
 abbrev pub len_byte_after : ℕ → ℕ → ℕ → ℕ

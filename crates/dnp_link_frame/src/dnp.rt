@@ -1,21 +1,30 @@
 use crate::crc::FIRST_REGISTER;
 use crate::size::{HEADER_LEN, LONGEST, room_by, size_by};
 use crate::steps::{
-    blocks_after, blocks_at_beginning, ends_right, head_by, header_after, is_header, is_whole,
-    left_in_block, len_byte_after, register_after,
+    BLOCK_LEN, blocks_at_beginning, ends_right, head_by, header_after, is_header, is_whole,
+    len_byte_after, register_after,
 };
 use crate::table::{after_byte, after_bytes};
 use line_rules::{Head, LineRules};
 
+// HEADER_LEN and BLOCK_LEN as the lengths of arrays.
+const WHOLE_HEADER: usize = 10;
+
+const WHOLE_BLOCK: usize = 18;
+
 /// The bytes of a burst so far, as the rules of the DNP3 link layer see them: how many there are,
-/// LEN, the register of the last byte's block, and whether what stands before that block is right.
-/// A block is judged when the next one begins, so that the register is always that of the last
-/// byte's block.
+/// for how many there is room, LEN, the register of the last byte's block and what this block lacks,
+/// and whether what stands before it is right. A block is judged when the next one begins, so that
+/// the register is always that of the last byte's block.
 #[derive(Drop)]
 pub struct Dnp {
     len: u16,
     // LEN, or 0 where it isn't there yet
     len_byte: u8,
+    // for how many bytes there is room
+    room: u16,
+    // how many bytes more belong to the block of user data that has begun, 0 in the header
+    block_left: u16,
     register: u16,
     // the header is right as far as it is there
     header_right: bool,
@@ -27,60 +36,75 @@ impl Dnp {
     ghost use Rattle.std.specs.Prelude.{◌≡◌, ℕ, ◌+◌, ◌<◌, ◌≤◌, true, false, List, ◌++◌};
     ghost use Rattle.std.specs.Prelude.{length, take};
     ghost use Rattle.line_rules.specs.Rules.{fills_room};
-    ghost use Rattle.dnp_link_frame.specs.Blocks.{room_by};
     ghost use Rattle.dnp_link_frame.specs.Rules.{dnp_rules};
-    ghost use Rattle.dnp_link_frame.specs.Steps.{begins_block, GoOn};
     ghost use Rattle.dnp_link_frame.specs.Dnp.{DnpStandsFor, Appends, is_full_dnp};
 
     // Appends a whole header to no bytes.
     #[inline]
-    fn take_header(&mut self, header: &[u8; 10])
+    fn take_header(&mut self, header: &[u8; WHOLE_HEADER])
         requires { self.old.len ≡ 0 }
         ensures { (x : List ℕ) → DnpStandsFor self.old x → DnpStandsFor self.new (x ++ header.now) }
     {
         self.len = HEADER_LEN;
         self.len_byte = header[2];
+        self.room = room_by(self.len_byte);
         self.register = after_bytes(FIRST_REGISTER, header);
         self.header_right = is_header(header[0], header[1], header[2], self.register);
     }
 
-    // Appends bytes of the part, header or block, that the byte before them is of. No test is made
-    // of them.
+    // Appends bytes of a header between LEN and its last byte. No test is made of them.
     #[inline]
-    fn go_on(&mut self, run: &[u8])
-        requires part { GoOn self.old.len (length run.now) }
-        requires room { self.old.len + length run.now ≤ room_by self.old.len_byte }
-        ensures { Appends self.old self.new run.now }
+    fn take_in_header(&mut self, run: &[u8])
+        requires behind { 3 ≤ self.old.len }
+        requires before { self.old.len + length run.now ≤ 9 }
+        ensures { (x : List ℕ) → DnpStandsFor self.old x → DnpStandsFor self.new (x ++ run.now) }
     {
         self.register = after_bytes(self.register, run);
         self.len += run.len() as u16;
     }
 
-    // Appends the first bytes of a block, or all of them.
+    // Appends bytes of the block that has begun.
+    #[inline]
+    fn go_on(&mut self, run: &[u8])
+        requires behind { 10 ≤ self.old.len }
+        requires block { length run.now ≤ self.old.block_left }
+        requires room { self.old.len + length run.now ≤ self.old.room }
+        ensures appends { Appends self.old self.new run.now }
+        ensures block { self.new.block_left + length run.now ≡ self.old.block_left }
+    {
+        self.register = after_bytes(self.register, run);
+        self.len += run.len() as u16;
+        self.block_left -= run.len() as u16;
+    }
+
+    // Appends the first bytes of a block, or all of them, where the one before is whole.
     #[inline]
     fn begin_block(&mut self, run: &[u8])
-        requires begins { begins_block self.old.len ≡ true }
+        requires behind { 10 ≤ self.old.len }
+        requires begins { self.old.block_left ≡ 0 }
         requires some { 0 < length run.now }
         requires block { length run.now ≤ 18 }
-        requires room { self.old.len + length run.now ≤ room_by self.old.len_byte }
-        ensures { Appends self.old self.new run.now }
+        requires room { self.old.len + length run.now ≤ self.old.room }
+        ensures appends { Appends self.old self.new run.now }
+        ensures block { self.new.block_left + length run.now ≡ 18 }
     {
         self.blocks_right = blocks_at_beginning(self.len, self.blocks_right, self.register);
         self.register = after_bytes(FIRST_REGISTER, run);
         self.len += run.len() as u16;
+        self.block_left = BLOCK_LEN - run.len() as u16;
     }
 
     // Appends bytes behind the header, for all of which there is room.
     #[inline]
     fn take_blocks(&mut self, run: &[u8])
         requires behind { 10 ≤ self.old.len }
-        requires room { self.old.len + length run.now ≤ room_by self.old.len_byte }
+        requires room { self.old.len + length run.now ≤ self.old.room }
         ensures { Appends self.old self.new run.now }
     {
-        let first = run.len().min(left_in_block(self.len));
+        let first = run.len().min(usize::from(self.block_left));
         self.go_on(&run[..first]);
         let mut rest = &run[first..];
-        while let Some((block, more)) = rest.split_first_chunk::<18>() {
+        while let Some((block, more)) = rest.split_first_chunk::<WHOLE_BLOCK>() {
             self.begin_block(block);
             rest = more;
         }
@@ -94,6 +118,7 @@ impl Dnp {
     #[inline]
     fn take_of_header(&mut self, rest: &[u8]) -> usize
         requires short { self.old.len < 10 }
+        requires room { is_full_dnp self.old ≡ false }
         requires some { 0 < length rest.now }
         ensures some { 0 < result }
         ensures within { result ≤ length rest.now }
@@ -103,7 +128,7 @@ impl Dnp {
             → fills_room dnp_rules (x ++ take n rest.now) ≡ false }
     {
         if self.len == 0 {
-            if let Some((header, _)) = rest.split_first_chunk::<10>() {
+            if let Some((header, _)) = rest.split_first_chunk::<WHOLE_HEADER>() {
                 self.take_header(header);
                 return header.len();
             }
@@ -113,7 +138,7 @@ impl Dnp {
             return 1;
         }
         let run = rest.len().min(usize::from(HEADER_LEN - 1 - self.len));
-        self.go_on(&rest[..run]);
+        self.take_in_header(&rest[..run]);
         run
     }
 
@@ -121,6 +146,7 @@ impl Dnp {
     #[inline]
     fn take_user(&mut self, rest: &[u8]) -> usize
         requires behind { 10 ≤ self.old.len }
+        requires room { is_full_dnp self.old ≡ false }
         ensures within { result ≤ length rest.now }
         ensures stands { (x : List ℕ) → DnpStandsFor self.old x
             → DnpStandsFor self.new (x ++ take result rest.now) }
@@ -128,12 +154,7 @@ impl Dnp {
         ensures room { (x : List ℕ) (n : ℕ) → DnpStandsFor self.old x → n < result
             → fills_room dnp_rules (x ++ take n rest.now) ≡ false }
     {
-        if self.full() {
-            return 0;
-        }
-        let run = rest
-            .len()
-            .min(usize::from(room_by(self.len_byte) - self.len));
+        let run = rest.len().min(usize::from(self.room - self.len));
         self.take_blocks(&rest[..run]);
         run
     }
@@ -184,6 +205,8 @@ impl LineRules for Dnp {
         Dnp {
             len: 0,
             len_byte: 0,
+            room: LONGEST,
+            block_left: 0,
             register: FIRST_REGISTER,
             header_right: true,
             blocks_right: true,
@@ -202,26 +225,32 @@ impl LineRules for Dnp {
 
     #[inline]
     fn full(&self) -> bool {
-        self.len >= room_by(self.len_byte)
+        self.len >= self.room
     }
 
     #[inline]
     fn take(&mut self, b: u8) {
-        let len = self.len;
-        self.len += 1;
-        if len < HEADER_LEN {
-            self.register = after_byte(self.register, b);
-            self.header_right = header_after(len, self.header_right, self.register, b);
-            self.len_byte = len_byte_after(len, self.len_byte, b);
+        if self.len >= HEADER_LEN {
+            if self.block_left == 0 {
+                self.begin_block(&[b]);
+                return;
+            }
+            self.go_on(&[b]);
             return;
         }
-        self.blocks_right = blocks_after(len, self.blocks_right, self.register);
-        self.register = register_after(len, self.register, b);
+        self.register = after_byte(self.register, b);
+        self.header_right = header_after(self.len, self.header_right, self.register, b);
+        self.len_byte = len_byte_after(self.len, self.len_byte, b);
+        self.room = room_by(self.len_byte);
+        self.len += 1;
     }
 
     fn take_some(&mut self, part: &[u8]) -> usize {
         let mut taken = 0;
         while taken < part.len() {
+            if self.full() {
+                return taken;
+            }
             if self.len >= HEADER_LEN {
                 return taken + self.take_user(&part[taken..]);
             }

@@ -1,8 +1,9 @@
 //! What one more byte does to what is kept of the bytes so far.
-ghost use Rattle.std.specs.Prelude.{◌≡◌, ◌≤◌, ◌&&◌, true};
-ghost use Rattle.dnp_link_frame.specs.Steps.{begins_block, left_in_block, register_before};
+ghost use Rattle.std.specs.Prelude.{◌≡◌, ◌&&◌};
+ghost use Rattle.dnp_link_frame.specs.Steps.{begins_block, register_before};
 ghost use Rattle.dnp_link_frame.specs.Steps.{register_after, fits_header, is_header, head_by};
-ghost use Rattle.dnp_link_frame.specs.Steps.{blocks_after, len_byte_after, is_whole, ends_right};
+ghost use Rattle.dnp_link_frame.specs.Steps.{blocks_at_beginning, len_byte_after, is_whole};
+ghost use Rattle.dnp_link_frame.specs.Steps.{ends_right};
 
 use crate::crc::{FIRST_REGISTER, RESIDUE};
 use crate::size::{BLOCK_DATA_LEN, COUNTED_OF_HEADER, CRC_LEN, HEADER_LEN, size_by};
@@ -12,7 +13,8 @@ use line_rules::Head;
 // The two bytes that a frame begins with.
 pub(crate) const START: [u8; 2] = [0x05, 0x64];
 
-const BLOCK_LEN: u16 = BLOCK_DATA_LEN + CRC_LEN;
+// How many bytes a whole block of user data has, its CRC counted.
+pub(crate) const BLOCK_LEN: u16 = BLOCK_DATA_LEN + CRC_LEN;
 
 // Whether the byte after so many is the first of a block of user data.
 #[inline]
@@ -22,23 +24,10 @@ fn begins_block(len: u16) -> bool
     len >= HEADER_LEN && (len - HEADER_LEN) % BLOCK_LEN == 0
 }
 
-// How many bytes more, after so many of a frame whose header is whole, belong to the block of the
-// byte before them.
-#[inline]
-pub(crate) fn left_in_block(len: u16) -> usize
-    requires { 10 ≤ len }
-    ensures { result ≡ left_in_block len }
-{
-    match (len - HEADER_LEN) % BLOCK_LEN {
-        0 => 0,
-        begun => usize::from(BLOCK_LEN - begun),
-    }
-}
-
 // The register that the block of the next byte begins with, where it begins with that byte, or has
 // come to.
 #[inline]
-pub(crate) fn register_before(len: u16, register: u16) -> u16
+fn register_before(len: u16, register: u16) -> u16
     ensures { result ≡ register_before len register }
 {
     if begins_block(len) {
@@ -98,22 +87,10 @@ pub(crate) fn head_by(len: u16, header_right: bool) -> Head
 // is that of the last of them.
 #[inline]
 pub(crate) fn blocks_at_beginning(len: u16, blocks_right: bool, register: u16) -> bool
-    requires { begins_block len ≡ true }
-    ensures { result ≡ blocks_after len blocks_right register }
+    ensures { result ≡ blocks_at_beginning len blocks_right register }
 {
     if len > HEADER_LEN {
         return blocks_right && register == RESIDUE;
-    }
-    blocks_right
-}
-
-// The register is the one before the byte, so that of a block that it may end.
-#[inline]
-pub(crate) fn blocks_after(len: u16, blocks_right: bool, register: u16) -> bool
-    ensures { result ≡ blocks_after len blocks_right register }
-{
-    if begins_block(len) {
-        return blocks_at_beginning(len, blocks_right, register);
     }
     blocks_right
 }

@@ -12,18 +12,19 @@ loop-block-init c =
     (sym (take_rest c.min-first.result c.args.run.now))
     (is_before-first c.args.self.now c.go_on.new.self c.args.run.now c.min-first.result
     c.requires.behind c.requires.room
-    (c.min-first.ensures ∙ ap (min (length c.args.run.now)) c.left_in_block.ensures)
-    c.go_on.ensures)
+    (c.min-first.ensures ∙ ap (min (length c.args.run.now)) c.from.ensures)
+    c.go_on.ensures.block c.go_on.ensures.appends)
 
 pub loop-block-preserved : goal.loop-block-preserved
 loop-block-preserved c =
     is_before-next c.args.self.now c.loop-block.self c.begin_block.new.self c.args.run.now
     c.loop-block.rest.now c.in-Some.block.now c.in-Some.more.now (omega arith)
-    c.in-Some.ensures.cases.0 c.in-Some.ensures.cases.1 c.loop-block.invariant
-    c.begin_block.ensures
+    c.in-Some.ensures.cases.0 c.in-Some.ensures.cases.1 c.begin_block.ensures.block
+    c.loop-block.invariant c.begin_block.ensures.appends
 
 pub returns-then-not-is_empty : goal.returns-then-not-is_empty
-returns-then-not-is_empty c = c.loop-block.invariant.ends _ c.begin_block-then-not-is_empty.ensures
+returns-then-not-is_empty c =
+    c.loop-block.invariant.ends _ c.begin_block-then-not-is_empty.ensures.appends
 
 pub returns-else-not-is_empty : goal.returns-else-not-is_empty
 returns-else-not-is_empty c =

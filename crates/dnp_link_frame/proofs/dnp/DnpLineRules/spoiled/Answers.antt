@@ -1,15 +1,11 @@
 use Rattle.std.proofs.Common.{◌∙◌, sym, arith}
 use Rattle.std.proofs.lemmas.Bool.{cond-true, cond-false, leb-false}
-use Rattle.dnp_link_frame.specs.Blocks.{room_by}
-use Rattle.dnp_link_frame.specs.BlockLaws.{room_by-most}
 use Rattle.dnp_link_frame.proofs.DnpLaws.{dnp_ends_right}
 use Rattle.dnp_link_frame.proofs.dnp.DnpLineRules.spoiled.Goals as goal
 
 pub overflow_add-self : goal.overflow_add-self
 overflow_add-self c =
-    let room = leb-false (room_by c.args.self.now.len_byte) c.args.self.now.len c.requires in
-    let most = room_by-most c.args.self.now.len_byte (omega arith) in
-    omega arith
+    let room = leb-false c.args.self.now.room c.args.self.now.len c.requires in omega arith
 
 pub returns-then-ends_right : goal.returns-then-ends_right
 returns-then-ends_right c = λ x stands.
