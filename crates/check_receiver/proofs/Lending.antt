@@ -1,11 +1,18 @@
 -- The bytes that are lent for a run of ticks.
-use Rattle.std.proofs.Common.{◌≡◌, ◌∙◌, ℕ, suc, ◌<◌, ◌≤◌, true, false, List, [], ◌∷◌}
+use Rattle.std.proofs.Common.{◌≡◌, ◌∙◌, ℕ, zero, suc, ◌+◌, ◌<◌, ◌≤◌, true, false, List, [], ◌∷◌}
 use Rattle.std.proofs.Common.{◌++◌, length, take, map, refl, sym, ap, subst, arith, nat_lt, ⊎_elim}
+use Rattle.std.proofs.Common.{◌-◌, length-append, drop, get_or, min, inr}
+use Rattle.std.proofs.Math.Seq.{take-append-add}
 use Rattle.std.specs.Prelude.{Result, Ok, Err, IsOk, OnOk, not}
 use Rattle.std.proofs.lemmas.Bool.{cases_lt, lt-ltb}
-use Rattle.std.proofs.lemmas.List.{append-nil, take_all}
+use Rattle.std.proofs.lemmas.List.{append-nil, take_all, take-append-le, take-map, map-append}
+use Rattle.std.proofs.lemmas.List.{length-take-le, length-drop}
+use Rattle.yasir_ticks.specs.Ticks.{silent}
+use Rattle.delay_ring.specs.DelayRing.{ring_ticks, marked_ticks, AreAlike}
+use Rattle.delay_ring.specs.declared.delay_ring.DelayRing.{DelayRing}
+use Rattle.delay_ring.proofs.Marks.{ticks-length}
 use Rattle.yasir_ticks.specs.declared.tick.Tick.{Tick}
-use Rattle.yasir_ticks.specs.declared.tick.Tick.TheVariants.{Byte}
+use Rattle.yasir_ticks.specs.declared.tick.Tick.TheVariants.{Silent, Byte}
 use Rattle.line_rules.specs.declared.line_rules.LineRules.{Ghosts as LineRules}
 use Rattle.frame_ending.specs.Stands.{StandsFor as CutStandsFor}
 use Rattle.frame_ending.specs.declared.burst_cut.BurstCut.{BurstCut}
@@ -18,9 +25,100 @@ use Rattle.link_format.specs.Profile.{profile_of}
 use Rattle.link_format.specs.Setup.{Setup}
 use Rattle.sequence_journal.specs.declared.numbers.TheConstants.{LIMIT}
 use Rattle.link_verdicts.specs.Checking.{checker, at_floor, brief_note}
-use Rattle.check_receiver.specs.Runs.{HasTakenRun, HaveRoom}
+use Rattle.check_receiver.specs.Runs.{HasTakenRun, HaveRoom, IsFront}
 use Rattle.check_receiver.specs.Stands.{StandsAt}
 use Rattle.check_receiver.specs.declared.checker.Checker.{Checker}
+
+-- a ring has its ticks
+pub ring-whole : {D : ℕ} (ring : DelayRing D) → length (ring_ticks ring) ≡ D
+ring-whole {D} ring =
+    let bytes = ring.byte_room in
+    let marks = ring.mark_room in
+    let within = ring.within in
+    let all = ticks-length ring.bytes ring.marks (bytes ∙ sym marks) in
+    let less = length-drop ring.oldest (marked_ticks ring.bytes ring.marks) in
+    length-take-le D (drop ring.oldest (marked_ticks ring.bytes ring.marks)) (omega arith)
+
+-- ticks of which the first is a byte aren't silent
+byte-first : (n : ℕ) (x : List ℕ) (Q : List Tick) → 0 < length x
+    → map (λ b. Byte b) x ≡ take (length x) Q → 0 < n → take n Q ≡ silent n → ⊥
+byte-first n [] Q some bytes any is = absurd (omega arith)
+byte-first zero (b ∷ x) Q some bytes any is = absurd (omega arith)
+byte-first (suc n) (b ∷ x) [] some bytes any is = let none = ap length is in absurd cc
+byte-first (suc n) (b ∷ x) (q ∷ Q) some bytes any is =
+    let first : q ≡ Silent = ap (λ l. get_or l 0 Silent) is in
+    let byte : Byte b ≡ q = ap (λ l. get_or l 0 Silent) bytes in
+    let both : Byte b ≡ Silent = byte ∙ first in
+    absurd cc
+
+-- Ticks of which so many at the front are alike, of a ring and of bytes behind it: within the ring,
+-- as they are there,
+pub alike-front : (Q E : List Tick) (k : ℕ) → k ≤ length Q → AreAlike (take k Q)
+    → AreAlike (take k (Q ++ E))
+alike-front Q E k few alike =
+    let A : List Tick → Type 0 = λ l. AreAlike l in
+    subst A (sym (take-append-le k Q E few)) alike
+
+-- and also past it, where the first one is a byte.
+pub alike-past : (Q : List Tick) (x bytes : List ℕ) (k : ℕ) → 0 < length Q
+    → AreAlike (take (length Q) Q) → 0 < length x → map (λ b. Byte b) x ≡ take (length x) Q
+    → AreAlike (take k (Q ++ map (λ b. Byte b) bytes))
+alike-past Q x bytes k any alike some front =
+    ⊎_elim
+    (λ silence.
+    let size = length-take-le (length Q) Q (omega arith) in
+    absurd (byte-first (length Q) x Q some front any (silence ∙ ap silent size)))
+    (λ all.
+    let is : Q ≡ map (λ b. Byte b) all.0 = sym (take_all (length Q) Q (omega arith)) ∙ all.1 in
+    inr (
+      take k (all.0 ++ bytes),
+      ap (λ l. take k (l ++ map (λ b. Byte b) bytes)) is
+          ∙ (ap (λ l. take k l) (sym (map-append (λ b. Byte b) all.0 bytes))
+          ∙ take-map (λ b. Byte b) k (all.0 ++ bytes)),
+    ))
+    alike
+
+pub first-along : (Q E : List Tick) → 0 < length Q → get_or (Q ++ E) 0 Silent ≡ get_or Q 0 Silent
+first-along [] E some = absurd (omega arith)
+first-along (q ∷ Q) E some = refl
+
+-- ---- what leaves while bytes come: of the ring alone,
+pub front-along : (Q E : List Tick) (D k most : ℕ) (x : List ℕ) → length Q ≡ D → most ≡ min k D
+    → length x < D → length x ≤ most → map (λ b. Byte b) x ≡ take (length x) Q
+    → (length x < most → get_or Q (length x) Silent ≡ Silent) → IsFront (Q ++ E) k x
+front-along Q E D k most x whole is short within bytes first = record {
+  within = omega arith;
+  bytes = bytes ∙ sym (take-append-le (length x) Q E (omega arith));
+  all = λ less. get_or-front Q E (length x) (omega arith) ∙ first (omega arith);
+}
+  where
+    get_or-front : (P F : List Tick) (n : ℕ) → n < length P
+        → get_or (P ++ F) n Silent ≡ get_or P n Silent
+    get_or-front [] F n few = absurd (omega arith)
+    get_or-front (p ∷ P) F zero few = refl
+    get_or-front (p ∷ P) F (suc n) few = get_or-front P F n (omega arith)
+
+-- and of the bytes behind it
+pub whole-along : (Q : List Tick) (D k : ℕ) (x bytes : List ℕ) → length Q ≡ D → length x ≡ D
+    → D ≤ k → k ≤ length bytes → map (λ b. Byte b) x ≡ take (length x) Q
+    → IsFront (Q ++ map (λ b. Byte b) bytes) k (x ++ take (k - D) bytes)
+whole-along Q D k x bytes whole size more few front =
+    let behind : List ℕ = take (k - D) bytes in
+    let E : List Tick = map (λ b. Byte b) bytes in
+    let long = length-append x behind in
+    let part = length-take-le (k - D) bytes (omega arith) in
+    let all : length (x ++ behind) ≡ k = omega arith in
+    let sum : length Q + (k - D) ≡ k = omega arith in
+    let is : map (λ b. Byte b) x ≡ Q = front ∙ take_all (length x) Q (omega arith) in
+    record {
+      within = omega arith;
+      bytes = map-append (λ b. Byte b) x behind
+          ∙ (ap (λ l. l ++ map (λ b. Byte b) behind) is
+          ∙ (ap (λ l. Q ++ l) (sym (take-map (λ b. Byte b) (k - D) bytes))
+          ∙ (sym (take-append-add Q E (k - D))
+          ∙ (ap (λ n. take n (Q ++ E)) (sum ∙ sym all)))));
+      all = λ less. absurd (omega arith);
+    }
 
 -- what holds of an answer that is Ok
 pub of-ok : {T E : Type 0} (r : Result T E) (P : Type 0) → IsOk r → OnOk r P → P

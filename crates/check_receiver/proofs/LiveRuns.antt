@@ -151,7 +151,8 @@ module _ {R : Type 0} (proto : LineRules R) (profile : Profile)
     pub burst : Burst
     pub ticks : List Tick
     pub runs : RunsTo profile rules floor line (map (λ b. Byte b) x) s false
-        (left ++ bytes_in (take (length x) Q)) ticks 0 (Some burst) (take (length x) Q)
+        (left ++ bytes_in (take (length x) (Q ++ map (λ b. Byte b) x))) ticks 0 (Some burst)
+        (take (length x) (Q ++ map (λ b. Byte b) x))
     pub ring : ticks ++ silent (delay profile - length ticks)
         ≡ drop (length x) (Q ++ map (λ b. Byte b) x)
     pub few : length ticks ≤ delay profile
@@ -166,7 +167,7 @@ module _ {R : Type 0} (proto : LineRules R) (profile : Profile)
       → Walked line left live d → KeepsHeader rules (live_bytes rules d) x
       → Fits (live_bytes rules d)
       → cuts_after rules line (map (λ b. Byte b) x) ≡ map (λ b. Live b) x
-      → length x ≤ length Q → LiveRun line left live Q d x
+      → 0 < length Q → LiveRun line left live Q d x
   live-run [] line left live Q d is few walked headed fits cuts within =
       let P : List ℕ → Type 0 = λ y. RunsTo profile rules floor line [] s false y live 0 (Some d) []
       in
@@ -210,6 +211,7 @@ module _ {R : Type 0} (proto : LineRules R) (profile : Profile)
       let Q_less = length-drop 1 Q in
       let Q_more = length-append (drop 1 Q) (Byte b ∷ []) in
       let k : ℕ = length x in
+      let E : List Tick = map (λ c. Byte c) x in
       let left' : List ℕ = left ++ bytes_in (take 1 live) in
       let N : List ℕ → Type 0 = λ y. rules.header_len ≤ length y
       → rules.is_good_header (take rules.header_len y) ≡ true in
@@ -224,25 +226,26 @@ module _ {R : Type 0} (proto : LineRules R) (profile : Profile)
       ∙ take-append-le 1 live (silent (delay profile - length live)) (omega arith)) in
       let answer : get_or live 0 Silent ≡ get_or Q 0 Silent =
       sym (ap (λ l. get_or l 0 Silent) is ∙ ring-first live (delay profile - length live)) in
-      let all : left' ++ bytes_in (take k shifted) ≡ left ++ bytes_in (take (suc k) Q) =
-      ap (λ l. (left ++ bytes_in l) ++ bytes_in (take k shifted)) front
-      ∙ bytes-next left Q (Byte b) k within in
-      let told : get_or live 0 Silent ∷ take k shifted ≡ take (suc k) Q =
-      ap (λ t. t ∷ take k shifted) answer ∙ left-next Q (Byte b) k within in
+      let all : left' ++ bytes_in (take k (shifted ++ E))
+      ≡ left ++ bytes_in (take (suc k) (Q ++ Byte b ∷ E)) =
+      ap (λ l. (left ++ bytes_in l) ++ bytes_in (take k (shifted ++ E))) front
+      ∙ bytes-next left Q (Byte b) E k within in
+      let told : get_or live 0 Silent ∷ take k (shifted ++ E) ≡ take (suc k) (Q ++ Byte b ∷ E) =
+      ap (λ t. t ∷ take k (shifted ++ E)) answer ∙ left-next Q (Byte b) E k within in
       let RunA : List ℕ → Type 0 = λ y. RunsTo profile rules floor line
       (map (λ c. Byte c) (b ∷ x)) s false y rest.ticks 0 (Some rest.burst)
-      (get_or live 0 Silent ∷ take k shifted) in
+      (get_or live 0 Silent ∷ take k (shifted ++ E)) in
       let RunB : List Tick → Type 0 = λ a. RunsTo profile rules floor line
-      (map (λ c. Byte c) (b ∷ x)) s false (left ++ bytes_in (take (suc k) Q)) rest.ticks 0
-      (Some rest.burst) a in
+      (map (λ c. Byte c) (b ∷ x)) s false (left ++ bytes_in (take (suc k) (Q ++ Byte b ∷ E)))
+      rest.ticks 0 (Some rest.burst) a in
       let long = length-append line (Byte b ∷ []) in
       record {
         burst = rest.burst;
         ticks = rest.ticks;
         runs = subst RunB told (subst RunA all
             (runs-first profile rules floor line (Byte b) (map (λ c. Byte c) x) s false left' next
-            0 (Some e) (left' ++ bytes_in (take k shifted)) rest.ticks 0 (Some rest.burst)
-            (get_or live 0 Silent) (take k shifted) one.goes rest.runs));
+            0 (Some e) (left' ++ bytes_in (take k (shifted ++ E))) rest.ticks 0 (Some rest.burst)
+            (get_or live 0 Silent) (take k (shifted ++ E)) one.goes rest.runs));
         ring = rest.ring ∙ entered-next Q (Byte b) (map (λ c. Byte c) x) k (omega arith);
         few = rest.few;
         bytes = rest.bytes

@@ -1,8 +1,8 @@
 -- Runs of ticks without a note, joined from single ticks, and what they make of a ring.
-use Rattle.std.proofs.Common.{◌≡◌, ◌∙◌, ℕ, zero, suc, ◌<◌, ◌≤◌, Bool, List, [], ◌∷◌, ◌++◌}
+use Rattle.std.proofs.Common.{◌≡◌, ◌∙◌, ℕ, zero, suc, ◌+◌, ◌<◌, ◌≤◌, Bool, List, [], ◌∷◌, ◌++◌}
 use Rattle.std.proofs.Common.{length, take, drop, get_or, map, refl, sym, ap, subst}
 use Rattle.std.proofs.Common.{arith, append_assoc, ⊎_elim, Option, None, ◌⊎◌}
-use Rattle.std.proofs.lemmas.List.{append-nil, take-append-le}
+use Rattle.std.proofs.lemmas.List.{append-nil}
 use Rattle.std.proofs.lemmas.List.{length-take-le, get_or-take}
 use Rattle.std.proofs.lemmas.Bool.{cases_lt}
 use Rattle.yasir_ticks.specs.Ticks.{silent, bytes_in}
@@ -29,19 +29,20 @@ pub entered-next : (Q : List Tick) (t : Tick) (E : List Tick) (k : ℕ) → 0 < 
 entered-next [] t E k some = absurd (omega arith)
 entered-next (q ∷ Q) t E k some = ap (λ l. drop k l) (append_assoc Q (t ∷ []) E)
 
-pub left-next : (Q : List Tick) (t : Tick) (k : ℕ) → suc k ≤ length Q
-    → get_or Q 0 Silent ∷ take k (drop 1 Q ++ t ∷ []) ≡ take (suc k) Q
-left-next [] t k few = absurd (omega arith)
-left-next (q ∷ Q) t k few = ap (λ l. q ∷ l) (take-append-le k Q (t ∷ []) (omega arith))
+pub left-next : (Q : List Tick) (t : Tick) (E : List Tick) (k : ℕ) → 0 < length Q
+    → get_or Q 0 Silent ∷ take k ((drop 1 Q ++ t ∷ []) ++ E) ≡ take (suc k) (Q ++ t ∷ E)
+left-next [] t E k some = absurd (omega arith)
+left-next (q ∷ Q) t E k some = ap (λ l. q ∷ take k l) (append_assoc Q (t ∷ []) E)
 
-pub bytes-next : (left : List ℕ) (Q : List Tick) (t : Tick) (k : ℕ) → suc k ≤ length Q
-    → (left ++ bytes_in (take 1 Q)) ++ bytes_in (take k (drop 1 Q ++ t ∷ []))
-    ≡ left ++ bytes_in (take (suc k) Q)
-bytes-next left [] t k few = absurd (omega arith)
-bytes-next left (q ∷ Q) t k few =
-    append_assoc left (bytes_in (q ∷ [])) (bytes_in (take k (Q ++ t ∷ [])))
-    ∙ ap (λ l. left ++ l) (sym (bytes_in-append (q ∷ []) (take k (Q ++ t ∷ [])))
-    ∙ ap (λ l. bytes_in (q ∷ l)) (take-append-le k Q (t ∷ []) (omega arith)))
+pub bytes-next : (left : List ℕ) (Q : List Tick) (t : Tick) (E : List Tick) (k : ℕ)
+    → 0 < length Q
+    → (left ++ bytes_in (take 1 Q)) ++ bytes_in (take k ((drop 1 Q ++ t ∷ []) ++ E))
+    ≡ left ++ bytes_in (take (suc k) (Q ++ t ∷ E))
+bytes-next left [] t E k some = absurd (omega arith)
+bytes-next left (q ∷ Q) t E k some =
+    append_assoc left (bytes_in (q ∷ [])) (bytes_in (take k ((Q ++ t ∷ []) ++ E)))
+    ∙ ap (λ l. left ++ l) (sym (bytes_in-append (q ∷ []) (take k ((Q ++ t ∷ []) ++ E)))
+    ∙ ap (λ l. bytes_in (q ∷ take k l)) (append_assoc Q (t ∷ []) E))
 
 -- ---- what leaves, told by its bytes
 
@@ -67,6 +68,13 @@ take-less zero n x few = refl
 take-less (suc k) zero x few = absurd (omega arith)
 take-less (suc k) (suc n) [] few = refl
 take-less (suc k) (suc n) (t ∷ x) few = ap (λ l. t ∷ l) (take-less k n x (omega arith))
+
+-- the first of ticks and of the first of others
+pub take-along : (k j : ℕ) (Q E : List Tick) → k ≤ length Q + j
+    → take k (Q ++ take j E) ≡ take k (Q ++ E)
+take-along zero j Q E few = refl
+take-along (suc k) j [] E few = take-less (suc k) j E (omega arith)
+take-along (suc k) j (q ∷ Q) E few = ap (λ l. q ∷ l) (take-along k j Q E (omega arith))
 
 -- the first of ticks that are silent
 front-silence : (Q : List Tick) (c k : ℕ) (x : List ℕ) → k ≤ c → c ≤ length Q

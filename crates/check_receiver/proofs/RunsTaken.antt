@@ -510,17 +510,25 @@ module _ {R M : Type 0} (proto : LineRules R) (code : Mac M) {B D : ℕ} (old : 
           answers = after.runs.answers;
         })
 
-    -- ---- live bytes come of the burst whose verdict is open
+  -- ---- live bytes come of the burst whose verdict is open
 
+  module _ (ring : DelayRing D) (outlet : Outlet R) (c : ℕ) (x : List ℕ) (until : ℕ)
+      (E : List Tick) (within : c ≤ length (ring_ticks old.ring ++ E))
+      (alike : AreAlike (take c (ring_ticks old.ring ++ E)))
+      (lends : (y : List ℕ) → OutletStandsFor proto old.outlet y → HaveRoom proto.rules y x
+      → OutletStandsFor proto outlet (y ++ x))
+      (unowed : owed_by outlet ≡ 0) where
     module _ (bytes : List ℕ) (mac : M) (waits : old.waits ≡ true) (any : 0 < length bytes)
         (few : length bytes ≤ c)
+        (along : take (length bytes) (ring_ticks old.ring ++ map (λ b. Byte b) bytes)
+        ≡ take (length bytes) (ring_ticks old.ring ++ E))
         (keeps : KeepsHeader proto.rules (live_bytes_so_far proto.rules line) bytes)
         (cuts : CutStandsFor proto cut (line ++ map (λ b. Byte b) bytes))
         (are_live : cuts_after proto.rules line (map (λ b. Byte b) bytes)
         ≡ map (λ b. Live b) bytes)
         (codes : (key text : List ℕ) → code.stands old.mac key text
         → code.stands mac key (text ++ bytes))
-        (is : IsFront (ring_ticks old.ring) (length bytes) x)
+        (is : IsFront (ring_ticks old.ring ++ E) (length bytes) x)
         (ring_is : ring_ticks ring
         ≡ drop (length bytes) (ring_ticks old.ring ++ map (λ b. Byte b) bytes))
         (whole : until ≡ D) where
@@ -558,6 +566,7 @@ module _ {R M : Type 0} (proto : LineRules R) (code : Mac M) {B D : ℕ} (old : 
           let most = stands.walks.few in
           let long = ring-long in
           let size = delay-is in
+          let delay_is = stands.delay_is in
           live-run proto profile time some setup.floor state bytes line left live Q d
           (stands.walks.ring_is ∙ ap (λ n. live ++ silent (n - length live)) delay-is)
           (omega arith) walked-live headed fits are_live (omega arith)
@@ -593,17 +602,29 @@ module _ {R M : Type 0} (proto : LineRules R) (code : Mac M) {B D : ℕ} (old : 
           (record old { cut = cut; mac = mac; ring = ring; outlet = outlet; until = until }) last
           setup line run (answered k x)
       follow-taken =
-          let more = has-more in
-          let long = ring-long in
-          let leaves = front k few is in
+          let leaves = along ∙ front-answered (Q ++ E) c k x few within alike is in
           let after = live-runs in
           let full = after.full (inr any) in
           let size = delay-is in
+          let delay_is = stands.delay_is in
+          let rest : List ℕ = bytes_in after.ticks in
+          let bytes_left : bytes_in (take k (Q ++ run)) ≡ x =
+          ap (λ l. bytes_in l) leaves ∙ answered-bytes k x in
+          let Fits : List ℕ → Type 0 = λ y. length y ≤ rules.room y in
+          let fits_still : Fits (left ++ (x ++ rest)) =
+          subst Fits (ap (λ y. (left ++ y) ++ rest) bytes_left ∙ append_assoc left x rest)
+          (after.runs.walked.room (omega arith)) in
+          let Left : List ℕ → Type 0 = λ y. OutletStandsFor proto outlet (left ++ y) in
+          let lent : Left (bytes_in (take k (Q ++ run))) = subst Left (sym bytes_left)
+          (lends left stands.walks.outlet_is
+          (rooms rules proto.lawful x left rest fits_still)) in
           let Z : ℕ → Type 0 = λ n. HasWalked profile rules setup.floor (length (line ++ run))
-          (bursts (line ++ run)) state false (left ++ bytes_in (take k Q)) after.ticks n
+          (bursts (line ++ run)) state false (left ++ bytes_in (take k (Q ++ run)))
+          after.ticks n
           (Some after.burst) in
           let P : Bool → Type 0 = λ p. HasWalked profile rules setup.floor (length (line ++ run))
-          (bursts (line ++ run)) state p (left ++ bytes_in (take k Q)) after.ticks
+          (bursts (line ++ run)) state p (left ++ bytes_in (take k (Q ++ run)))
+          after.ticks
           (owed_by outlet) (Some after.burst) in
           let A : List Tick → Type 0 = λ l. HasTakenRun proto code
           (record old { cut = cut; mac = mac; ring = ring; outlet = outlet; until = until }) last
@@ -617,11 +638,11 @@ module _ {R M : Type 0} (proto : LineRules R) (code : Mac M) {B D : ℕ} (old : 
               cuts = cuts;
               walks = record {
                 waiting = Some after.burst;
-                left = left ++ bytes_in (take k Q);
+                left = left ++ bytes_in (take k (Q ++ run));
                 live = after.ticks;
                 walked = subst P (sym walked-open.opens.1)
                     (subst Z (sym unowed) after.runs.walked);
-                outlet_is = has-left k leaves (walked-live.room (omega arith));
+                outlet_is = lent;
                 ring_is = ring_is
                     ∙ (sym after.ring
                     ∙ ap (λ n. after.ticks ++ silent (n - length after.ticks)) (sym delay-is));

@@ -1,6 +1,6 @@
 use crate::CheckStep;
 use crate::arriving::Arriving;
-use crate::runs::{RunBytes, begin_well, cut_some, lend};
+use crate::runs::{RunBytes, alike_along, begin_well, cut_some, lend, lend_along};
 use delay_ring::DelayRing;
 use frame_ending::{BurstCut, Cut};
 use hmac_tag::{Dir, Mac};
@@ -250,15 +250,14 @@ impl<R: LineRules, M: Mac, const B: usize, const D: usize> Checker<R, M, B, D> {
         ensures silent { slice_index_or (ring_ticks self.old.ring) 0 Silent ≡ Silent
             → left.new.items ≡ [] }
     {
-        let most = bytes.len().min(D);
-        let count = self.ring.front_alike(most);
+        let count = alike_along(&self.ring, bytes);
         let part = &bytes[..count];
         let taken = self.cut.go_on_some(part);
         if taken == 0 {
             return 0;
         }
         let entering = &part[..taken];
-        lend(&self.ring, &mut self.outlet, taken, left);
+        lend_along(&self.ring, &mut self.outlet, bytes, taken, left);
         self.mac.update(entering);
         self.ring.pass_bytes(entering);
         let whole = D as u8;

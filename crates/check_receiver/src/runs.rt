@@ -4,7 +4,7 @@ ghost use Rattle.yasir_ticks.specs.declared.tick.Tick.TheVariants.{Byte};
 ghost use Rattle.yasir_ticks.specs.declared.TheConstants.{MAX_TICKS};
 ghost use Rattle.frame_ending.specs.Stands.{ticks_taken as ticks_cut};
 ghost use Rattle.frame_ending.specs.Stands.{StandsFor as CutStandsFor};
-ghost use Rattle.delay_ring.specs.DelayRing.{ring_ticks};
+ghost use Rattle.delay_ring.specs.DelayRing.{ring_ticks, AreAlike};
 ghost use Rattle.spoiler.specs.Outlet.{StandsFor as OutletStandsFor, owed_by};
 ghost use Rattle.check_receiver.specs.Runs.{BeginNone, IsFront, HaveRoom};
 ghost use Rattle.frame_ending.specs.Cuts.{cut_of};
@@ -92,5 +92,67 @@ pub fn lend<R: LineRules, const D: usize>(
     ensures owed { owed_by outlet.new ≡ 0 }
 {
     let _ = left.try_extend_from_slice(ring.front_bytes(count));
+    outlet.emit_some(left.as_slice());
+}
+
+// How many bytes a run has at most.
+const LONGEST: usize = 64;
+
+// How many of these bytes may come while all ticks that leave are alike, all bytes or all silence:
+// those of the ring, and behind them the bytes themselves.
+#[inline]
+pub fn alike_along<const D: usize>(ring: &DelayRing<D>, bytes: &[u8]) -> usize
+    ensures within { result ≤ length bytes.now }
+    ensures most { result ≤ 64 }
+    ensures alike { AreAlike (take result (ring_ticks ring.now ++ map Byte bytes.now)) }
+{
+    let most = bytes.len().min(LONGEST);
+    let count = ring.front_alike(most.min(D));
+    if count < D {
+        return count;
+    }
+    if ring.front_bytes(1).is_empty() {
+        return count;
+    }
+    most
+}
+
+// Puts in what leaves while so many of these bytes come: the bytes that leave the ring, up to the
+// first silent tick, and behind those of a whole ring the bytes themselves.
+#[inline]
+fn leave_along<const D: usize>(ring: &DelayRing<D>, bytes: &[u8], count: usize, left: &mut RunBytes)
+    requires within { count ≤ length bytes.now }
+    requires most { count ≤ 64 }
+    requires empty { left.old.items ≡ [] }
+    ensures { IsFront (ring_ticks ring.now ++ map Byte bytes.now) count left.new.items }
+{
+    let front = ring.front_bytes(count.min(D));
+    let _ = left.try_extend_from_slice(front);
+    if front.len() < D {
+        return;
+    }
+    let behind = &bytes[..count - D];
+    let _ = left.try_extend_from_slice(behind);
+}
+
+// Lends the bytes that leave while so many of these bytes come, none of them a burst's last one.
+#[inline]
+pub fn lend_along<R: LineRules, const D: usize>(
+    ring: &DelayRing<D>,
+    outlet: &mut Outlet<R>,
+    bytes: &[u8],
+    count: usize,
+    left: &mut RunBytes,
+)
+    requires within { count ≤ length bytes.now }
+    requires most { count ≤ 64 }
+    requires empty { left.old.items ≡ [] }
+    ensures front { IsFront (ring_ticks ring.now ++ map Byte bytes.now) count left.new.items }
+    ensures stands { (x : List ℕ) → OutletStandsFor R.LineRules outlet.old x
+        → HaveRoom R.rules x left.new.items
+        → OutletStandsFor R.LineRules outlet.new (x ++ left.new.items) }
+    ensures owed { owed_by outlet.new ≡ 0 }
+{
+    leave_along(ring, bytes, count, left);
     outlet.emit_some(left.as_slice());
 }

@@ -1,6 +1,8 @@
-use Rattle.std.proofs.Common.{◌≡◌, ◌++◌, [], sym, subst, arith, length, List}
+use Rattle.std.proofs.Common.{◌≡◌, ◌∙◌, ◌++◌, [], sym, ap, subst, arith, length, List}
 use Rattle.std.proofs.Common.{ℕ, take, map, refl}
-use Rattle.std.proofs.lemmas.List.{take-take, length-take-le}
+use Rattle.std.proofs.Common.{length-append}
+use Rattle.std.proofs.lemmas.List.{take-take, take-map, length-take-le}
+use Rattle.yasir_ticks.specs.declared.tick.Tick.{Tick}
 use Rattle.yasir_ticks.specs.declared.tick.Tick.TheVariants.{Byte}
 use Rattle.frame_ending.specs.Stands.{StandsFor as CutStandsFor}
 use Rattle.delay_ring.specs.DelayRing.{ring_ticks}
@@ -8,13 +10,14 @@ use Rattle.burst_walk.specs.Answered.{answered}
 use Rattle.frame_ending.specs.SoFar.{live_bytes_so_far}
 use Rattle.check_receiver.specs.Runs.{HasTakenRun, IsFront, KeepsHeader}
 use Rattle.check_receiver.proofs.Beginnings.{front-none, keeps-front}
-use Rattle.check_receiver.proofs.Lending.{none-taken}
+use Rattle.check_receiver.proofs.Lending.{none-taken, bytes-long, ring-whole, first-along}
+use Rattle.check_receiver.proofs.RunTicks.{take-along}
 use Rattle.check_receiver.proofs.RunsTaken.{follow-taken}
 use Rattle.check_receiver.proofs.checker.Checker.follow_on.Goals as goal
 
 pub returns-then-taken-eq0-clause-run : goal.returns-then-taken-eq0-clause-run
 returns-then-taken-eq0-clause-run g c = λ last setup line stands waits keeps.
-    let part : List ℕ = take c.front_alike-count.result c.args.bytes.now in
+    let part : List ℕ = take c.alike_along-count.result c.args.bytes.now in
     let cut = c.go_on_some-taken.new.self in
     let C : ℕ → Type 0 = λ k. CutStandsFor g.R.LineRules cut
     (line ++ map (λ b. Byte b) (take k part)) in
@@ -26,13 +29,12 @@ returns-then-taken-eq0-clause-run g c = λ last setup line stands waits keeps.
 
 pub returns-clause-run : goal.returns-clause-run
 returns-clause-run g c = λ last setup line stands waits keeps.
-    let count : ℕ = c.front_alike-count.result in
+    let count : ℕ = c.alike_along-count.result in
     let part : List ℕ = take count c.args.bytes.now in
     let taken : ℕ = c.go_on_some-taken.result in
     let entering : List ℕ = take taken part in
     let old = c.args.self.now in
-    let within = c.front_alike-count.ensures.within in
-    let most = c.min-most.ensures in
+    let within = c.alike_along-count.ensures.within in
     let few = c.go_on_some-taken.ensures.within in
     let any = c.if-taken-eq0.false in
     let long : length part ≡ count = length-take-le count c.args.bytes.now (omega arith) in
@@ -41,32 +43,47 @@ returns-clause-run g c = λ last setup line stands waits keeps.
     (live_bytes_so_far g.R.LineRules.rules line) entering =
     keeps-front g.R.LineRules.rules (live_bytes_so_far g.R.LineRules.rules line) c.args.bytes.now
     taken entering (omega arith) (take-take taken count c.args.bytes.now (omega arith)) keeps in
-    let items : List ℕ = c.lend.new.left.items in
-    let F : ℕ → Type 0 = λ k. IsFront (ring_ticks old.ring) k items in
+    let Q : List Tick = ring_ticks old.ring in
+    let E : List Tick = map (λ b. Byte b) c.args.bytes.now in
+    let all = bytes-long c.args.bytes.now in
+    let sum = length-append Q E in
+    let first = take-take taken count c.args.bytes.now (omega arith) in
+    let along : take (length entering) (Q ++ map (λ b. Byte b) entering)
+    ≡ take (length entering) (Q ++ E) =
+    ap (λ y. take (length entering) (Q ++ map (λ b. Byte b) y)) first
+    ∙ (ap (λ l. take (length entering) (Q ++ l))
+    (sym (take-map (λ b. Byte b) taken c.args.bytes.now))
+    ∙ take-along (length entering) taken Q E (omega arith)) in
+    let items : List ℕ = c.lend_along.new.left.items in
+    let F : ℕ → Type 0 = λ k. IsFront (Q ++ E) k items in
     let new = record old {
       cut = c.go_on_some-taken.new.self;
       mac = c.update.new.self;
       ring = c.pass_bytes.new.self;
-      outlet = c.lend.new.outlet;
+      outlet = c.lend_along.new.outlet;
       until = g.row.D;
     } in
     let Len : ℕ → Type 0 = λ k. HasTakenRun g.R.LineRules g.M.Mac new last setup line
     (map (λ b. Byte b) entering) (answered k items) in
     let Ticks : List ℕ → Type 0 = λ y. HasTakenRun g.R.LineRules g.M.Mac new last setup line
     (map (λ b. Byte b) y) (answered taken items) in
-    subst Ticks (take-take taken count c.args.bytes.now (omega arith))
+    subst Ticks first
     (subst Len size
     (follow-taken g.R.LineRules g.M.Mac old last setup line stands c.go_on_some-taken.new.self
-    c.pass_bytes.new.self c.lend.new.outlet count items g.row.D (omega arith)
-    c.front_alike-count.ensures.alike c.lend.ensures.stands c.lend.ensures.owed entering
-    c.update.new.self waits (omega arith) (omega arith)
+    c.pass_bytes.new.self c.lend_along.new.outlet count items g.row.D E (omega arith)
+    c.alike_along-count.ensures.alike c.lend_along.ensures.stands c.lend_along.ensures.owed
+    entering c.update.new.self waits (omega arith) (omega arith) along
     keeps-entering
     (c.go_on_some-taken.ensures.stands line stands.cuts)
     (c.go_on_some-taken.ensures.live line stands.cuts)
     (λ key text codes. c.update.ensures key text codes)
-    (subst F (sym size) c.lend.ensures.front) c.pass_bytes.ensures refl))
+    (subst F (sym size) c.lend_along.ensures.front) c.pass_bytes.ensures refl))
 
 pub returns-clause-silent : goal.returns-clause-silent
 returns-clause-silent g c = λ quiet.
-    front-none (ring_ticks c.args.self.now.ring) c.go_on_some-taken.result c.lend.new.left.items
-    c.lend.ensures.front quiet
+    let Q : List Tick = ring_ticks c.args.self.now.ring in
+    let E : List Tick = map (λ b. Byte b) c.args.bytes.now in
+    let whole = ring-whole c.args.self.now.ring in
+    let some = c.args.self.now.ring.some in
+    front-none (Q ++ E) c.go_on_some-taken.result c.lend_along.new.left.items
+    c.lend_along.ensures.front (first-along Q E (omega arith) ∙ quiet)
