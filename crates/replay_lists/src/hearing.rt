@@ -36,6 +36,7 @@ fn hear_some<V: Device>(
 }
 
 // The same of so many silent ticks.
+#[inline]
 fn wait_some<V: Device>(
     device: &mut V,
     frames: &mut FrameList<u64>,
@@ -81,6 +82,7 @@ fn hear_bytes<V: Device>(
 }
 
 // A device hears so many silent ticks.
+#[inline(always)]
 fn hear_silence<V: Device>(
     device: &mut V,
     frames: &mut FrameList<u64>,
@@ -101,8 +103,10 @@ fn hear_silence<V: Device>(
     Ok(())
 }
 
-// A device hears what a box answers to a run of so many ticks: as many bytes, or silence.
-pub(crate) fn hear_answered<V: Device>(
+// A device hears what a box answers to a run of so many ticks. It stands apart from silence, which
+// is answered more often and comes without a call.
+#[inline(never)]
+fn hear_run<V: Device>(
     device: &mut V,
     frames: &mut FrameList<u64>,
     count: usize,
@@ -119,4 +123,24 @@ pub(crate) fn hear_answered<V: Device>(
         Ok(()) => hear_silence(device, frames, count - heard),
         Err(NoMemory) => Err(NoMemory),
     }
+}
+
+// A device hears what a box answers to a run of so many ticks: as many bytes, or silence.
+#[inline(always)]
+pub(crate) fn hear_answered<V: Device>(
+    device: &mut V,
+    frames: &mut FrameList<u64>,
+    count: usize,
+    left: &[u8],
+) -> Result<(), NoMemory>
+    requires { V.taken device.old + count ≤ MAX_TICKS }
+    ensures taken { OnOk result (V.taken device.new ≡ V.taken device.old + count) }
+    ensures ok { OnOk result ((line : List Tick) → length (answered count left.now) ≡ count
+        → Listens V.Device device.old frames.old line
+        → Listens V.Device device.new frames.new (line ++ answered count left.now)) }
+{
+    if left.is_empty() {
+        return hear_silence(device, frames, count);
+    }
+    hear_run(device, frames, count, left)
 }

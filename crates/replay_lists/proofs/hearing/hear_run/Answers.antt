@@ -4,7 +4,7 @@ use Rattle.std.proofs.lemmas.Result.{on_ok_weaker}
 use Rattle.yasir_ticks.specs.declared.tick.Tick.TheVariants.{Byte}
 use Rattle.replay_lists.specs.ReplayLists.{Listens}
 use Rattle.replay_lists.proofs.HeardRuns.{answered-heard}
-use Rattle.replay_lists.proofs.hearing.hear_answered.Goals as goal
+use Rattle.replay_lists.proofs.hearing.hear_run.Goals as goal
 
 pub hear_bytes-requires : goal.hear_bytes-requires
 hear_bytes-requires g c =
