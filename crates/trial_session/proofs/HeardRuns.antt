@@ -1,14 +1,21 @@
 -- Runs that a device hears.
-use Rattle.std.proofs.Common.{◌≡◌, ◌∙◌, ℕ, ◌+◌, List, ◌++◌, length, Option, ap, sym, subst}
-use Rattle.std.proofs.Common.{length-append}
+use Rattle.std.proofs.Common.{◌≡◌, ◌∙◌, ℕ, ◌+◌, List, [], ◌∷◌, ◌++◌, length, map, Option, ap, sym}
+use Rattle.std.proofs.Common.{subst, refl, arith, length-append, append_assoc, append-nil}
+use Rattle.std.proofs.lemmas.List.{map-append}
 use Rattle.yasir_ticks.specs.declared.tick.Tick.{Tick}
+use Rattle.yasir_ticks.specs.declared.tick.Tick.TheVariants.{Byte}
 use Rattle.device_model.specs.Frames.{frames_of}
 use Rattle.device_model.specs.declared.device.Device.{Ghosts as Device}
 use Rattle.device_model.specs.declared.device.FrameAt.{FrameAt}
-use Rattle.trial_session.specs.Sides.{HasTaken, HasPassed, HasHeard, HasReceived}
+use Rattle.trial_session.specs.Sides.{HasTaken, HasPassed, HasHeard, IsHearing, HasReceived}
+use Rattle.trial_session.specs.Sides.{IsReceiving}
 use Rattle.trial_session.specs.declared.counting_box.CountingBox.{Ghosts as CountingBox}
 use Rattle.trial_session.specs.declared.listening.Listening.{Listening}
 use Rattle.trial_session.specs.declared.receiving.Receiving.{Receiving}
+
+pub none-waits : (waiting : List ℕ) → length waiting ≡ 0 → waiting ≡ []
+none-waits [] none = refl
+none-waits (b ∷ x) none = absurd (omega (arith, none))
 
 module _ {V : Type 0} (device : Device V) where
   -- a run in which a frame is read at most in the last tick
@@ -28,19 +35,63 @@ module _ {V : Type 0} (device : Device V) where
             ∙ sym (ap length reads ∙ length-append (device.reads line) (frames_of frame));
       })
 
+  -- the same bytes by other names
+  pub hearing-as : (value : Listening V) (x y : List ℕ) (line : List Tick) → x ≡ y
+      → IsHearing device value x line → IsHearing device value y line
+  hearing-as value x y line same =
+      subst (λ (l : List ℕ). IsHearing device value l line) same
+
+  -- no byte waits
+  pub hears-all : (value : Listening V) (line : List Tick)
+      → IsHearing device value [] line → HasHeard device value line
+  hears-all value line so =
+      subst (HasHeard device value) (sym (so.is ∙ append-nil so.front)) so.hears
+
+  pub hears-none : (value : Listening V) (line : List Tick)
+      → HasHeard device value line → IsHearing device value [] line
+  hears-none value line heard = record {
+    front = line;
+    is = sym (append-nil line);
+    hears = heard;
+  }
+
+  -- more bytes wait
+  pub waits-more : (value : Listening V) (x more items : List ℕ) (line : List Tick)
+      → items ≡ x ++ more → IsHearing device value x line
+      → IsHearing device value items (line ++ map (λ b. Byte b) more)
+  waits-more value x more items line is so = record {
+    front = so.front;
+    is = ap (λ l. l ++ map (λ b. Byte b) more) so.is
+        ∙ append_assoc so.front (map (λ b. Byte b) x) (map (λ b. Byte b) more)
+        ∙ ap (λ l. so.front ++ l)
+        (sym (map-append (λ b. Byte b) x more) ∙ ap (map (λ b. Byte b)) (sym is));
+    hears = so.hears;
+  }
+
 module _ {C V : Type 0} (checks : CountingBox C) (device : Device V) where
-  -- a run more is checked, and what the receiver makes of it is heard
-  pub receives-run : (old new : Receiving C V) (link run answer : List Tick)
-      → HasReceived checks device old link
+  -- a run more is checked, and what the receiver makes of it is heard, or waits
+  pub receives-run : (old new : Receiving C V) (before after : List ℕ)
+      (link run answer : List Tick) → IsReceiving checks device old before link
       → ((l : List Tick) → HasTaken checks old.checking l
       → HasPassed checks new.checking l run answer)
-      → ((l : List Tick) → HasHeard device old.listening l
-      → HasHeard device new.listening (l ++ answer))
-      → HasReceived checks device new (link ++ run)
-  receives-run old new link run answer so check hear =
+      → ((l : List Tick) → IsHearing device old.listening before l
+      → IsHearing device new.listening after (l ++ answer))
+      → IsReceiving checks device new after (link ++ run)
+  receives-run old new before after link run answer so check hear =
       let passed = check link so.checks_link in
       record {
         checks_link = passed.sent.taken;
-        hears_line = subst (HasHeard device new.listening) (sym passed.sent.answered)
+        hears_line = subst (IsHearing device new.listening after) (sym passed.sent.answered)
             (hear (checks.counting.other_line link) so.hears_line);
       }
+
+  -- no byte waits at first
+  pub receives-none : (value : Receiving C V) (waiting : List ℕ) (link : List Tick)
+      → waiting ≡ [] → HasReceived checks device value link
+      → IsReceiving checks device value waiting link
+  receives-none value waiting link none so = record {
+    checks_link = so.checks_link;
+    hears_line = hearing-as device value.listening [] waiting (checks.counting.other_line link)
+        (sym none) (hears-none device value.listening (checks.counting.other_line link)
+        so.hears_line);
+  }

@@ -1,7 +1,8 @@
 -- A box of a session, and what it has counted.
-use Rattle.std.specs.Prelude.{◌≡◌, ◌≤◌, List, ◌++◌, length, Some}
+use Rattle.std.specs.Prelude.{◌≡◌, ℕ, ◌+◌, ◌≤◌, List, ◌++◌, length, map, Some}
 use Rattle.yasir_io.specs.Steady.{steady_slots}
 use Rattle.yasir_ticks.specs.declared.tick.Tick.{Tick}
+use Rattle.yasir_ticks.specs.declared.tick.Tick.TheVariants.{Byte}
 use Rattle.device_model.specs.declared.device.Device.{Ghosts as Device}
 use Rattle.sequence_journal.specs.Journal.{Fits}
 use Rattle.trial_session.specs.declared.counting_box.CountingBox.{Ghosts as CountingBox}
@@ -42,6 +43,13 @@ pub record HasHeard {V : Type 0} (device : Device V) (value : Listening V) (line
   pub stands : device.stands value.device line
   pub counts : value.read ≡ length (device.reads line)
 
+-- Of this line a device is still to hear these bytes at its end.
+pub record IsHearing {V : Type 0} (device : Device V) (value : Listening V) (waiting : List ℕ)
+    (line : List Tick) : Type 0 where
+  pub front : List Tick
+  pub is : line ≡ front ++ map Byte waiting
+  pub hears : HasHeard device value front
+
 -- The receiver has taken this link, and the device has heard what it made of it.
 pub record HasReceived {C V : Type 0} (checks : CountingBox C) (device : Device V)
     (receiving : Receiving C V) (link : List Tick) : Type 0 where
@@ -54,4 +62,19 @@ pub record MayReceive {C V : Type 0} (checks : CountingBox C) (device : Device V
   pub may_check : MayTake checks receiving.checking
   pub read_few : receiving.listening.read ≤ device.taken receiving.listening.device
   pub heard_ticks : device.taken receiving.listening.device
+      ≡ checks.taken receiving.checking.line_box
+
+-- The receiver has taken this link, and of what it made of it the device is still to hear these
+-- bytes.
+pub record IsReceiving {C V : Type 0} (checks : CountingBox C) (device : Device V)
+    (receiving : Receiving C V) (waiting : List ℕ) (link : List Tick) : Type 0 where
+  pub checks_link : HasTaken checks receiving.checking link
+  pub hears_line : IsHearing device receiving.listening waiting (checks.counting.other_line link)
+
+-- The device has taken fewer ticks than the receiver, by these bytes, and both may take more.
+pub record MayGoOnReceiving {C V : Type 0} (checks : CountingBox C) (device : Device V)
+    (receiving : Receiving C V) (waiting : List ℕ) : Type 0 where
+  pub may_check : MayTake checks receiving.checking
+  pub read_few : receiving.listening.read ≤ device.taken receiving.listening.device
+  pub heard_ticks : device.taken receiving.listening.device + length waiting
       ≡ checks.taken receiving.checking.line_box

@@ -2,7 +2,8 @@ ghost use Rattle.std.specs.Prelude.{◌≡◌, ◌<◌, ◌≤◌, ◌++◌, len
 ghost use Rattle.trial_session.specs.Alterations.{altered};
 
 use crate::Alteration;
-use crate::marks::{bytes_in_front, overwrite, silence_in_front};
+use crate::marks::{bytes_in_front, overwrite};
+use delay_ring::mark_runs::silence_in_front;
 
 /// How many ticks each frame has for itself, on the device's line and on the link.
 pub const PERIOD: usize = 640;

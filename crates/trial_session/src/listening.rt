@@ -1,8 +1,12 @@
 ghost use Rattle.std.specs.Prelude.{◌≡◌, ◌≤◌, length};
 ghost use Rattle.device_model.specs.Frames.{frames_of};
 
+use arrayvec::ArrayVec;
 use device_model::{Device, FrameAt};
 use yasir_ticks::MAX_TICKS;
+
+/// Bytes that a device is still to hear.
+pub type Waiting = ArrayVec<u8, 292>;
 
 /// A device, and how many frames it has read.
 #[derive(Drop)]
@@ -28,7 +32,7 @@ impl<V: Device + Drop> Listening<V> {
     ghost use Rattle.yasir_ticks.specs.declared.tick.Tick.TheVariants.{Byte};
     ghost use Rattle.burst_walk.specs.Answered.{answered};
     ghost use Rattle.yasir_ticks.specs.declared.tick.Tick.{Tick};
-    ghost use Rattle.trial_session.specs.Sides.{HasHeard};
+    ghost use Rattle.trial_session.specs.Sides.{HasHeard, IsHearing};
 
     /// A device that has heard nothing.
     pub fn new() -> Listening<V>
@@ -83,20 +87,79 @@ impl<V: Device + Drop> Listening<V> {
         }
     }
 
-    /// Hears an answer to so many ticks: as many bytes, or silence where there is none.
-    pub fn hear(&mut self, count: usize, left: &[u8])
+    /// Hears the bytes that wait.
+    pub fn settle(&mut self, waiting: &mut Waiting)
         requires few { self.old.read ≤ V.taken self.old.device }
-        requires room { V.taken self.old.device + count ≤ MAX_TICKS }
+        requires room { V.taken self.old.device + length waiting.old.items ≤ MAX_TICKS }
         ensures few { self.new.read ≤ V.taken self.new.device }
-        ensures level { V.taken self.new.device ≡ V.taken self.old.device + count }
+        ensures level { V.taken self.new.device
+            ≡ V.taken self.old.device + length waiting.old.items }
+        ensures none { waiting.new.items ≡ [] }
+        ensures heard { (line : List Tick)
+            → IsHearing V.Device self.old waiting.old.items line
+            → HasHeard V.Device self.new line }
+    {
+        if waiting.is_empty() {
+            return;
+        }
+        self.hear_bytes(waiting.as_slice());
+        waiting.clear();
+    }
+
+    // The next ticks have these bytes. They wait, if there is room for them.
+    #[inline]
+    fn keep(&mut self, bytes: &[u8], waiting: &mut Waiting)
+        requires few { self.old.read ≤ V.taken self.old.device }
+        requires room { V.taken self.old.device + length waiting.old.items + length bytes.now
+            ≤ MAX_TICKS }
+        ensures few { self.new.read ≤ V.taken self.new.device }
+        ensures level { V.taken self.new.device + length waiting.new.items
+            ≡ V.taken self.old.device + length waiting.old.items + length bytes.now }
+        ensures heard { (line : List Tick)
+            → IsHearing V.Device self.old waiting.old.items line
+            → IsHearing V.Device self.new waiting.new.items (line ++ map Byte bytes.now) }
+    {
+        match waiting.try_extend_from_slice(bytes) {
+            Ok(()) => {}
+            Err(_) => {
+                self.settle(waiting);
+                self.hear_bytes(bytes);
+            }
+        }
+    }
+
+    // The next ticks are so many silent ones.
+    fn rest(&mut self, ticks: usize, waiting: &mut Waiting)
+        requires few { self.old.read ≤ V.taken self.old.device }
+        requires room { V.taken self.old.device + length waiting.old.items + ticks ≤ MAX_TICKS }
+        ensures few { self.new.read ≤ V.taken self.new.device }
+        ensures level { V.taken self.new.device + length waiting.new.items
+            ≡ V.taken self.old.device + length waiting.old.items + ticks }
+        ensures heard { (line : List Tick)
+            → IsHearing V.Device self.old waiting.old.items line
+            → IsHearing V.Device self.new waiting.new.items (line ++ silent ticks) }
+    {
+        self.settle(waiting);
+        self.wait(ticks);
+    }
+
+    /// Hears an answer to so many ticks: as many bytes, or silence where there is none. Bytes wait
+    /// for the end of their run, since a run costs the device little more than a single byte.
+    #[inline]
+    pub fn hear(&mut self, count: usize, left: &[u8], waiting: &mut Waiting)
+        requires few { self.old.read ≤ V.taken self.old.device }
+        requires room { V.taken self.old.device + length waiting.old.items + count ≤ MAX_TICKS }
+        ensures few { self.new.read ≤ V.taken self.new.device }
+        ensures level { V.taken self.new.device + length waiting.new.items
+            ≡ V.taken self.old.device + length waiting.old.items + count }
         ensures heard { length (answered count left.now) ≡ count
-            → (line : List Tick) → HasHeard V.Device self.old line
-            → HasHeard V.Device self.new (line ++ answered count left.now) }
+            → (line : List Tick) → IsHearing V.Device self.old waiting.old.items line
+            → IsHearing V.Device self.new waiting.new.items (line ++ answered count left.now) }
     {
         if left.len() == count {
-            self.hear_bytes(left);
+            self.keep(left, waiting);
         } else {
-            self.wait(count);
+            self.rest(count, waiting);
         }
     }
 }

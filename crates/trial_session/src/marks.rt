@@ -13,21 +13,6 @@ pub fn overwrite(places: &mut [u8], from: usize, with: &[u8])
     places[from..from + with.len()].copy_from_slice(with);
 }
 
-/// How many of these marks are 0 up to the first one that isn't.
-#[inline]
-pub fn silence_in_front(marks: &[u8]) -> usize
-    ensures within { result ≤ length marks.now }
-    ensures silent { (k : ℕ) → k < result → slice_index_or marks.now k 0 ≡ 0 }
-    ensures all { result < length marks.now → slice_index_or marks.now result 0 ≡ 0 → ⊥ }
-{
-    for (at, mark) in marks.iter().enumerate() {
-        if *mark != 0 {
-            return at;
-        }
-    }
-    marks.len()
-}
-
 /// How many of these marks aren't 0, up to the first one that is.
 #[inline]
 pub fn bytes_in_front(marks: &[u8]) -> usize

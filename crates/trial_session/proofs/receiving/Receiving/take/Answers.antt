@@ -1,11 +1,32 @@
-use Rattle.std.proofs.Common.{◌∙◌, ◌++◌, ap, subst, sym, arith, take, append_assoc}
+use Rattle.std.proofs.Common.{◌∙◌, ◌++◌, ap, subst, sym, arith, length, take, append_assoc}
+use Rattle.std.proofs.Common.{append-nil}
 use Rattle.std.proofs.lemmas.List.{take_all}
 use Rattle.delay_ring.specs.DelayRing.{marked_ticks}
 use Rattle.trial_session.specs.Links.{link_sent}
-use Rattle.trial_session.specs.Sides.{HasReceived}
+use Rattle.trial_session.specs.Sides.{IsReceiving}
+use Rattle.trial_session.proofs.HeardRuns.{receives-none}
 use Rattle.trial_session.proofs.Marked.{sent-few}
 use Rattle.trial_session.proofs.SentRuns.{take-some}
 use Rattle.trial_session.proofs.receiving.Receiving.take.Goals as goal
+
+pub loop-at-init : goal.loop-at-init
+loop-at-init g c = (
+  omega arith,
+  record {
+    may_check = c.requires.able.may_check;
+    read_few = c.requires.able.read_few;
+    heard_ticks = omega (
+      arith,
+      c.requires.able.heard_ticks,
+      ap length c.new-waiting.ensures,
+    );
+  },
+  omega arith,
+  λ link received. subst (IsReceiving g.C.CountingBox g.V.Device c.args.self.now
+      c.new-waiting.result.items) (sym (append-nil link))
+      (receives-none g.C.CountingBox g.V.Device c.args.self.now c.new-waiting.result.items link
+      c.new-waiting.ensures received),
+)
 
 pub loop-at-preserved : goal.loop-at-preserved
 loop-at-preserved g c =
@@ -16,20 +37,45 @@ loop-at-preserved g c =
       omega (arith, before.0, c.take_run-at.ensures.within),
       c.take_run-at.ensures.able,
       omega (arith, c.take_run-at.ensures.level, before.2),
-      λ line received. subst (HasReceived g.C.CountingBox g.V.Device c.take_run-at.new.self)
+      λ line received. subst (IsReceiving g.C.CountingBox g.V.Device c.take_run-at.new.self
+          c.take_run-at.new.waiting.items)
           (append_assoc line (take at ticks) _ ∙ ap (λ l. line ++ l) (sym (take-some at n ticks)))
           (c.take_run-at.ensures.received _ (before.3 line received)),
     )
+
+pub settle-requires-clause-few : goal.settle-requires-clause-few
+settle-requires-clause-few g c = c.loop-at.invariant.1.read_few
+
+pub settle-requires-clause-room : goal.settle-requires-clause-room
+settle-requires-clause-room g c = omega (
+  arith,
+  c.loop-at.invariant.0,
+  c.loop-at.invariant.1.heard_ticks,
+  c.loop-at.invariant.2,
+  c.requires.room,
+)
+
+pub returns-clause-able : goal.returns-clause-able
+returns-clause-able g c = record {
+  may_check = c.loop-at.invariant.1.may_check;
+  read_few = c.settle.ensures.few;
+  heard_ticks = c.settle.ensures.level ∙ c.loop-at.invariant.1.heard_ticks;
+}
 
 pub returns-clause-received : goal.returns-clause-received
 returns-clause-received g c = λ line received.
     let link = c.args.link.now in
     let few = sent-few link.len (marked_ticks link.bytes link.marks) in
-    subst (λ l. HasReceived g.C.CountingBox g.V.Device c.loop-at.self (line ++ l))
+    let so = subst (λ l. IsReceiving g.C.CountingBox g.V.Device c.loop-at.self
+    c.loop-at.waiting.items (line ++ l))
     (take_all c.loop-at.at (link_sent link) (omega (
       arith,
       few,
       c.len.ensures,
       c.loop-at-test.false,
     )))
-    (c.loop-at.invariant.3 line received)
+    (c.loop-at.invariant.3 line received) in
+    record {
+      checks_link = so.checks_link;
+      hears_line = c.settle.ensures.heard _ so.hears_line;
+    }

@@ -1,17 +1,18 @@
 use Rattle.std.proofs.Common.{◌≡◌, ◌+◌, ◌-◌, ◌≤◌, ◌++◌, List, take}
 use Rattle.yasir_ticks.specs.declared.tick.Tick.{Tick}
 use Rattle.trial_session.specs.Links.{link_sent}
-use Rattle.trial_session.specs.Sides.{MayReceive, HasReceived}
+use Rattle.trial_session.specs.Sides.{HasReceived, MayGoOnReceiving, IsReceiving}
 use Rattle.trial_session.proofs.receiving.Receiving.take.Given as goal
 
 abbrev pub invariant-loop-at : goal.invariant-loop-at
 invariant-loop-at g l =
     (l.at ≤ l.link.len)
-    × MayReceive g.C.CountingBox g.V.Device l.self
+    × MayGoOnReceiving g.C.CountingBox g.V.Device l.self l.waiting.items
     × (g.C.CountingBox.taken l.self.checking.line_box
     ≡ g.C.CountingBox.taken l.fn.self.checking.line_box + l.at)
     × ((link : List Tick) → HasReceived g.C.CountingBox g.V.Device l.fn.self link
-    → HasReceived g.C.CountingBox g.V.Device l.self (link ++ take l.at (link_sent l.link)))
+    → IsReceiving g.C.CountingBox g.V.Device l.self l.waiting.items
+    (link ++ take l.at (link_sent l.link)))
 
 abbrev pub decreases-loop-at : goal.decreases-loop-at
 decreases-loop-at g l = l.link.len - l.at

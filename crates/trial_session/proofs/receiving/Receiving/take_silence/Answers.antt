@@ -1,40 +1,41 @@
-use Rattle.std.proofs.Common.{◌≡◌, ◌∙◌, ◌++◌, subst, arith}
-use Rattle.yasir_ticks.specs.Ticks.{silent}
-use Rattle.trial_session.specs.Sides.{HasReceived}
-use Rattle.trial_session.proofs.SentRuns.{passes-as, silence-more, silence-long}
-use Rattle.trial_session.proofs.HeardRuns.{receives-run}
+use Rattle.std.proofs.Common.{◌∙◌, ap, arith, length}
+use Rattle.trial_session.proofs.HeardRuns.{receives-none}
 use Rattle.trial_session.proofs.receiving.Receiving.take_silence.Goals as goal
 
-pub loop-at-preserved : goal.loop-at-preserved
-loop-at-preserved g c =
-    let at = c.loop-at.at in
-    let n = c.send_silence-taken.result in
-    let before = c.loop-at.invariant in (
-      omega (arith, before.0, c.send_silence-taken.ensures.within),
-      record {
-        may_check = c.send_silence-taken.ensures.able;
-        read_few = c.hear.ensures.few;
-        heard_ticks = omega (
-          arith,
-          c.hear.ensures.level,
-          c.send_silence-taken.ensures.level,
-          before.1.heard_ticks,
-        );
-      },
-      omega (arith, c.send_silence-taken.ensures.level, before.2),
-      λ link received.
-          let so = before.3 link received in
-          subst (HasReceived g.C.CountingBox g.V.Device _) (silence-more at n link)
-          (receives-run g.C.CountingBox g.V.Device c.loop-at.self _ _ _ _ so
-          (λ l t. passes-as g.C.CountingBox c.send_silence-taken.new.self l _ c.send_silence-taken.result _ _ c.as_slice.ensures.value
-          (c.send_silence-taken.ensures.sent l t))
-          (c.hear.ensures.heard
-          ((passes-as g.C.CountingBox c.send_silence-taken.new.self _ _ c.send_silence-taken.result _ _
-          c.as_slice.ensures.value (c.send_silence-taken.ensures.sent _ so.checks_link)).long ∙ silence-long n))),
-    )
+pub pass_silence-requires-clause-able : goal.pass_silence-requires-clause-able
+pass_silence-requires-clause-able g c = record {
+  may_check = c.requires.able.may_check;
+  read_few = c.requires.able.read_few;
+  heard_ticks = omega (
+    arith,
+    c.requires.able.heard_ticks,
+    ap length c.new-waiting.ensures,
+  );
+}
+
+pub settle-requires-clause-few : goal.settle-requires-clause-few
+settle-requires-clause-few g c = c.pass_silence.ensures.able.read_few
+
+pub settle-requires-clause-room : goal.settle-requires-clause-room
+settle-requires-clause-room g c = omega (
+  arith,
+  c.pass_silence.ensures.able.heard_ticks,
+  c.pass_silence.ensures.level,
+  c.requires.room,
+)
+
+pub returns-clause-able : goal.returns-clause-able
+returns-clause-able g c = record {
+  may_check = c.pass_silence.ensures.able.may_check;
+  read_few = c.settle.ensures.few;
+  heard_ticks = c.settle.ensures.level ∙ c.pass_silence.ensures.able.heard_ticks;
+}
 
 pub returns-clause-received : goal.returns-clause-received
 returns-clause-received g c = λ link received.
-    let end : c.loop-at.at ≡ c.args.ticks = omega (arith, c.loop-at.invariant.0) in
-    subst (λ n. HasReceived g.C.CountingBox g.V.Device c.loop-at.self (link ++ silent n)) end
-    (c.loop-at.invariant.3 link received)
+    let so = c.pass_silence.ensures.received link (receives-none g.C.CountingBox g.V.Device
+    c.args.self.now c.new-waiting.result.items link c.new-waiting.ensures received) in
+    record {
+      checks_link = so.checks_link;
+      hears_line = c.settle.ensures.heard _ so.hears_line;
+    }
