@@ -3,10 +3,11 @@
 ghost use Rattle.std.specs.Io.{ReadsAtMost, WritesAtMost};
 
 use crate::{Failed, FileSlots, FileSource, Slot, SlotDisk, Source};
-use std::alloc::Allocator;
+use std::alloc::{Allocator, Global};
 use std::cell::Cell;
 use std::fs::{Metadata, OpenFile, OpenOptions};
 use std::io::{self, ErrorKind, Read, Seek, SeekFrom, Write};
+use std::process::Abort;
 use std::rt::Files;
 use std::test::Fail;
 
@@ -218,51 +219,107 @@ fn counted(first: u8) -> [u8; 16] {
     })
 }
 
-fn name(rt: &HostRuntime) -> Result<Option<String>, Fail> {
-    Ok(Some(String::from_str(rt.alloc(), "file")?))
+fn name(alloc: Global) -> Result<Option<String>, Fail> {
+    Ok(Some(String::from_str(alloc, "file")?))
+}
+
+// A slot whose first bytes, so many of them, count up from this one; the others are 0.
+fn counted_front(first: u8, len: usize) -> [u8; 16] {
+    let mut place = 0;
+    counted(first).map(|byte| {
+        let kept = if place < len { byte } else { 0 };
+        place = place.saturating_add(1);
+        kept
+    })
+}
+
+// Whether an answer is a slot's front of so many of its bytes, or a failure.
+fn is_front(answer: Result<[u8; 16], Failed>, first: u8, front: Option<usize>) -> bool {
+    match (answer, front) {
+        (Ok(bytes), Some(len)) => bytes == counted_front(first, len),
+        (Err(Failed), None) => true,
+        _ => false,
+    }
+}
+
+// Both slots of a file of so many bytes are read so, with one opening.
+fn read_both(
+    rt: &impl Abort,
+    alloc: Global,
+    len: usize,
+    piece: usize,
+    fail: u32,
+    a: Option<usize>,
+    b: Option<usize>,
+) -> Result<(), Fail> {
+    let file = file_of(len, piece, fail);
+    let folder = Folder(&file);
+    let mut disk = FileSlots::new(&folder, name(alloc)?, false);
+    assert!(rt; is_front(disk.read_slot(Slot::A), 0, a));
+    assert!(rt; is_front(disk.read_slot(Slot::B), 16, b));
+    assert!(rt; file.openings.get() == 1);
+    assert!(rt; file.len.get() == len);
+    Ok(())
 }
 
 #[test]
 fn a_slot_is_read_whole_or_not_at_all(rt: HostRuntime) -> Result<(), Fail> {
-    let (a, b) = (counted(0), counted(16));
-    // bytes of the file, most of a call, the call that fails, and the two slots as the first reads
-    // give them
-    let cut = [16, 17, 18, 0, 0, 0, 0, 0, 0, 0, 0, 0, 0, 0, 0, 0];
-    let rows: [(
-        usize,
-        usize,
-        u32,
-        Result<[u8; 16], Failed>,
-        Result<[u8; 16], Failed>,
-    ); 9] = [
-        (32, 40, 0, Ok(a), Ok(b)),
-        (40, 5, 0, Ok(a), Ok(b)),
-        (19, 7, 0, Ok(a), Ok(cut)),
-        (0, 40, 0, Ok([0; 16]), Ok([0; 16])),
+    // bytes of the file, most of a call, the call that fails, and how many bytes of the file the
+    // first read of each slot gives
+    let rows = [
+        (32, 40, 0, Some(16), Some(16)),
+        (40, 5, 0, Some(16), Some(16)),
+        (19, 7, 0, Some(16), Some(3)),
+        (0, 40, 0, Some(0), Some(0)),
         // The opening, the seek and the read for slot A fail, the second of its reads, and the read
         // for slot B.
-        (32, 40, 1, Err(Failed), Ok(b)),
-        (32, 40, 2, Err(Failed), Ok(b)),
-        (32, 40, 3, Err(Failed), Ok(b)),
-        (32, 9, 4, Err(Failed), Ok(b)),
-        (32, 40, 5, Ok(a), Err(Failed)),
+        (32, 40, 1, None, Some(16)),
+        (32, 40, 2, None, Some(16)),
+        (32, 40, 3, None, Some(16)),
+        (32, 9, 4, None, Some(16)),
+        (32, 40, 5, Some(16), None),
     ];
-    for (len, piece, fail, first, second) in rows {
-        let file = file_of(len, piece, fail);
-        let folder = Folder(&file);
-        let mut disk = FileSlots::new(&folder, name(&rt)?, false);
-        assert_eq!(rt; disk.read_slot(Slot::A), first);
-        assert_eq!(rt; disk.read_slot(Slot::B), second);
-        assert_eq!(rt; file.openings.get(), 1);
-        assert_eq!(rt; file.len.get(), len);
+    for (len, piece, fail, a, b) in rows {
+        read_both(&rt, rt.alloc(), len, piece, fail, a, b)?;
     }
     Ok(())
+}
+
+// A write of bytes 99 to slot B and a sync behind it are done, or are not; answers the file's bytes.
+fn write_and_sync(
+    rt: &impl Abort,
+    alloc: Global,
+    piece: usize,
+    fail: u32,
+    written: bool,
+    synced: bool,
+) -> Result<[u8; ROOM], Fail> {
+    let file = file_of(40, piece, fail);
+    let folder = Folder(&file);
+    let mut disk = FileSlots::new(&folder, name(alloc)?, false);
+    assert!(rt; disk.write_slot(Slot::B, &[99; 16]).is_ok() == written);
+    assert!(rt; file.syncs.get() == 0);
+    assert!(rt; disk.sync().is_ok() == synced);
+    assert!(rt; file.syncs.get() == u32::from(synced));
+    assert!(rt; file.unsynced.get() == !synced);
+    assert!(rt; file.len.get() == 40);
+    assert!(rt; file.openings.get() == 1);
+    Ok(file.bytes.get())
+}
+
+// Only slot B was written, if anything was.
+fn holds(rt: &impl Abort, bytes: [u8; ROOM], written: bool) {
+    assert!(rt; bytes.get(..16) == Some(counted(0).as_slice()));
+    assert!(rt; bytes.get(32..) == counted(32).get(..8));
+    if written {
+        assert!(rt; bytes.get(16..32) == Some([99u8; 16].as_slice()));
+    }
 }
 
 #[test]
 fn a_slot_is_written_whole_or_a_fault(rt: HostRuntime) -> Result<(), Fail> {
     // most of a call, the call that fails, and whether the write and the sync behind it are done
-    let rows: [(usize, u32, bool, bool); 6] = [
+    let rows = [
         (40, 0, true, true),
         (16, 0, true, true),
         (15, 0, false, true),
@@ -271,23 +328,8 @@ fn a_slot_is_written_whole_or_a_fault(rt: HostRuntime) -> Result<(), Fail> {
         (40, 4, true, false),
     ];
     for (piece, fail, written, synced) in rows {
-        let file = file_of(40, piece, fail);
-        let folder = Folder(&file);
-        let mut disk = FileSlots::new(&folder, name(&rt)?, false);
-        assert_eq!(rt; disk.write_slot(Slot::B, &[99; 16]).is_ok(), written);
-        assert_eq!(rt; file.syncs.get(), 0);
-        assert_eq!(rt; disk.sync().is_ok(), synced);
-        assert_eq!(rt; file.syncs.get(), if synced { 1 } else { 0 });
-        assert_eq!(rt; file.unsynced.get(), !synced);
-        // What stands beside slot B is as it was.
-        let bytes = file.bytes.get();
-        assert!(rt; bytes.get(..16) == Some(counted(0).as_slice()));
-        assert!(rt; bytes.get(32..) == counted(32).get(..8));
-        if written {
-            assert!(rt; bytes.get(16..32) == Some([99u8; 16].as_slice()));
-        }
-        assert_eq!(rt; file.len.get(), 40);
-        assert_eq!(rt; file.openings.get(), 1);
+        let bytes = write_and_sync(&rt, rt.alloc(), piece, fail, written, synced)?;
+        holds(&rt, bytes, written);
     }
     Ok(())
 }
@@ -298,7 +340,7 @@ fn a_missing_file_is_made_where_it_is_said(rt: HostRuntime) -> Result<(), Fail> 
         let file = file_of(0, 40, 0);
         file.exists.set(false);
         let folder = Folder(&file);
-        let mut disk = FileSlots::new(&folder, name(&rt)?, create);
+        let mut disk = FileSlots::new(&folder, name(rt.alloc())?, create);
         assert_eq!(rt; disk.sync().is_ok(), create);
         assert_eq!(rt; file.exists.get(), create);
         assert_eq!(rt; file.syncs.get(), if create { 1 } else { 0 });
@@ -313,7 +355,7 @@ fn a_file_gives_each_byte_once(rt: HostRuntime) -> Result<(), Fail> {
     for (piece, fail, failed) in rows {
         let file = file_of(40, piece, fail);
         let folder = Folder(&file);
-        let mut source = FileSource::new(&folder, name(&rt)?);
+        let mut source = FileSource::new(&folder, name(rt.alloc())?);
         let mut out = Vec::new(rt.alloc());
         let mut part = [0u8; 11];
         let mut failures = 0u32;

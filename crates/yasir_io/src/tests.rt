@@ -5,32 +5,50 @@ use crate::{
     Slot, SlotDisk, Source, StdinSource, StdoutSink, SteadySlots, SteadySource, TextBuffer,
     write_all,
 };
+use std::alloc::Global;
 use std::io::{self, Read, Write};
+use std::process::Abort;
 use std::test::Fail;
 use std::{env, fs};
 
-fn plan(calls: &[u32]) -> Plan {
+// These calls fail; no call is the one of number 0.
+fn plan(calls: [u32; 2]) -> Plan {
     let mut plan = Plan::new();
-    let _ = plan.try_extend_from_slice(calls);
+    let _ = plan.try_extend_from_slice(&calls);
     plan
+}
+
+// Whether a sink takes the first bytes of a text, and how many of them it holds then.
+fn taken(
+    rt: &impl Abort,
+    alloc: Global,
+    room: usize,
+    piece: u16,
+    fail: [u32; 2],
+    len: usize,
+) -> Result<(bool, usize), Fail> {
+    assert!(rt; piece >= 1 && piece <= 512);
+    let text = b"abcdefghi".get(..len).ok_or("len")?;
+    let mut sink = MemSink::with_room(alloc, room, piece, plan(fail))?;
+    let written = write_all(&mut sink, text).is_ok();
+    assert!(rt; text.starts_with(sink.held()));
+    Ok((written, sink.held().len()))
 }
 
 #[test]
 fn a_sink_takes_what_it_has_room_for(rt: HostRuntime) -> Result<(), Fail> {
-    // room, piece, calls that fail, text written, whether it is written, bytes held
-    let rows: [(usize, u16, &[u32], &[u8], bool, &[u8]); 6] = [
-        (4, 512, &[], b"abcd", true, b"abcd"),
-        (4, 512, &[], b"abcde", false, b"abcd"),
-        (0, 512, &[], b"", true, b""),
-        (0, 512, &[], b"a", false, b""),
-        (9, 3, &[2], b"abcdefgh", false, b"abc"),
-        (9, 3, &[4, 9], b"abcdefghi", true, b"abcdefghi"),
+    // room, piece, calls that fail, bytes written, whether all are taken, bytes held
+    let rows = [
+        (4, 512, [0, 0], 4, true, 4),
+        (4, 512, [0, 0], 5, false, 4),
+        (0, 512, [0, 0], 0, true, 0),
+        (0, 512, [0, 0], 1, false, 0),
+        (9, 3, [2, 0], 8, false, 3),
+        (9, 3, [4, 9], 9, true, 9),
     ];
-    for (room, piece, fail, text, written, held) in rows {
-        assert!(rt; piece >= 1 && piece <= 512);
-        let mut sink = MemSink::with_room(rt.alloc(), room, piece, plan(fail))?;
-        assert_eq!(rt; write_all(&mut sink, text).is_ok(), written);
-        assert_eq!(rt; sink.held(), held);
+    for (room, piece, fail, len, written, held) in rows {
+        let found = taken(&rt, rt.alloc(), room, piece, fail, len)?;
+        assert!(rt; found == (written, held));
     }
     let refused = MemSink::with_room(rt.alloc(), usize::MAX, 1, Plan::new());
     assert!(rt; matches!(refused, Err(NoMemory)));
@@ -50,63 +68,88 @@ fn drained<S: Source>(pieces: &mut Pieces, source: &mut S, out: &mut Vec<u8>) ->
     Ok(failed)
 }
 
-#[test]
-fn a_source_gives_each_byte_once(rt: HostRuntime) -> Result<(), Fail> {
-    // piece, calls that fail, how many fail
-    let rows: [(u16, &[u32], u32); 4] = [
-        (512, &[], 0),
-        (2, &[2, 3], 2),
-        (1, &[1, 7], 2),
-        (3, &[9], 0),
-    ];
-    for (piece, fail, failed) in rows {
-        assert!(rt; piece >= 1 && piece <= 512);
-        let mut out = Vec::new(rt.alloc());
-        let mut source = MemSource::new(b"abcdef", piece, plan(fail));
-        assert_eq!(rt; drained(&mut Pieces::new(), &mut source, &mut out)?, failed);
-        assert_eq!(rt; out.as_slice(), b"abcdef".as_slice());
-    }
-    // A slice shorter than what is left, and one without room.
-    let mut source = MemSource::new(b"abc", 512, Plan::new());
-    let mut two = [0; 2];
-    assert_eq!(rt; source.read(&mut two), Ok(2));
-    assert_eq!(rt; two, *b"ab");
-    assert_eq!(rt; source.read(&mut []), Ok(0));
-    assert_eq!(rt; source.read(&mut two), Ok(1));
-    assert_eq!(rt; source.read(&mut two), Ok(0));
-    let mut out = Vec::new(rt.alloc());
-    assert_eq!(rt;
-        drained(&mut Pieces::new(), &mut SteadySource::new(b"abc"), &mut out)?,
-        0
-    );
-    assert_eq!(rt; out.as_slice(), b"abc".as_slice());
+// A source gives its text, of whose calls so many fail.
+fn gives<S: Source>(
+    rt: &impl Abort,
+    alloc: Global,
+    source: &mut S,
+    failed: u32,
+    text: &[u8],
+) -> Result<(), Fail> {
+    let mut out = Vec::new(alloc);
+    let found = drained(&mut Pieces::new(), source, &mut out)?;
+    assert!(rt; found == failed);
+    assert!(rt; out.as_slice() == text);
     Ok(())
 }
 
 #[test]
-fn a_buffer_writes_a_text_in_order(rt: HostRuntime) -> Result<(), Fail> {
-    let mut long = Vec::new(rt.alloc());
-    long.resize(70_000, b'l')?;
-    // lengths of the pieces pushed, calls that fail, whether all is written, bytes held
-    let rows: [(&[usize], &[u32], bool, usize); 5] = [
-        (&[], &[], true, 0),
-        (&[1, 2, 3], &[], true, 6),
-        (&[65_535, 1, 1, 70_000, 7], &[], true, 135_544),
-        (&[65_536, 1], &[129], false, 65_536),
-        (&[10, 70_000], &[2], false, 10),
+fn a_source_gives_each_byte_once(rt: HostRuntime) -> Result<(), Fail> {
+    // piece, calls that fail, how many fail
+    let rows = [
+        (512, [0, 0], 0),
+        (2, [2, 3], 2),
+        (1, [1, 7], 2),
+        (3, [9, 0], 0),
     ];
-    for (pieces, fail, written, held) in rows {
-        let mut sink = MemSink::with_room(rt.alloc(), 140_000, 512, plan(fail))?;
-        let mut buffer = TextBuffer::new();
-        let mut done = true;
-        for n in pieces {
-            let piece = long.get(..*n).ok_or("long")?;
+    for (piece, fail, failed) in rows {
+        assert!(rt; piece >= 1 && piece <= 512);
+        let mut source = MemSource::new(b"abcdef", piece, plan(fail));
+        gives(&rt, rt.alloc(), &mut source, failed, b"abcdef")?;
+    }
+    gives(&rt, rt.alloc(), &mut SteadySource::new(b"abc"), 0, b"abc")
+}
+
+#[test]
+fn a_read_gives_what_its_slice_has_room_for(rt: HostRuntime) {
+    // A slice shorter than what is left, and one without room.
+    let mut source = MemSource::new(b"abc", 512, Plan::new());
+    let mut two = [0; 2];
+    assert!(rt; source.read(&mut two) == Ok(2));
+    assert!(rt; two == *b"ab");
+    assert!(rt; source.read(&mut []) == Ok(0));
+    assert!(rt; source.read(&mut two) == Ok(1));
+    assert!(rt; source.read(&mut two) == Ok(0));
+}
+
+// Whether a buffer writes pieces of these lengths to a sink, up to the first 0, and how many bytes
+// the sink holds then.
+fn buffered(
+    rt: &impl Abort,
+    alloc: Global,
+    lens: [usize; 5],
+    fail: u32,
+) -> Result<(bool, usize), Fail> {
+    let mut long = Vec::new(alloc);
+    long.resize(70_000, b'l')?;
+    let mut sink = MemSink::with_room(alloc, 140_000, 512, plan([fail, 0]))?;
+    let mut buffer = TextBuffer::new();
+    let mut done = true;
+    for len in lens {
+        if len > 0 {
+            let piece = long.get(..len).ok_or("long")?;
             done = done && buffer.push(&mut sink, piece).is_ok();
         }
-        done = done && buffer.drain(&mut sink).is_ok();
-        assert_eq!(rt; done, written);
-        assert_eq!(rt; sink.held().len(), held);
-        assert_eq!(rt; sink.flush().is_ok(), true);
+    }
+    done = done && buffer.drain(&mut sink).is_ok();
+    let held = sink.held().len();
+    assert!(rt; sink.flush().is_ok());
+    Ok((done, held))
+}
+
+#[test]
+fn a_buffer_writes_a_text_in_order(rt: HostRuntime) -> Result<(), Fail> {
+    // lengths of the pieces pushed, the call that fails, whether all is written, bytes held
+    let rows = [
+        ([0, 0, 0, 0, 0], 0, true, 0),
+        ([1, 2, 3, 0, 0], 0, true, 6),
+        ([65_535, 1, 1, 70_000, 7], 0, true, 135_544),
+        ([65_536, 1, 0, 0, 0], 129, false, 65_536),
+        ([10, 70_000, 0, 0, 0], 2, false, 10),
+    ];
+    for (lens, fail, written, held) in rows {
+        let found = buffered(&rt, rt.alloc(), lens, fail)?;
+        assert!(rt; found == (written, held));
     }
     Ok(())
 }
@@ -242,29 +285,48 @@ fn a_writer_gets_each_piece_at_once(rt: HostRuntime) -> Result<(), Fail> {
 }
 
 #[test]
+fn slots_in_memory_are_read(rt: HostRuntime) -> Result<(), Fail> {
+    let mut disk = MemSlots::with_room(rt.alloc(), [1; 16], [2; 16], 8, Plan::new())?;
+    assert!(rt; disk.read_slot(Slot::A) == Ok([1; 16]));
+    assert!(rt; disk.read_slot(Slot::B) == Ok([2; 16]));
+    Ok(())
+}
+
+// Which calls are done, of a write of bytes 3 to a slot B of bytes 2, a sync, and a read of it, on a
+// disk with room for so many of them. The slot has such bytes then, and slot A those of before.
+fn done_of(
+    rt: &impl Abort,
+    alloc: Global,
+    calls: usize,
+    fail: u32,
+    byte: u8,
+) -> Result<[bool; 3], Fail> {
+    let mut disk = MemSlots::with_room(alloc, [1; 16], [2; 16], calls, plan([fail, 0]))?;
+    let written = disk.write_slot(Slot::B, &[3; 16]).is_ok();
+    let synced = disk.sync().is_ok();
+    let read = disk.read_slot(Slot::B).is_ok();
+    assert!(rt; disk.slot(Slot::A) == [1; 16]);
+    assert!(rt; disk.slot(Slot::B) == [byte; 16]);
+    Ok([written, synced, read])
+}
+
+#[test]
 fn slots_in_memory_fail_where_they_are_told_to(rt: HostRuntime) -> Result<(), Fail> {
-    let (a, b) = ([1; 16], [2; 16]);
-    let mut disk = MemSlots::with_room(rt.alloc(), a, b, 8, Plan::new())?;
-    assert_eq!(rt; disk.read_slot(Slot::A), Ok(a));
-    assert_eq!(rt; disk.read_slot(Slot::B), Ok(b));
-    // The calls are a write, a sync and a read of slot B: which fail, and what the slot is then.
-    let rows: [(usize, &[u32], [bool; 3], [u8; 16]); 6] = [
-        (2, &[1], [false, true, false], b),
-        (3, &[], [true, true, true], [3; 16]),
-        (3, &[1], [false, true, true], b),
-        (3, &[2], [true, false, true], [3; 16]),
-        (3, &[3], [true, true, false], [3; 16]),
-        (1, &[], [true, false, false], [3; 16]),
+    // The calls are a write, a sync and a read of slot B: the call that fails, which are done, and
+    // the bytes of the slot then.
+    let rows = [
+        (2, 1, [false, true, false], 2),
+        (3, 0, [true, true, true], 3),
+        (3, 1, [false, true, true], 2),
+        (3, 2, [true, false, true], 3),
+        (3, 3, [true, true, false], 3),
+        (1, 0, [true, false, false], 3),
     ];
-    for (calls, fail, done, want) in rows {
-        let mut disk = MemSlots::with_room(rt.alloc(), a, b, calls, plan(fail))?;
-        assert_eq!(rt; disk.write_slot(Slot::B, &[3; 16]).is_ok(), done[0]);
-        assert_eq!(rt; disk.sync().is_ok(), done[1]);
-        assert_eq!(rt; disk.read_slot(Slot::B).is_ok(), done[2]);
-        assert_eq!(rt; disk.slot(Slot::A), a);
-        assert_eq!(rt; disk.slot(Slot::B), want);
+    for (calls, fail, done, byte) in rows {
+        let found = done_of(&rt, rt.alloc(), calls, fail, byte)?;
+        assert!(rt; found == done);
     }
-    let refused = MemSlots::with_room(rt.alloc(), a, b, usize::MAX, Plan::new());
+    let refused = MemSlots::with_room(rt.alloc(), [1; 16], [2; 16], usize::MAX, Plan::new());
     assert!(rt; matches!(refused, Err(NoMemory)));
     Ok(())
 }
@@ -307,24 +369,37 @@ fn slots_stand_in_a_file(rt: HostRuntime) -> Result<(), Fail> {
     Ok(())
 }
 
+// How many reads of a file fail, and the bytes that come.
+fn read_file(rt: &HostRuntime, path: Option<String>) -> Result<(u32, Vec<u8>), Fail> {
+    let mut out = Vec::new(rt.alloc());
+    let mut source = FileSource::new(rt, path);
+    let failed = drained(&mut Pieces::new(), &mut source, &mut out)?;
+    Ok((failed, out))
+}
+
+// Forty reads fail, and no byte comes.
+fn gives_nothing(rt: &HostRuntime, path: Option<String>) -> Result<bool, Fail> {
+    let (failed, bytes) = read_file(rt, path)?;
+    Ok(failed == 40 && bytes.is_empty())
+}
+
 #[test]
 fn a_file_is_read_to_its_end(rt: HostRuntime) -> Result<(), Fail> {
     let path = fresh_path(&rt, "source")?;
     fs::write(&rt, path.as_str(), "abc")?;
-    let folder = String::from_str(rt.alloc(), ".")?;
-    let missing = fresh_path(&rt, "missing")?;
-    let rows: [(Option<String>, u32, &[u8]); 4] = [
-        (Some(path.clone()?), 0, b"abc"),
-        (Some(missing), 40, b""),
-        (Some(folder), 40, b""),
-        (None, 40, b""),
-    ];
-    for (path, failed, want) in rows {
-        let mut out = Vec::new(rt.alloc());
-        let mut source = FileSource::new(&rt, path);
-        assert_eq!(rt; drained(&mut Pieces::new(), &mut source, &mut out)?, failed);
-        assert_eq!(rt; out.as_slice(), want);
-    }
+    let (failed, bytes) = read_file(&rt, Some(path.clone()?))?;
     fs::remove_file(&rt, path.as_str())?;
+    assert!(rt; failed == 0);
+    assert!(rt; bytes.as_slice() == b"abc".as_slice());
+    Ok(())
+}
+
+#[test]
+fn what_is_no_file_gives_nothing(rt: HostRuntime) -> Result<(), Fail> {
+    let missing = fresh_path(&rt, "missing")?;
+    assert!(rt; gives_nothing(&rt, Some(missing))?);
+    let folder = String::from_str(rt.alloc(), ".")?;
+    assert!(rt; gives_nothing(&rt, Some(folder))?);
+    assert!(rt; gives_nothing(&rt, None)?);
     Ok(())
 }
