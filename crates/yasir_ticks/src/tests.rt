@@ -159,32 +159,31 @@ fn read(
 
 #[test]
 fn reads_each_kind_of_text(rt: HostRuntime) -> Result<(), Fail> {
-    for (text, bytes, silent) in ACCEPTED {
+    for (text, bytes, silent) in &ACCEPTED {
         let seen = read(&rt, rt.alloc(), 0, text)?.ok().ok_or("refused")?;
-        assert_eq!(rt; seen.bytes.as_slice(), bytes);
-        assert_eq!(rt; seen.silent, silent);
+        assert_eq!(rt; seen.bytes.as_slice(), *bytes);
+        assert_eq!(rt; seen.silent, *silent);
     }
-    for (text, line, why) in REFUSED {
+    for (text, line, why) in &REFUSED {
         let bad = read(&rt, rt.alloc(), 0, text)?.err().ok_or("accepted")?;
-        assert_eq!(rt; bad, BadTicks { line, why });
+        assert_eq!(rt; (bad.line, bad.why), (*line, *why));
     }
     Ok(())
 }
 
 #[test]
 fn reads_marks(rt: HostRuntime) -> Result<(), Fail> {
-    for (marks, text, bytes, silent) in MARKED {
-        let seen = read(&rt, rt.alloc(), marks, text)?.ok().ok_or("refused")?;
-        assert_eq!(rt; seen.bytes.as_slice(), bytes);
-        assert_eq!(rt; seen.silent, silent);
-        assert_eq!(rt; seen.marks, marks);
-        let sliced = read_slices(rt.alloc(), marks, text, 3)?;
-        assert_eq!(rt; sliced.bytes.as_slice(), bytes);
-        assert_eq!(rt; sliced.marks, marks);
+    for (marks, text, bytes, silent) in &MARKED {
+        let seen = read(&rt, rt.alloc(), *marks, text)?.ok().ok_or("refused")?;
+        assert_eq!(rt; seen.bytes.as_slice(), *bytes);
+        assert_eq!(rt; (seen.silent, seen.marks), (*silent, *marks));
+        let sliced = read_slices(rt.alloc(), *marks, text, 3)?;
+        assert_eq!(rt; sliced.bytes.as_slice(), *bytes);
+        assert_eq!(rt; sliced.marks, *marks);
     }
-    for (marks, text, line, why) in REFUSED_MARKS {
-        let bad = read(&rt, rt.alloc(), marks, text)?.err().ok_or("accepted")?;
-        assert_eq!(rt; bad, BadTicks { line, why });
+    for (marks, text, line, why) in &REFUSED_MARKS {
+        let bad = read(&rt, rt.alloc(), *marks, text)?.err().ok_or("accepted")?;
+        assert_eq!(rt; (bad.line, bad.why), (*line, *why));
     }
     Ok(())
 }
@@ -228,9 +227,9 @@ fn write(alloc: Global, runs: &[(Tick, u32)]) -> Result<Vec<u8>, Fail> {
 
 #[test]
 fn writes_full_lines(rt: HostRuntime) -> Result<(), Fail> {
-    for (runs, text) in WRITTEN {
+    for (runs, text) in &WRITTEN {
         let written = write(rt.alloc(), runs)?;
-        assert_eq!(rt; written.as_slice(), text);
+        assert_eq!(rt; written.as_slice(), *text);
     }
     Ok(())
 }
@@ -271,11 +270,11 @@ fn read_slices(alloc: Global, marks: u8, text: &[u8], size: usize) -> Result<See
 
 #[test]
 fn reads_slices_of_each_size(rt: HostRuntime) -> Result<(), Fail> {
-    for (text, bytes, silent) in ACCEPTED {
+    for (text, bytes, silent) in &ACCEPTED {
         for size in [1, 2, 3, 7, 200] {
             let seen = read_slices(rt.alloc(), 0, text, size)?;
-            assert_eq!(rt; seen.bytes.as_slice(), bytes);
-            assert_eq!(rt; seen.silent, silent);
+            assert_eq!(rt; seen.bytes.as_slice(), *bytes);
+            assert_eq!(rt; seen.silent, *silent);
         }
     }
     Ok(())
