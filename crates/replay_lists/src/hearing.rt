@@ -8,7 +8,7 @@ ghost use Rattle.burst_walk.specs.Answered.{answered};
 ghost use Rattle.replay_lists.specs.ReplayLists.{Listens};
 
 use crate::frame_list::{FrameList, NoMemory};
-use device_model::{Device, Heard};
+use device_model::Device;
 
 // A device hears bytes up to the first one in which it reads a frame, which is kept. Answers how
 // many.
@@ -25,11 +25,11 @@ fn hear_some<V: Device>(
         → Listens V.Device device.old frames.old line
         → Listens V.Device device.new frames.new (line ++ map Byte (take n bytes.now))) }
 {
-    let Heard { taken, frame } = device.hear_some(bytes);
-    match frame {
-        None => Ok(taken),
+    let heard = device.hear_some(bytes);
+    match &heard.frame {
+        None => Ok(heard.taken),
         Some(frame) => match frames.push(frame.start, frame.bytes.as_slice()) {
-            Ok(()) => Ok(taken),
+            Ok(()) => Ok(heard.taken),
             Err(NoMemory) => Err(NoMemory),
         },
     }
@@ -50,11 +50,11 @@ fn wait_some<V: Device>(
         → Listens V.Device device.old frames.old line
         → Listens V.Device device.new frames.new (line ++ silent n)) }
 {
-    let Heard { taken, frame } = device.wait_some(ticks);
-    match frame {
-        None => Ok(taken),
+    let heard = device.wait_some(ticks);
+    match &heard.frame {
+        None => Ok(heard.taken),
         Some(frame) => match frames.push(frame.start, frame.bytes.as_slice()) {
-            Ok(()) => Ok(taken),
+            Ok(()) => Ok(heard.taken),
             Err(NoMemory) => Err(NoMemory),
         },
     }
