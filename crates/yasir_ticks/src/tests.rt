@@ -182,7 +182,9 @@ fn reads_marks(rt: HostRuntime) -> Result<(), Fail> {
         assert_eq!(rt; sliced.marks, *marks);
     }
     for (marks, text, line, why) in &REFUSED_MARKS {
-        let bad = read(&rt, rt.alloc(), *marks, text)?.err().ok_or("accepted")?;
+        let bad = read(&rt, rt.alloc(), *marks, text)?
+            .err()
+            .ok_or("accepted")?;
         assert_eq!(rt; (bad.line, bad.why), (*line, *why));
     }
     Ok(())
