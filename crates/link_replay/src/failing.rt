@@ -1,12 +1,12 @@
 //! Each call outside fails in turn over a short run of each command, in pieces of ten bytes: what
 //! stands then is a cut of what stands after a whole run.
-use crate::running::{Ends, KEY, plan, run_words};
+use crate::running::{Ends, KEY, ended, has_slots, plan, run_words};
 use crate::tests::{CHECK, INIT, READ, Row, SEAL, VECTORS};
 use replay_status::Status;
-use std::alloc::Global;
+use std::alloc::{AllocError, Global};
 use std::process::Abort;
 use std::test::Fail;
-use yasir_io::{MemSink, MemSlots, MemSource, Plan, Slot};
+use yasir_io::{MemSink, MemSlots, MemSource, Plan};
 
 /// How many bytes a call moves at most.
 const PIECE: usize = 10;
@@ -87,6 +87,22 @@ fn ends_of(
     })
 }
 
+// What the log holds at the end: its front, and the fault line behind it.
+fn log_of(alloc: Global, ending: &Ending) -> Result<Vec<u8>, AllocError> {
+    let mut log = ending.left.log.to_vec(alloc)?;
+    log.extend_from_slice(ending.fault)?;
+    Ok(log)
+}
+
+// The slots at the end.
+fn slots_of(row: &Row, ending: &Ending) -> ([u8; 16], [u8; 16]) {
+    if ending.left.committed {
+        row.slots_now
+    } else {
+        row.slots
+    }
+}
+
 // A run in which this call of one object fails ends so.
 fn compare(
     rt: &impl Abort,
@@ -96,22 +112,15 @@ fn compare(
     call: u32,
     ending: &Ending,
 ) -> Result<(), Fail> {
+    let log = log_of(alloc, ending)?;
     let (a, b) = row.slots;
     let mut disk = MemSlots::with_room(alloc, a, b, 16, plan_of(Object::Disk, failing, call))?;
     let ends = ends_of(alloc, row.text, failing, call)?;
     let ran = run_words(alloc, row.words, ends, &mut disk)?;
-    let mut log = ending.left.log.to_vec(alloc)?;
-    log.extend_from_slice(ending.fault)?;
-    let slots = if ending.left.committed {
-        row.slots_now
-    } else {
-        row.slots
-    };
-    assert_eq!(rt; ran.status, ending.status);
-    assert_eq!(rt; ran.out.held(), ending.left.out);
-    assert_eq!(rt; ran.log.held(), log.as_slice());
-    assert_eq!(rt; (disk.slot(Slot::A), disk.slot(Slot::B)), slots);
-    assert_eq!(rt; (ran.out.flushes(), ran.log.flushes()), ending.flushes);
+    ended(rt, &ran, ending.status, ending.left.out, log.as_slice());
+    has_slots(rt, &disk, slots_of(row, ending));
+    assert_eq!(rt; ran.out.flushes(), ending.flushes.0);
+    assert_eq!(rt; ran.log.flushes(), ending.flushes.1);
     Ok(())
 }
 
@@ -434,21 +443,21 @@ const TRIAL_CASE: Case = Case {
     disk_calls: &[],
 };
 
-const CASES: [Case; 7] = [
-    READ_CASE,
-    VECTORS_CASE,
-    INIT_CASE,
-    SEAL_CASE,
-    CHECK_CASE,
-    REPLAY_CASE,
-    TRIAL_CASE,
+const CASES: [&Case; 7] = [
+    &READ_CASE,
+    &VECTORS_CASE,
+    &INIT_CASE,
+    &SEAL_CASE,
+    &CHECK_CASE,
+    &REPLAY_CASE,
+    &TRIAL_CASE,
 ];
 
 #[test]
 fn stops_where_a_call_fails(rt: HostRuntime) -> Result<(), Fail> {
     for case in CASES {
         for failing in OBJECTS {
-            fail_each_call(&rt, rt.alloc(), &case, failing)?;
+            fail_each_call(&rt, rt.alloc(), case, failing)?;
         }
     }
     Ok(())

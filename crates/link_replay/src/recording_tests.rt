@@ -1,4 +1,4 @@
-use crate::running::{Ends, KEY, plan, run_words};
+use crate::running::{Ends, KEY, ended, plan, run_words};
 use crate::tests::run_over;
 use replay_status::Status;
 use std::alloc::Global;
@@ -202,19 +202,17 @@ const ROWS_Y24: [Row; 3] = [
 fn compare(rt: &impl Abort, alloc: Global, row: &Row) -> Result<(), Fail> {
     let mut disk = SteadySlots::new([0; 16], [0; 16]);
     let ran = run_over(alloc, row.words, KEY, row.text, 0, &mut disk)?;
-    assert_eq!(rt; ran.status, row.status);
-    assert_eq!(rt; ran.out.held(), row.out);
-    assert_eq!(rt; ran.log.held(), row.log);
+    ended(rt, &ran, row.status, row.out, row.log);
     Ok(())
 }
 
 #[test]
 fn replays_recordings(rt: HostRuntime) -> Result<(), Fail> {
-    for row in ROWS {
-        compare(&rt, rt.alloc(), &row)?;
+    for row in &ROWS {
+        compare(&rt, rt.alloc(), row)?;
     }
-    for row in ROWS_Y24 {
-        compare(&rt, rt.alloc(), &row)?;
+    for row in &ROWS_Y24 {
+        compare(&rt, rt.alloc(), row)?;
     }
     Ok(())
 }
@@ -280,26 +278,30 @@ const FAULTY: [Faulty; 6] = [
     },
 ];
 
-fn compare_faulty(rt: &impl Abort, alloc: Global, row: &Faulty) -> Result<(), Fail> {
-    let ends = Ends {
+// What a run is handed that fails so.
+fn ends_of(alloc: Global, row: &Faulty, text: &'static [u8]) -> Result<Ends<'static>, Fail> {
+    Ok(Ends {
         key: MemSource::new(KEY, 512, plan(row.key_fails)),
-        input: MemSource::new(POLLS.text, 100, plan(row.input_fails)),
+        input: MemSource::new(text, 100, plan(row.input_fails)),
         out: MemSink::with_room(alloc, row.room, 512, plan(row.out_fails))?,
         log: MemSink::with_room(alloc, 100, 512, plan(0))?,
-    };
+    })
+}
+
+fn compare_faulty(rt: &impl Abort, alloc: Global, row: &Faulty) -> Result<(), Fail> {
+    let polls = &POLLS;
+    let ends = ends_of(alloc, row, polls.text)?;
     let mut disk = SteadySlots::new([0; 16], [0; 16]);
     let ran = run_words(alloc, "replay rtu ab key", ends, &mut disk)?;
-    assert_eq!(rt; ran.status, row.status);
-    assert!(rt; row.got <= POLLS.out.len());
-    assert_eq!(rt; ran.out.held(), &POLLS.out[..row.got]);
-    assert_eq!(rt; ran.log.held(), row.log);
+    assert!(rt; row.got <= polls.out.len());
+    ended(rt, &ran, row.status, &polls.out[..row.got], row.log);
     Ok(())
 }
 
 #[test]
 fn stops_where_the_outside_fails(rt: HostRuntime) -> Result<(), Fail> {
-    for row in FAULTY {
-        compare_faulty(&rt, rt.alloc(), &row)?;
+    for row in &FAULTY {
+        compare_faulty(&rt, rt.alloc(), row)?;
     }
     Ok(())
 }

@@ -1,9 +1,12 @@
-//! A run of the program over ends in memory: all tests of runs go through one call.
+//! A run of the program over ends in memory, and what stands after it: all tests of runs go through
+//! these calls. The tests borrow their tables, since a copy of one costs its proof up to a minute
+//! and a half.
 use crate::run;
 use replay_status::Status;
 use std::alloc::{AllocError, Global};
+use std::process::Abort;
 use std::test::Fail;
-use yasir_io::{MemSink, MemSource, Plan, SlotDisk};
+use yasir_io::{MemSink, MemSlots, MemSource, Plan, Slot, SlotDisk};
 
 pub const KEY: &[u8] = b"000102030405060708090a0b0c0d0e0f";
 
@@ -33,24 +36,15 @@ pub fn plan(call: u32) -> Plan {
     plan
 }
 
-/// More words than any run here has.
-const MOST_WORDS: usize = 10;
-
 /// The words of a text, with a space between one and the next; none where it is empty.
 pub fn words_of(alloc: Global, text: &str) -> Result<Vec<String>, AllocError> {
     let mut words = Vec::new(alloc);
     if text.is_empty() {
         return Ok(words);
     }
-    let mut rest = text;
-    for _ in 0..MOST_WORDS {
-        let Some((word, others)) = rest.split_once(' ') else {
-            break;
-        };
+    for word in text.split(' ') {
         words.push(String::from_str(alloc, word)?)?;
-        rest = others;
     }
-    words.push(String::from_str(alloc, rest)?)?;
     Ok(words)
 }
 
@@ -78,4 +72,17 @@ pub fn run_words<D: SlotDisk>(
         disk,
     );
     Ok(Ran { status, out, log })
+}
+
+/// A run ended with this status, and its sinks hold these bytes.
+pub fn ended(rt: &impl Abort, ran: &Ran, status: Status, out: &[u8], log: &[u8]) {
+    assert_eq!(rt; ran.status, status);
+    assert_eq!(rt; ran.out.held(), out);
+    assert_eq!(rt; ran.log.held(), log);
+}
+
+/// A disk has these slots.
+pub fn has_slots(rt: &impl Abort, disk: &MemSlots, slots: ([u8; 16], [u8; 16])) {
+    assert_eq!(rt; disk.slot(Slot::A), slots.0);
+    assert_eq!(rt; disk.slot(Slot::B), slots.1);
 }

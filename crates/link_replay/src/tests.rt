@@ -1,5 +1,7 @@
-use crate::running::{Ends, KEY, Ran, plan, run_words, words_of};
-use crate::{Command, Dir, Profile, Proto, journal_word, key_word, makes_journal, read_words};
+use crate::running::{Ends, KEY, Ran, ended, has_slots, plan, run_words, words_of};
+use crate::{
+    Command, Dir, Profile, Proto, Usage, journal_word, key_word, makes_journal, read_words,
+};
 use replay_status::Status;
 use std::alloc::Global;
 use std::process::Abort;
@@ -42,95 +44,131 @@ pub fn run_over<D: SlotDisk>(
     run_words(alloc, words, ends, disk)
 }
 
+// By these words this command is asked for, the paths of its key and its journal are found at these
+// places, and the journal is made or not.
+fn find(
+    rt: &impl Abort,
+    alloc: Global,
+    words: &str,
+    asked: Result<Command, Usage>,
+    key: Option<usize>,
+    journal: Option<usize>,
+    makes: bool,
+) -> Result<(), Fail> {
+    let words = words_of(alloc, words)?;
+    assert_eq!(rt; read_words(words.as_slice()), asked);
+    assert_eq!(rt; key_word(words.as_slice()), key);
+    assert_eq!(rt; journal_word(words.as_slice()), journal);
+    assert_eq!(rt; makes_journal(words.as_slice()), makes);
+    Ok(())
+}
+
+// These words fit no command, and nothing is done but that the fault line is written.
+fn refuse(rt: &impl Abort, alloc: Global, words: &str) -> Result<(), Fail> {
+    find(rt, alloc, words, Err(Usage), None, None, false)?;
+    let mut disk = SteadySlots::new([0; 16], [0; 16]);
+    let mut ran = run_over(alloc, words, KEY, REQUEST, 1, &mut disk)?;
+    ended(rt, &ran, Status::Usage, b"", b"fault: usage\n");
+    assert_eq!(rt; ran.status.code(), 2);
+    // No call was made on the output, so the next one is its first, which fails.
+    assert!(rt; ran.out.flush().is_err());
+    Ok(())
+}
+
+const WORDS_OF_NO_COMMAND: [&str; 29] = [
+    "",
+    "read",
+    "read dnp",
+    "read rtu x",
+    "read rtu24",
+    "read dnp24",
+    "read RTU",
+    "rtu read",
+    "seal rtu",
+    "seal rtu ab key",
+    "seal rtu ab  journal",
+    "seal rtu ab key ",
+    "seal rtu AB key journal",
+    "seal dnp ab key journal",
+    "seal dnp324 ab key journal",
+    "seal rtu ab key journal x",
+    "check rtu ab key",
+    "check rtu ab  journal",
+    "check rtu ab key ",
+    "check dnp33 ab key journal",
+    "checks rtu ab key journal",
+    "replay rtu ab",
+    "replay rtu ab ",
+    "replay dnp ab key",
+    "replay rtu AB key",
+    "replay rtu ab key journal",
+    "init",
+    "init ",
+    "vectors x",
+];
+
 #[test]
 fn refuses_words_of_no_command(rt: HostRuntime) -> Result<(), Fail> {
-    let rows: [&str; 29] = [
-        "",
-        "read",
-        "read dnp",
-        "read rtu x",
-        "read rtu24",
-        "read dnp24",
-        "read RTU",
-        "rtu read",
-        "seal rtu",
-        "seal rtu ab key",
-        "seal rtu ab  journal",
-        "seal rtu ab key ",
-        "seal rtu AB key journal",
-        "seal dnp ab key journal",
-        "seal dnp324 ab key journal",
-        "seal rtu ab key journal x",
-        "check rtu ab key",
-        "check rtu ab  journal",
-        "check rtu ab key ",
-        "check dnp33 ab key journal",
-        "checks rtu ab key journal",
-        "replay rtu ab",
-        "replay rtu ab ",
-        "replay dnp ab key",
-        "replay rtu AB key",
-        "replay rtu ab key journal",
-        "init",
-        "init ",
-        "vectors x",
-    ];
-    for words in rows {
-        let mut disk = SteadySlots::new([0; 16], [0; 16]);
-        let mut ran = run_over(rt.alloc(), words, KEY, REQUEST, 1, &mut disk)?;
-        assert_eq!(rt; ran.status, Status::Usage);
-        assert_eq!(rt; ran.status.code(), 2);
-        assert_eq!(rt; ran.out.held(), b"".as_slice());
-        assert_eq!(rt; ran.log.held(), b"fault: usage\n".as_slice());
-        // No call was made on the output, so the next one is its first, which fails.
-        assert!(rt; ran.out.flush().is_err());
-        let words = words_of(rt.alloc(), words)?;
-        assert_eq!(rt; key_word(words.as_slice()), None);
-        assert_eq!(rt; journal_word(words.as_slice()), None);
-        assert!(rt; !makes_journal(words.as_slice()));
+    for words in &WORDS_OF_NO_COMMAND {
+        refuse(&rt, rt.alloc(), words)?;
     }
     Ok(())
 }
+
+/// Words, command, place of the journal's path, whether the journal is made.
+const KEYLESS: [(&str, Command, Option<usize>, bool); 4] = [
+    ("init journal", Command::Init, Some(1), true),
+    ("read rtu", Command::Read(Proto::Rtu), None, false),
+    ("read dnp3", Command::Read(Proto::Dnp3), None, false),
+    ("vectors", Command::Vectors, None, false),
+];
 
 #[test]
 fn finds_no_path_of_a_key_among_the_words(rt: HostRuntime) -> Result<(), Fail> {
-    // words, command, place of the journal's path, whether the journal is made
-    let rows: [(&str, Command, Option<usize>, bool); 4] = [
-        ("init journal", Command::Init, Some(1), true),
-        ("read rtu", Command::Read(Proto::Rtu), None, false),
-        ("read dnp3", Command::Read(Proto::Dnp3), None, false),
-        ("vectors", Command::Vectors, None, false),
-    ];
-    for (words, command, journal, makes) in rows {
-        let words = words_of(rt.alloc(), words)?;
-        assert_eq!(rt; read_words(words.as_slice()), Ok(command));
-        assert_eq!(rt; key_word(words.as_slice()), None);
-        assert_eq!(rt; journal_word(words.as_slice()), journal);
-        assert_eq!(rt; makes_journal(words.as_slice()), makes);
+    for (words, command, journal, makes) in &KEYLESS {
+        find(&rt, rt.alloc(), words, Ok(*command), None, *journal, *makes)?;
     }
     Ok(())
 }
 
+const RTU: Proto = Proto::Rtu;
+
+const DNP: Proto = Proto::Dnp3;
+
+const Y18: Profile = Profile::Y18;
+
+const Y24: Profile = Profile::Y24;
+
+/// Words, command; the key's path is word 3, and the journal's word 4.
+const KEY_AND_JOURNAL: [(&str, Command); 5] = [
+    ("seal rtu ab k j", Command::Seal(RTU, Y18, Dir::Ab)),
+    ("seal rtu ba k j", Command::Seal(RTU, Y18, Dir::Ba)),
+    ("seal dnp3 ba k j", Command::Seal(DNP, Y18, Dir::Ba)),
+    ("check dnp24 ab k j", Command::Check(DNP, Y24, Dir::Ab)),
+    ("check rtu ba k j", Command::Check(RTU, Y18, Dir::Ba)),
+];
+
+/// Words, command; the key's path is word 3, and there is no journal's.
+const KEY_ALONE: [(&str, Command); 2] = [
+    ("replay rtu ab k", Command::Replay(RTU, Y18, Dir::Ab)),
+    ("replay dnp24 ba k", Command::Replay(DNP, Y24, Dir::Ba)),
+];
+
 #[test]
 fn finds_the_paths_among_the_words(rt: HostRuntime) -> Result<(), Fail> {
-    let (rtu, dnp, y18, y24) = (Proto::Rtu, Proto::Dnp3, Profile::Y18, Profile::Y24);
-    // words, command; the key's path is word 3, and word 4 is the journal's, where there is one
-    let rows: [(&str, Command); 7] = [
-        ("seal rtu ab k j", Command::Seal(rtu, y18, Dir::Ab)),
-        ("seal rtu ba k j", Command::Seal(rtu, y18, Dir::Ba)),
-        ("seal dnp3 ba k j", Command::Seal(dnp, y18, Dir::Ba)),
-        ("check dnp24 ab k j", Command::Check(dnp, y24, Dir::Ab)),
-        ("check rtu ba k j", Command::Check(rtu, y18, Dir::Ba)),
-        ("replay rtu ab k", Command::Replay(rtu, y18, Dir::Ab)),
-        ("replay dnp24 ba k", Command::Replay(dnp, y24, Dir::Ba)),
-    ];
-    for (words, command) in rows {
-        let words = words_of(rt.alloc(), words)?;
-        let journal = if words.len() == 5 { Some(4) } else { None };
-        assert_eq!(rt; read_words(words.as_slice()), Ok(command));
-        assert_eq!(rt; key_word(words.as_slice()), Some(3));
-        assert_eq!(rt; journal_word(words.as_slice()), journal);
-        assert!(rt; !makes_journal(words.as_slice()));
+    for (words, command) in &KEY_AND_JOURNAL {
+        find(
+            &rt,
+            rt.alloc(),
+            words,
+            Ok(*command),
+            Some(3),
+            Some(4),
+            false,
+        )?;
+    }
+    for (words, command) in &KEY_ALONE {
+        find(&rt, rt.alloc(), words, Ok(*command), Some(3), None, false)?;
     }
     Ok(())
 }
@@ -389,26 +427,24 @@ fn compare(rt: &impl Abort, alloc: Global, row: &Row) -> Result<(), Fail> {
     let (a, b) = row.slots;
     let mut disk = MemSlots::with_room(alloc, a, b, 16, plan(row.disk_fails))?;
     let ran = run_over(alloc, row.words, KEY, row.text, row.out_fails, &mut disk)?;
-    assert_eq!(rt; ran.status, row.status);
+    ended(rt, &ran, row.status, row.out, row.log);
     assert_eq!(rt; ran.status.code(), row.code);
-    assert_eq!(rt; ran.out.held(), row.out);
-    assert_eq!(rt; ran.log.held(), row.log);
-    assert_eq!(rt; (disk.slot(Slot::A), disk.slot(Slot::B)), row.slots_now);
+    has_slots(rt, &disk, row.slots_now);
     Ok(())
 }
 
 #[test]
 fn does_what_the_words_ask_for(rt: HostRuntime) -> Result<(), Fail> {
-    for row in ROWS {
-        compare(&rt, rt.alloc(), &row)?;
+    for row in &ROWS {
+        compare(&rt, rt.alloc(), row)?;
     }
     Ok(())
 }
 
 #[test]
 fn runs_the_boxes(rt: HostRuntime) -> Result<(), Fail> {
-    for row in BOXES {
-        compare(&rt, rt.alloc(), &row)?;
+    for row in &BOXES {
+        compare(&rt, rt.alloc(), row)?;
     }
     Ok(())
 }
@@ -422,44 +458,59 @@ fn fresh_path(rt: &HostRuntime, name: &str) -> Result<String, Fail> {
     Ok(path)
 }
 
+// `init` over the file at this path ends with this status and this fault line.
+fn make_at(
+    rt: &impl Abort,
+    host: &HostRuntime,
+    path: Option<String>,
+    status: Status,
+    fault: &[u8],
+) -> Result<(), Fail> {
+    let mut disk = FileSlots::new(host, path, true);
+    let ran = run_over(host.alloc(), "init journal", KEY, b"", 0, &mut disk)?;
+    ended(rt, &ran, status, b"", fault);
+    Ok(())
+}
+
+// The file at this path holds number 0 in its first slot, and nothing in its second one.
+fn has_journal(rt: &impl Abort, host: &HostRuntime, path: &str) -> Result<(), Fail> {
+    let path = Some(String::from_str(host.alloc(), path)?);
+    let mut disk = FileSlots::new(host, path, false);
+    assert_eq!(rt; disk.read_slot(Slot::A), Ok(NUMBER_0));
+    assert_eq!(rt; disk.read_slot(Slot::B), Ok([0; 16]));
+    Ok(())
+}
+
+// The file at this path first has no journal, and then the one that was made.
+fn make_twice(rt: &impl Abort, host: &HostRuntime, path: &str) -> Result<(), Fail> {
+    let first = Some(String::from_str(host.alloc(), path)?);
+    make_at(rt, host, first, Status::Done, b"")?;
+    let second = Some(String::from_str(host.alloc(), path)?);
+    let stands = Status::HasJournal { floor: 0 };
+    make_at(rt, host, second, stands, b"fault: journal stands at 0\n")?;
+    has_journal(rt, host, path)
+}
+
 #[test]
 fn makes_a_journal_in_a_file(rt: HostRuntime) -> Result<(), Fail> {
     let missing = fresh_path(&rt, "missing")?;
+    make_twice(&rt, &rt, missing.as_str())?;
+    fs::remove_file(&rt, missing.as_str())?;
+    Ok(())
+}
+
+#[test]
+fn makes_a_journal_in_an_empty_file(rt: HostRuntime) -> Result<(), Fail> {
     let empty = fresh_path(&rt, "empty")?;
     fs::write(&rt, empty.as_str(), "")?;
-    let stands = Status::HasJournal { floor: 0 };
-    // Each file first has no journal, and then the one that was made.
-    let rows: [(Option<String>, Status, &[u8]); 6] = [
-        (Some(missing.clone()?), Status::Done, b""),
-        (
-            Some(missing.clone()?),
-            stands,
-            b"fault: journal stands at 0\n",
-        ),
-        (Some(empty.clone()?), Status::Done, b""),
-        (
-            Some(empty.clone()?),
-            stands,
-            b"fault: journal stands at 0\n",
-        ),
-        (
-            Some(String::from_str(rt.alloc(), ".")?),
-            Status::JournalFault,
-            b"fault: journal\n",
-        ),
-        (None, Status::JournalFault, b"fault: journal\n"),
-    ];
-    for (path, status, fault) in rows {
-        let mut disk = FileSlots::new(&rt, path, true);
-        let ran = run_over(rt.alloc(), INIT.words, KEY, b"", 0, &mut disk)?;
-        assert_eq!(rt; ran.status, status);
-        assert_eq!(rt; ran.log.held(), fault);
-    }
-    for path in [missing, empty] {
-        let mut disk = FileSlots::new(&rt, Some(path.clone()?), false);
-        assert_eq!(rt; disk.read_slot(Slot::A), Ok(NUMBER_0));
-        assert_eq!(rt; disk.read_slot(Slot::B), Ok([0; 16]));
-        fs::remove_file(&rt, path.as_str())?;
-    }
+    make_twice(&rt, &rt, empty.as_str())?;
+    fs::remove_file(&rt, empty.as_str())?;
     Ok(())
+}
+
+#[test]
+fn makes_no_journal_where_no_file_can_stand(rt: HostRuntime) -> Result<(), Fail> {
+    let folder = Some(String::from_str(rt.alloc(), ".")?);
+    make_at(&rt, &rt, folder, Status::JournalFault, b"fault: journal\n")?;
+    make_at(&rt, &rt, None, Status::JournalFault, b"fault: journal\n")
 }
