@@ -12,6 +12,3 @@ pub use hmac_tag::Dir;
 pub use link_verdicts::{CheckNote, DroppedWhy, RefusedWhy};
 pub use runs::RunBytes;
 pub use step::CheckStep;
-
-#[cfg(test)]
-mod tests;

@@ -17,6 +17,10 @@ mod over_boxes;
 #[cfg(test)]
 mod reading;
 #[cfg(test)]
+mod receiver_runs;
+#[cfg(test)]
+mod receiver_steps;
+#[cfg(test)]
 mod runs;
 #[cfg(test)]
 mod sealing;

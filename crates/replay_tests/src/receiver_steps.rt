@@ -1,10 +1,10 @@
+//! What the receiver answers to each tick of some links.
 ghost use Rattle.std.specs.Prelude.{◌≡◌, ◌<◌, length};
 ghost use Rattle.sequence_journal.specs.Journal.{Fits};
 ghost use Rattle.check_receiver.specs.Stands.{ticks_taken};
 
-use super::*;
-use delay_ring::DelayRing;
-use hmac_tag::{HmacSha1, Mac};
+use check_receiver::{CheckNote, CheckStep, Checker, DroppedWhy, RefusedWhy};
+use hmac_tag::{Dir, HmacSha1, Mac};
 use line_rules::LineRules;
 use rtu_frame::Rtu;
 use sequence_journal::{Journal, slot_of};
@@ -15,7 +15,7 @@ use yasir_io::{SlotDisk, SteadySlots};
 use yasir_ticks::Tick;
 
 // A tick as the texts here have it: a point is silence.
-fn tick_of(letter: u8) -> Tick {
+pub fn tick_of(letter: u8) -> Tick {
     match letter {
         b'.' => Tick::Silent,
         byte => Tick::Byte(byte),
@@ -23,7 +23,7 @@ fn tick_of(letter: u8) -> Tick {
 }
 
 // What the receiver answers to each tick.
-fn steps<R: LineRules, M: Mac, S: SlotDisk, const B: usize, const D: usize>(
+pub fn steps<R: LineRules, M: Mac, S: SlotDisk, const B: usize, const D: usize>(
     alloc: Global,
     checker: &mut Checker<R, M, B, D>,
     journal: &mut Journal,
@@ -142,12 +142,4 @@ fn a_burst_that_comes_too_soon(rt: HostRuntime) -> Result<(), Fail> {
         line,
         &[(6, refused), (7, dropped), (26, last)],
     )
-}
-
-// A receiver by y18 holds at most 280 bytes beside two of its rules, its code and its ring.
-#[test]
-fn it_is_small(rt: HostRuntime) {
-    let whole = size_of::<Checker<Rtu, HmacSha1, 2, 18>>();
-    let parts = 2 * size_of::<Rtu>() + size_of::<HmacSha1>() + size_of::<DelayRing<18>>();
-    assert!(rt; whole <= parts + 280);
 }

@@ -1,0 +1,391 @@
+//! Runs of ticks are answered as their single ticks are, whatever their lengths and wherever a link
+//! is cut into them.
+ghost use Rattle.std.specs.Prelude.{◌≡◌, ◌+◌, ◌<◌, ◌≤◌, length, OnOk, IfOk};
+ghost use Rattle.sequence_journal.specs.Journal.{Fits};
+ghost use Rattle.check_receiver.specs.Stands.{ticks_taken};
+
+use crate::receiver_steps::{steps, tick_of};
+use check_receiver::{CheckStep, Checker, RunBytes};
+use dnp_link_frame::Dnp;
+use hmac_tag::{Dir, HmacSha1, HmacSha256, Mac};
+use line_rules::LineRules;
+use rtu_frame::Rtu;
+use sequence_journal::{Journal, slot_of};
+use std::alloc::{AllocError, Global};
+use std::process::Abort;
+use std::test::Fail;
+use yasir_io::{SlotDisk, SteadySlots};
+use yasir_ticks::Tick;
+
+type RtuChecker = Checker<Rtu, HmacSha1, 2, 18>;
+
+type DnpChecker = Checker<Dnp, HmacSha1, 2, 18>;
+
+type WideRtuChecker = Checker<Rtu, HmacSha256, 4, 24>;
+
+const KEY: u128 = 0x000102030405060708090a0b0c0d0e0f;
+
+// Frames with the trailer of number 1: word and tag. Points are silence. The tags are by openssl:
+//   printf 010001030000000ac5cd0000000000000001 | xxd -r -p
+//     | openssl dgst -sha1 -mac HMAC -macopt hexkey:000102030405060708090a0b0c0d0e0f
+//     | cut -c1-24
+// and so for the frame of DNP3 with 0200 in front, and by y24 with -sha256 and cut -c1-32.
+const RTU_PACKET: &[u8] = b"\x01\x03\x00\x00\x00\x0a\xc5\xcd...\
+      \x00\x01\x01\x4c\x5b\x8d\x33\xc6\xd2\x9a\x34\x70\x13\xb0";
+
+const DNP_PACKET: &[u8] = b"\x05\x64\x05\xc0\x01\x00\x00\x04\xe9\x21...\
+      \x00\x01\x79\x34\x84\xb9\xbd\xf8\x58\xbb\xd8\x2b\x55\x9e";
+
+const WIDE_RTU_PACKET: &[u8] = b"\x01\x03\x00\x00\x00\x0a\xc5\xcd...\
+      \x00\x00\x00\x01\x65\xd2\x45\xba\x10\x95\x09\xaa\x6c\x32\xac\x3c\xfa\x22\x8f\xd6";
+
+// How many of the first letters are all silence or all bytes, and so many at most.
+fn alike(link: &[u8], most: usize) -> usize
+    ensures { result ≤ length link.now }
+{
+    let Some(first) = link.first() else {
+        return 0;
+    };
+    for count in 0..link.len() {
+        if count == most || (link[count] == b'.') != (*first == b'.') {
+            return count;
+        }
+    }
+    link.len()
+}
+
+// What the receiver takes of letters that are alike, as a run.
+fn pass<R: LineRules, M: Mac, const B: usize, const D: usize>(
+    checker: &mut Checker<R, M, B, D>,
+    part: &[u8],
+    left: &mut RunBytes,
+) -> usize
+    requires room { ticks_taken checker.old + length part.now ≤ 1000 }
+    ensures within { result ≤ length part.now }
+    ensures taken { ticks_taken checker.new ≡ ticks_taken checker.old + result }
+{
+    match part.first() {
+        Some(b'.') => checker.pass_silence(part.len() as u32, left) as usize,
+        _ => checker.pass_bytes(part, left),
+    }
+}
+
+// Whether so many ticks have no note, and are these bytes, or silence where there are none.
+fn are_answered(wanted: &[CheckStep], count: usize, left: &[u8]) -> bool {
+    if !left.is_empty() && left.len() != count {
+        return false;
+    }
+    for at in 0..count {
+        let tick = match left.get(at) {
+            Some(byte) => Tick::Byte(*byte),
+            None => Tick::Silent,
+        };
+        match wanted.get(at) {
+            Some(step) if *step == (CheckStep { tick, note: None }) => {}
+            _ => return false,
+        }
+    }
+    true
+}
+
+// Takes letters that are alike as a run, as far as the receiver does so, or else the first of them
+// by a step. Answers how many it took, each of them as wanted.
+fn take<R: LineRules, M: Mac, S: SlotDisk, const B: usize, const D: usize>(
+    rt: &impl Abort,
+    checker: &mut Checker<R, M, B, D>,
+    journal: &mut Journal,
+    disk: &mut S,
+    part: &[u8],
+    wanted: &[CheckStep],
+) -> Result<usize, Fail>
+    requires room { ticks_taken checker.old + length part.now ≤ 1000 }
+    requires some { 0 < length part.now }
+    requires fits { Fits journal.old (S.told disk.old) }
+    ensures some { IfOk result (λ count. 0 < count) }
+    ensures within { IfOk result (λ count. count ≤ length part.now) }
+    ensures taken { IfOk result (λ count. ticks_taken checker.new
+        ≡ ticks_taken checker.old + count) }
+    ensures fits { OnOk result (Fits journal.new (S.told disk.new)) }
+{
+    let mut left = RunBytes::new();
+    let count = pass(checker, part, &mut left);
+    if count > 0 {
+        assert!(rt; are_answered(wanted, count, left.as_slice()));
+        return Ok(count);
+    }
+    let step = checker.step(tick_of(part[0]), journal, disk)?;
+    assert!(rt; wanted.first() == Some(&step));
+    Ok(1)
+}
+
+// Compares a receiver that takes a link by runs with the steps of one that takes it tick by tick.
+// One run ends at the cut, and those behind it have so many ticks at most.
+fn follow<R: LineRules, M: Mac, S: SlotDisk, const B: usize, const D: usize>(
+    rt: &impl Abort,
+    checker: &mut Checker<R, M, B, D>,
+    journal: &mut Journal,
+    disk: &mut S,
+    link: &[u8],
+    wanted: &[CheckStep],
+    cut: usize,
+    most: usize,
+) -> Result<(), Fail>
+    requires begun { ticks_taken checker.old ≡ 0 }
+    requires fits { Fits journal.old (S.told disk.old) }
+    requires short { length link.now < 1000 }
+{
+    assert!(rt; wanted.len() == link.len());
+    let mut place = 0;
+    while place < link.len() {
+        let room = if place < cut { cut - place } else { most };
+        let part = &link[place..];
+        let part = &part[..alike(part, room)];
+        assert!(rt; !part.is_empty());
+        place += take(rt, checker, journal, disk, part, &wanted[place..])?;
+    }
+    Ok(())
+}
+
+// The receivers whose runs are compared: for Modbus RTU and DNP3 by y18, and for Modbus RTU by y24.
+#[derive(Clone, Copy)]
+enum Receiver {
+    Rtu,
+    Dnp,
+    WideRtu,
+}
+
+// The packet that it lets pass.
+fn packet_of(receiver: Receiver) -> &'static [u8] {
+    match receiver {
+        Receiver::Rtu => RTU_PACKET,
+        Receiver::Dnp => DNP_PACKET,
+        Receiver::WideRtu => WIDE_RTU_PACKET,
+    }
+}
+
+// What each of them answers to the ticks of a link, and whether its runs come to the same.
+fn rtu_steps(alloc: Global, link: &[u8]) -> Result<Vec<CheckStep>, Fail>
+    requires short { length link.now < 1000 }
+{
+    let mut checker: RtuChecker = Checker::new(&KEY.to_be_bytes(), Dir::Ab);
+    let mut disk = SteadySlots::new(slot_of(0), [0; 16]);
+    let mut journal = Journal::load(&mut disk)?;
+    steps(alloc, &mut checker, &mut journal, &mut disk, link)
+}
+
+fn follow_rtu(
+    rt: &impl Abort,
+    link: &[u8],
+    wanted: &[CheckStep],
+    cut: usize,
+    most: usize,
+) -> Result<(), Fail>
+    requires short { length link.now < 1000 }
+{
+    let mut checker: RtuChecker = Checker::new(&KEY.to_be_bytes(), Dir::Ab);
+    let mut disk = SteadySlots::new(slot_of(0), [0; 16]);
+    let mut journal = Journal::load(&mut disk)?;
+    follow(
+        rt,
+        &mut checker,
+        &mut journal,
+        &mut disk,
+        link,
+        wanted,
+        cut,
+        most,
+    )
+}
+
+fn dnp_steps(alloc: Global, link: &[u8]) -> Result<Vec<CheckStep>, Fail>
+    requires short { length link.now < 1000 }
+{
+    let mut checker: DnpChecker = Checker::new(&KEY.to_be_bytes(), Dir::Ab);
+    let mut disk = SteadySlots::new(slot_of(0), [0; 16]);
+    let mut journal = Journal::load(&mut disk)?;
+    steps(alloc, &mut checker, &mut journal, &mut disk, link)
+}
+
+fn follow_dnp(
+    rt: &impl Abort,
+    link: &[u8],
+    wanted: &[CheckStep],
+    cut: usize,
+    most: usize,
+) -> Result<(), Fail>
+    requires short { length link.now < 1000 }
+{
+    let mut checker: DnpChecker = Checker::new(&KEY.to_be_bytes(), Dir::Ab);
+    let mut disk = SteadySlots::new(slot_of(0), [0; 16]);
+    let mut journal = Journal::load(&mut disk)?;
+    follow(
+        rt,
+        &mut checker,
+        &mut journal,
+        &mut disk,
+        link,
+        wanted,
+        cut,
+        most,
+    )
+}
+
+fn wide_rtu_steps(alloc: Global, link: &[u8]) -> Result<Vec<CheckStep>, Fail>
+    requires short { length link.now < 1000 }
+{
+    let mut checker: WideRtuChecker = Checker::new(&KEY.to_be_bytes(), Dir::Ab);
+    let mut disk = SteadySlots::new(slot_of(0), [0; 16]);
+    let mut journal = Journal::load(&mut disk)?;
+    steps(alloc, &mut checker, &mut journal, &mut disk, link)
+}
+
+fn follow_wide_rtu(
+    rt: &impl Abort,
+    link: &[u8],
+    wanted: &[CheckStep],
+    cut: usize,
+    most: usize,
+) -> Result<(), Fail>
+    requires short { length link.now < 1000 }
+{
+    let mut checker: WideRtuChecker = Checker::new(&KEY.to_be_bytes(), Dir::Ab);
+    let mut disk = SteadySlots::new(slot_of(0), [0; 16]);
+    let mut journal = Journal::load(&mut disk)?;
+    follow(
+        rt,
+        &mut checker,
+        &mut journal,
+        &mut disk,
+        link,
+        wanted,
+        cut,
+        most,
+    )
+}
+
+fn steps_of(alloc: Global, receiver: Receiver, link: &[u8]) -> Result<Vec<CheckStep>, Fail>
+    requires short { length link.now < 1000 }
+{
+    match receiver {
+        Receiver::Rtu => rtu_steps(alloc, link),
+        Receiver::Dnp => dnp_steps(alloc, link),
+        Receiver::WideRtu => wide_rtu_steps(alloc, link),
+    }
+}
+
+fn follow_by(
+    rt: &impl Abort,
+    receiver: Receiver,
+    link: &[u8],
+    wanted: &[CheckStep],
+    cut: usize,
+    most: usize,
+) -> Result<(), Fail>
+    requires short { length link.now < 1000 }
+{
+    match receiver {
+        Receiver::Rtu => follow_rtu(rt, link, wanted, cut, most),
+        Receiver::Dnp => follow_dnp(rt, link, wanted, cut, most),
+        Receiver::WideRtu => follow_wide_rtu(rt, link, wanted, cut, most),
+    }
+}
+
+fn add(link: &mut Vec<u8>, letter: u8, times: usize) -> Result<(), AllocError> {
+    for _ in 0..times {
+        link.push(letter)?;
+    }
+    Ok(())
+}
+
+// The first ticks of the packet, so many and one of them wrong, then so many silent ticks, a burst
+// of so many bytes, and silence.
+fn link_of(
+    alloc: Global,
+    packet: &[u8],
+    kept: usize,
+    wrong: usize,
+    pause: usize,
+    count: usize,
+) -> Result<Vec<u8>, AllocError> {
+    let mut link = Vec::new(alloc);
+    for (at, letter) in packet.iter().take(kept).enumerate() {
+        link.push(if at == wrong { *letter ^ 1 } else { *letter })?;
+    }
+    add(&mut link, b'.', pause)?;
+    add(&mut link, b'A', count)?;
+    add(&mut link, b'.', 30)?;
+    Ok(link)
+}
+
+// Compares runs with ticks over such a link, cut at each place, and by runs of each length up to
+// its own.
+fn compare_runs(
+    rt: &impl Abort,
+    alloc: Global,
+    receiver: Receiver,
+    kept: usize,
+    wrong: usize,
+    pause: usize,
+    count: usize,
+) -> Result<(), Fail> {
+    let link = link_of(alloc, packet_of(receiver), kept, wrong, pause, count)?;
+    let link = &link[..link.len().min(999)];
+    let wanted = steps_of(alloc, receiver, link)?;
+    for at in 0..link.len() {
+        follow_by(rt, receiver, link, wanted.as_slice(), at, 1000)?;
+        follow_by(rt, receiver, link, wanted.as_slice(), 0, at + 1)?;
+    }
+    Ok(())
+}
+
+// Each beginning of the packet, and the whole packet with each of its ticks wrong.
+fn compare_trailers(rt: &impl Abort, alloc: Global, receiver: Receiver) -> Result<(), Fail> {
+    let whole = packet_of(receiver).len();
+    for place in 0..whole {
+        compare_runs(rt, alloc, receiver, place, whole, 0, 0)?;
+        compare_runs(rt, alloc, receiver, whole, place, 0, 0)?;
+    }
+    Ok(())
+}
+
+// Behind a packet comes a burst that joins it, one that comes too soon, and one in time, some of
+// them longer than a burst has room.
+fn compare_bursts(rt: &impl Abort, alloc: Global, receiver: Receiver) -> Result<(), Fail> {
+    let whole = packet_of(receiver).len();
+    for pause in [0, 4, 24] {
+        for count in [1, 2, 7, 17, 18, 19, 200, 300] {
+            compare_runs(rt, alloc, receiver, whole, whole, pause, count)?;
+        }
+    }
+    Ok(())
+}
+
+fn compare_silence(rt: &impl Abort, alloc: Global, receiver: Receiver) -> Result<(), Fail> {
+    let whole = packet_of(receiver).len();
+    for pause in 1..25 {
+        compare_runs(rt, alloc, receiver, whole, whole, pause, 3)?;
+    }
+    compare_runs(rt, alloc, receiver, whole, whole, 200, 3)
+}
+
+// Compares all of these.
+fn compare_all(rt: &impl Abort, alloc: Global, receiver: Receiver) -> Result<(), Fail> {
+    compare_trailers(rt, alloc, receiver)?;
+    compare_bursts(rt, alloc, receiver)?;
+    compare_silence(rt, alloc, receiver)
+}
+
+#[test]
+fn runs_are_checked_as_their_ticks(rt: HostRuntime) -> Result<(), Fail> {
+    compare_all(&rt, rt.alloc(), Receiver::Rtu)
+}
+
+#[test]
+fn runs_of_dnp3_are_checked_as_their_ticks(rt: HostRuntime) -> Result<(), Fail> {
+    compare_all(&rt, rt.alloc(), Receiver::Dnp)
+}
+
+#[test]
+fn runs_are_checked_as_their_ticks_by_the_second_profile(rt: HostRuntime) -> Result<(), Fail> {
+    compare_all(&rt, rt.alloc(), Receiver::WideRtu)
+}
