@@ -191,16 +191,16 @@ const EDGES: [Row; 8] = [
 
 #[test]
 fn checks_the_packets_of_a_link(rt: HostRuntime) -> Result<(), Fail> {
-    for row in CHECKED {
-        compare(&rt, rt.alloc(), BoxKind::CheckRtu, &row)?;
+    for row in &CHECKED {
+        compare(&rt, rt.alloc(), BoxKind::CheckRtu, row)?;
     }
     Ok(())
 }
 
 #[test]
 fn checks_links_at_the_edges(rt: HostRuntime) -> Result<(), Fail> {
-    for row in EDGES {
-        compare(&rt, rt.alloc(), BoxKind::CheckRtu, &row)?;
+    for row in &EDGES {
+        compare(&rt, rt.alloc(), BoxKind::CheckRtu, row)?;
     }
     Ok(())
 }
@@ -292,8 +292,8 @@ const ALTERED: [Row; 8] = [
 
 #[test]
 fn notes_how_a_link_was_altered(rt: HostRuntime) -> Result<(), Fail> {
-    for row in ALTERED {
-        compare(&rt, rt.alloc(), BoxKind::CheckRtu, &row)?;
+    for row in &ALTERED {
+        compare(&rt, rt.alloc(), BoxKind::CheckRtu, row)?;
     }
     Ok(())
 }
@@ -336,13 +336,21 @@ const READ: [(&[u8], &[u8], &[u8]); 4] = [
 
 #[test]
 fn a_device_reads_what_passed(rt: HostRuntime) -> Result<(), Fail> {
-    for (text, notes, frames) in READ {
+    for (text, notes, frames) in &READ {
         let alloc = rt.alloc();
-        let checked = replay(alloc, BoxKind::CheckRtu, Dir::Ab, KEY, FRESH, text, &STEADY)?;
-        assert_eq!(rt; checked.log.held(), notes);
+        let checked = replay(
+            alloc,
+            BoxKind::CheckRtu,
+            Dir::Ab,
+            KEY,
+            FRESH,
+            *text,
+            &STEADY,
+        )?;
+        assert_eq!(rt; checked.log.held(), *notes);
         let device = read(&rt, alloc, checked.out.held(), &STEADY)?;
         assert_eq!(rt; device.status, Status::Done);
-        assert_eq!(rt; device.out.held(), frames);
+        assert_eq!(rt; device.out.held(), *frames);
     }
     Ok(())
 }
@@ -475,8 +483,8 @@ const NOT_DONE: [Row; 7] = [
 
 #[test]
 fn answers_why_a_link_is_not_checked_whole(rt: HostRuntime) -> Result<(), Fail> {
-    for row in NOT_DONE {
-        compare(&rt, rt.alloc(), BoxKind::CheckRtu, &row)?;
+    for row in &NOT_DONE {
+        compare(&rt, rt.alloc(), BoxKind::CheckRtu, row)?;
     }
     Ok(())
 }

@@ -82,8 +82,8 @@ const SEALS: [Row; 5] = [
 
 #[test]
 fn seals_frames_of_dnp3(rt: HostRuntime) -> Result<(), Fail> {
-    for row in SEALS {
-        compare(&rt, rt.alloc(), BoxKind::SealDnp, &row)?;
+    for row in &SEALS {
+        compare(&rt, rt.alloc(), BoxKind::SealDnp, row)?;
     }
     Ok(())
 }
@@ -204,8 +204,8 @@ const CHECKS: [Row; 10] = [
 
 #[test]
 fn checks_packets_of_dnp3(rt: HostRuntime) -> Result<(), Fail> {
-    for row in CHECKS {
-        compare(&rt, rt.alloc(), BoxKind::CheckDnp, &row)?;
+    for row in &CHECKS {
+        compare(&rt, rt.alloc(), BoxKind::CheckDnp, row)?;
     }
     Ok(())
 }

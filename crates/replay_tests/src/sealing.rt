@@ -106,8 +106,8 @@ const SEALED: [Row; 10] = [
 
 #[test]
 fn seals_the_frames_of_a_line(rt: HostRuntime) -> Result<(), Fail> {
-    for row in SEALED {
-        compare(&rt, rt.alloc(), BoxKind::SealRtu, &row)?;
+    for row in &SEALED {
+        compare(&rt, rt.alloc(), BoxKind::SealRtu, row)?;
     }
     Ok(())
 }
@@ -281,8 +281,8 @@ const NOT_DONE: [Row; 9] = [
 
 #[test]
 fn answers_why_a_line_is_not_sealed_whole(rt: HostRuntime) -> Result<(), Fail> {
-    for row in NOT_DONE {
-        compare(&rt, rt.alloc(), BoxKind::SealRtu, &row)?;
+    for row in &NOT_DONE {
+        compare(&rt, rt.alloc(), BoxKind::SealRtu, row)?;
     }
     Ok(())
 }

@@ -223,8 +223,8 @@ const DNP3_CHECKS: [(&[u8], &[u8], &[u8]); 3] = [
 
 #[test]
 fn seals_with_words_of_four_bytes(rt: HostRuntime) -> Result<(), Fail> {
-    for row in SEALS {
-        compare(&rt, rt.alloc(), BoxKind::SealRtu24, &row)?;
+    for row in &SEALS {
+        compare(&rt, rt.alloc(), BoxKind::SealRtu24, row)?;
     }
     compare(&rt, rt.alloc(), BoxKind::SealDnp24, &SEALED_DNP3)
 }
@@ -244,22 +244,22 @@ fn has_read<D: Device + Drop>(
 
 #[test]
 fn checks_words_of_four_bytes(rt: HostRuntime) -> Result<(), Fail> {
-    for (row, frames) in CHECKS {
-        compare(&rt, rt.alloc(), BoxKind::CheckRtu24, &row)?;
-        has_read::<RtuDevice>(&rt, rt.alloc(), row.out, frames)?;
+    for (row, frames) in &CHECKS {
+        compare(&rt, rt.alloc(), BoxKind::CheckRtu24, row)?;
+        has_read::<RtuDevice>(&rt, rt.alloc(), row.out, *frames)?;
     }
-    for (text, notes, frames) in DNP3_CHECKS {
+    for (text, notes, frames) in &DNP3_CHECKS {
         let checked = replay(
             rt.alloc(),
             BoxKind::CheckDnp24,
             Dir::Ab,
             KEY,
             FRESH,
-            text,
+            *text,
             &STEADY,
         )?;
-        assert_eq!(rt; checked.log.held(), notes);
-        has_read::<DnpDevice>(&rt, rt.alloc(), checked.out.held(), frames)?;
+        assert_eq!(rt; checked.log.held(), *notes);
+        has_read::<DnpDevice>(&rt, rt.alloc(), checked.out.held(), *frames)?;
     }
     Ok(())
 }
