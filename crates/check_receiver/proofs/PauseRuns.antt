@@ -1,6 +1,8 @@
 -- Silence in the pause behind the live bytes of the burst whose verdict is open.
-use Rattle.std.proofs.Common.{◌≡◌, ◌∙◌, ℕ, zero, suc, ◌+◌, ◌-◌, ◌<◌, ◌≤◌, false, List, [], ◌∷◌, ◌++◌}
-use Rattle.std.proofs.Common.{length, length-append, take, drop, get_or, refl, sym, ap, subst, arith}
+use Rattle.std.proofs.Common.{◌≡◌, ◌∙◌, ℕ, zero, suc, ◌+◌, ◌-◌, ◌<◌, ◌≤◌, false, List, [], ◌∷◌}
+use Rattle.std.proofs.Common.{◌++◌}
+use Rattle.std.proofs.Common.{length, length-append, take, drop, get_or, refl, sym, ap, subst}
+use Rattle.std.proofs.Common.{arith}
 use Rattle.std.proofs.Common.{append_assoc, Some, None}
 use Rattle.std.proofs.lemmas.List.{append-nil, get_or-drop, take-append-drop}
 use Rattle.yasir_ticks.specs.Ticks.{silent, bytes_in}
@@ -27,7 +29,8 @@ use Rattle.check_receiver.proofs.RunTicks.{RunsTo, runs-none, runs-first}
 
 module _ {R : Type 0} (proto : LineRules R) (profile : Profile)
     (timely : IsTimely profile proto.rules) (some : 1 ≤ trailer_len profile) (floor : ℕ)
-    (s : CheckState) (d : Burst) (headed : proto.rules.header_len ≤ length (live_bytes proto.rules d))
+    (s : CheckState) (d : Burst) (headed : proto.rules.header_len ≤ length
+    (live_bytes proto.rules d))
   where
     abbrev rules : Rules
     rules = proto.rules
@@ -49,14 +52,16 @@ module _ {R : Type 0} (proto : LineRules R) (profile : Profile)
         let why = causal proto profile timely floor line Silent in
         let may : MayGoOn d m = waiting-may w why (at_floor floor) line s walked.emissions d
         walked.come in
-        let long = live-long profile rules proto.headed some m s.earliest_start d left live may.after
+        let long = live-long profile rules proto.headed some m s.earliest_start d left
+        live may.after
         opens in
         let near = opens.near in
         let more : 1 < length live = omega arith in
         let from = opens.from in
         let next = opens-silent profile rules proto.headed some m s.earliest_start d left live
         may.after opens few (λ there. headed) in
-        let come = come-silent w why (at_floor floor) line s walked.emissions (Some d) walked.come in
+        let come = come-silent w why (at_floor floor) line s walked.emissions
+        (Some d) walked.come in
         let k : ℕ = m - d.start in
         let whole : List Tick = as_it_came profile rules d in
         let here : k + 0 ≡ k = omega arith in
@@ -79,7 +84,8 @@ module _ {R : Type 0} (proto : LineRules R) (profile : Profile)
         → RunsTo profile rules floor line (silent n) s false (left ++ bytes_in (take n live))
         (drop n live) 0 (Some d) (take n live)
     pause-run zero line left live walked within few =
-        let P : List ℕ → Type 0 = λ x. RunsTo profile rules floor line [] s false x live 0 (Some d) []
+        let P : List ℕ → Type 0 = λ x. RunsTo profile rules floor line [] s false x
+        live 0 (Some d) []
         in
         subst P (sym (append-nil left))
         (runs-none profile rules floor line s false left live 0 (Some d) walked)

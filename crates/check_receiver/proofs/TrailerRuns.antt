@@ -1,7 +1,8 @@
 -- Runs of bytes of the trailer of the burst whose verdict is open.
 use Rattle.std.proofs.Common.{◌≡◌, ◌∙◌, ℕ, ◌+◌, ◌-◌, ◌<◌, ◌≤◌, true, false, List, []}
 use Rattle.std.proofs.Common.{◌∷◌, ◌++◌, map, ⊎_elim}
-use Rattle.std.proofs.Common.{length, length-append, take, drop, get_or, refl, sym, ap, subst, arith}
+use Rattle.std.proofs.Common.{length, length-append, take, drop, get_or, refl, sym, ap, subst}
+use Rattle.std.proofs.Common.{arith}
 use Rattle.std.proofs.Common.{append_assoc, Some, None}
 use Rattle.std.proofs.lemmas.Bool.{cases_Bool, cases_lt}
 use Rattle.std.proofs.lemmas.List.{append-nil, get_or-drop, take-append-drop}

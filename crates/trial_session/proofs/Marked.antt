@@ -1,11 +1,13 @@
 -- Bytes with marks that are written, and the ticks that they are.
 use Rattle.std.proofs.Common.{◌≡◌, ◌∙◌, ℕ, zero, suc, ◌+◌, ◌-◌, ◌<◌, ◌≤◌, List, [], ◌∷◌, ◌++◌}
-use Rattle.std.proofs.Common.{length, take, drop, map, replicate, refl, ap, sym, arith, append_assoc}
+use Rattle.std.proofs.Common.{length, take, drop, map, replicate, refl, ap, sym, arith}
+use Rattle.std.proofs.Common.{append_assoc}
 use Rattle.std.proofs.Common.{length-append, slice_set}
 use Rattle.std.specs.Prelude.{slice_index_or, bit_xor}
 use Rattle.trial_session.specs.Alterations.{changed}
 use Rattle.std.proofs.lemmas.List.{take_all, take_at, length-take-le, length-drop}
-use Rattle.std.proofs.lemmas.List.{drop-take, length-replicate, length-set, length-take, get_or-take}
+use Rattle.std.proofs.lemmas.List.{drop-take, length-replicate, length-set, length-take}
+use Rattle.std.proofs.lemmas.List.{get_or-take}
 use Rattle.std.proofs.lemmas.List.{get_or-drop}
 use Rattle.yasir_ticks.specs.Ticks.{silent}
 use Rattle.yasir_ticks.specs.declared.tick.Tick.{Tick}
@@ -216,7 +218,8 @@ module _ (len : ℕ) (bytes marks : List ℕ) (byte_room : length bytes ≡ 640)
         let b' = bit_xor b value in
         altered-as (take len (marked_ticks (slice_set bytes place b') marks)) (Byte b)
         (found ∙ marked-byte b (slice_index_or marks place 0) some)
-        (whole len (slice_set bytes place b') marks (length-set bytes place b' ∙ byte_room) mark_room
+        (whole len (slice_set bytes place b') marks
+        (length-set bytes place b' ∙ byte_room) mark_room
         all
         ∙ byte-set bytes marks place b' (byte_room ∙ sym mark_room)
         (omega (arith, byte_room, within))

@@ -32,11 +32,13 @@ loop-at-preserved g c =
           let so = before.4 line more sent in
           let now = sends-run g.X.CountingBox c.loop-at.self c.send_bytes-taken.new.self line _ _ _
           (link_sent c.loop-at.link) (link_sent c.add.new.self) so
-          (λ l t. passes-as g.X.CountingBox c.send_bytes-taken.new.self l _ c.send_bytes-taken.result _ _ c.as_slice.ensures.value
+          (λ l t. passes-as g.X.CountingBox c.send_bytes-taken.new.self l _
+          c.send_bytes-taken.result _ _ c.as_slice.ensures.value
           (c.send_bytes-taken.ensures.sent l t))
           (c.add.ensures.sent
           ((passes-as g.X.CountingBox c.send_bytes-taken.new.self _ _ c.send_bytes-taken.result _ _
-          c.as_slice.ensures.value (c.send_bytes-taken.ensures.sent _ so.taken)).long ∙ bytes-long n _ within)) in
+          c.as_slice.ensures.value (c.send_bytes-taken.ensures.sent _ so.taken)).long
+          ∙ bytes-long n _ within)) in
           subst (λ l. HasSent g.X.CountingBox c.send_bytes-taken.new.self line l
           (link_sent c.add.new.self)) (bytes-more at n bytes more) now,
     )

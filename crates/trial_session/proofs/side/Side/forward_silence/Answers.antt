@@ -29,11 +29,14 @@ loop-at-preserved g c =
           let so = before.4 line more sent in
           let now = sends-run g.X.CountingBox c.loop-at.self c.send_silence-taken.new.self line _ _
           _ (link_sent c.loop-at.link) (link_sent c.add.new.self) so
-          (λ l t. passes-as g.X.CountingBox c.send_silence-taken.new.self l _ c.send_silence-taken.result _ _ c.as_slice.ensures.value
+          (λ l t. passes-as g.X.CountingBox c.send_silence-taken.new.self l _
+          c.send_silence-taken.result _ _ c.as_slice.ensures.value
           (c.send_silence-taken.ensures.sent l t))
           (c.add.ensures.sent
-          ((passes-as g.X.CountingBox c.send_silence-taken.new.self _ _ c.send_silence-taken.result _ _
-          c.as_slice.ensures.value (c.send_silence-taken.ensures.sent _ so.taken)).long ∙ silence-long n)) in
+          ((passes-as g.X.CountingBox c.send_silence-taken.new.self _ _
+          c.send_silence-taken.result _ _
+          c.as_slice.ensures.value (c.send_silence-taken.ensures.sent _ so.taken)).long
+          ∙ silence-long n)) in
           subst (λ l. HasSent g.X.CountingBox c.send_silence-taken.new.self line l
           (link_sent c.add.new.self)) (silence-more at n more) now,
     )

@@ -1,7 +1,8 @@
 use Rattle.std.proofs.Common.{◌≡◌, ap, refl, map, take, arith}
 use Rattle.std.proofs.lemmas.List.{length-take}
 use Rattle.yasir_ticks.specs.declared.tick.Tick.TheVariants.{Byte}
-use Rattle.trial_session.proofs.SentRuns.{passes-run, passes-none, passes-tick, take-of-take, take-one}
+use Rattle.trial_session.proofs.SentRuns.{passes-run, passes-none, passes-tick, take-of-take}
+use Rattle.trial_session.proofs.SentRuns.{take-one}
 use Rattle.trial_session.proofs.side.Side.send_bytes.Goals as goal
 
 pub returns-then-taken-gt0-clause-sent : goal.returns-then-taken-gt0-clause-sent
