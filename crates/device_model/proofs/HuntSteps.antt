@@ -72,8 +72,8 @@ module _ {R : Type 0} (proto : LineRules R) (first second : ℕ)
 
   -- ---- the hunt goes on
 
-  -- Where the hunt over what is held and some bytes gives these frames, and goes on with what is held
-  -- then, so does the hunt over all.
+  -- Where the hunt over what is held and some bytes gives these frames, and goes on with what is
+  -- held then, so does the hunt over all.
   module _ (x held later ts : List Timed) (frames : List FrameRead)
       (goes : GoesOn first second its x held) (undecided : Undecided (timed_bytes later))
       (steps : (z : List Timed) → hunts (held ++ (ts ++ z)) ≡ frames ++ hunts (later ++ z)) where
