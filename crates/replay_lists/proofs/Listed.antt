@@ -1,5 +1,6 @@
 -- How a listing of two recordings ends.
-use Rattle.std.proofs.Common.{◌≡◌, ℕ, ◌+◌, ◌≤◌, true, false, List, [], ◌++◌, length, Option, Ok, Err}
+use Rattle.std.proofs.Common.{◌≡◌, ℕ, ◌+◌, ◌≤◌, true, false, List, [], ◌++◌, length, Option, Ok}
+use Rattle.std.proofs.Common.{Err}
 use Rattle.std.proofs.Common.{◌∙◌, refl, ap, subst, arith}
 use Rattle.yasir_io.specs.declared.sink.Sink.{Ghosts as Sink}
 use Rattle.yasir_io.specs.declared.disk.SlotDisk.{Ghosts as SlotDisk}
@@ -58,7 +59,8 @@ module _ {S C V O L D : Type 0} (s : FrameBox S) (c : FrameBox C) (v : Device V)
       let second : behind_mark driven.items ≡ behind_mark whole.told ++ silent 320 =
       ap behind_mark whole.are ∙ behind_mark-more whole.told (silent_items 320) some
       ∙ ap (λ l. behind_mark whole.told ++ l) (ticks_in-silence 320) in
-      subst (λ device. HasListed s c v new setup device (behind_mark whole.told ++ silent 320)) first
+      subst (λ device. HasListed s c v new setup device
+      (behind_mark whole.told ++ silent 320)) first
       (subst (λ link. HasListed s c v new setup (before_mark driven.items) link) second
       (driven.gives.moved (origin setup) [] (stood setup listed)).listed)
 
@@ -121,8 +123,10 @@ module _ {S C V O L D : Type 0} (s : FrameBox S) (c : FrameBox C) (v : Device V)
   pub ends-listing : (end : End) → (end ≡ Whole → ⊥) → HasDriven end
       → (device_rest : ℕ) → ListsRecordings s c v device_rest old new before now end
   ends-listing Whole other driven rest = absurd (other refl)
-  ends-listing (Refused bad) other driven rest = record { items = driven.items; takes = driven.takes }
+  ends-listing (Refused bad) other driven rest = record
+      { items = driven.items; takes = driven.takes }
   ends-listing (TooLong what count) other driven rest =
       record { items = driven.items; takes = driven.takes }
   ends-listing ReadFault other driven rest = record { items = driven.items; takes = driven.takes }
-  ends-listing (Stopped stop) other driven rest = record { items = driven.items; takes = driven.takes }
+  ends-listing (Stopped stop) other driven rest = record
+      { items = driven.items; takes = driven.takes }

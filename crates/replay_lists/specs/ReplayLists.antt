@@ -86,7 +86,8 @@ module _ {S C V : Type 0} (s : FrameBox S) (c : FrameBox C) (v : Device V) where
     pub out : outputs.out ≡ origin.out
     pub log : outputs.log ≡ origin.log
 
-  -- After these items more the boxes stand for them too, they have counted them, and they may go on.
+  -- After these items more the boxes stand for them too, they have counted them, and they may go
+  -- on.
   pub record GoesOnBy (old new : ReplayLists S C V) (more : List Item) : Type 0 where
     pub moved : (origin : ReplayOrigin) (outputs : Outputs) (items : List Item)
         → ListsItems old origin outputs items → ListsItems new origin outputs (items ++ more)

@@ -40,7 +40,8 @@ loop-done-preserved g c = record {
       subst (Listens g.V.Device c.hear_some.new.device c.hear_some.new.frames)
       (bytes_on line c.args.bytes.now c.loop-done.done c.in-Ok.count)
       (subst (λ x. Listens g.V.Device c.hear_some.new.device c.hear_some.new.frames
-      ((line ++ map Byte (take c.loop-done.done c.args.bytes.now)) ++ map Byte (take c.in-Ok.count x)))
+      ((line ++ map Byte (take c.loop-done.done c.args.bytes.now)) ++ map Byte
+      (take c.in-Ok.count x)))
       (slice_rest c.args.bytes.now c.loop-done.done) at);
 }
 

@@ -29,7 +29,8 @@ loop-done-preserved g c = record {
   ok = λ line listens.
       subst (Listens g.V.Device c.wait_some.new.device c.wait_some.new.frames)
       (silent_on line c.loop-done.done c.in-Ok.count)
-      (c.in-Ok.ensures.ok (line ++ silent c.loop-done.done) (c.loop-done.invariant.ok line listens));
+      (c.in-Ok.ensures.ok (line ++ silent c.loop-done.done)
+      (c.loop-done.invariant.ok line listens));
 }
 
 pub returns-clause-taken : goal.returns-clause-taken

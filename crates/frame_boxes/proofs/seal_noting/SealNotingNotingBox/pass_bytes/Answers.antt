@@ -1,4 +1,5 @@
-use Rattle.std.proofs.Common.{◌≡◌, ◌∙◌, ◌≤◌, ◌++◌, ℕ, List, [], ap, append-nil, arith, length, length-append, map, subst, sym, take, refl}
+use Rattle.std.proofs.Common.{◌≡◌, ◌∙◌, ◌≤◌, ◌++◌, ℕ, List, [], ap, append-nil, arith, length}
+use Rattle.std.proofs.Common.{length-append, map, subst, sym, take, refl}
 use Rattle.std.proofs.lemmas.List.{length-take, length-take-le, take-take}
 use Rattle.yasir_ticks.specs.Ticks.{silent}
 use Rattle.yasir_ticks.specs.declared.tick.Tick.{Tick}
@@ -72,7 +73,8 @@ returns-then-count-gt0-clause-answers g c = λ journal setup line stands.
     (answered-all c.forward-count.result (take c.forward-count.result c.args.bytes.now)
     c.lend.new.left.items (sym count) (c.lend.ensures ∙ same))
     (frames-run (sealer (profile_of g.R.LineRules g.M.Mac g.row.B LIMIT setup) g.R.LineRules.rules)
-    (sealer-causal (profile_of g.R.LineRules g.M.Mac g.row.B LIMIT setup) g.R.LineRules.rules g.R.LineRules.lawful) brief_note
+    (sealer-causal (profile_of g.R.LineRules g.M.Mac g.row.B LIMIT setup) g.R.LineRules.rules
+    g.R.LineRules.lawful) brief_note
     (at_floor setup.floor) line _ _ taken.answers sealed_in)
 
 pub returns-clause-stands : goal.returns-clause-stands
@@ -93,5 +95,6 @@ returns-clause-answers g c = λ journal setup line stands.
     (c.forward-count.ensures.run journal setup line stands)
     (λ still. c.pass_bytes.ensures.run journal setup line still) in
     frames-run (sealer (profile_of g.R.LineRules g.M.Mac g.row.B LIMIT setup) g.R.LineRules.rules)
-    (sealer-causal (profile_of g.R.LineRules g.M.Mac g.row.B LIMIT setup) g.R.LineRules.rules g.R.LineRules.lawful) brief_note
+    (sealer-causal (profile_of g.R.LineRules g.M.Mac g.row.B LIMIT setup) g.R.LineRules.rules
+    g.R.LineRules.lawful) brief_note
     (at_floor setup.floor) line _ _ taken.answers sealed_in

@@ -15,23 +15,32 @@ pub returns-in-Ok-clause-ready : goal.returns-in-Ok-clause-ready
 returns-in-Ok-clause-ready g c = record {
   sealer = c.requires.ready.sealer;
   checker = c.pass_bytes-count.ensures.able;
-  level = omega (arith, c.requires.ready.level, c.pass_bytes-count.ensures.taken, c.in-Ok.ensures.taken);
+  level = omega (
+    arith,
+    c.requires.ready.level,
+    c.pass_bytes-count.ensures.taken,
+    c.in-Ok.ensures.taken,
+  );
 }
 
 pub returns-in-Ok-clause-ok : goal.returns-in-Ok-clause-ok
 returns-in-Ok-clause-ok g c = λ setup link checks.
     let answers = c.pass_bytes-count.ensures.answers setup link checks.passes.steps in
-    let size : length (map Byte (take c.pass_bytes-count.result c.args.bytes.now)) ≡ c.pass_bytes-count.result =
+    let size : length (map Byte (take c.pass_bytes-count.result c.args.bytes.now))
+    ≡ c.pass_bytes-count.result =
     length-map (take c.pass_bytes-count.result c.args.bytes.now) (λ b. Byte b)
     ∙ length-take-le c.pass_bytes-count.result c.args.bytes.now c.pass_bytes-count.ensures.within in
-    let long : length (answered c.pass_bytes-count.result c.as_slice.result.now) ≡ c.pass_bytes-count.result =
-    ap (λ l. length (answered c.pass_bytes-count.result l)) c.as_slice.ensures.value ∙ (answers.long ∙ size) in
+    let long : length (answered c.pass_bytes-count.result c.as_slice.result.now)
+    ≡ c.pass_bytes-count.result =
+    ap (λ l. length (answered c.pass_bytes-count.result l)) c.as_slice.ensures.value
+    ∙ (answers.long ∙ size) in
     let other = (g.C.FrameBox.numbering setup).other_line in
     record {
       passes = keeps-run g.C.FrameBox c.args.self.now.checker c.pass_bytes-count.new.self
           c.args.self.now.passed setup link _ _ checks.passes
           (c.pass_bytes-count.ensures.stands setup link checks.passes.steps) answers;
       reads = subst (Listens g.V.Device c.hear_answered.new.device c.hear_answered.new.frames)
-          (ap (λ l. other link ++ answered c.pass_bytes-count.result l) c.as_slice.ensures.value ∙ sym answers.ticks)
+          (ap (λ l. other link ++ answered c.pass_bytes-count.result l) c.as_slice.ensures.value
+          ∙ sym answers.ticks)
           (c.in-Ok.ensures.ok (other link) long checks.reads);
     }

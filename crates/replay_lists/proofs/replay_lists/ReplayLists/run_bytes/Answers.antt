@@ -13,10 +13,14 @@ returns-then-not-self-clause-goes g c =
     length-map (take c.seal_bytes.result c.args.bytes.now) (λ b. Byte b)
     ∙ length-take-le c.seal_bytes.result c.args.bytes.now c.seal_bytes.ensures.within in
     let counts : g.S.FrameBox.taken c.seal_bytes.new.self.sealer
-    ≡ g.S.FrameBox.taken c.args.self.now.sealer + length (map Byte (take c.seal_bytes.result c.args.bytes.now)) =
+    ≡ g.S.FrameBox.taken c.args.self.now.sealer + length
+    (map Byte (take c.seal_bytes.result c.args.bytes.now)) =
     omega (arith, size, c.seal_bytes.ensures.taken) in
     seals-on g.S.FrameBox g.C.FrameBox g.V.Device c.args.self.now c.seal_bytes.new.self
-    (byte_items (take c.seal_bytes.result c.args.bytes.now)) (no_mark-bytes (take c.seal_bytes.result c.args.bytes.now)) (map Byte (take c.seal_bytes.result c.args.bytes.now)) (ticks_in-bytes (take c.seal_bytes.result c.args.bytes.now))
+    (byte_items (take c.seal_bytes.result c.args.bytes.now))
+    (no_mark-bytes (take c.seal_bytes.result c.args.bytes.now))
+    (map Byte (take c.seal_bytes.result c.args.bytes.now))
+    (ticks_in-bytes (take c.seal_bytes.result c.args.bytes.now))
     c.seal_bytes.ensures.others c.if-not-self.true counts c.seal_bytes.ensures.able
     c.requires.ready c.seal_bytes.ensures.ok
 
@@ -26,8 +30,12 @@ returns-in-Ok-clause-goes g c =
     length-map (take c.in-Ok.count c.args.bytes.now) (λ b. Byte b)
     ∙ length-take-le c.in-Ok.count c.args.bytes.now c.in-Ok.ensures.within in
     let counts : g.C.FrameBox.taken c.check_bytes.new.self.checker
-    ≡ g.C.FrameBox.taken c.args.self.now.checker + length (map Byte (take c.in-Ok.count c.args.bytes.now)) =
+    ≡ g.C.FrameBox.taken c.args.self.now.checker + length
+    (map Byte (take c.in-Ok.count c.args.bytes.now)) =
     omega (arith, size, c.in-Ok.ensures.taken) in
     checks-on g.S.FrameBox g.C.FrameBox g.V.Device c.args.self.now c.check_bytes.new.self
-    (byte_items (take c.in-Ok.count c.args.bytes.now)) (no_mark-bytes (take c.in-Ok.count c.args.bytes.now)) (map Byte (take c.in-Ok.count c.args.bytes.now)) (ticks_in-bytes (take c.in-Ok.count c.args.bytes.now))
+    (byte_items (take c.in-Ok.count c.args.bytes.now))
+    (no_mark-bytes (take c.in-Ok.count c.args.bytes.now))
+    (map Byte (take c.in-Ok.count c.args.bytes.now))
+    (ticks_in-bytes (take c.in-Ok.count c.args.bytes.now))
     c.in-Ok.ensures.others c.if-not-self.false counts c.in-Ok.ensures.ready c.in-Ok.ensures.ok

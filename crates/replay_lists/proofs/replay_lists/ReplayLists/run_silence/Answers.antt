@@ -15,7 +15,8 @@ returns-then-not-self-clause-goes g c =
     ≡ g.S.FrameBox.taken c.args.self.now.sealer + length (silent c.seal_silence.result) =
     omega (arith, size, c.seal_silence.ensures.taken) in
     seals-on g.S.FrameBox g.C.FrameBox g.V.Device c.args.self.now c.seal_silence.new.self
-    (silent_items c.seal_silence.result) (no_mark-silent c.seal_silence.result) (silent c.seal_silence.result) (ticks_in-silent c.seal_silence.result)
+    (silent_items c.seal_silence.result) (no_mark-silent c.seal_silence.result)
+    (silent c.seal_silence.result) (ticks_in-silent c.seal_silence.result)
     c.seal_silence.ensures.others c.if-not-self.true counts c.seal_silence.ensures.able
     c.requires.ready c.seal_silence.ensures.ok
 
@@ -27,5 +28,6 @@ returns-in-Ok-clause-goes g c =
     ≡ g.C.FrameBox.taken c.args.self.now.checker + length (silent c.in-Ok.count) =
     omega (arith, size, c.in-Ok.ensures.taken) in
     checks-on g.S.FrameBox g.C.FrameBox g.V.Device c.args.self.now c.check_silence.new.self
-    (silent_items c.in-Ok.count) (no_mark-silent c.in-Ok.count) (silent c.in-Ok.count) (ticks_in-silent c.in-Ok.count)
+    (silent_items c.in-Ok.count) (no_mark-silent c.in-Ok.count) (silent c.in-Ok.count)
+    (ticks_in-silent c.in-Ok.count)
     c.in-Ok.ensures.others c.if-not-self.false counts c.in-Ok.ensures.ready c.in-Ok.ensures.ok

@@ -1,4 +1,5 @@
-use Rattle.std.proofs.Common.{◌≡◌, ◌∙◌, ◌+◌, ◌-◌, ◌<◌, ℕ, List, [], ◌∷◌, ◌++◌, length, map, take, drop}
+use Rattle.std.proofs.Common.{◌≡◌, ◌∙◌, ◌+◌, ◌-◌, ◌<◌, ℕ, List, [], ◌∷◌, ◌++◌, length, map, take}
+use Rattle.std.proofs.Common.{drop}
 use Rattle.std.proofs.Common.{Ok, Err, sym, ap, subst, arith, get_or, length-drop, append-nil}
 use Rattle.std.proofs.lemmas.List.{take_all, length-map, length-replicate}
 use Rattle.yasir_ticks.specs.Ticks.Item.{tick}
@@ -18,7 +19,8 @@ use Rattle.replay_lists.proofs.replay_lists.ReplayListsConsumer.take_bytes.Goals
 pub loop-taken-init : goal.loop-taken-init
 loop-taken-init g c = record {
   within = omega arith;
-  given = gives_none (listing g.S.FrameBox g.C.FrameBox g.V.Device) g.O.Sink g.L.Sink g.D.SlotDisk _ c.requires.able (λ kept image left. tt);
+  given = gives_none (listing g.S.FrameBox g.C.FrameBox g.V.Device) g.O.Sink g.L.Sink g.D.SlotDisk _
+      c.requires.able (λ kept image left. tt);
 }
 
 pub run_bytes-requires : goal.run_bytes-requires
@@ -50,10 +52,15 @@ returns-in-Err g c =
       length-map (drop c.loop-taken.taken c.args.bytes.now) (λ b. tick (Byte b)),
       length-drop c.loop-taken.taken c.args.bytes.now,
     ) in
-    gives_stop (listing g.S.FrameBox g.C.FrameBox g.V.Device) g.O.Sink g.L.Sink g.D.SlotDisk s0 s1 s2 (byte_items (take c.loop-taken.taken c.args.bytes.now)) (byte_items (drop c.loop-taken.taken c.args.bytes.now)) [] (byte_items c.args.bytes.now) _
-    (sym (byte_items-whole c.args.bytes.now c.loop-taken.taken) ∙ sym (append-nil ((byte_items (take c.loop-taken.taken c.args.bytes.now)) ++ (byte_items (drop c.loop-taken.taken c.args.bytes.now)))))
+    gives_stop (listing g.S.FrameBox g.C.FrameBox g.V.Device) g.O.Sink g.L.Sink g.D.SlotDisk s0 s1
+    s2 (byte_items (take c.loop-taken.taken c.args.bytes.now))
+    (byte_items (drop c.loop-taken.taken c.args.bytes.now)) [] (byte_items c.args.bytes.now) _
+    (sym (byte_items-whole c.args.bytes.now c.loop-taken.taken)
+    ∙ sym (append-nil ((byte_items (take c.loop-taken.taken c.args.bytes.now)) ++
+    (byte_items (drop c.loop-taken.taken c.args.bytes.now)))))
     c.loop-taken.invariant.given
-    (gives-no_memory g.S.FrameBox g.C.FrameBox g.V.Device g.O.Sink g.L.Sink g.D.SlotDisk c.loop-taken.out c.loop-taken.log c.loop-taken.disk c.loop-taken.self
+    (gives-no_memory g.S.FrameBox g.C.FrameBox g.V.Device g.O.Sink g.L.Sink g.D.SlotDisk
+    c.loop-taken.out c.loop-taken.log c.loop-taken.disk c.loop-taken.self
     c.run_bytes.new.self (byte_items (drop c.loop-taken.taken c.args.bytes.now)) some)
 
 pub loop-taken-preserved-then-count-gt0 : goal.loop-taken-preserved-then-count-gt0
@@ -65,16 +72,34 @@ loop-taken-preserved-then-count-gt0 g c =
     let s2 : State _ _ _ _ = state_of c.run_bytes.new.self c.loop-taken.out c.loop-taken.log
     c.loop-taken.disk in
     let goes : GoesOnBy g.S.FrameBox g.C.FrameBox g.V.Device c.loop-taken.self
-    c.run_bytes.new.self (byte_items (take c.in-Ok.count (drop c.loop-taken.taken c.args.bytes.now))) =
+    c.run_bytes.new.self (byte_items (take c.in-Ok.count
+    (drop c.loop-taken.taken c.args.bytes.now))) =
     subst (λ x. GoesOnBy g.S.FrameBox g.C.FrameBox g.V.Device c.loop-taken.self
     c.run_bytes.new.self (byte_items (take c.in-Ok.count x)))
     (slice_rest c.args.bytes.now c.loop-taken.taken) c.in-Ok.ensures.goes in
-    let given : Gives (listing g.S.FrameBox g.C.FrameBox g.V.Device) g.O.Sink g.L.Sink g.D.SlotDisk {T = Unit {0}} s1 s2 (byte_items (take c.in-Ok.count (drop c.loop-taken.taken c.args.bytes.now))) (Ok tt) =
-    gives-item g.S.FrameBox g.C.FrameBox g.V.Device g.O.Sink g.L.Sink g.D.SlotDisk c.loop-taken.out c.loop-taken.log c.loop-taken.disk c.loop-taken.self
-    c.run_bytes.new.self (byte_items (take c.in-Ok.count (drop c.loop-taken.taken c.args.bytes.now))) goes.moved goes.counted goes.ready in
+    let given : Gives (listing g.S.FrameBox g.C.FrameBox g.V.Device) g.O.Sink g.L.Sink g.D.SlotDisk
+    {T = Unit {0}} s1 s2 (byte_items (take c.in-Ok.count
+    (drop c.loop-taken.taken c.args.bytes.now))) (Ok tt) =
+    gives-item g.S.FrameBox g.C.FrameBox g.V.Device g.O.Sink g.L.Sink g.D.SlotDisk c.loop-taken.out
+    c.loop-taken.log c.loop-taken.disk c.loop-taken.self
+    c.run_bytes.new.self (byte_items (take c.in-Ok.count
+    (drop c.loop-taken.taken c.args.bytes.now))) goes.moved goes.counted goes.ready in
     record {
-      within = omega (arith, c.in-Ok.ensures.within, c.loop-taken.invariant.within, ap length (slice_rest c.args.bytes.now c.loop-taken.taken), length-drop c.loop-taken.taken c.args.bytes.now);
-      given = gives_more (listing g.S.FrameBox g.C.FrameBox g.V.Device) g.O.Sink g.L.Sink g.D.SlotDisk s0 s1 s2 (byte_items (take c.loop-taken.taken c.args.bytes.now)) (byte_items (take c.in-Ok.count (drop c.loop-taken.taken c.args.bytes.now))) (byte_items (take (c.loop-taken.taken + c.in-Ok.count) c.args.bytes.now)) (byte_items-on c.args.bytes.now c.loop-taken.taken c.in-Ok.count) c.loop-taken.invariant.given given;
+      within = omega (
+        arith,
+        c.in-Ok.ensures.within,
+        c.loop-taken.invariant.within,
+        ap length
+            (slice_rest c.args.bytes.now c.loop-taken.taken),
+        length-drop c.loop-taken.taken
+            c.args.bytes.now,
+      );
+      given = gives_more (listing g.S.FrameBox g.C.FrameBox g.V.Device) g.O.Sink g.L.Sink
+          g.D.SlotDisk s0 s1 s2 (byte_items (take c.loop-taken.taken c.args.bytes.now))
+          (byte_items (take c.in-Ok.count (drop c.loop-taken.taken c.args.bytes.now)))
+          (byte_items (take (c.loop-taken.taken + c.in-Ok.count) c.args.bytes.now))
+          (byte_items-on c.args.bytes.now c.loop-taken.taken c.in-Ok.count)
+          c.loop-taken.invariant.given given;
     }
 
 pub take_tick-requires : goal.take_tick-requires
@@ -86,16 +111,24 @@ take_tick-requires g c =
     let s2 : State _ _ _ _ = state_of c.run_bytes.new.self c.loop-taken.out c.loop-taken.log
     c.loop-taken.disk in
     let goes : GoesOnBy g.S.FrameBox g.C.FrameBox g.V.Device c.loop-taken.self
-    c.run_bytes.new.self (byte_items (take c.in-Ok.count (drop c.loop-taken.taken c.args.bytes.now))) =
+    c.run_bytes.new.self (byte_items (take c.in-Ok.count
+    (drop c.loop-taken.taken c.args.bytes.now))) =
     subst (λ x. GoesOnBy g.S.FrameBox g.C.FrameBox g.V.Device c.loop-taken.self
     c.run_bytes.new.self (byte_items (take c.in-Ok.count x)))
     (slice_rest c.args.bytes.now c.loop-taken.taken) c.in-Ok.ensures.goes in
-    let given : Gives (listing g.S.FrameBox g.C.FrameBox g.V.Device) g.O.Sink g.L.Sink g.D.SlotDisk {T = Unit {0}} s1 s2 (byte_items (take c.in-Ok.count (drop c.loop-taken.taken c.args.bytes.now))) (Ok tt) =
-    gives-item g.S.FrameBox g.C.FrameBox g.V.Device g.O.Sink g.L.Sink g.D.SlotDisk c.loop-taken.out c.loop-taken.log c.loop-taken.disk c.loop-taken.self
-    c.run_bytes.new.self (byte_items (take c.in-Ok.count (drop c.loop-taken.taken c.args.bytes.now))) goes.moved goes.counted goes.ready in
+    let given : Gives (listing g.S.FrameBox g.C.FrameBox g.V.Device) g.O.Sink g.L.Sink g.D.SlotDisk
+    {T = Unit {0}} s1 s2 (byte_items (take c.in-Ok.count
+    (drop c.loop-taken.taken c.args.bytes.now))) (Ok tt) =
+    gives-item g.S.FrameBox g.C.FrameBox g.V.Device g.O.Sink g.L.Sink g.D.SlotDisk c.loop-taken.out
+    c.loop-taken.log c.loop-taken.disk c.loop-taken.self
+    c.run_bytes.new.self (byte_items (take c.in-Ok.count
+    (drop c.loop-taken.taken c.args.bytes.now))) goes.moved goes.counted goes.ready in
     let zero : c.in-Ok.count ≡ 0 = omega arith in
-    let still : Gives (listing g.S.FrameBox g.C.FrameBox g.V.Device) g.O.Sink g.L.Sink g.D.SlotDisk {T = Unit {0}} s1 s2 [] (Ok tt) =
-    subst (λ n. Gives (listing g.S.FrameBox g.C.FrameBox g.V.Device) g.O.Sink g.L.Sink g.D.SlotDisk {T = Unit {0}} s1 s2 (byte_items (take n (drop c.loop-taken.taken c.args.bytes.now))) (Ok tt)) zero given in
+    let still : Gives (listing g.S.FrameBox g.C.FrameBox g.V.Device) g.O.Sink g.L.Sink g.D.SlotDisk
+    {T = Unit {0}} s1 s2 [] (Ok tt) =
+    subst (λ n. Gives (listing g.S.FrameBox g.C.FrameBox g.V.Device) g.O.Sink g.L.Sink g.D.SlotDisk
+    {T = Unit {0}} s1 s2 (byte_items (take n (drop c.loop-taken.taken c.args.bytes.now)))
+    (Ok tt)) zero given in
     record {
       room = omega (
         arith,
@@ -122,20 +155,36 @@ loop-taken-preserved g c =
     let s3 : State _ _ _ _ = state_of c.take_tick.new.self c.take_tick.new._out
     c.take_tick.new._log c.take_tick.new._disk in
     let goes : GoesOnBy g.S.FrameBox g.C.FrameBox g.V.Device c.loop-taken.self
-    c.run_bytes.new.self (byte_items (take c.in-Ok.count (drop c.loop-taken.taken c.args.bytes.now))) =
+    c.run_bytes.new.self (byte_items (take c.in-Ok.count
+    (drop c.loop-taken.taken c.args.bytes.now))) =
     subst (λ x. GoesOnBy g.S.FrameBox g.C.FrameBox g.V.Device c.loop-taken.self
     c.run_bytes.new.self (byte_items (take c.in-Ok.count x)))
     (slice_rest c.args.bytes.now c.loop-taken.taken) c.in-Ok.ensures.goes in
-    let given : Gives (listing g.S.FrameBox g.C.FrameBox g.V.Device) g.O.Sink g.L.Sink g.D.SlotDisk {T = Unit {0}} s1 s2 (byte_items (take c.in-Ok.count (drop c.loop-taken.taken c.args.bytes.now))) (Ok tt) =
-    gives-item g.S.FrameBox g.C.FrameBox g.V.Device g.O.Sink g.L.Sink g.D.SlotDisk c.loop-taken.out c.loop-taken.log c.loop-taken.disk c.loop-taken.self
-    c.run_bytes.new.self (byte_items (take c.in-Ok.count (drop c.loop-taken.taken c.args.bytes.now))) goes.moved goes.counted goes.ready in
+    let given : Gives (listing g.S.FrameBox g.C.FrameBox g.V.Device) g.O.Sink g.L.Sink g.D.SlotDisk
+    {T = Unit {0}} s1 s2 (byte_items (take c.in-Ok.count
+    (drop c.loop-taken.taken c.args.bytes.now))) (Ok tt) =
+    gives-item g.S.FrameBox g.C.FrameBox g.V.Device g.O.Sink g.L.Sink g.D.SlotDisk c.loop-taken.out
+    c.loop-taken.log c.loop-taken.disk c.loop-taken.self
+    c.run_bytes.new.self (byte_items (take c.in-Ok.count
+    (drop c.loop-taken.taken c.args.bytes.now))) goes.moved goes.counted goes.ready in
     let zero : c.in-Ok.count ≡ 0 = omega arith in
-    let still : Gives (listing g.S.FrameBox g.C.FrameBox g.V.Device) g.O.Sink g.L.Sink g.D.SlotDisk {T = Unit {0}} s1 s2 [] (Ok tt) =
-    subst (λ n. Gives (listing g.S.FrameBox g.C.FrameBox g.V.Device) g.O.Sink g.L.Sink g.D.SlotDisk {T = Unit {0}} s1 s2 (byte_items (take n (drop c.loop-taken.taken c.args.bytes.now))) (Ok tt)) zero given in
+    let still : Gives (listing g.S.FrameBox g.C.FrameBox g.V.Device) g.O.Sink g.L.Sink g.D.SlotDisk
+    {T = Unit {0}} s1 s2 [] (Ok tt) =
+    subst (λ n. Gives (listing g.S.FrameBox g.C.FrameBox g.V.Device) g.O.Sink g.L.Sink g.D.SlotDisk
+    {T = Unit {0}} s1 s2 (byte_items (take n (drop c.loop-taken.taken c.args.bytes.now)))
+    (Ok tt)) zero given in
     record {
       within = omega arith;
-      given = gives_more (listing g.S.FrameBox g.C.FrameBox g.V.Device) g.O.Sink g.L.Sink g.D.SlotDisk s0 s2 s3 (byte_items (take c.loop-taken.taken c.args.bytes.now)) (tick (Byte (get_or c.args.bytes.now c.loop-taken.taken 0)) ∷ []) (byte_items (take (c.loop-taken.taken + 1) c.args.bytes.now)) (byte_items-more c.args.bytes.now c.loop-taken.taken c.loop-taken-test.true)
-          (gives_more (listing g.S.FrameBox g.C.FrameBox g.V.Device) g.O.Sink g.L.Sink g.D.SlotDisk s0 s1 s2 (byte_items (take c.loop-taken.taken c.args.bytes.now)) [] (byte_items (take c.loop-taken.taken c.args.bytes.now)) (append-nil (byte_items (take c.loop-taken.taken c.args.bytes.now))) c.loop-taken.invariant.given still)
+      given = gives_more (listing g.S.FrameBox g.C.FrameBox g.V.Device) g.O.Sink g.L.Sink
+          g.D.SlotDisk s0 s2 s3 (byte_items (take c.loop-taken.taken c.args.bytes.now))
+          (tick (Byte (get_or c.args.bytes.now c.loop-taken.taken 0)) ∷ [])
+          (byte_items (take (c.loop-taken.taken + 1) c.args.bytes.now))
+          (byte_items-more c.args.bytes.now c.loop-taken.taken c.loop-taken-test.true)
+          (gives_more (listing g.S.FrameBox g.C.FrameBox g.V.Device) g.O.Sink g.L.Sink g.D.SlotDisk
+          s0 s1 s2 (byte_items (take c.loop-taken.taken c.args.bytes.now)) []
+          (byte_items (take c.loop-taken.taken c.args.bytes.now))
+          (append-nil (byte_items (take c.loop-taken.taken c.args.bytes.now)))
+          c.loop-taken.invariant.given still)
           c.in-Ok-take_tick.ensures;
     }
 
@@ -150,25 +199,43 @@ returns-in-Err-take_tick g c =
     let s3 : State _ _ _ _ = state_of c.take_tick.new.self c.take_tick.new._out
     c.take_tick.new._log c.take_tick.new._disk in
     let goes : GoesOnBy g.S.FrameBox g.C.FrameBox g.V.Device c.loop-taken.self
-    c.run_bytes.new.self (byte_items (take c.in-Ok.count (drop c.loop-taken.taken c.args.bytes.now))) =
+    c.run_bytes.new.self (byte_items (take c.in-Ok.count
+    (drop c.loop-taken.taken c.args.bytes.now))) =
     subst (λ x. GoesOnBy g.S.FrameBox g.C.FrameBox g.V.Device c.loop-taken.self
     c.run_bytes.new.self (byte_items (take c.in-Ok.count x)))
     (slice_rest c.args.bytes.now c.loop-taken.taken) c.in-Ok.ensures.goes in
-    let given : Gives (listing g.S.FrameBox g.C.FrameBox g.V.Device) g.O.Sink g.L.Sink g.D.SlotDisk {T = Unit {0}} s1 s2 (byte_items (take c.in-Ok.count (drop c.loop-taken.taken c.args.bytes.now))) (Ok tt) =
-    gives-item g.S.FrameBox g.C.FrameBox g.V.Device g.O.Sink g.L.Sink g.D.SlotDisk c.loop-taken.out c.loop-taken.log c.loop-taken.disk c.loop-taken.self
-    c.run_bytes.new.self (byte_items (take c.in-Ok.count (drop c.loop-taken.taken c.args.bytes.now))) goes.moved goes.counted goes.ready in
+    let given : Gives (listing g.S.FrameBox g.C.FrameBox g.V.Device) g.O.Sink g.L.Sink g.D.SlotDisk
+    {T = Unit {0}} s1 s2 (byte_items (take c.in-Ok.count
+    (drop c.loop-taken.taken c.args.bytes.now))) (Ok tt) =
+    gives-item g.S.FrameBox g.C.FrameBox g.V.Device g.O.Sink g.L.Sink g.D.SlotDisk c.loop-taken.out
+    c.loop-taken.log c.loop-taken.disk c.loop-taken.self
+    c.run_bytes.new.self (byte_items (take c.in-Ok.count
+    (drop c.loop-taken.taken c.args.bytes.now))) goes.moved goes.counted goes.ready in
     let zero : c.in-Ok.count ≡ 0 = omega arith in
-    let still : Gives (listing g.S.FrameBox g.C.FrameBox g.V.Device) g.O.Sink g.L.Sink g.D.SlotDisk {T = Unit {0}} s1 s2 [] (Ok tt) =
-    subst (λ n. Gives (listing g.S.FrameBox g.C.FrameBox g.V.Device) g.O.Sink g.L.Sink g.D.SlotDisk {T = Unit {0}} s1 s2 (byte_items (take n (drop c.loop-taken.taken c.args.bytes.now))) (Ok tt)) zero given in
-    gives_stop (listing g.S.FrameBox g.C.FrameBox g.V.Device) g.O.Sink g.L.Sink g.D.SlotDisk s0 s2 s3 (byte_items (take c.loop-taken.taken c.args.bytes.now)) (tick (Byte (get_or c.args.bytes.now c.loop-taken.taken 0)) ∷ []) (byte_items (drop (c.loop-taken.taken + 1) c.args.bytes.now)) (byte_items c.args.bytes.now) c.in-Err-take_tick.stop
+    let still : Gives (listing g.S.FrameBox g.C.FrameBox g.V.Device) g.O.Sink g.L.Sink g.D.SlotDisk
+    {T = Unit {0}} s1 s2 [] (Ok tt) =
+    subst (λ n. Gives (listing g.S.FrameBox g.C.FrameBox g.V.Device) g.O.Sink g.L.Sink g.D.SlotDisk
+    {T = Unit {0}} s1 s2 (byte_items (take n (drop c.loop-taken.taken c.args.bytes.now)))
+    (Ok tt)) zero given in
+    gives_stop (listing g.S.FrameBox g.C.FrameBox g.V.Device) g.O.Sink g.L.Sink g.D.SlotDisk s0 s2
+    s3 (byte_items (take c.loop-taken.taken c.args.bytes.now))
+    (tick (Byte (get_or c.args.bytes.now c.loop-taken.taken 0)) ∷ [])
+    (byte_items (drop (c.loop-taken.taken + 1) c.args.bytes.now))
+    (byte_items c.args.bytes.now) c.in-Err-take_tick.stop
     (byte_items-at c.args.bytes.now c.loop-taken.taken c.loop-taken-test.true)
-    (gives_more (listing g.S.FrameBox g.C.FrameBox g.V.Device) g.O.Sink g.L.Sink g.D.SlotDisk s0 s1 s2 (byte_items (take c.loop-taken.taken c.args.bytes.now)) [] (byte_items (take c.loop-taken.taken c.args.bytes.now)) (append-nil (byte_items (take c.loop-taken.taken c.args.bytes.now))) c.loop-taken.invariant.given still)
+    (gives_more (listing g.S.FrameBox g.C.FrameBox g.V.Device) g.O.Sink g.L.Sink g.D.SlotDisk s0 s1
+    s2 (byte_items (take c.loop-taken.taken c.args.bytes.now)) []
+    (byte_items (take c.loop-taken.taken c.args.bytes.now))
+    (append-nil (byte_items (take c.loop-taken.taken c.args.bytes.now)))
+    c.loop-taken.invariant.given still)
     c.in-Err-take_tick.ensures
 
 pub returns : goal.returns
 returns g c =
-    subst (λ x. Gives (listing g.S.FrameBox g.C.FrameBox g.V.Device) g.O.Sink g.L.Sink g.D.SlotDisk {T = Unit {0}}
+    subst (λ x. Gives (listing g.S.FrameBox g.C.FrameBox g.V.Device) g.O.Sink g.L.Sink g.D.SlotDisk
+    {T = Unit {0}}
     (state_of c.args.self.now c.args.out.now c.args.log.now c.args.disk.now)
     (state_of c.loop-taken.self c.loop-taken.out c.loop-taken.log c.loop-taken.disk) x (Ok tt))
     (let e : take c.loop-taken.taken c.args.bytes.now ≡ c.args.bytes.now =
-    take_all c.loop-taken.taken c.args.bytes.now (omega arith) in ap byte_items e) c.loop-taken.invariant.given
+    take_all c.loop-taken.taken c.args.bytes.now (omega arith) in ap byte_items e)
+    c.loop-taken.invariant.given

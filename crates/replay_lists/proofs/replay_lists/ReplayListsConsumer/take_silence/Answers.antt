@@ -1,4 +1,5 @@
-use Rattle.std.proofs.Common.{◌≡◌, ◌∙◌, ◌+◌, ◌-◌, ◌<◌, ℕ, List, [], ◌∷◌, ◌++◌, length, map, take, drop}
+use Rattle.std.proofs.Common.{◌≡◌, ◌∙◌, ◌+◌, ◌-◌, ◌<◌, ℕ, List, [], ◌∷◌, ◌++◌, length, map, take}
+use Rattle.std.proofs.Common.{drop}
 use Rattle.std.proofs.Common.{Ok, Err, sym, ap, subst, arith, get_or, length-drop, append-nil}
 use Rattle.std.proofs.lemmas.List.{take_all, length-map, length-replicate}
 use Rattle.yasir_ticks.specs.Ticks.Item.{tick}
@@ -18,7 +19,8 @@ use Rattle.replay_lists.proofs.replay_lists.ReplayListsConsumer.take_silence.Goa
 pub loop-taken-init : goal.loop-taken-init
 loop-taken-init g c = record {
   within = omega arith;
-  given = gives_none (listing g.S.FrameBox g.C.FrameBox g.V.Device) g.O.Sink g.L.Sink g.D.SlotDisk _ c.requires.able (λ kept image left. tt);
+  given = gives_none (listing g.S.FrameBox g.C.FrameBox g.V.Device) g.O.Sink g.L.Sink g.D.SlotDisk _
+      c.requires.able (λ kept image left. tt);
 }
 
 pub run_silence-requires : goal.run_silence-requires
@@ -47,12 +49,17 @@ returns-in-Err g c =
       c.loop-taken-test.true,
       length-replicate (c.args.ticks - c.loop-taken.taken) (tick Silent),
     ) in
-    gives_stop (listing g.S.FrameBox g.C.FrameBox g.V.Device) g.O.Sink g.L.Sink g.D.SlotDisk s0 s1 s2 (silent_items c.loop-taken.taken) (silent_items (c.args.ticks - c.loop-taken.taken)) [] (silent_items c.args.ticks) _
+    gives_stop (listing g.S.FrameBox g.C.FrameBox g.V.Device) g.O.Sink g.L.Sink g.D.SlotDisk s0 s1
+    s2 (silent_items c.loop-taken.taken) (silent_items (c.args.ticks - c.loop-taken.taken)) []
+    (silent_items c.args.ticks) _
     (sym (silent_items-on c.loop-taken.taken (c.args.ticks - c.loop-taken.taken)
     ∙ ap silent_items (let e : c.loop-taken.taken + (c.args.ticks - c.loop-taken.taken)
-    ≡ c.args.ticks = omega (arith, c.loop-taken.invariant.within) in e)) ∙ sym (append-nil ((silent_items c.loop-taken.taken) ++ (silent_items (c.args.ticks - c.loop-taken.taken)))))
+    ≡ c.args.ticks = omega (arith, c.loop-taken.invariant.within) in e))
+    ∙ sym (append-nil ((silent_items c.loop-taken.taken) ++
+    (silent_items (c.args.ticks - c.loop-taken.taken)))))
     c.loop-taken.invariant.given
-    (gives-no_memory g.S.FrameBox g.C.FrameBox g.V.Device g.O.Sink g.L.Sink g.D.SlotDisk c.loop-taken.out c.loop-taken.log c.loop-taken.disk c.loop-taken.self
+    (gives-no_memory g.S.FrameBox g.C.FrameBox g.V.Device g.O.Sink g.L.Sink g.D.SlotDisk
+    c.loop-taken.out c.loop-taken.log c.loop-taken.disk c.loop-taken.self
     c.run_silence.new.self (silent_items (c.args.ticks - c.loop-taken.taken)) some)
 
 pub loop-taken-preserved-then-count-gt0 : goal.loop-taken-preserved-then-count-gt0
@@ -66,12 +73,17 @@ loop-taken-preserved-then-count-gt0 g c =
     let goes : GoesOnBy g.S.FrameBox g.C.FrameBox g.V.Device c.loop-taken.self
     c.run_silence.new.self (silent_items c.in-Ok.count) =
     c.in-Ok.ensures.goes in
-    let given : Gives (listing g.S.FrameBox g.C.FrameBox g.V.Device) g.O.Sink g.L.Sink g.D.SlotDisk {T = Unit {0}} s1 s2 (silent_items c.in-Ok.count) (Ok tt) =
-    gives-item g.S.FrameBox g.C.FrameBox g.V.Device g.O.Sink g.L.Sink g.D.SlotDisk c.loop-taken.out c.loop-taken.log c.loop-taken.disk c.loop-taken.self
+    let given : Gives (listing g.S.FrameBox g.C.FrameBox g.V.Device) g.O.Sink g.L.Sink g.D.SlotDisk
+    {T = Unit {0}} s1 s2 (silent_items c.in-Ok.count) (Ok tt) =
+    gives-item g.S.FrameBox g.C.FrameBox g.V.Device g.O.Sink g.L.Sink g.D.SlotDisk c.loop-taken.out
+    c.loop-taken.log c.loop-taken.disk c.loop-taken.self
     c.run_silence.new.self (silent_items c.in-Ok.count) goes.moved goes.counted goes.ready in
     record {
       within = omega (arith, c.in-Ok.ensures.within, c.loop-taken.invariant.within);
-      given = gives_more (listing g.S.FrameBox g.C.FrameBox g.V.Device) g.O.Sink g.L.Sink g.D.SlotDisk s0 s1 s2 (silent_items c.loop-taken.taken) (silent_items c.in-Ok.count) (silent_items (c.loop-taken.taken + c.in-Ok.count)) (silent_items-on c.loop-taken.taken c.in-Ok.count) c.loop-taken.invariant.given given;
+      given = gives_more (listing g.S.FrameBox g.C.FrameBox g.V.Device) g.O.Sink g.L.Sink
+          g.D.SlotDisk s0 s1 s2 (silent_items c.loop-taken.taken) (silent_items c.in-Ok.count)
+          (silent_items (c.loop-taken.taken + c.in-Ok.count))
+          (silent_items-on c.loop-taken.taken c.in-Ok.count) c.loop-taken.invariant.given given;
     }
 
 pub take_tick-requires : goal.take_tick-requires
@@ -85,12 +97,16 @@ take_tick-requires g c =
     let goes : GoesOnBy g.S.FrameBox g.C.FrameBox g.V.Device c.loop-taken.self
     c.run_silence.new.self (silent_items c.in-Ok.count) =
     c.in-Ok.ensures.goes in
-    let given : Gives (listing g.S.FrameBox g.C.FrameBox g.V.Device) g.O.Sink g.L.Sink g.D.SlotDisk {T = Unit {0}} s1 s2 (silent_items c.in-Ok.count) (Ok tt) =
-    gives-item g.S.FrameBox g.C.FrameBox g.V.Device g.O.Sink g.L.Sink g.D.SlotDisk c.loop-taken.out c.loop-taken.log c.loop-taken.disk c.loop-taken.self
+    let given : Gives (listing g.S.FrameBox g.C.FrameBox g.V.Device) g.O.Sink g.L.Sink g.D.SlotDisk
+    {T = Unit {0}} s1 s2 (silent_items c.in-Ok.count) (Ok tt) =
+    gives-item g.S.FrameBox g.C.FrameBox g.V.Device g.O.Sink g.L.Sink g.D.SlotDisk c.loop-taken.out
+    c.loop-taken.log c.loop-taken.disk c.loop-taken.self
     c.run_silence.new.self (silent_items c.in-Ok.count) goes.moved goes.counted goes.ready in
     let zero : c.in-Ok.count ≡ 0 = omega arith in
-    let still : Gives (listing g.S.FrameBox g.C.FrameBox g.V.Device) g.O.Sink g.L.Sink g.D.SlotDisk {T = Unit {0}} s1 s2 [] (Ok tt) =
-    subst (λ n. Gives (listing g.S.FrameBox g.C.FrameBox g.V.Device) g.O.Sink g.L.Sink g.D.SlotDisk {T = Unit {0}} s1 s2 (silent_items n) (Ok tt)) zero given in
+    let still : Gives (listing g.S.FrameBox g.C.FrameBox g.V.Device) g.O.Sink g.L.Sink g.D.SlotDisk
+    {T = Unit {0}} s1 s2 [] (Ok tt) =
+    subst (λ n. Gives (listing g.S.FrameBox g.C.FrameBox g.V.Device) g.O.Sink g.L.Sink g.D.SlotDisk
+    {T = Unit {0}} s1 s2 (silent_items n) (Ok tt)) zero given in
     record {
       room = omega (
         arith,
@@ -117,16 +133,24 @@ loop-taken-preserved g c =
     let goes : GoesOnBy g.S.FrameBox g.C.FrameBox g.V.Device c.loop-taken.self
     c.run_silence.new.self (silent_items c.in-Ok.count) =
     c.in-Ok.ensures.goes in
-    let given : Gives (listing g.S.FrameBox g.C.FrameBox g.V.Device) g.O.Sink g.L.Sink g.D.SlotDisk {T = Unit {0}} s1 s2 (silent_items c.in-Ok.count) (Ok tt) =
-    gives-item g.S.FrameBox g.C.FrameBox g.V.Device g.O.Sink g.L.Sink g.D.SlotDisk c.loop-taken.out c.loop-taken.log c.loop-taken.disk c.loop-taken.self
+    let given : Gives (listing g.S.FrameBox g.C.FrameBox g.V.Device) g.O.Sink g.L.Sink g.D.SlotDisk
+    {T = Unit {0}} s1 s2 (silent_items c.in-Ok.count) (Ok tt) =
+    gives-item g.S.FrameBox g.C.FrameBox g.V.Device g.O.Sink g.L.Sink g.D.SlotDisk c.loop-taken.out
+    c.loop-taken.log c.loop-taken.disk c.loop-taken.self
     c.run_silence.new.self (silent_items c.in-Ok.count) goes.moved goes.counted goes.ready in
     let zero : c.in-Ok.count ≡ 0 = omega arith in
-    let still : Gives (listing g.S.FrameBox g.C.FrameBox g.V.Device) g.O.Sink g.L.Sink g.D.SlotDisk {T = Unit {0}} s1 s2 [] (Ok tt) =
-    subst (λ n. Gives (listing g.S.FrameBox g.C.FrameBox g.V.Device) g.O.Sink g.L.Sink g.D.SlotDisk {T = Unit {0}} s1 s2 (silent_items n) (Ok tt)) zero given in
+    let still : Gives (listing g.S.FrameBox g.C.FrameBox g.V.Device) g.O.Sink g.L.Sink g.D.SlotDisk
+    {T = Unit {0}} s1 s2 [] (Ok tt) =
+    subst (λ n. Gives (listing g.S.FrameBox g.C.FrameBox g.V.Device) g.O.Sink g.L.Sink g.D.SlotDisk
+    {T = Unit {0}} s1 s2 (silent_items n) (Ok tt)) zero given in
     record {
       within = omega arith;
-      given = gives_more (listing g.S.FrameBox g.C.FrameBox g.V.Device) g.O.Sink g.L.Sink g.D.SlotDisk s0 s2 s3 (silent_items c.loop-taken.taken) (tick Silent ∷ []) (silent_items (c.loop-taken.taken + 1)) (silent_items-more c.loop-taken.taken)
-          (gives_more (listing g.S.FrameBox g.C.FrameBox g.V.Device) g.O.Sink g.L.Sink g.D.SlotDisk s0 s1 s2 (silent_items c.loop-taken.taken) [] (silent_items c.loop-taken.taken) (append-nil (silent_items c.loop-taken.taken)) c.loop-taken.invariant.given still)
+      given = gives_more (listing g.S.FrameBox g.C.FrameBox g.V.Device) g.O.Sink g.L.Sink
+          g.D.SlotDisk s0 s2 s3 (silent_items c.loop-taken.taken) (tick Silent ∷ [])
+          (silent_items (c.loop-taken.taken + 1)) (silent_items-more c.loop-taken.taken)
+          (gives_more (listing g.S.FrameBox g.C.FrameBox g.V.Device) g.O.Sink g.L.Sink g.D.SlotDisk
+          s0 s1 s2 (silent_items c.loop-taken.taken) [] (silent_items c.loop-taken.taken)
+          (append-nil (silent_items c.loop-taken.taken)) c.loop-taken.invariant.given still)
           c.in-Ok-take_tick.ensures;
     }
 
@@ -143,20 +167,30 @@ returns-in-Err-take_tick g c =
     let goes : GoesOnBy g.S.FrameBox g.C.FrameBox g.V.Device c.loop-taken.self
     c.run_silence.new.self (silent_items c.in-Ok.count) =
     c.in-Ok.ensures.goes in
-    let given : Gives (listing g.S.FrameBox g.C.FrameBox g.V.Device) g.O.Sink g.L.Sink g.D.SlotDisk {T = Unit {0}} s1 s2 (silent_items c.in-Ok.count) (Ok tt) =
-    gives-item g.S.FrameBox g.C.FrameBox g.V.Device g.O.Sink g.L.Sink g.D.SlotDisk c.loop-taken.out c.loop-taken.log c.loop-taken.disk c.loop-taken.self
+    let given : Gives (listing g.S.FrameBox g.C.FrameBox g.V.Device) g.O.Sink g.L.Sink g.D.SlotDisk
+    {T = Unit {0}} s1 s2 (silent_items c.in-Ok.count) (Ok tt) =
+    gives-item g.S.FrameBox g.C.FrameBox g.V.Device g.O.Sink g.L.Sink g.D.SlotDisk c.loop-taken.out
+    c.loop-taken.log c.loop-taken.disk c.loop-taken.self
     c.run_silence.new.self (silent_items c.in-Ok.count) goes.moved goes.counted goes.ready in
     let zero : c.in-Ok.count ≡ 0 = omega arith in
-    let still : Gives (listing g.S.FrameBox g.C.FrameBox g.V.Device) g.O.Sink g.L.Sink g.D.SlotDisk {T = Unit {0}} s1 s2 [] (Ok tt) =
-    subst (λ n. Gives (listing g.S.FrameBox g.C.FrameBox g.V.Device) g.O.Sink g.L.Sink g.D.SlotDisk {T = Unit {0}} s1 s2 (silent_items n) (Ok tt)) zero given in
-    gives_stop (listing g.S.FrameBox g.C.FrameBox g.V.Device) g.O.Sink g.L.Sink g.D.SlotDisk s0 s2 s3 (silent_items c.loop-taken.taken) (tick Silent ∷ []) (silent_items (c.args.ticks - (c.loop-taken.taken + 1))) (silent_items c.args.ticks) c.in-Err-take_tick.stop
+    let still : Gives (listing g.S.FrameBox g.C.FrameBox g.V.Device) g.O.Sink g.L.Sink g.D.SlotDisk
+    {T = Unit {0}} s1 s2 [] (Ok tt) =
+    subst (λ n. Gives (listing g.S.FrameBox g.C.FrameBox g.V.Device) g.O.Sink g.L.Sink g.D.SlotDisk
+    {T = Unit {0}} s1 s2 (silent_items n) (Ok tt)) zero given in
+    gives_stop (listing g.S.FrameBox g.C.FrameBox g.V.Device) g.O.Sink g.L.Sink g.D.SlotDisk s0 s2
+    s3 (silent_items c.loop-taken.taken) (tick Silent ∷ [])
+    (silent_items (c.args.ticks - (c.loop-taken.taken + 1)))
+    (silent_items c.args.ticks) c.in-Err-take_tick.stop
     (silent_items-at c.args.ticks c.loop-taken.taken c.loop-taken-test.true)
-    (gives_more (listing g.S.FrameBox g.C.FrameBox g.V.Device) g.O.Sink g.L.Sink g.D.SlotDisk s0 s1 s2 (silent_items c.loop-taken.taken) [] (silent_items c.loop-taken.taken) (append-nil (silent_items c.loop-taken.taken)) c.loop-taken.invariant.given still)
+    (gives_more (listing g.S.FrameBox g.C.FrameBox g.V.Device) g.O.Sink g.L.Sink g.D.SlotDisk s0 s1
+    s2 (silent_items c.loop-taken.taken) [] (silent_items c.loop-taken.taken)
+    (append-nil (silent_items c.loop-taken.taken)) c.loop-taken.invariant.given still)
     c.in-Err-take_tick.ensures
 
 pub returns : goal.returns
 returns g c =
-    subst (λ x. Gives (listing g.S.FrameBox g.C.FrameBox g.V.Device) g.O.Sink g.L.Sink g.D.SlotDisk {T = Unit {0}}
+    subst (λ x. Gives (listing g.S.FrameBox g.C.FrameBox g.V.Device) g.O.Sink g.L.Sink g.D.SlotDisk
+    {T = Unit {0}}
     (state_of c.args.self.now c.args.out.now c.args.log.now c.args.disk.now)
     (state_of c.loop-taken.self c.loop-taken.out c.loop-taken.log c.loop-taken.disk) x (Ok tt))
     (let e : c.loop-taken.taken ≡ c.args.ticks = omega (arith, c.loop-taken.invariant.within) in
