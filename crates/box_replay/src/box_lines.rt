@@ -73,8 +73,31 @@ fn push_note_of_step<B: LineBox, L: Sink>(
     }
 }
 
-// Adds a line to the ticks' text. Where it has no room there, the notes go to the log, and then the
-// ticks go out.
+// Adds a line to the ticks' text where it has no room there: the notes go to the log, and then the
+// ticks go out. It stands apart, since few lines have no room.
+#[inline(never)]
+fn push_line_by_drain<O: Sink, L: Sink>(
+    ticks: &mut TextBuffer,
+    notes: &mut TextBuffer,
+    out: &mut O,
+    log: &mut L,
+    line: &[u8],
+) -> Result<(), Failed>
+    ensures pushes { PushesTexts (sink_texts (O.held out.old) (L.held log.old))
+        (sink_texts (O.held out.new) (L.held log.new))
+        (waiting_bytes ticks.new) (waiting_bytes notes.new) (waiting_bytes ticks.old ++ line.now)
+        (waiting_bytes notes.old) result }
+    ensures cause { HaveCause (O.faults out.old) (O.faults out.new) (L.faults log.old)
+        (L.faults log.new) result }
+    ensures flushes { NoneFlushed O.Sink L.Sink out.old out.new log.old log.new }
+{
+    notes.drain(log)?;
+    ticks.drain(out)?;
+    ticks.push(out, line)
+}
+
+// Adds a line to the ticks' text.
+#[inline(always)]
 pub(crate) fn push_line<O: Sink, L: Sink>(
     ticks: &mut TextBuffer,
     notes: &mut TextBuffer,
@@ -93,9 +116,7 @@ pub(crate) fn push_line<O: Sink, L: Sink>(
     if ticks.extend(line) {
         return Ok(());
     }
-    notes.drain(log)?;
-    ticks.drain(out)?;
-    ticks.push(out, line)
+    push_line_by_drain(ticks, notes, out, log, line)
 }
 
 // Adds a tick that completes a line, and the note before it. It stands apart from a step, since few

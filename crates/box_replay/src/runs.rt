@@ -71,6 +71,7 @@ fn push_some_bytes<O: Sink, L: Sink>(
 }
 
 // The same of so many silent ticks.
+#[inline(always)]
 fn push_some_silence<O: Sink, L: Sink>(
     writer: &mut TickWriter,
     ticks: &mut TextBuffer,
@@ -137,8 +138,8 @@ pub(crate) fn push_bytes<O: Sink, L: Sink>(
     Ok(())
 }
 
-// Adds so many silent ticks to the text of the other line.
-pub(crate) fn push_silence<O: Sink, L: Sink>(
+// Adds so many silent ticks to the text of the other line, which may complete any number of lines.
+fn push_long_silence<O: Sink, L: Sink>(
     writer: &mut TickWriter,
     ticks: &mut TextBuffer,
     notes: &mut TextBuffer,
@@ -163,6 +164,66 @@ pub(crate) fn push_silence<O: Sink, L: Sink>(
         }
     }
     Ok(())
+}
+
+// Adds so many silent ticks of which the first completes a line. It stands apart, so that a run that
+// completes none costs little. A loop would cost more: the compiler makes ready before it what few
+// lines need.
+#[inline(never)]
+fn push_completing_silence<O: Sink, L: Sink>(
+    writer: &mut TickWriter,
+    ticks: &mut TextBuffer,
+    notes: &mut TextBuffer,
+    out: &mut O,
+    log: &mut L,
+    count: u32,
+) -> Result<(), Failed>
+    ensures pushes { PushesTicks
+        (waiting writer.old (waiting_bytes ticks.old) (waiting_bytes notes.old))
+        (waiting writer.new (waiting_bytes ticks.new) (waiting_bytes notes.new))
+        (sink_texts (O.held out.old) (L.held log.old))
+        (sink_texts (O.held out.new) (L.held log.new)) (silent count) [] result }
+    ensures cause { HaveCause (O.faults out.old) (O.faults out.new) (L.faults log.old)
+        (L.faults log.new) result }
+    ensures flushes { NoneFlushed O.Sink L.Sink out.old out.new log.old log.new }
+{
+    let some = match push_some_silence(writer, ticks, notes, out, log, count) {
+        Ok(some) => some,
+        Err(Failed) => return Err(Failed),
+    };
+    let left = count - some;
+    let joined = writer.extend_silence(left);
+    if joined == left {
+        return Ok(());
+    }
+    push_long_silence(writer, ticks, notes, out, log, left - joined)
+}
+
+// Adds so many silent ticks to the text of the other line. Of a run that completes no line, the
+// writer alone hears.
+#[inline]
+pub(crate) fn push_silence<O: Sink, L: Sink>(
+    writer: &mut TickWriter,
+    ticks: &mut TextBuffer,
+    notes: &mut TextBuffer,
+    out: &mut O,
+    log: &mut L,
+    count: u32,
+) -> Result<(), Failed>
+    ensures pushes { PushesTicks
+        (waiting writer.old (waiting_bytes ticks.old) (waiting_bytes notes.old))
+        (waiting writer.new (waiting_bytes ticks.new) (waiting_bytes notes.new))
+        (sink_texts (O.held out.old) (L.held log.old))
+        (sink_texts (O.held out.new) (L.held log.new)) (silent count) [] result }
+    ensures cause { HaveCause (O.faults out.old) (O.faults out.new) (L.faults log.old)
+        (L.faults log.new) result }
+    ensures flushes { NoneFlushed O.Sink L.Sink out.old out.new log.old log.new }
+{
+    let joined = writer.extend_silence(count);
+    if joined == count {
+        return Ok(());
+    }
+    push_completing_silence(writer, ticks, notes, out, log, count - joined)
 }
 
 // Adds what a box answers to a run: these bytes, or so many silent ticks where there is none.

@@ -1,11 +1,11 @@
-use Rattle.std.proofs.Common.{rules, inr, subst, ◌++◌}
+use Rattle.std.proofs.Common.{rules, inr}
 use Rattle.std.proofs.lemmas.Result.{on_ok_weaker, on_err_weaker}
 use Rattle.yasir_io.proofs.OutputLemmas.{always_on_err}
-use Rattle.yasir_io.specs.Output.{Buffered, GotPrefix}
+use Rattle.yasir_io.specs.Output.{Buffered}
 use Rattle.yasir_io.specs.TextBuffer.{waiting_bytes}
 use Rattle.replay_status.proofs.Printing.{printed, front_of_buffered}
 use Rattle.box_replay.proofs.Sending.{nothing_gone, part_before, always_on_ok}
-use Rattle.box_replay.proofs.box_lines.push_line.Goals as goal
+use Rattle.box_replay.proofs.box_lines.push_line_by_drain.Goals as goal
 
 pub returns-in_err-drain-2-clause-pushes : goal.returns-in_err-drain-2-clause-pushes
 returns-in_err-drain-2-clause-pushes g c =
@@ -16,10 +16,8 @@ returns-in_err-drain-2-clause-pushes g c =
       text_goes = search rules;
       text_stops = always_on_err result
           (part_before _ _ (waiting_bytes c.args.ticks.now) c.args.line.now
-          (rw (← c.extend.ensures.left c.if-extend.false)
           (c.in_err-drain-2.ensures.err
-          _ _ (nothing_gone (g.O.Sink.held c.args.out.now)
-          (waiting_bytes c.extend.new.self)))));
+          _ _ (nothing_gone (g.O.Sink.held c.args.out.now) (waiting_bytes c.args.ticks.now))));
       notes_go = search rules;
       notes_stop = always_on_err result (front_of_buffered _ _ _ _ noted);
       notes_first = inr (printed _ _ _ noted, search rules);
@@ -31,10 +29,10 @@ returns-clause-pushes g c =
     _ _ (nothing_gone (g.L.Sink.held c.args.log.now) (waiting_bytes c.args.notes.now)) in
     let drained : Buffered (g.O.Sink.held c.args.out.now) (g.O.Sink.held c.drain-2.new.sink)
     (waiting_bytes c.drain-2.new.self)
-    (waiting_bytes c.extend.new.self) = rw c.in_ok-drain-2.ensures.empty
+    (waiting_bytes c.args.ticks.now) = rw c.in_ok-drain-2.ensures.empty
     (c.in_ok-drain-2.ensures.ok _ _ (nothing_gone (g.O.Sink.held c.args.out.now)
-    (waiting_bytes c.extend.new.self))) in
-    rw (← c.extend.ensures.left c.if-extend.false) (record {
+    (waiting_bytes c.args.ticks.now))) in
+    record {
       text_goes = on_ok_weaker c.push.result (λ goes. goes _ _ drained) c.push.ensures.ok;
       text_stops = on_err_weaker c.push.result (λ stops. stops _ _ drained) c.push.ensures.err;
       notes_go = always_on_ok c.push.result (rw c.in_ok-drain.ensures.empty noted);
@@ -43,4 +41,4 @@ returns-clause-pushes g c =
         printed _ _ _ noted,
         always_on_ok c.push.result c.in_ok-drain.ensures.empty,
       );
-    })
+    }

@@ -3,7 +3,7 @@ use Rattle.yasir_io.specs.Flushed.{NoneFlushed}
 use Rattle.yasir_io.specs.TextBuffer.{waiting_bytes}
 use Rattle.yasir_ticks.specs.Ticks.{silent}
 use Rattle.box_replay.specs.Sending.{sink_texts, waiting, PushesTicks, HaveCause}
-use Rattle.box_replay.proofs.runs.push_silence.Given as goal
+use Rattle.box_replay.proofs.runs.push_long_silence.Given as goal
 
 abbrev pub invariant-loop-done : goal.invariant-loop-done
 invariant-loop-done g l = record {
