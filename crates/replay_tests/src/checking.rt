@@ -1,9 +1,9 @@
 use crate::outside::{Failing, STEADY};
 use crate::over_boxes::{
-    AT_0, AT_1, AT_2, AT_LIMIT, BoxKind, DiskFault, FRESH, KEY, NO_NUMBER, NOTHING, Row, compare,
-    fail_each_call, replay,
+    AT_0, AT_1, AT_2, AT_LIMIT, BoxKind, DiskFault, FRESH, KEY, NO_NUMBER, NOTHING, Reading, Row,
+    compare_all, fail_each_call, has_passed,
 };
-use crate::reading::read;
+use device_model::RtuDevice;
 use hmac_tag::Dir;
 use replay_status::Status;
 use std::test::Fail;
@@ -191,18 +191,12 @@ const EDGES: [Row; 8] = [
 
 #[test]
 fn checks_the_packets_of_a_link(rt: HostRuntime) -> Result<(), Fail> {
-    for row in &CHECKED {
-        compare(&rt, rt.alloc(), BoxKind::CheckRtu, row)?;
-    }
-    Ok(())
+    compare_all(&rt, rt.alloc(), BoxKind::CheckRtu, &CHECKED)
 }
 
 #[test]
 fn checks_links_at_the_edges(rt: HostRuntime) -> Result<(), Fail> {
-    for row in &EDGES {
-        compare(&rt, rt.alloc(), BoxKind::CheckRtu, row)?;
-    }
-    Ok(())
+    compare_all(&rt, rt.alloc(), BoxKind::CheckRtu, &EDGES)
 }
 
 /// Three requests, as they were sealed and stood on a link.
@@ -292,10 +286,7 @@ const ALTERED: [Row; 8] = [
 
 #[test]
 fn notes_how_a_link_was_altered(rt: HostRuntime) -> Result<(), Fail> {
-    for row in &ALTERED {
-        compare(&rt, rt.alloc(), BoxKind::CheckRtu, row)?;
-    }
-    Ok(())
+    compare_all(&rt, rt.alloc(), BoxKind::CheckRtu, &ALTERED)
 }
 
 /// Seven packets, 100 ticks apart: of the second a byte is altered, the third comes twice, and the
@@ -313,8 +304,7 @@ const SEVEN_NOTES: &[u8] =
     b"passed 1 at 0 len 8\nrefused at 100 form\npassed 3 at 200 len 8\nrefused at 300 tag\n\
         passed 4 at 400 len 8\npassed 6 at 500 len 8\nrefused at 600 tag\n";
 
-/// A link, the notes on it, and the frames that a device behind the receiver reads.
-const READ: [(&[u8], &[u8], &[u8]); 4] = [
+const READ: [Reading; 4] = [
     (
         PACKET,
         b"passed 1 at 0 len 8\n",
@@ -337,20 +327,7 @@ const READ: [(&[u8], &[u8], &[u8]); 4] = [
 #[test]
 fn a_device_reads_what_passed(rt: HostRuntime) -> Result<(), Fail> {
     for (text, notes, frames) in &READ {
-        let alloc = rt.alloc();
-        let checked = replay(
-            alloc,
-            BoxKind::CheckRtu,
-            Dir::Ab,
-            KEY,
-            FRESH,
-            *text,
-            &STEADY,
-        )?;
-        assert_eq!(rt; checked.log.held(), *notes);
-        let device = read(&rt, alloc, checked.out.held(), &STEADY)?;
-        assert_eq!(rt; device.status, Status::Done);
-        assert_eq!(rt; device.out.held(), *frames);
+        has_passed::<RtuDevice>(&rt, rt.alloc(), BoxKind::CheckRtu, text, notes, frames)?;
     }
     Ok(())
 }
@@ -483,8 +460,5 @@ const NOT_DONE: [Row; 7] = [
 
 #[test]
 fn answers_why_a_link_is_not_checked_whole(rt: HostRuntime) -> Result<(), Fail> {
-    for row in &NOT_DONE {
-        compare(&rt, rt.alloc(), BoxKind::CheckRtu, row)?;
-    }
-    Ok(())
+    compare_all(&rt, rt.alloc(), BoxKind::CheckRtu, &NOT_DONE)
 }

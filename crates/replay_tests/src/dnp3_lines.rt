@@ -1,11 +1,9 @@
 use crate::outside::STEADY;
-use crate::over_boxes::{AT_0, AT_1, AT_2, BoxKind, FRESH, KEY, Row, compare, replay};
-use crate::reading::read_by;
+use crate::over_boxes::{AT_0, AT_1, AT_2, BoxKind, FRESH, KEY, Row, compare_all, has_passed};
 use device_model::DnpDevice;
 use hmac_tag::Dir;
 use replay_status::Status;
 use std::alloc::{AllocError, Global};
-use std::process::Abort;
 use std::test::Fail;
 
 /// A packet of number 1, of a frame without user data.
@@ -82,10 +80,7 @@ const SEALS: [Row; 5] = [
 
 #[test]
 fn seals_frames_of_dnp3(rt: HostRuntime) -> Result<(), Fail> {
-    for row in &SEALS {
-        compare(&rt, rt.alloc(), BoxKind::SealDnp, row)?;
-    }
-    Ok(())
+    compare_all(&rt, rt.alloc(), BoxKind::SealDnp, &SEALS)
 }
 
 /// The packet passes.
@@ -204,52 +199,35 @@ const CHECKS: [Row; 10] = [
 
 #[test]
 fn checks_packets_of_dnp3(rt: HostRuntime) -> Result<(), Fail> {
-    for row in &CHECKS {
-        compare(&rt, rt.alloc(), BoxKind::CheckDnp, row)?;
-    }
-    Ok(())
+    compare_all(&rt, rt.alloc(), BoxKind::CheckDnp, &CHECKS)
 }
 
-// The notes of a link of DNP3, and what a device reads behind the receiver.
-fn has_read(
-    rt: &impl Abort,
-    alloc: Global,
-    text: &[u8],
-    notes: &[u8],
-    frames: &[u8],
-) -> Result<(), Fail> {
-    let checked = replay(alloc, BoxKind::CheckDnp, Dir::Ab, KEY, FRESH, text, &STEADY)?;
-    assert_eq!(rt; checked.log.held(), notes);
-    let device = read_by::<DnpDevice>(rt, alloc, checked.out.held(), &STEADY)?;
-    assert_eq!(rt; device.status, Status::Done);
-    assert_eq!(rt; device.out.held(), frames);
-    Ok(())
-}
+/// What a device reads behind the receiver, by the places of the rows in the table above.
+const FRAMES: [&[u8]; 10] = [
+    b"read at 18 056405c001000004e921\n",
+    b"",
+    b"read at 18 056405c001000004e921\n",
+    b"read at 18 0564ffc401000004272700070e151c232a31383f464d545b6269f8c870777e858\
+        c939aa1a8afb6bdc4cbd2d9f8bde0e7eef5fc030a11181f262d343b4249a71a50575e656c737\
+        a81888f969da4abb2b9b104c0c7ced5dce3eaf1f8ff060d141b2229938d30373e454c535a616\
+        86f767d848b92993129a0a7aeb5bcc3cad1d8dfe6edf4fb02099d0c10171e252c333a41484f5\
+        65d646b7279750780878e959ca3aab1b8bfc6cdd4dbe2e9a056f0f7fe050c131a21282f363d4\
+        44b5259a02360676e757c838a91989fa6adb4bbc2c9ff84d0d7dee5ecf3fa01080f161d242b3\
+        239e99a40474e555c636a71787f868d949ba2a9cb13b0b7bec5ccd3dae1e8eff6fd040b12196\
+        9b720272e353c434a51585f666d747b8289c59290979ea5acb3bac1c8cfb634\n",
+    b"read at 328 056405c001000004e921\n",
+    b"",
+    b"",
+    b"",
+    b"",
+    b"read at 102 056405c001000004e921\n",
+];
 
 #[test]
 fn a_dnp3_device_reads_what_passed(rt: HostRuntime) -> Result<(), Fail> {
-    // by the places of the rows in the table above
-    let frames: [&[u8]; 10] = [
-        b"read at 18 056405c001000004e921\n",
-        b"",
-        b"read at 18 056405c001000004e921\n",
-        b"read at 18 0564ffc401000004272700070e151c232a31383f464d545b6269f8c870777e858\
-            c939aa1a8afb6bdc4cbd2d9f8bde0e7eef5fc030a11181f262d343b4249a71a50575e656c737\
-            a81888f969da4abb2b9b104c0c7ced5dce3eaf1f8ff060d141b2229938d30373e454c535a616\
-            86f767d848b92993129a0a7aeb5bcc3cad1d8dfe6edf4fb02099d0c10171e252c333a41484f5\
-            65d646b7279750780878e959ca3aab1b8bfc6cdd4dbe2e9a056f0f7fe050c131a21282f363d4\
-            44b5259a02360676e757c838a91989fa6adb4bbc2c9ff84d0d7dee5ecf3fa01080f161d242b3\
-            239e99a40474e555c636a71787f868d949ba2a9cb13b0b7bec5ccd3dae1e8eff6fd040b12196\
-            9b720272e353c434a51585f666d747b8289c59290979ea5acb3bac1c8cfb634\n",
-        b"read at 328 056405c001000004e921\n",
-        b"",
-        b"",
-        b"",
-        b"",
-        b"read at 102 056405c001000004e921\n",
-    ];
-    for (row, frames) in CHECKS.iter().zip(frames) {
-        has_read(&rt, rt.alloc(), row.text, row.log, frames)?;
+    for (row, frames) in CHECKS.iter().zip(FRAMES.iter()) {
+        let kind = BoxKind::CheckDnp;
+        has_passed::<DnpDevice>(&rt, rt.alloc(), kind, row.text, row.log, frames)?;
     }
     Ok(())
 }
@@ -305,13 +283,9 @@ fn a_cut_frame_costs_no_other(rt: HostRuntime) -> Result<(), Fail> {
             b"refused at 0 trailer\npassed 1 at 700 len 10\n"
         };
         let text = cut_at(rt.alloc(), len)?;
-        has_read(
-            &rt,
-            rt.alloc(),
-            text.as_slice(),
-            notes,
-            b"read at 718 056405c001000004e921\n",
-        )?;
+        let frames = b"read at 718 056405c001000004e921\n";
+        let kind = BoxKind::CheckDnp;
+        has_passed::<DnpDevice>(&rt, rt.alloc(), kind, text.as_slice(), notes, frames)?;
     }
     Ok(())
 }

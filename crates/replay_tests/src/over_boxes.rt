@@ -1,8 +1,10 @@
 ghost use Rattle.std.specs.Prelude.{◌≡◌};
 
 use crate::outside::{Failing, STEADY, plan};
+use crate::reading::has_read;
 use box_replay::{LineBox, replay_box};
 use check_replay::CheckBox;
+use device_model::Device;
 use dnp_link_frame::Dnp;
 use hmac_tag::{Dir, HmacSha1, HmacSha256};
 use replay_status::{Status, write_fault};
@@ -155,6 +157,11 @@ fn slots_of(disk: &MemSlots) -> (u128, u128) {
     )
 }
 
+/// The sink holds these bytes.
+pub fn holds(rt: &impl Abort, sink: &MemSink, bytes: &[u8]) {
+    assert_eq!(rt; sink.held(), bytes);
+}
+
 /// A row comes out as it says.
 pub fn compare(rt: &impl Abort, alloc: Global, kind: BoxKind, row: &Row) -> Result<(), Fail> {
     let ran = replay(
@@ -167,11 +174,41 @@ pub fn compare(rt: &impl Abort, alloc: Global, kind: BoxKind, row: &Row) -> Resu
         &row.failing,
     )?;
     assert_eq!(rt; ran.status, row.status);
-    assert_eq!(rt; ran.status.code(), row.code);
-    assert_eq!(rt; ran.out.held(), row.out);
-    assert_eq!(rt; ran.log.held(), row.log);
-    assert_eq!(rt; slots_of(&ran.disk), row.slots_now);
+    assert!(rt; ran.status.code() == row.code);
+    holds(rt, &ran.out, row.out);
+    holds(rt, &ran.log, row.log);
+    assert!(rt; slots_of(&ran.disk) == row.slots_now);
     Ok(())
+}
+
+/// The rows come out as they say.
+pub fn compare_all(
+    rt: &impl Abort,
+    alloc: Global,
+    kind: BoxKind,
+    rows: &[Row],
+) -> Result<(), Fail> {
+    for row in rows {
+        compare(rt, alloc, kind, row)?;
+    }
+    Ok(())
+}
+
+/// A link, the notes on it, and the frames that a device behind the receiver reads.
+pub type Reading = (&'static [u8], &'static [u8], &'static [u8]);
+
+/// A device behind the receiver reads these frames of a link with these notes.
+pub fn has_passed<D: Device + Drop>(
+    rt: &impl Abort,
+    alloc: Global,
+    kind: BoxKind,
+    text: &[u8],
+    notes: &[u8],
+    frames: &[u8],
+) -> Result<(), Fail> {
+    let checked = replay(alloc, kind, Dir::Ab, KEY, FRESH, text, &STEADY)?;
+    holds(rt, &checked.log, notes);
+    has_read::<D>(rt, alloc, checked.out.held(), frames)
 }
 
 // The floor that a later run loads from these slots.
@@ -188,6 +225,52 @@ fn floor_of(slots: (u128, u128)) -> Option<u64> {
 /// floor that a later run loads.
 pub type DiskFault = (u32, &'static [u8], usize, u64);
 
+// The log has these notes, and the fault line behind them where the journal failed.
+fn log_of(alloc: Global, notes: &[u8], has_failed: bool) -> Result<Vec<u8>, Fail> {
+    let mut log = notes.to_vec(alloc)?;
+    if has_failed {
+        log.extend_from_slice(b"fault: journal\n")?;
+    }
+    Ok(log)
+}
+
+// A later run loads this floor. Where a sync failed, the slot that was written may be torn.
+fn loads(rt: &impl Abort, slots: (u128, u128), call: u32, floor: u64) {
+    let (a, b) = slots;
+    assert!(rt; floor_of((a, b)) == Some(floor));
+    match call {
+        4 => assert!(rt; floor_of((a, NO_NUMBER)) == Some(0)),
+        6 => assert!(rt; floor_of((NO_NUMBER, b)) == Some(1)),
+        _ => {}
+    }
+}
+
+fn fail_call(
+    rt: &impl Abort,
+    alloc: Global,
+    kind: BoxKind,
+    text: &[u8],
+    notes: &[u8],
+    fault: &DiskFault,
+) -> Result<(), Fail> {
+    let (call, out, noted, floor) = *fault;
+    let failing = Failing {
+        disk: call,
+        ..STEADY
+    };
+    let ran = replay(alloc, kind, Dir::Ab, KEY, FRESH, text, &failing)?;
+    if noted < 3 {
+        assert!(rt; ran.status == Status::JournalFault);
+        assert!(rt; ran.status.code() == 7);
+    } else {
+        assert!(rt; ran.status == Status::Done);
+    }
+    holds(rt, &ran.out, out);
+    holds(rt, &ran.log, log_of(alloc, notes, noted < 3)?.as_slice());
+    loads(rt, slots_of(&ran.disk), call, floor);
+    Ok(())
+}
+
 /// A line of three frames, from a fresh journal on, in whose run each call of the disk fails in
 /// turn: a journal is loaded with two calls, and each number costs a write and a sync. `notes` are
 /// those of none of the frames, of one, of two and of all.
@@ -199,31 +282,10 @@ pub fn fail_each_call(
     notes: &[&[u8]; 4],
     faults: &[DiskFault; 9],
 ) -> Result<(), Fail> {
-    for (disk, out, noted, floor) in faults {
-        let failing = Failing {
-            disk: *disk,
-            ..STEADY
-        };
-        let ran = replay(alloc, kind, Dir::Ab, KEY, FRESH, text, &failing)?;
-        assert!(rt; *noted < 4);
-        let mut log = notes[*noted].to_vec(alloc)?;
-        if *noted < 3 {
-            assert_eq!(rt; ran.status, Status::JournalFault);
-            assert_eq!(rt; ran.status.code(), 7);
-            log.extend_from_slice(b"fault: journal\n")?;
-        } else {
-            assert_eq!(rt; ran.status, Status::Done);
-        }
-        assert_eq!(rt; ran.out.held(), *out);
-        assert_eq!(rt; ran.log.held(), log.as_slice());
-        let (a, b) = slots_of(&ran.disk);
-        assert_eq!(rt; floor_of((a, b)), Some(*floor));
-        // Where a sync failed, the slot that was written may be torn.
-        match *disk {
-            4 => assert_eq!(rt; floor_of((a, NO_NUMBER)), Some(0)),
-            6 => assert_eq!(rt; floor_of((NO_NUMBER, b)), Some(1)),
-            _ => {}
-        }
+    for fault in faults {
+        let noted = fault.2;
+        assert!(rt; noted < 4);
+        fail_call(rt, alloc, kind, text, notes[noted], fault)?;
     }
     Ok(())
 }

@@ -1,4 +1,5 @@
 use crate::outside::{BYTE_BY_BYTE, Failing, STEADY, plan};
+use crate::over_boxes::holds;
 use device_model::{Device, RtuDevice};
 use device_replay::read_frames;
 use replay_status::{Status, write_fault};
@@ -44,6 +45,19 @@ pub fn read_by<D: Device + Drop>(
     Ok(Ran { status, out, log })
 }
 
+/// A device reads these frames of a line.
+pub fn has_read<D: Device + Drop>(
+    rt: &impl Abort,
+    alloc: Global,
+    line: &[u8],
+    frames: &[u8],
+) -> Result<(), Fail> {
+    let device = read_by::<D>(rt, alloc, line, &STEADY)?;
+    assert!(rt; device.status == Status::Done);
+    holds(rt, &device.out, frames);
+    Ok(())
+}
+
 /// A text, what fails as it is read, and what comes of it.
 #[derive(Clone, Copy, Drop)]
 struct Row {
@@ -58,9 +72,18 @@ struct Row {
 fn check(rt: &impl Abort, alloc: Global, row: &Row, outside: &Failing) -> Result<(), Fail> {
     let ran = read(rt, alloc, row.text, outside)?;
     assert_eq!(rt; ran.status, row.status);
-    assert_eq!(rt; ran.status.code(), row.code);
-    assert_eq!(rt; ran.out.held(), row.out);
-    assert_eq!(rt; ran.log.held(), row.log);
+    assert!(rt; ran.status.code() == row.code);
+    holds(rt, &ran.out, row.out);
+    holds(rt, &ran.log, row.log);
+    Ok(())
+}
+
+// The rows come out as they say, in pieces of up to 512 bytes and byte by byte.
+fn check_all(rt: &impl Abort, alloc: Global, rows: &[Row]) -> Result<(), Fail> {
+    for row in rows {
+        check(rt, alloc, row, &STEADY)?;
+        check(rt, alloc, row, &BYTE_BY_BYTE)?;
+    }
     Ok(())
 }
 
@@ -96,11 +119,7 @@ fn prints_the_frames_of_a_right_text(rt: HostRuntime) -> Result<(), Fail> {
             b"read at 1000000 01030000000ac5cd\n",
         ),
     ];
-    for row in rows {
-        check(&rt, rt.alloc(), &row, &STEADY)?;
-        check(&rt, rt.alloc(), &row, &BYTE_BY_BYTE)?;
-    }
-    Ok(())
+    check_all(&rt, rt.alloc(), &rows)
 }
 
 const fn refused(
@@ -152,11 +171,7 @@ fn refuses_what_is_no_tick_text(rt: HostRuntime) -> Result<(), Fail> {
             REQUEST_LINE,
         ),
     ];
-    for row in rows {
-        check(&rt, rt.alloc(), &row, &STEADY)?;
-        check(&rt, rt.alloc(), &row, &BYTE_BY_BYTE)?;
-    }
-    Ok(())
+    check_all(&rt, rt.alloc(), &rows)
 }
 
 // Sixteen lines of a million silent ticks between two pieces of text.
@@ -169,42 +184,57 @@ fn with_millions(alloc: Global, before: &[u8], behind: &[u8]) -> Result<Vec<u8>,
     Ok(text)
 }
 
+// So many ticks are too much.
+fn is_too_long(
+    rt: &impl Abort,
+    alloc: Global,
+    text: &[u8],
+    count: u64,
+    fault: &[u8],
+    lines: &[u8],
+) -> Result<(), Fail> {
+    let ran = read(rt, alloc, text, &STEADY)?;
+    let what = TooMuch::Ticks;
+    assert!(rt; ran.status == Status::TooLong { what, count });
+    assert!(rt; ran.status.code() == 10);
+    holds(rt, &ran.out, lines);
+    holds(rt, &ran.log, fault);
+    Ok(())
+}
+
+fn is_whole(rt: &impl Abort, alloc: Global, text: &[u8], lines: &[u8]) -> Result<(), Fail> {
+    let ran = read(rt, alloc, text, &STEADY)?;
+    assert!(rt; ran.status == Status::Done);
+    holds(rt, &ran.out, lines);
+    holds(rt, &ran.log, b"");
+    Ok(())
+}
+
+#[test]
+fn refuses_too_much_silence(rt: HostRuntime) -> Result<(), Fail> {
+    let text = with_millions(rt.alloc(), b"", b"-1000000\n")?;
+    let fault = b"fault: too long 17000000 ticks\n";
+    is_too_long(&rt, rt.alloc(), text.as_slice(), 17000000, fault, b"")
+}
+
+#[test]
+fn refuses_one_tick_too_much(rt: HostRuntime) -> Result<(), Fail> {
+    let text = with_millions(rt.alloc(), b"+01030000000ac5cd\n", b"-777209\n")?;
+    let fault = b"fault: too long 16777217 ticks\n";
+    is_too_long(
+        &rt,
+        rt.alloc(),
+        text.as_slice(),
+        16777217,
+        fault,
+        REQUEST_LINE,
+    )
+}
+
 #[test]
 fn takes_as_many_ticks_as_the_limit(rt: HostRuntime) -> Result<(), Fail> {
-    let request: &[u8] = b"+01030000000ac5cd\n";
-    // what stands before and behind the silence, the sum that is too much, fault line, lines
-    // printed
-    let rows: [(&[u8], &[u8], u64, &[u8], &[u8]); 2] = [
-        (
-            b"",
-            b"-1000000\n",
-            17000000,
-            b"fault: too long 17000000 ticks\n",
-            b"",
-        ),
-        (
-            request,
-            b"-777209\n",
-            16777217,
-            b"fault: too long 16777217 ticks\n",
-            REQUEST_LINE,
-        ),
-    ];
-    for (before, behind, count, fault, lines) in rows {
-        let text = with_millions(rt.alloc(), before, behind)?;
-        let ran = read(&rt, rt.alloc(), text.as_slice(), &STEADY)?;
-        let what = TooMuch::Ticks;
-        assert_eq!(rt; ran.status, Status::TooLong { what, count });
-        assert_eq!(rt; ran.status.code(), 10);
-        assert_eq!(rt; ran.out.held(), lines);
-        assert_eq!(rt; ran.log.held(), fault);
-    }
-    let text = with_millions(rt.alloc(), request, b"-777208\n")?;
-    let ran = read(&rt, rt.alloc(), text.as_slice(), &STEADY)?;
-    assert_eq!(rt; ran.status, Status::Done);
-    assert_eq!(rt; ran.out.held(), REQUEST_LINE);
-    assert_eq!(rt; ran.log.held(), b"".as_slice());
-    Ok(())
+    let text = with_millions(rt.alloc(), b"+01030000000ac5cd\n", b"-777208\n")?;
+    is_whole(&rt, rt.alloc(), text.as_slice(), REQUEST_LINE)
 }
 
 const fn failing(piece: u16, input: u32, out: u32, log: u32) -> Failing {
@@ -263,32 +293,54 @@ fn answers_what_failed_outside(rt: HostRuntime) -> Result<(), Fail> {
             ..refused(b"-0", 1, TickFault::Count, b"", b"")
         },
     ];
-    for row in rows {
-        check(&rt, rt.alloc(), &row, &row.outside)?;
+    for row in &rows {
+        check(&rt, rt.alloc(), row, &row.outside)?;
     }
+    Ok(())
+}
+
+// Four hundred requests, twelve ticks apart.
+fn long_text(alloc: Global) -> Result<Vec<u8>, Fail> {
+    let mut text = Vec::new(alloc);
+    for _ in 0..400 {
+        text.extend_from_slice(REQUEST)?;
+    }
+    Ok(text)
+}
+
+fn long_answer(alloc: Global) -> Result<Vec<u8>, Fail> {
+    let mut lines = Vec::new(alloc);
+    for place in 0..400u32 {
+        let start = place * 12;
+        let line = format!(in alloc; "read at {start} 01030000000ac5cd\n")?;
+        lines.extend_from_slice(line.as_bytes())?;
+    }
+    Ok(lines)
+}
+
+// The call of the output fails, and a front of the lines is written.
+fn is_cut(
+    rt: &impl Abort,
+    alloc: Global,
+    text: &[u8],
+    call: u32,
+    lines: &[u8],
+) -> Result<(), Fail> {
+    let ran = read(rt, alloc, text, &failing(512, 0, call, 0))?;
+    assert!(rt; ran.status == Status::WriteFault);
+    assert!(rt; lines.starts_with(ran.out.held()));
+    assert!(rt; ran.out.held().len() < lines.len());
+    holds(rt, &ran.log, b"");
     Ok(())
 }
 
 #[test]
 fn writes_a_front_of_a_long_answer(rt: HostRuntime) -> Result<(), Fail> {
-    // Four hundred requests, twelve ticks apart.
-    let mut text = Vec::new(rt.alloc());
-    let mut lines = Vec::new(rt.alloc());
-    for place in 0..400u32 {
-        text.extend_from_slice(REQUEST)?;
-        let start = place * 12;
-        let line = format!(in rt.alloc(); "read at {start} 01030000000ac5cd\n")?;
-        lines.extend_from_slice(line.as_bytes())?;
-    }
-    let ran = read(&rt, rt.alloc(), text.as_slice(), &STEADY)?;
-    assert_eq!(rt; ran.status, Status::Done);
-    assert_eq!(rt; ran.out.held(), lines.as_slice());
-    for fail in [1, 9, 20] {
-        let ran = read(&rt, rt.alloc(), text.as_slice(), &failing(512, 0, fail, 0))?;
-        assert_eq!(rt; ran.status, Status::WriteFault);
-        assert!(rt; lines.starts_with(ran.out.held()));
-        assert!(rt; ran.out.held().len() < lines.len());
-        assert_eq!(rt; ran.log.held(), b"".as_slice());
+    let text = long_text(rt.alloc())?;
+    let lines = long_answer(rt.alloc())?;
+    is_whole(&rt, rt.alloc(), text.as_slice(), lines.as_slice())?;
+    for call in [1, 9, 20] {
+        is_cut(&rt, rt.alloc(), text.as_slice(), call, lines.as_slice())?;
     }
     Ok(())
 }

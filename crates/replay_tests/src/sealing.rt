@@ -1,10 +1,11 @@
 use crate::outside::{Failing, STEADY};
 use crate::over_boxes::{
-    AT_0, AT_1, AT_2, AT_LIMIT, BoxKind, DiskFault, FRESH, KEY, NO_NUMBER, NOTHING, Row, compare,
-    fail_each_call, replay,
+    AT_0, AT_1, AT_2, AT_LIMIT, BoxKind, DiskFault, FRESH, KEY, NO_NUMBER, NOTHING, Row,
+    compare_all, fail_each_call, holds, replay,
 };
 use hmac_tag::Dir;
 use replay_status::Status;
+use std::alloc::Global;
 use std::test::Fail;
 use yasir_ticks::{BadTicks, TickFault};
 
@@ -106,24 +107,25 @@ const SEALED: [Row; 10] = [
 
 #[test]
 fn seals_the_frames_of_a_line(rt: HostRuntime) -> Result<(), Fail> {
-    for row in &SEALED {
-        compare(&rt, rt.alloc(), BoxKind::SealRtu, row)?;
-    }
-    Ok(())
+    compare_all(&rt, rt.alloc(), BoxKind::SealRtu, &SEALED)
 }
 
-#[test]
-fn seals_the_longest_frame(rt: HostRuntime) -> Result<(), Fail> {
-    // 254 bytes 00 and their CRC
-    let mut text = Vec::new(rt.alloc());
+// 254 bytes 00 and their CRC, and what stands behind them.
+fn longest_frame(alloc: Global, behind: &[u8]) -> Result<Vec<u8>, Fail> {
+    let mut text = Vec::new(alloc);
     for _ in 0..7 {
         text.extend_from_slice(
             b"+0000000000000000000000000000000000000000000000000000000000000000\n",
         )?;
     }
     text.extend_from_slice(b"+000000000000000000000000000000000000000000000000000000000000554e\n")?;
-    let mut out = text.clone()?;
-    out.extend_from_slice(b"-3\n+000101c84727bb115a36d1402d21\n-7\n")?;
+    text.extend_from_slice(behind)?;
+    Ok(text)
+}
+
+#[test]
+fn seals_the_longest_frame(rt: HostRuntime) -> Result<(), Fail> {
+    let text = longest_frame(rt.alloc(), b"")?;
     let ran = replay(
         rt.alloc(),
         BoxKind::SealRtu,
@@ -133,9 +135,10 @@ fn seals_the_longest_frame(rt: HostRuntime) -> Result<(), Fail> {
         text.as_slice(),
         &STEADY,
     )?;
-    assert_eq!(rt; ran.status, Status::Done);
-    assert_eq!(rt; ran.out.held(), out.as_slice());
-    assert_eq!(rt; ran.log.held(), b"sealed 1 at 0 len 256\n".as_slice());
+    assert!(rt; ran.status == Status::Done);
+    let out = longest_frame(rt.alloc(), b"-3\n+000101c84727bb115a36d1402d21\n-7\n")?;
+    holds(&rt, &ran.out, out.as_slice());
+    holds(&rt, &ran.log, b"sealed 1 at 0 len 256\n");
     Ok(())
 }
 
@@ -281,8 +284,5 @@ const NOT_DONE: [Row; 9] = [
 
 #[test]
 fn answers_why_a_line_is_not_sealed_whole(rt: HostRuntime) -> Result<(), Fail> {
-    for row in &NOT_DONE {
-        compare(&rt, rt.alloc(), BoxKind::SealRtu, row)?;
-    }
-    Ok(())
+    compare_all(&rt, rt.alloc(), BoxKind::SealRtu, &NOT_DONE)
 }

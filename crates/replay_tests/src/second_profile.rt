@@ -2,14 +2,13 @@
 
 use crate::outside::STEADY;
 use crate::over_boxes::{
-    AT_0, AT_1, AT_2, AT_LIMIT, BoxKind, FRESH, KEY, NOTHING, Row, compare, replay,
+    AT_0, AT_1, AT_2, AT_LIMIT, BoxKind, FRESH, KEY, NOTHING, Reading, Row, compare, compare_all,
+    has_passed,
 };
-use crate::reading::read_by;
-use device_model::{Device, DnpDevice, RtuDevice};
+use crate::reading::has_read;
+use device_model::{DnpDevice, RtuDevice};
 use hmac_tag::Dir;
 use replay_status::Status;
-use std::alloc::Global;
-use std::process::Abort;
 use std::test::Fail;
 
 /// Slots that hold these numbers.
@@ -203,7 +202,7 @@ const SOON_ENOUGH: &[u8] = b"+0564ffc4010000042727\n-306\n+056405c001000004e921\
         +00000001cd525d6a6c119047d45db5ba9f9e4290\n-47\n";
 
 // A link of DNP3, the notes of it, and what a device behind the receiver reads of it.
-const DNP3_CHECKS: [(&[u8], &[u8], &[u8]); 3] = [
+const DNP3_CHECKS: [Reading; 3] = [
     (
         DNP3_PACKET,
         b"passed 1 at 0 len 10\n",
@@ -223,43 +222,23 @@ const DNP3_CHECKS: [(&[u8], &[u8], &[u8]); 3] = [
 
 #[test]
 fn seals_with_words_of_four_bytes(rt: HostRuntime) -> Result<(), Fail> {
-    for row in &SEALS {
-        compare(&rt, rt.alloc(), BoxKind::SealRtu24, row)?;
-    }
+    compare_all(&rt, rt.alloc(), BoxKind::SealRtu24, &SEALS)?;
     compare(&rt, rt.alloc(), BoxKind::SealDnp24, &SEALED_DNP3)
-}
-
-// What a device reads of a receiver's line.
-fn has_read<D: Device + Drop>(
-    rt: &impl Abort,
-    alloc: Global,
-    line: &[u8],
-    frames: &[u8],
-) -> Result<(), Fail> {
-    let device = read_by::<D>(rt, alloc, line, &STEADY)?;
-    assert_eq!(rt; device.status, Status::Done);
-    assert_eq!(rt; device.out.held(), frames);
-    Ok(())
 }
 
 #[test]
 fn checks_words_of_four_bytes(rt: HostRuntime) -> Result<(), Fail> {
     for (row, frames) in &CHECKS {
         compare(&rt, rt.alloc(), BoxKind::CheckRtu24, row)?;
-        has_read::<RtuDevice>(&rt, rt.alloc(), row.out, *frames)?;
+        has_read::<RtuDevice>(&rt, rt.alloc(), row.out, frames)?;
     }
+    Ok(())
+}
+
+#[test]
+fn checks_words_of_four_bytes_behind_frames_of_dnp3(rt: HostRuntime) -> Result<(), Fail> {
     for (text, notes, frames) in &DNP3_CHECKS {
-        let checked = replay(
-            rt.alloc(),
-            BoxKind::CheckDnp24,
-            Dir::Ab,
-            KEY,
-            FRESH,
-            *text,
-            &STEADY,
-        )?;
-        assert_eq!(rt; checked.log.held(), *notes);
-        has_read::<DnpDevice>(&rt, rt.alloc(), checked.out.held(), *frames)?;
+        has_passed::<DnpDevice>(&rt, rt.alloc(), BoxKind::CheckDnp24, text, notes, frames)?;
     }
     Ok(())
 }
