@@ -166,9 +166,9 @@ fn push_long_silence<O: Sink, L: Sink>(
     Ok(())
 }
 
-// Adds so many silent ticks of which the first completes a line. It stands apart, so that a run that
-// completes none costs little. A loop would cost more: the compiler makes ready before it what few
-// lines need.
+// Adds so many silent ticks of which the first completes a line. It stands apart, so that a run
+// that completes none costs little. A loop would cost more: the compiler makes ready before it what
+// few lines need.
 #[inline(never)]
 fn push_completing_silence<O: Sink, L: Sink>(
     writer: &mut TickWriter,
