@@ -6,7 +6,7 @@ ghost use Rattle.yasir_io.specs.TextBuffer.{waiting_bytes};
 ghost use Rattle.device_replay.specs.Lines.{frame_line, read_at};
 
 use crate::text::write_read_line;
-use device_model::{Device, FrameAt};
+use device_model::{Device, FrameAt, Heard};
 use replay_status::Line;
 use tick_drive::{Consumer, Stop};
 use yasir_io::{Failed, Sink, SlotDisk, TextBuffer};
@@ -78,14 +78,14 @@ impl<V: Device + Drop> FrameLines<V> {
             (state_of self.new out.new log.now disk.now)
             (byte_items bytes.now) (all_taken result)) }
     {
-        let heard = self.device.hear_some(bytes);
-        let Some(frame) = &heard.frame else {
-            return Ok(heard.taken);
+        let Heard { taken, frame } = self.device.hear_some(bytes);
+        let Some(frame) = frame else {
+            return Ok(taken);
         };
-        let Ok(()) = push_frame(&mut self.lines, out, frame) else {
+        let Ok(()) = push_frame(&mut self.lines, out, &frame) else {
             return Err(Stop::WriteFault);
         };
-        Ok(heard.taken)
+        Ok(taken)
     }
 
     // Waits through the first of so many silent ticks, up to one in which a frame is read, and adds
@@ -110,14 +110,14 @@ impl<V: Device + Drop> FrameLines<V> {
             (state_of self.new out.new log.now disk.now)
             (silent_items ticks) (all_taken result)) }
     {
-        let heard = self.device.wait_some(ticks);
-        let Some(frame) = &heard.frame else {
-            return Ok(heard.taken);
+        let Heard { taken, frame } = self.device.wait_some(ticks);
+        let Some(frame) = frame else {
+            return Ok(taken);
         };
-        let Ok(()) = push_frame(&mut self.lines, out, frame) else {
+        let Ok(()) = push_frame(&mut self.lines, out, &frame) else {
             return Err(Stop::WriteFault);
         };
-        Ok(heard.taken)
+        Ok(taken)
     }
 
     /// Writes the lines that wait.

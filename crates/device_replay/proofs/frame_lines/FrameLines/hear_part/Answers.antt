@@ -18,22 +18,22 @@ use Rattle.device_replay.proofs.frame_lines.FrameLines.hear_part.Goals as goal
 pub returns-in_default-clause-gives : goal.returns-in_default-clause-gives
 returns-in_default-clause-gives g c = record {
   moved = λ began items before. prints_nothing g.V.Device c.args.self.now.device
-      c.hear_some-heard.new.self
-      (byte_items (take c.hear_some-heard.result.taken c.args.bytes.now)) _
-      (stands_by g.V.Device c.args.self.now.device c.hear_some-heard.new.self _
-      (byte_items (take c.hear_some-heard.result.taken c.args.bytes.now))
-      (ticks_in-bytes (take c.hear_some-heard.result.taken c.args.bytes.now))
-      c.hear_some-heard.ensures.stands)
-      (reads_by g.V.Device c.args.self.now.device c.hear_some-heard.new.self _
-      (byte_items (take c.hear_some-heard.result.taken c.args.bytes.now))
-      (ticks_in-bytes (take c.hear_some-heard.result.taken c.args.bytes.now))
-      (frames_of c.hear_some-heard.result.frame) c.hear_some-heard.ensures.answer)
+      c.hear_some-taken.new.self
+      (byte_items (take c.hear_some-taken.result.taken c.args.bytes.now)) _
+      (stands_by g.V.Device c.args.self.now.device c.hear_some-taken.new.self _
+      (byte_items (take c.hear_some-taken.result.taken c.args.bytes.now))
+      (ticks_in-bytes (take c.hear_some-taken.result.taken c.args.bytes.now))
+      c.hear_some-taken.ensures.stands)
+      (reads_by g.V.Device c.args.self.now.device c.hear_some-taken.new.self _
+      (byte_items (take c.hear_some-taken.result.taken c.args.bytes.now))
+      (ticks_in-bytes (take c.hear_some-taken.result.taken c.args.bytes.now))
+      (frames_of c.hear_some-taken.result.frame) c.hear_some-taken.ensures.answer)
       began _ _ items before (ap frames_of c.in_default.is);
   stopped = tt;
-  counted = c.hear_some-heard.ensures.taken
+  counted = c.hear_some-taken.ensures.taken
       ∙ ap (λ n. g.V.Device.taken c.args.self.now.device + n)
-      (sym (length-ticks_in-take c.args.bytes.now c.hear_some-heard.result.taken
-      c.hear_some-heard.ensures.within));
+      (sym (length-ticks_in-take c.args.bytes.now c.hear_some-taken.result.taken
+      c.hear_some-taken.ensures.within));
   is_able = tt;
   images = record {
     is_kept = λ k. tt;
@@ -48,23 +48,23 @@ returns-in_default-clause-gives g c = record {
 pub returns-clause-gives : goal.returns-clause-gives
 returns-clause-gives g c = record {
   moved = λ began items before. prints_line g.V.Device c.args.self.now.device
-      c.hear_some-heard.new.self
-      (byte_items (take c.hear_some-heard.result.taken c.args.bytes.now)) _
-      (stands_by g.V.Device c.args.self.now.device c.hear_some-heard.new.self _
-      (byte_items (take c.hear_some-heard.result.taken c.args.bytes.now))
-      (ticks_in-bytes (take c.hear_some-heard.result.taken c.args.bytes.now))
-      c.hear_some-heard.ensures.stands)
-      (reads_by g.V.Device c.args.self.now.device c.hear_some-heard.new.self _
-      (byte_items (take c.hear_some-heard.result.taken c.args.bytes.now))
-      (ticks_in-bytes (take c.hear_some-heard.result.taken c.args.bytes.now))
-      (frames_of c.hear_some-heard.result.frame) c.hear_some-heard.ensures.answer)
+      c.hear_some-taken.new.self
+      (byte_items (take c.hear_some-taken.result.taken c.args.bytes.now)) _
+      (stands_by g.V.Device c.args.self.now.device c.hear_some-taken.new.self _
+      (byte_items (take c.hear_some-taken.result.taken c.args.bytes.now))
+      (ticks_in-bytes (take c.hear_some-taken.result.taken c.args.bytes.now))
+      c.hear_some-taken.ensures.stands)
+      (reads_by g.V.Device c.args.self.now.device c.hear_some-taken.new.self _
+      (byte_items (take c.hear_some-taken.result.taken c.args.bytes.now))
+      (ticks_in-bytes (take c.hear_some-taken.result.taken c.args.bytes.now))
+      (frames_of c.hear_some-taken.result.frame) c.hear_some-taken.ensures.answer)
       began _ _ items before _ (ap frames_of c.in-Some.is) _ _
       (λ text waits. c.in-Ok.ensures.ok began.out text waits) refl;
   stopped = tt;
-  counted = c.hear_some-heard.ensures.taken
+  counted = c.hear_some-taken.ensures.taken
       ∙ ap (λ n. g.V.Device.taken c.args.self.now.device + n)
-      (sym (length-ticks_in-take c.args.bytes.now c.hear_some-heard.result.taken
-      c.hear_some-heard.ensures.within));
+      (sym (length-ticks_in-take c.args.bytes.now c.hear_some-taken.result.taken
+      c.hear_some-taken.ensures.within));
   is_able = tt;
   images = record {
     is_kept = λ k. tt;
@@ -80,26 +80,26 @@ pub returns-in_default-push_frame-clause-stops : goal.returns-in_default-push_fr
 returns-in_default-push_frame-clause-stops g c = record {
   moved = tt;
   stopped = record {
-    place = c.hear_some-heard.result.taken - 1;
-    within = let some = c.hear_some-heard.ensures.some c.requires.some in
+    place = c.hear_some-taken.result.taken - 1;
+    within = let some = c.hear_some-taken.ensures.some c.requires.some in
         omega (arith, length-map {A = ℕ} {B = Item} c.args.bytes.now (λ b. tick (Byte b)));
     at = λ began items before.
-        let some = c.hear_some-heard.ensures.some c.requires.some in
-        let end : c.hear_some-heard.result.taken - 1 + 1 ≡ c.hear_some-heard.result.taken = omega
+        let some = c.hear_some-taken.ensures.some c.requires.some in
+        let end : c.hear_some-taken.result.taken - 1 + 1 ≡ c.hear_some-taken.result.taken = omega
         arith in
         stops_by g.V.Device began _ items _ _
         (sym (ap (λ n. take n (byte_items c.args.bytes.now)) end ∙ take-map (λ b. tick (Byte b))
-        c.hear_some-heard.result.taken c.args.bytes.now))
-        (stops_at_line g.V.Device c.args.self.now.device c.hear_some-heard.new.self
-        (byte_items (take c.hear_some-heard.result.taken c.args.bytes.now)) _
-        (stands_by g.V.Device c.args.self.now.device c.hear_some-heard.new.self _
-        (byte_items (take c.hear_some-heard.result.taken c.args.bytes.now))
-        (ticks_in-bytes (take c.hear_some-heard.result.taken c.args.bytes.now))
-        c.hear_some-heard.ensures.stands)
-        (reads_by g.V.Device c.args.self.now.device c.hear_some-heard.new.self _
-        (byte_items (take c.hear_some-heard.result.taken c.args.bytes.now))
-        (ticks_in-bytes (take c.hear_some-heard.result.taken c.args.bytes.now))
-        (frames_of c.hear_some-heard.result.frame) c.hear_some-heard.ensures.answer)
+        c.hear_some-taken.result.taken c.args.bytes.now))
+        (stops_at_line g.V.Device c.args.self.now.device c.hear_some-taken.new.self
+        (byte_items (take c.hear_some-taken.result.taken c.args.bytes.now)) _
+        (stands_by g.V.Device c.args.self.now.device c.hear_some-taken.new.self _
+        (byte_items (take c.hear_some-taken.result.taken c.args.bytes.now))
+        (ticks_in-bytes (take c.hear_some-taken.result.taken c.args.bytes.now))
+        c.hear_some-taken.ensures.stands)
+        (reads_by g.V.Device c.args.self.now.device c.hear_some-taken.new.self _
+        (byte_items (take c.hear_some-taken.result.taken c.args.bytes.now))
+        (ticks_in-bytes (take c.hear_some-taken.result.taken c.args.bytes.now))
+        (frames_of c.hear_some-taken.result.frame) c.hear_some-taken.ensures.answer)
         began _ _ items before _ (ap frames_of c.in-Some.is) _
         (λ text waits. c.in_default-push_frame.ensures.err began.out text waits) refl);
   };
