@@ -312,6 +312,8 @@ impl<R: Hunted> Device for HuntingDevice<R> {
         }
     }
 
+    // Where no frame is read its room in the answer needn't be made, if the caller sees that.
+    #[inline(always)]
     fn hear_some(&mut self, bytes: &[u8]) -> Heard {
         let from = self.ticks;
         let mut taken = 0;
