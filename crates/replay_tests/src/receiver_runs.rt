@@ -119,7 +119,8 @@ fn take<R: LineRules, M: Mac, S: SlotDisk, const B: usize, const D: usize>(
 }
 
 // Compares a receiver that takes a link by runs with the steps of one that takes it tick by tick.
-// One run ends at the cut, and those behind it have so many ticks at most.
+// One run ends at the cut, and those behind it have so many ticks at most. Answers how many runs
+// and single steps it took.
 fn follow<R: LineRules, M: Mac, S: SlotDisk, const B: usize, const D: usize>(
     rt: &impl Abort,
     checker: &mut Checker<R, M, B, D>,
@@ -129,21 +130,23 @@ fn follow<R: LineRules, M: Mac, S: SlotDisk, const B: usize, const D: usize>(
     wanted: &[CheckStep],
     cut: usize,
     most: usize,
-) -> Result<(), Fail>
+) -> Result<usize, Fail>
     requires begun { ticks_taken checker.old ≡ 0 }
     requires fits { Fits journal.old (S.told disk.old) }
     requires short { length link.now < 1000 }
 {
     assert!(rt; wanted.len() == link.len());
     let mut place = 0;
+    let mut turns = 0;
     while place < link.len() {
         let room = if place < cut { cut - place } else { most };
         let part = &link[place..];
         let part = &part[..alike(part, room)];
         assert!(rt; !part.is_empty());
         place += take(rt, checker, journal, disk, part, &wanted[place..])?;
+        turns += 1;
     }
-    Ok(())
+    Ok(turns)
 }
 
 // The receivers whose runs are compared: for Modbus RTU and DNP3 by y18, and for Modbus RTU by y24.
@@ -179,7 +182,7 @@ fn follow_rtu(
     wanted: &[CheckStep],
     cut: usize,
     most: usize,
-) -> Result<(), Fail>
+) -> Result<usize, Fail>
     requires short { length link.now < 1000 }
 {
     let mut checker: RtuChecker = Checker::new(&KEY.to_be_bytes(), Dir::Ab);
@@ -212,7 +215,7 @@ fn follow_dnp(
     wanted: &[CheckStep],
     cut: usize,
     most: usize,
-) -> Result<(), Fail>
+) -> Result<usize, Fail>
     requires short { length link.now < 1000 }
 {
     let mut checker: DnpChecker = Checker::new(&KEY.to_be_bytes(), Dir::Ab);
@@ -245,7 +248,7 @@ fn follow_wide_rtu(
     wanted: &[CheckStep],
     cut: usize,
     most: usize,
-) -> Result<(), Fail>
+) -> Result<usize, Fail>
     requires short { length link.now < 1000 }
 {
     let mut checker: WideRtuChecker = Checker::new(&KEY.to_be_bytes(), Dir::Ab);
@@ -280,7 +283,7 @@ fn follow_by(
     wanted: &[CheckStep],
     cut: usize,
     most: usize,
-) -> Result<(), Fail>
+) -> Result<usize, Fail>
     requires short { length link.now < 1000 }
 {
     match receiver {
@@ -388,4 +391,24 @@ fn runs_of_dnp3_are_checked_as_their_ticks(rt: HostRuntime) -> Result<(), Fail> 
 #[test]
 fn runs_are_checked_as_their_ticks_by_the_second_profile(rt: HostRuntime) -> Result<(), Fail> {
     compare_all(&rt, rt.alloc(), Receiver::WideRtu)
+}
+
+// Of a packet the receiver takes single ticks only where a note or a burst's last byte leaves, so
+// that runs and steps together are few.
+#[test]
+fn a_packet_is_taken_by_runs(rt: HostRuntime) -> Result<(), Fail> {
+    let link = link_of(
+        rt.alloc(),
+        RTU_PACKET,
+        RTU_PACKET.len(),
+        RTU_PACKET.len(),
+        0,
+        0,
+    )?;
+    let link = &link[..link.len().min(999)];
+    let wanted = steps_of(rt.alloc(), Receiver::Rtu, link)?;
+    let turns = follow_by(&rt, Receiver::Rtu, link, wanted.as_slice(), 0, 1000)?;
+    assert!(rt; link.len() == 55);
+    assert!(rt; turns <= 10, "{turns} turns");
+    Ok(())
 }
