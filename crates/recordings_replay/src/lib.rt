@@ -9,4 +9,3 @@ mod lines;
 mod printing;
 
 pub use command::replay_recordings;
-pub use lines::numbered_line;

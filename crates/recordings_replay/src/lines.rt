@@ -23,15 +23,3 @@ pub(crate) fn write_numbered_line(line: &mut Line, name: &[u8], head: Numbered, 
     push_digits(line, bytes);
     line.push(b'\n');
 }
-
-/// `NAME N at S HEX`: the bytes of a frame, its number, and the tick of its first byte.
-pub fn numbered_line(name: &[u8], head: Numbered, bytes: &[u8]) -> Line
-    requires name { length name.now ≤ 6 }
-    requires frame { length bytes.now ≤ 292 }
-    ensures { result.items ≡ numbered_line name.now
-        (record { number = head.number; start = head.start; frame = bytes.now }) }
-{
-    let mut line = Line::new();
-    write_numbered_line(&mut line, name, head, bytes);
-    line
-}

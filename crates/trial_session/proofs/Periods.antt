@@ -136,17 +136,6 @@ module _ {S C V : Type 0} (seals : CountingBox S) (checks : CountingBox C) (devi
             (receive link run.receives_link);
       }
 
-pub period-long : (frame : List ℕ) → length frame ≤ period_len
-    → length (period_line frame) ≡ period_len
-period-long frame few =
-    length-append (map (λ b. Byte b) frame) (silent (period_len - length frame))
-    ∙ (omega (
-      arith,
-      few,
-      length-map frame (λ b. Byte b),
-      length-replicate (period_len - length frame) Silent,
-    ))
-
 pub same-summary : (a b c d e a' b' c' d' e' : ℕ) → a ≡ a' → b ≡ b' → c ≡ c' → d ≡ d' → e ≡ e'
     → let now : Summary = record { sealed = a; passed = b; refused = c; dropped = d; read = e } in
     now ≡ record { sealed = a'; passed = b'; refused = c'; dropped = d'; read = e' }

@@ -54,18 +54,6 @@ pub take-one : {A : Type 0} (l : List A) (d : A) → 0 < length l
 take-one [] d some = absurd (omega (arith, some))
 take-one (x ∷ xs) d some = refl
 
--- ticks that are written at a place, as far as they reach
-pub put-more : (at n : ℕ) (ticks front : List Tick) → at ≤ length ticks → length front ≡ n
-    → take (at + n) (put_mid at n ticks front) ≡ take at ticks ++ front
-put-more at n ticks front within long =
-    ap (λ l. take (at + n) l) (sym (append_assoc (take at ticks) front (post_of at n ticks)))
-    ∙ take_at (take at ticks ++ front) (post_of at n ticks) (at + n) (omega (
-      arith,
-      length-append (take at ticks) front,
-      length-take-le at ticks within,
-      long,
-    ))
-
 -- bytes up to a place, and the next ones
 pub bytes-more : (at n : ℕ) (bytes : List ℕ) (before : List Tick)
     → before ++ map (λ b. Byte b) (take at bytes)
