@@ -1,8 +1,8 @@
 ghost use Rattle.std.specs.Prelude.{◌≡◌, ◌≤◌, [], length};
 ghost use Rattle.device_replay.specs.Lines.{frame_line};
 
-use hex_digits::push_digits;
 use replay_status::{Line, push_decimal};
+use yasir_ticks::push_digits;
 
 /// Writes `read at S HEX` into an empty line: the bytes of a frame, and the tick of its first byte.
 /// The line is the caller's, since one that is answered is copied.

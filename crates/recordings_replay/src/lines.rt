@@ -1,9 +1,9 @@
 ghost use Rattle.std.specs.Prelude.{◌≡◌, ◌≤◌, [], length};
 ghost use Rattle.recordings_replay.specs.Listing.{numbered_line};
 
-use hex_digits::push_digits;
 use replay_lists::Numbered;
 use replay_status::{Line, push_decimal};
+use yasir_ticks::push_digits;
 
 /// Writes `NAME N at S HEX` into an empty line: the bytes of a frame, its number, and the tick of
 /// its first byte. The line is the caller's, since one that is answered is copied.

@@ -4,10 +4,9 @@ ghost use Rattle.replay_status.specs.Causes.{LogsFault};
 
 use crate::Status;
 use crate::text::{Line, push_decimal};
-use hex_digits::push_digits;
 use tick_drive::TooMuch;
 use yasir_io::{Sink, SlotBytes, write_all};
-use yasir_ticks::{BadTicks, TickFault};
+use yasir_ticks::{BadTicks, TickFault, push_digits};
 
 fn fault_word(why: TickFault) -> &'static [u8]
     ensures word { result.now ≡ fault_word why }

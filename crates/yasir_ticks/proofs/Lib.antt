@@ -19,3 +19,6 @@ pub mod Writing
 pub mod Writers
 pub mod WriterRuns
 pub mod CanonicalLaws
+pub mod DigitLookups
+pub mod DigitEncoding
+pub mod DigitsAdded

@@ -1,14 +1,14 @@
 -- What a run of ticks does to the line of a writer that isn't filled.
 use Rattle.std.proofs.Common.{◌≡◌, ◌∙◌, ℕ, zero, suc, ◌+◌, ◌<◌, List, [], ◌∷◌, ◌++◌, length, map}
-use Rattle.std.proofs.Common.{replicate, take, get_or, refl, sym, ap, subst, arith, append-nil}
+use Rattle.std.proofs.Common.{take, get_or, sym, ap, subst, arith, append-nil}
 use Rattle.std.proofs.Common.{append_assoc}
 use Rattle.arrayvec.specs.ArrayVec.{ArrayVec}
 use Rattle.std.proofs.lemmas.List.{length-append}
 use Rattle.yasir_ticks.specs.CanonicalText.{stretches}
 use Rattle.yasir_ticks.specs.Ticks.{AreTicks, silent}
-use Rattle.yasir_ticks.specs.Writer.{EndsInBytes, EndsInSilence, Leaves, grown, HasWritten}
+use Rattle.yasir_ticks.specs.Writer.{EndsInBytes, EndsInSilence, Leaves, HasWritten}
 use Rattle.yasir_ticks.specs.declared.run.Run.{Run}
-use Rattle.yasir_ticks.specs.declared.run.Run.TheVariants.{Nothing, Bytes, Silence, Mark}
+use Rattle.yasir_ticks.specs.declared.run.Run.TheVariants.{Nothing, Bytes, Silence}
 use Rattle.yasir_ticks.specs.declared.tick.Tick.{Tick}
 use Rattle.yasir_ticks.specs.declared.tick.Tick.TheVariants.{Silent, Byte}
 use Rattle.yasir_ticks.specs.declared.writer.TickWriter.{TickWriter}

@@ -11,3 +11,4 @@ pub mod Line
 pub mod Writer
 pub mod Slices
 pub mod Pairs
+pub mod HexDigits

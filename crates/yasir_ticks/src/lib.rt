@@ -2,7 +2,11 @@
 #![tactic(auto)]
 
 mod digit;
+mod digit_lanes;
 mod fault;
+#[cfg(test)]
+mod hex_digit_tests;
+mod hex_digits;
 mod pairs;
 mod place;
 mod reader;
@@ -15,6 +19,7 @@ mod whole_lines;
 mod writer;
 
 pub use fault::{BadTicks, TickFault};
+pub use hex_digits::push_digits;
 pub use place::Content;
 pub use reader::TickReader;
 pub use run::{LineBytes, Run};

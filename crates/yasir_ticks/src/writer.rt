@@ -4,9 +4,8 @@ ghost use Rattle.arrayvec.specs.ArrayVec.{array_vec_len};
 ghost use Rattle.yasir_ticks.specs.CanonicalText.{byte_line, silence_line};
 ghost use Rattle.yasir_ticks.specs.Line.{is_unfilled};
 
-use crate::{LineBytes, Run, Tick};
+use crate::{LineBytes, Run, Tick, push_digits};
 use arrayvec::ArrayVec;
-use hex_digits::push_digits;
 use itoa::Buffer;
 
 /// The text of one line of tick text, its LF included.

@@ -1,6 +1,5 @@
-use Rattle.std.proofs.Common.{◌≡◌, ◌<◌, ℕ, List, length, take, get_or, refl, arith, rules}
+use Rattle.std.proofs.Common.{◌≡◌, ◌<◌, ℕ, length, take, get_or, refl, arith, rules}
 use Rattle.std.proofs.lemmas.Grind.{common_steps}
-use Rattle.std.proofs.lemmas.List.{length-take-le}
 use Rattle.yasir_ticks.proofs.WriterRuns.{are_bytes, run_first_bytes}
 use Rattle.yasir_ticks.proofs.writer.TickWriter.begin_some.Goals as goal
 

@@ -1,4 +1,4 @@
-use Rattle.std.proofs.Common.{◌≡◌, ◌<◌, ◌++◌, ℕ, List, length, take, get_or, refl, arith, rules}
+use Rattle.std.proofs.Common.{◌≡◌, ◌<◌, ◌++◌, ℕ, take, get_or, refl, arith, rules}
 use Rattle.std.proofs.lemmas.Grind.{common_steps}
 use Rattle.yasir_ticks.proofs.WriterRuns.{are_bytes, run_bytes}
 use Rattle.yasir_ticks.proofs.writer.TickWriter.extend_bytes.Goals as goal

@@ -1,9 +1,9 @@
 use Rattle.std.proofs.Common.{◌%◌, ◌∙◌, bit_and, arith}
 use Rattle.std.proofs.lemmas.Simd.{zip2_splat}
 use Rattle.hex.specs.Hex.{lower_digits}
-use Rattle.hex_digits.specs.declared.lanes.TheConstants.{DIGITS}
-use Rattle.hex_digits.proofs.Lookups.{low_ok, looked_up, copied, low_bits}
-use Rattle.hex_digits.proofs.lanes.seconds.Goals as goal
+use Rattle.yasir_ticks.specs.declared.digit_lanes.TheConstants.{DIGITS}
+use Rattle.yasir_ticks.proofs.DigitLookups.{low_ok, looked_up, copied, low_bits}
+use Rattle.yasir_ticks.proofs.digit_lanes.seconds.Goals as goal
 
 pub swizzle : goal.swizzle
 swizzle c = low_ok c.args.bytes c.fits-bytes

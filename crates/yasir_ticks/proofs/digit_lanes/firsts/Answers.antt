@@ -1,9 +1,9 @@
 use Rattle.std.proofs.Common.{◌/◌, arith}
 use Rattle.std.proofs.lemmas.Simd.{zip2_splat}
 use Rattle.hex.specs.Hex.{lower_digits}
-use Rattle.hex_digits.specs.declared.lanes.TheConstants.{DIGITS}
-use Rattle.hex_digits.proofs.Lookups.{down, high_ok, looked_up, copied}
-use Rattle.hex_digits.proofs.lanes.firsts.Goals as goal
+use Rattle.yasir_ticks.specs.declared.digit_lanes.TheConstants.{DIGITS}
+use Rattle.yasir_ticks.proofs.DigitLookups.{down, high_ok, looked_up, copied}
+use Rattle.yasir_ticks.proofs.digit_lanes.firsts.Goals as goal
 
 pub swizzle : goal.swizzle
 swizzle c = high_ok c.args.bytes c.fits-bytes

@@ -7,7 +7,7 @@ use Rattle.std.proofs.Math.Seq.{drop-cons}
 use Rattle.std.proofs.lemmas.List.{get_or-map, length-map, get_or_append_left}
 use Rattle.std.proofs.lemmas.List.{get_or-append_right}
 use Rattle.hex.specs.Hex.{encode_with, encode_lower}
-use Rattle.hex_digits.specs.Digits.{first_digit, second_digit}
+use Rattle.yasir_ticks.specs.HexDigits.{first_digit, second_digit}
 
 -- ---- in parts
 

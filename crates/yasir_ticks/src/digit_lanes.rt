@@ -1,7 +1,7 @@
 //! The digits of 32 bytes, in vectors.
 ghost use Rattle.std.specs.Prelude.{◌≡◌, map};
 ghost use Rattle.hex.specs.Hex.{encode_lower};
-ghost use Rattle.hex_digits.specs.Digits.{first_digit, second_digit};
+ghost use Rattle.yasir_ticks.specs.HexDigits.{first_digit, second_digit};
 
 use std::simd::prelude::*;
 

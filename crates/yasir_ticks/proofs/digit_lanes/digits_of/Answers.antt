@@ -1,6 +1,6 @@
 use Rattle.std.proofs.Common.{arith}
-use Rattle.hex_digits.proofs.Encoding.{all_digits}
-use Rattle.hex_digits.proofs.lanes.digits_of.Goals as goal
+use Rattle.yasir_ticks.proofs.DigitEncoding.{all_digits}
+use Rattle.yasir_ticks.proofs.digit_lanes.digits_of.Goals as goal
 
 pub returns : goal.returns
 returns c =

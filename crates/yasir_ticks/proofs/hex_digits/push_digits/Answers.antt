@@ -1,8 +1,8 @@
 use Rattle.std.proofs.Common.{◌∙◌, ◌++◌, ap, arith, length}
 use Rattle.hex.specs.Hex.{lower_digits}
 use Rattle.hex.proofs.HexLemmas.{length-encode_with}
-use Rattle.hex_digits.proofs.Adding.{of-ok, long, goes_on}
-use Rattle.hex_digits.proofs.pushing.push_digits.Goals as goal
+use Rattle.yasir_ticks.proofs.DigitsAdded.{of-ok, long, goes_on}
+use Rattle.yasir_ticks.proofs.hex_digits.push_digits.Goals as goal
 
 pub loop-front-preserved : goal.loop-front-preserved
 loop-front-preserved g c =

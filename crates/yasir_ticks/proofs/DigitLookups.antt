@@ -10,7 +10,7 @@ use Rattle.std.proofs.lemmas.Simd.{below_from_Fits, length-zip2, swz_l, SwzOk, S
 use Rattle.std.proofs.lemmas.Simd.{length-swz_l, get_or-swz_l_below}
 use lib.Lanes.{zip2, Each1}
 use Rattle.hex.specs.Hex.{lower_digits}
-use Rattle.hex_digits.specs.declared.lanes.TheConstants.{DIGITS}
+use Rattle.yasir_ticks.specs.declared.digit_lanes.TheConstants.{DIGITS}
 
 -- 32 lanes of bytes
 abbrev pub IsBlock : List ℕ → Type 0

@@ -1,7 +1,8 @@
+//! Bytes as lower-case hex digits, 32 of them at a time.
 ghost use Rattle.std.specs.Prelude.{◌≡◌, ◌+◌, ◌*◌, ◌<◌, ◌≤◌, ◌++◌, length};
 ghost use Rattle.hex.specs.Hex.{encode_lower};
 
-use crate::lanes::digits_of;
+use crate::digit_lanes::digits_of;
 use arrayvec::ArrayVec;
 
 // How many bytes are written together.

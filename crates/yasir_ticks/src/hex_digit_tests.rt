@@ -1,4 +1,5 @@
-use super::push_digits;
+//! Hex digits: known ones, and runs of each length against the crate `hex`.
+use crate::push_digits;
 use arrayvec::ArrayVec;
 use std::test::Fail;
 

@@ -1,6 +1,6 @@
 use Rattle.std.proofs.Common.{◌≡◌, ◌+◌, ◌*◌, ◌≤◌, ◌++◌, length}
 use Rattle.hex.specs.Hex.{encode_lower}
-use Rattle.hex_digits.proofs.pushing.push_digits.Given as goal
+use Rattle.yasir_ticks.proofs.hex_digits.push_digits.Given as goal
 
 abbrev pub invariant-loop-front : goal.invariant-loop-front
 invariant-loop-front g l = (length l.line.items + 2 * length l.rest ≤ g.row.CAP)
