@@ -44,14 +44,13 @@ use Rattle.link_replay.specs.declared.words.Proto.TheVariants.{Rtu, Dnp3}
 
 rtu-law : (profile : LinkProfile) (line link : List Tick)
     → ReadsWhatWasSealed rtu_rules rtu_reads 4 profile 0 0 line link
-rtu-law profile line link = reads-sealed rtu_rules rtu_lawful (reads_with 4 2) 4 profile 0 0 line
-    link
-    (rtu_reads_what_passed profile 4 2 (omega arith) (omega arith) (omega arith) 0 link)
+rtu-law profile line link = reads-sealed rtu_rules rtu_lawful (reads_with 4 2) 4 profile
+    (rtu_reads_what_passed profile 4 2 (omega arith) (omega arith) (omega arith)) 0 0 line link
 
 dnp-law : (profile : LinkProfile) (line link : List Tick)
     → ReadsWhatWasSealed dnp_rules dnp_reads 0 profile 0 0 line link
-dnp-law profile line link = reads-sealed dnp_rules dnp_lawful dnp_reads 0 profile 0 0 line link
-    (dnp_reads_what_passed profile 0 link)
+dnp-law profile line link = reads-sealed dnp_rules dnp_lawful dnp_reads 0 profile
+    (dnp_reads_what_passed profile) 0 0 line link
 
 -- an input within the limits has numbers enough for all bursts before the mark
 enough-numbers : (items : List Item) → AreFew items → length (bursts (before_mark items)) ≤ LIMIT

@@ -16,20 +16,12 @@ use Rattle.link_format.specs.NumberedFrame.{NumberedFrame, numbers_of}
 use Rattle.link_format.specs.Profile.{Profile}
 use Rattle.seal_transmitter.specs.Sealing.{sealed}
 use Rattle.seal_transmitter.proofs.Numbers.{sealed-numbered}
-use Rattle.link_verdicts.specs.Checking.{passed}
 use Rattle.receiver_laws.specs.Accounted.{Pair, pair_of, pairs_of, is_same_pair, is_among}
 use Rattle.receiver_laws.specs.Accounted.{rightly_passed, IsSubsequence, IsAccountedFor}
 use Rattle.receiver_laws.specs.Accounted.IsSubsequence.{none, skip, keep}
-use Rattle.receiver_laws.proofs.Rising.{have_passed}
+use Rattle.receiver_laws.proofs.Subsequences.{nothing-is}
 
 -- ---- numbers that rise
-
-rise-lower : (low high : ℕ) (numbers : List ℕ) → low ≤ high → RiseFrom high numbers
-    → RiseFrom low numbers
-rise-lower low high [] below rise = rise
-rise-lower low high (n ∷ numbers) below rise =
-    let first = rise.0 in
-    (omega arith, rise.1)
 
 range-rises : (floor n : ℕ) → RiseFrom floor (range_with_len (floor + 1) n)
 range-rises floor zero = tt
@@ -68,10 +60,6 @@ module _ (g : NumberedFrame) (frames : List NumberedFrame) where
       ∙ ap (λ l. if is_among frames f then f ∷ l else l) rest
 
 -- ---- the frames that passed and were sealed so
-
-pub nothing-is : {X : Type 0} (y : List X) → IsSubsequence [] y
-nothing-is [] = none
-nothing-is (a ∷ y) = skip (nothing-is y)
 
 same-pair : (g f : NumberedFrame) → g.number ≡ f.number → bytes_eq g.frame f.frame ≡ true
     → pair_of f ≡ pair_of g
@@ -157,21 +145,19 @@ part-of (g ∷ frames) floor rises passed_ones m rise =
 
 -- ---- the law
 
-pub accounted-for : (profile : Profile) (rules : Rules) → IsLawful rules
-    → (seal_floor check_floor : ℕ) (line link : List Tick)
-    → IsAccountedFor seal_floor check_floor (sealed profile rules seal_floor line)
-    (passed profile rules check_floor link)
-accounted-for profile rules lawful seal_floor check_floor line link =
-    let sealed_ones : List NumberedFrame = sealed profile rules seal_floor line in
-    let passed_ones : List NumberedFrame = passed profile rules check_floor link in
-    let numbered = (sealed-numbered profile rules lawful seal_floor line).numbers in
-    let sealed_rise : RiseFrom seal_floor (numbers_of sealed_ones) =
-    subst (λ l. RiseFrom seal_floor l) (sym numbered)
-    (range-rises seal_floor (length sealed_ones)) in
-    let passed_rise : RiseFrom check_floor (numbers_of passed_ones) =
-    (have_passed profile rules lawful check_floor link).rise in
-    record {
-      subsequence = part-of sealed_ones seal_floor sealed_rise passed_ones check_floor passed_rise;
-      sealed_rise = sealed_rise;
-      passed_rise = passed_rise;
-    }
+-- the numbers of the frames that a transmitter seals of a line rise
+pub sealed-rise : (profile : Profile) (rules : Rules) → IsLawful rules → (floor : ℕ)
+    (line : List Tick) → RiseFrom floor (numbers_of (sealed profile rules floor line))
+sealed-rise profile rules lawful floor line =
+    subst (λ l. RiseFrom floor l) (sym (sealed-numbered profile rules lawful floor line).numbers)
+    (range-rises floor (length (sealed profile rules floor line)))
+
+-- numbers that rise on both sides suffice
+pub rising-accounted : (seal_floor check_floor : ℕ) (sealed_ones passed_ones : List NumberedFrame)
+    → RiseFrom seal_floor (numbers_of sealed_ones) → RiseFrom check_floor (numbers_of passed_ones)
+    → IsAccountedFor seal_floor check_floor sealed_ones passed_ones
+rising-accounted seal_floor check_floor sealed_ones passed_ones sealing passing = record {
+  subsequence = part-of sealed_ones seal_floor sealing passed_ones check_floor passing;
+  sealed_rise = sealing;
+  passed_rise = passing;
+}

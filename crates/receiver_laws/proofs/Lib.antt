@@ -17,7 +17,9 @@ mod WorkedDnp
 pub mod Packing
 pub mod Delivering
 pub mod Deliveries
+pub mod Subsequences
 pub mod Accounting
+pub mod OverUptimes
 pub mod Headline
 pub mod Parting
 pub mod Sending

@@ -10,6 +10,7 @@ use Rattle.yasir_ticks.proofs.BurstsOfLaws.{bursts_from-are}
 use Rattle.line_rules.specs.Rules.{Rules}
 use Rattle.line_rules.specs.RulesLaws.{IsLawful}
 use Rattle.sequence_journal.specs.Uptimes.{RiseFrom}
+use Rattle.sequence_journal.proofs.UptimeLaws.{rise-lower}
 use Rattle.burst_walk.specs.Walk.{Noted, walked, notes_before}
 use Rattle.burst_walk.proofs.Walks.{before-early, before-late}
 use Rattle.link_format.specs.Profile.{Profile}
@@ -22,13 +23,6 @@ use Rattle.link_verdicts.proofs.Passing.{passed-passing, number-within}
 use Rattle.receiver_laws.specs.Standing.{StandsOn, HavePassed, numbered_frame}
 use Rattle.receiver_laws.proofs.Notes.{frames_in, unnoted}
 use Rattle.receiver_laws.proofs.Standing.{AreOn, bursts-on, stands-on}
-
-pub rise-lower : (low high : ℕ) (numbers : List ℕ) → low ≤ high → RiseFrom high numbers
-    → RiseFrom low numbers
-rise-lower low high [] le rise = tt
-rise-lower low high (n ∷ numbers) le rise =
-    let above : high < n = rise.0 in
-    (omega arith, rise.1)
 
 module _ (profile : Profile) (rules : Rules) where
   abbrev note_of : Burst → Verdict → Noted FullNote

@@ -5,4 +5,5 @@ pub mod Standing
 pub mod Untouched
 pub mod Accounted
 pub mod Headline
+pub mod OverUptimes
 pub mod Recovery

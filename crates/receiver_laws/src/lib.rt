@@ -11,8 +11,12 @@ mod laws;
 mod profiles;
 mod recovery;
 mod untouched;
+mod uptime_laws;
 
-pub use hunting_laws::{hunting_device_reads_what_passed, hunting_device_reads_what_was_sealed};
+pub use hunting_laws::{
+    hunting_device_reads_sealed_over_uptimes, hunting_device_reads_what_passed,
+    hunting_device_reads_what_was_sealed,
+};
 pub use laws::{
     device_reads_what_passed, device_reads_what_was_sealed, longer_links,
     passed_frames_are_accounted_for, passed_frames_stand_on_the_link, whole_packets_pass,
@@ -20,3 +24,4 @@ pub use laws::{
 pub use profiles::stated_profiles_are_fit;
 pub use recovery::{lacking_bytes_are_bounded, untouched_link_recovers};
 pub use untouched::untouched_link_delivers_all;
+pub use uptime_laws::{device_reads_what_was_sealed_over_uptimes, uptimes_are_accounted_for};

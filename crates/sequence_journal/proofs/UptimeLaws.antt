@@ -10,12 +10,12 @@ use Rattle.sequence_journal.specs.Uptimes.{all_numbers}
 use Rattle.sequence_journal.specs.Uptimes.{Step, answered, disk_after, IsStep, AreSteps, EndsInside}
 
 -- from a lower floor numbers rise too
-rise-lower : (low high : ℕ) (numbers : List ℕ) → low ≤ high → RiseFrom high numbers
+pub rise-lower : (low high : ℕ) (numbers : List ℕ) → low ≤ high → RiseFrom high numbers
     → RiseFrom low numbers
 rise-lower low high [] le rise = tt
 rise-lower low high (n ∷ numbers) le rise = let above : high < n = rise.0 in (omega arith, rise.1)
 
-rise-append : (floor : ℕ) (a b : List ℕ) → RiseFrom floor a → RiseFrom (last_from floor a) b
+pub rise-append : (floor : ℕ) (a b : List ℕ) → RiseFrom floor a → RiseFrom (last_from floor a) b
     → RiseFrom floor (a ++ b)
 rise-append floor [] b first second = second
 rise-append floor (n ∷ a) b first second = (first.0, rise-append n a b first.1 second)

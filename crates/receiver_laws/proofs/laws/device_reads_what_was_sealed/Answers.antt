@@ -13,22 +13,23 @@ use Rattle.receiver_laws.proofs.laws.device_reads_what_was_sealed.Goals as goal
 
 pub returns-clause-rtu : goal.returns-clause-rtu
 returns-clause-rtu c = λ profile seal_floor check_floor line link.
-    reads-sealed rtu_rules rtu_lawful (reads_with 4 2) 4 profile seal_floor check_floor line link
-    (rtu_reads_what_passed profile 4 2 (omega arith) (omega arith) (omega arith) check_floor link)
+    reads-sealed rtu_rules rtu_lawful (reads_with 4 2) 4 profile
+    (rtu_reads_what_passed profile 4 2 (omega arith) (omega arith) (omega arith))
+    seal_floor check_floor line link
 
 pub returns-clause-dnp : goal.returns-clause-dnp
 returns-clause-dnp c = λ profile seal_floor check_floor line link.
-    reads-sealed dnp_rules dnp_lawful dnp_reads 0 profile seal_floor check_floor line link
-    (dnp_reads_what_passed profile check_floor link)
+    reads-sealed dnp_rules dnp_lawful dnp_reads 0 profile (dnp_reads_what_passed profile)
+    seal_floor check_floor line link
 
 pub returns-clause-rtu_family : goal.returns-clause-rtu_family
 returns-clause-rtu_family c =
     λ cut gap profile seal_floor check_floor line link wide near some.
-    reads-sealed rtu_rules rtu_lawful (rtu_family_reads cut gap) cut profile seal_floor check_floor
-    line link
-    (rtu_reads_what_passed profile cut (suc gap) wide near (omega arith) check_floor link)
+    reads-sealed rtu_rules rtu_lawful (rtu_family_reads cut gap) cut profile
+    (rtu_reads_what_passed profile cut (suc gap) wide near (omega arith))
+    seal_floor check_floor line link
 
 pub returns-clause-dnp_family : goal.returns-clause-dnp_family
 returns-clause-dnp_family c = λ cut profile seal_floor check_floor line link member.
-    reads-sealed dnp_rules dnp_lawful (dnp_family_reads cut) 0 profile seal_floor check_floor line
-    link (dnp_family_reads_what_passed cut member profile check_floor link)
+    reads-sealed dnp_rules dnp_lawful (dnp_family_reads cut) 0 profile
+    (dnp_family_reads_what_passed cut member profile) seal_floor check_floor line link

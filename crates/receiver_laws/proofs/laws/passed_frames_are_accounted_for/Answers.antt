@@ -1,4 +1,4 @@
-use Rattle.receiver_laws.proofs.Accounting.{accounted-for}
+use Rattle.receiver_laws.proofs.OverUptimes.{accounted-for}
 use Rattle.receiver_laws.proofs.laws.passed_frames_are_accounted_for.Goals as goal
 
 pub returns : goal.returns

@@ -1,0 +1,116 @@
+-- What passed in all uptimes of a receiver is accounted for by what was sealed in all uptimes of a
+-- transmitter, and so it is of one uptime of each.
+use Rattle.std.proofs.Common.{◌≡◌, ℕ, ◌≤◌, List, [], ◌∷◌, ◌++◌, Some, IsSomeAnd}
+use Rattle.std.proofs.Common.{refl, sym, subst, arith}
+use Rattle.std.proofs.lemmas.List.{map-append, append-nil}
+use Rattle.yasir_io.specs.Disks.{Slots}
+use Rattle.yasir_ticks.specs.declared.tick.Tick.{Tick}
+use Rattle.line_rules.specs.Rules.{Rules}
+use Rattle.line_rules.specs.RulesLaws.{IsLawful}
+use Rattle.sequence_journal.specs.Slots.{floor_of}
+use Rattle.sequence_journal.specs.Journal.{HasFloorAtLeast}
+use Rattle.sequence_journal.specs.Uptimes.{RiseFrom, last_from}
+use Rattle.sequence_journal.proofs.UptimeLaws.{rise-lower, rise-append}
+use Rattle.link_format.specs.NumberedFrame.{NumberedFrame, numbers_of, last_number}
+use Rattle.link_format.specs.Profile.{Profile}
+use Rattle.seal_transmitter.specs.Sealing.{sealed}
+use Rattle.link_verdicts.specs.Checking.{passed}
+use Rattle.receiver_laws.specs.Accounted.{IsAccountedFor}
+use Rattle.receiver_laws.specs.OverUptimes.{BoxUptime, frames_over, GoOnFrom, ShareDisk, BothGoOn}
+use Rattle.receiver_laws.specs.OverUptimes.{sealed_over, passed_over}
+use Rattle.receiver_laws.proofs.Accounting.{sealed-rise, rising-accounted}
+use Rattle.receiver_laws.proofs.Rising.{have_passed}
+
+-- the last of the numbers is the number of the last frame
+last-is : (floor : ℕ) (frames : List NumberedFrame)
+    → last_from floor (numbers_of frames) ≡ last_number floor frames
+last-is floor [] = refl
+last-is floor (f ∷ frames) = last-is f.number frames
+
+module _ (frames : ℕ → List Tick → List NumberedFrame) where
+  -- where numbers rise in each uptime, and the uptimes go on from one another, they rise over all
+  rise-over : ((floor : ℕ) (line : List Tick) → RiseFrom floor (numbers_of (frames floor line)))
+      → (floor : ℕ) (uptimes : List BoxUptime) → GoOnFrom frames floor uptimes
+      → RiseFrom floor (numbers_of (frames_over frames uptimes))
+  rise-over each floor [] go_on = tt
+  rise-over each floor (uptime ∷ uptimes) go_on =
+      let first : List NumberedFrame = frames uptime.floor uptime.line in
+      let later : List NumberedFrame = frames_over frames uptimes in
+      let rest : RiseFrom (last_from uptime.floor (numbers_of first)) (numbers_of later) =
+      subst (λ n. RiseFrom n (numbers_of later)) (sym (last-is uptime.floor first))
+      (rise-over each (last_number uptime.floor first) uptimes go_on.1) in
+      rise-lower floor uptime.floor (numbers_of (first ++ later)) go_on.0
+      (subst (λ l. RiseFrom uptime.floor l) (sym (map-append (λ f. f.number) first later))
+      (rise-append uptime.floor (numbers_of first) (numbers_of later)
+      (each uptime.floor uptime.line) rest))
+
+  -- uptimes that share a disk go on from each number that the floor of its slots isn't below
+  share-above : (n : ℕ) (begins : Slots) (uptimes : List BoxUptime) → HasFloorAtLeast n begins
+      → ShareDisk frames begins uptimes → GoOnFrom frames n uptimes
+  share-above n begins [] least share = tt
+  share-above n begins (uptime ∷ uptimes) least share =
+      let first : List NumberedFrame = frames uptime.floor uptime.line in
+      let loaded : share.1.floor ≡ uptime.floor = cc in
+      let leaves : HasFloorAtLeast (last_from uptime.floor (numbers_of first)) uptime.image =
+      subst (λ m. HasFloorAtLeast (last_from m (numbers_of first)) uptime.image) loaded
+      share.1.leaves in (
+        subst (λ o. IsSomeAnd o (λ floor. n ≤ floor)) share.0 least,
+        share-above (last_number uptime.floor first) uptime.image uptimes
+            (subst (λ m. HasFloorAtLeast m uptime.image) (last-is uptime.floor first) leaves)
+            share.2,
+      )
+
+  pub share-go_on : (begins : Slots) (floor : ℕ) (uptimes : List BoxUptime)
+      → floor_of begins ≡ Some floor → ShareDisk frames begins uptimes
+      → GoOnFrom frames floor uptimes
+  share-go_on begins floor uptimes is share =
+      let same : floor ≤ floor = omega arith in
+      share-above floor begins uptimes
+      (subst (λ o. IsSomeAnd o (λ n. floor ≤ n)) (sym is) same) share
+
+-- ---- the law over uptimes, and of one uptime on each side
+
+-- an uptime alone; nothing is asked of what it left
+abbrev pub alone : ℕ → List Tick → List BoxUptime
+alone floor line = record {
+  floor = floor;
+  line = line;
+  image = record { a = []; b = [] };
+} ∷ []
+
+pub alone-is : (frames : ℕ → List Tick → List NumberedFrame) (floor : ℕ) (line : List Tick)
+    → frames_over frames (alone floor line) ≡ frames floor line
+alone-is frames floor line = append-nil (frames floor line)
+
+module _ (profile : Profile) (rules : Rules) (lawful : IsLawful rules) where
+  pub accounted-over : (seal_floor check_floor : ℕ) (seals checks : List BoxUptime)
+      → BothGoOn profile rules seal_floor check_floor seals checks
+      → IsAccountedFor seal_floor check_floor (sealed_over profile rules seals)
+      (passed_over profile rules checks)
+  accounted-over seal_floor check_floor seals checks go_on =
+      rising-accounted seal_floor check_floor (sealed_over profile rules seals)
+      (passed_over profile rules checks)
+      (rise-over (sealed profile rules) (sealed-rise profile rules lawful) seal_floor seals
+      go_on.sealing)
+      (rise-over (passed profile rules) (λ floor link.
+      (have_passed profile rules lawful floor link).rise) check_floor checks go_on.checking)
+
+  pub alone-go_on : (seal_floor check_floor : ℕ) (line link : List Tick)
+      → BothGoOn profile rules seal_floor check_floor (alone seal_floor line)
+      (alone check_floor link)
+  alone-go_on seal_floor check_floor line link = record {
+    sealing = (omega arith, tt);
+    checking = (omega arith, tt);
+  }
+
+  pub accounted-for : (seal_floor check_floor : ℕ) (line link : List Tick)
+      → IsAccountedFor seal_floor check_floor (sealed profile rules seal_floor line)
+      (passed profile rules check_floor link)
+  accounted-for seal_floor check_floor line link =
+      let over = accounted-over seal_floor check_floor (alone seal_floor line)
+      (alone check_floor link) (alone-go_on seal_floor check_floor line link) in
+      subst (λ x. IsAccountedFor seal_floor check_floor x (passed profile rules check_floor link))
+      (alone-is (sealed profile rules) seal_floor line)
+      (subst (λ y. IsAccountedFor seal_floor check_floor
+      (sealed_over profile rules (alone seal_floor line)) y)
+      (alone-is (passed profile rules) check_floor link) over)

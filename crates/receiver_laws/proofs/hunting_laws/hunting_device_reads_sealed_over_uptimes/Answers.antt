@@ -1,0 +1,31 @@
+use Rattle.device_model.specs.Hunt.{hunt_line, hunt_anew}
+use Rattle.receiver_laws.proofs.Anew.{anew_reads_what_passed}
+use Rattle.receiver_laws.proofs.Headline.{reads-over}
+use Rattle.receiver_laws.proofs.HunterReadings.{hunt_reads_what_passed, hunter_reads_what_passed}
+use Rattle.receiver_laws.proofs.hunting_laws.hunting_device_reads_sealed_over_uptimes.Goals as goal
+
+pub returns-clause-hunt : goal.returns-clause-hunt
+returns-clause-hunt g c = λ profile seal_floor check_floor seals checks go_on.
+    reads-over g.R.LineRules.rules g.R.LineRules.lawful
+    (hunt_line g.R.Hunted.FIRST g.R.Hunted.SECOND g.R.LineRules.rules) 0 profile
+    (hunt_reads_what_passed g.R.Hunted.FIRST g.R.Hunted.SECOND g.R.LineRules.rules
+    g.R.LineRules.headed g.R.LineRules.framed g.met.R.Hunted.hunted profile g.R.LineRules.lawful
+    g.R.LineRules.spoiling)
+    seal_floor check_floor seals checks go_on
+
+pub returns-clause-anew : goal.returns-clause-anew
+returns-clause-anew g c = λ cut profile seal_floor check_floor seals checks wide go_on.
+    reads-over g.R.LineRules.rules g.R.LineRules.lawful
+    (hunt_anew g.R.Hunted.FIRST g.R.Hunted.SECOND g.R.LineRules.rules cut 0) 0 profile
+    (anew_reads_what_passed cut wide g.R.Hunted.FIRST g.R.Hunted.SECOND g.R.LineRules.rules
+    g.R.LineRules.headed g.R.LineRules.framed g.met.R.Hunted.hunted g.R.LineRules.lawful
+    g.R.LineRules.spoiling profile)
+    seal_floor check_floor seals checks go_on
+
+pub returns-clause-others : goal.returns-clause-others
+returns-clause-others g c = λ read hunter profile seal_floor check_floor seals checks go_on.
+    reads-over g.R.LineRules.rules g.R.LineRules.lawful (read 0) 0 profile
+    (hunter_reads_what_passed g.R.Hunted.FIRST g.R.Hunted.SECOND g.R.LineRules.rules
+    g.R.LineRules.headed g.R.LineRules.framed g.met.R.Hunted.hunted profile g.R.LineRules.lawful
+    g.R.LineRules.spoiling read hunter)
+    seal_floor check_floor seals checks go_on

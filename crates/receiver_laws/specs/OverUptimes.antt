@@ -1,0 +1,82 @@
+-- Uptimes of a transmitter and uptimes of a receiver: what was sealed in all of them, what passed,
+-- and what a device has read.
+use Rattle.std.specs.Prelude.{◌≡◌, ℕ, ◌≤◌, List, [], ◌∷◌, ◌++◌, Some}
+use Rattle.yasir_io.specs.Disks.{Slots}
+use Rattle.yasir_ticks.specs.declared.tick.Tick.{Tick}
+use Rattle.line_rules.specs.Rules.{Rules}
+use Rattle.device_model.specs.Frames.{FrameRead}
+use Rattle.sequence_journal.specs.Slots.{floor_of}
+use Rattle.sequence_journal.specs.Uptimes.{IsUptime}
+use Rattle.link_format.specs.NumberedFrame.{NumberedFrame, numbers_of, last_number}
+use Rattle.link_format.specs.Profile.{Profile}
+use Rattle.seal_transmitter.specs.Sealing.{sealed}
+use Rattle.link_verdicts.specs.Checking.{passed, received_line}
+use Rattle.receiver_laws.specs.Accounted.{IsSubsequence, IsAccountedFor, forged}
+use Rattle.receiver_laws.specs.Headline.{bytes_read, bytes_sealed}
+
+-- An uptime of a box: the floor that it loaded, the ticks that it answered before it ended, and the
+-- image that it left of its journal's slots.
+pub record BoxUptime : Type 0 where
+  pub floor : ℕ
+  pub line : List Tick
+  pub image : Slots
+
+-- By the frames of a box for a floor and a line: those that a transmitter seals, or those that a
+-- receiver passes.
+module _ (frames : ℕ → List Tick → List NumberedFrame) where
+  -- the frames of all these uptimes, joined
+  abbrev pub frames_over : List BoxUptime → List NumberedFrame
+  frames_over [] = []
+  frames_over (uptime ∷ uptimes) = frames uptime.floor uptime.line ++ frames_over uptimes
+
+  -- The first of these uptimes has loaded no number below this floor, and each other one none below
+  -- the last number that the one before it used.
+  abbrev pub GoOnFrom : ℕ → List BoxUptime → Type 0
+  GoOnFrom floor [] = Unit {0}
+  GoOnFrom floor (uptime ∷ uptimes) =
+      (floor ≤ uptime.floor)
+      × GoOnFrom (last_number uptime.floor (frames uptime.floor uptime.line)) uptimes
+
+  -- The uptimes share a disk: each has loaded the floor of the slots that it began on, and has been
+  -- an uptime with the numbers of its frames, and the next one began on the image that it left.
+  abbrev pub ShareDisk : Slots → List BoxUptime → Type 0
+  ShareDisk begins [] = Unit {0}
+  ShareDisk begins (uptime ∷ uptimes) =
+      (floor_of begins ≡ Some uptime.floor)
+      × IsUptime begins (numbers_of (frames uptime.floor uptime.line)) uptime.image
+      × ShareDisk uptime.image uptimes
+
+-- the bytes of all frames that a device reads in these uptimes of the receiver, where it begins
+-- each of them at rest
+abbrev pub bytes_over : (List Tick → List FrameRead) → Profile → Rules → List BoxUptime
+    → List (List ℕ)
+bytes_over reads profile rules [] = []
+bytes_over reads profile rules (uptime ∷ uptimes) =
+    bytes_read (reads (received_line profile rules uptime.floor uptime.line))
+    ++ bytes_over reads profile rules uptimes
+
+-- the frames sealed in uptimes of the transmitter, and those that passed in uptimes of the receiver
+abbrev pub sealed_over : Profile → Rules → List BoxUptime → List NumberedFrame
+sealed_over profile rules seals = frames_over (sealed profile rules) seals
+
+abbrev pub passed_over : Profile → Rules → List BoxUptime → List NumberedFrame
+passed_over profile rules checks = frames_over (passed profile rules) checks
+
+-- The uptimes of both boxes go on from one another, each box's over its own journal.
+pub record BothGoOn (profile : Profile) (rules : Rules) (seal_floor check_floor : ℕ)
+    (seals checks : List BoxUptime) : Type 0 where
+  pub sealing : GoOnFrom (sealed profile rules) seal_floor seals
+  pub checking : GoOnFrom (passed profile rules) check_floor checks
+
+-- Over these uptimes of both boxes, whatever came of the sealed frames on the link, a device that
+-- reads so behind the receiver has read a subsequence of all sealed frames, unless one that passed
+-- is forged. What it has read has passed, and numbers rise over all uptimes on both sides.
+pub record ReadsOverUptimes (rules : Rules) (reads : List Tick → List FrameRead) (profile : Profile)
+    (seal_floor check_floor : ℕ) (seals checks : List BoxUptime) : Type 0 where
+  pub only_sealed : forged (sealed_over profile rules seals) (passed_over profile rules checks) ≡ []
+      → IsSubsequence (bytes_over reads profile rules checks)
+      (bytes_sealed (sealed_over profile rules seals))
+  pub only_passed : IsSubsequence (bytes_over reads profile rules checks)
+      (bytes_sealed (passed_over profile rules checks))
+  pub accounted : IsAccountedFor seal_floor check_floor (sealed_over profile rules seals)
+      (passed_over profile rules checks)

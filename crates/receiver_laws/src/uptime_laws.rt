@@ -1,0 +1,72 @@
+ghost use Rattle.std.specs.Prelude.{◌≡◌, ◌≤◌, ◌⊎◌, ℕ, List, Some};
+ghost use Rattle.yasir_ticks.specs.declared.TheConstants.{T3_5_TICKS};
+ghost use Rattle.yasir_ticks.specs.declared.tick.Tick.{Tick};
+ghost use Rattle.yasir_io.specs.Disks.{Slots};
+ghost use Rattle.rtu_frame.specs.Rules.{rtu_rules};
+ghost use Rattle.dnp_link_frame.specs.Rules.{dnp_rules};
+ghost use Rattle.device_model.specs.DnpReads.{dnp_reads};
+ghost use Rattle.device_model.specs.HuntFamily.{dnp_family_reads};
+ghost use Rattle.device_model.specs.RtuFamily.{rtu_family_reads};
+ghost use Rattle.device_model.specs.RtuReads.{rtu_reads};
+ghost use Rattle.sequence_journal.specs.Slots.{floor_of};
+ghost use Rattle.sequence_journal.specs.Uptimes.{RiseFrom};
+ghost use Rattle.link_format.specs.NumberedFrame.{NumberedFrame, numbers_of};
+ghost use Rattle.link_format.specs.Profile.{Profile, delay};
+ghost use Rattle.receiver_laws.specs.Accounted.{IsAccountedFor};
+ghost use Rattle.receiver_laws.specs.OverUptimes.{BoxUptime, GoOnFrom, ShareDisk, BothGoOn};
+ghost use Rattle.receiver_laws.specs.OverUptimes.{sealed_over, passed_over, ReadsOverUptimes};
+
+use line_rules::LineRules;
+
+/// A law of the transmitter's and the receiver's definitions, for the rules of each protocol, each
+/// profile, and any uptimes of both boxes, whatever moments they ended at, where none loads a floor
+/// below the last number of the one before: however the link came about, the frames that passed in
+/// all uptimes are, with their numbers, a subsequence of those that were sealed in all uptimes, but
+/// for the forged ones; and numbers rise over all uptimes on both sides, so that none is sealed or
+/// passed twice. Forged is a frame that passed with a number under which it was sealed in no
+/// uptime.
+///
+/// Uptimes over one disk do load so, each on the image that the one before left, if they are
+/// uptimes with the numbers of their frames. All that the law asks of the numbers is that they rise
+/// on each side.
+pub fn uptimes_are_accounted_for<R: LineRules>()
+    ensures over { (profile : Profile) (seal_floor check_floor : ℕ) (seals checks : List BoxUptime)
+        → BothGoOn profile R.rules seal_floor check_floor seals checks
+        → IsAccountedFor seal_floor check_floor (sealed_over profile R.rules seals)
+        (passed_over profile R.rules checks) }
+    ensures on_a_disk { (frames : ℕ → List Tick → List NumberedFrame) (begins : Slots) (floor : ℕ)
+        (uptimes : List BoxUptime) → floor_of begins ≡ Some floor
+        → ShareDisk frames begins uptimes → GoOnFrom frames floor uptimes }
+    ensures rising { (seal_floor check_floor : ℕ) (sealed_ones passed_ones : List NumberedFrame)
+        → RiseFrom seal_floor (numbers_of sealed_ones)
+        → RiseFrom check_floor (numbers_of passed_ones)
+        → IsAccountedFor seal_floor check_floor sealed_ones passed_ones }
+{}
+
+/// A law of the transmitter's and the receiver's definitions, for each profile and any such uptimes
+/// of both boxes: however the link was altered, cut, repeated or reordered, also from one uptime to
+/// another, the frames that a Modbus RTU device or a DNP3 device reads behind the receiver in all
+/// uptimes are a subsequence of those that the transmitter sealed in all uptimes, unless one that
+/// passed is forged. So it is for the other devices of `device_reads_what_passed`.
+///
+/// It is a premise that the device is at rest as each uptime of the receiver begins: it begins to
+/// read the receiver's line anew there. Nothing is said of what it makes of bytes that a stop of
+/// the receiver cut short.
+pub fn device_reads_what_was_sealed_over_uptimes()
+    ensures rtu { (profile : Profile) (seal_floor check_floor : ℕ) (seals checks : List BoxUptime)
+        → BothGoOn profile rtu_rules seal_floor check_floor seals checks
+        → ReadsOverUptimes rtu_rules rtu_reads profile seal_floor check_floor seals checks }
+    ensures dnp { (profile : Profile) (seal_floor check_floor : ℕ) (seals checks : List BoxUptime)
+        → BothGoOn profile dnp_rules seal_floor check_floor seals checks
+        → ReadsOverUptimes dnp_rules dnp_reads profile seal_floor check_floor seals checks }
+    ensures rtu_family { (cut gap : ℕ) (profile : Profile) (seal_floor check_floor : ℕ)
+        (seals checks : List BoxUptime) → 2 ≤ cut → cut ≤ delay profile → 1 ≤ gap
+        → BothGoOn profile rtu_rules seal_floor check_floor seals checks
+        → ReadsOverUptimes rtu_rules (rtu_family_reads cut gap) profile seal_floor check_floor seals
+        checks }
+    ensures dnp_family { (cut : ℕ) (profile : Profile) (seal_floor check_floor : ℕ)
+        (seals checks : List BoxUptime) → (cut ≡ 0) ⊎ (2 ≤ cut)
+        → BothGoOn profile dnp_rules seal_floor check_floor seals checks
+        → ReadsOverUptimes dnp_rules (dnp_family_reads cut) profile seal_floor check_floor seals
+        checks }
+{}
