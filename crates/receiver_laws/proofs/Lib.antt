@@ -29,3 +29,4 @@ pub mod QuietLines
 pub mod Recovering
 pub mod WorkedRecovery
 mod WorkedMembers
+mod WorkedUptimes

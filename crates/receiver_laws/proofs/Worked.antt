@@ -23,14 +23,14 @@ use Rattle.receiver_laws.proofs.Settled.{reads_with}
 abbrev stand_in : ℕ → List ℕ → List ℕ
 stand_in number frame = take 12 (number ∷ frame ++ replicate 12 0xEE)
 
-abbrev profile : Profile
+abbrev pub profile : Profile
 profile = record { word_len = 2; tag_len = 12; tag = stand_in; limit = 281474976710655 }
 
-abbrev on_line : List ℕ → List Tick
+abbrev pub on_line : List ℕ → List Tick
 on_line x = map (λ b. Byte b) x
 
 -- a request to read ten registers
-abbrev READ_TEN_REGISTERS : List ℕ
+abbrev pub READ_TEN_REGISTERS : List ℕ
 READ_TEN_REGISTERS = 0x01 ∷ 0x03 ∷ 0x00 ∷ 0x00 ∷ 0x00 ∷ 0x0A ∷ 0xC5 ∷ 0xCD ∷ []
 
 -- 25 ticks: the request, with a word of 1 and this as the last byte of the tag

@@ -1,0 +1,155 @@
+-- Frames of two uptimes of a transmitter, on one link to a receiver, with a tag that stands in for
+-- HMAC.
+use Rattle.std.proofs.Common.{◌≡◌, ℕ, ◌<◌, ◌≤◌, List, [], ◌∷◌, ◌++◌, Some, IsSomeAnd}
+use Rattle.std.proofs.Common.{refl, sym, subst, arith}
+use Rattle.std.specs.Prelude.{max}
+use Rattle.yasir_ticks.specs.Ticks.{silent}
+use Rattle.yasir_ticks.specs.Bursts.{bursts_from, with_byte}
+use Rattle.yasir_ticks.specs.declared.tick.Tick.{Tick}
+use Rattle.yasir_io.specs.Disks.{Slots}
+use Rattle.line_rules.specs.Crc.{crc, byte_step, bit_steps, bit_step}
+use Rattle.line_rules.specs.Endings.{ends_in_check}
+use Rattle.rtu_frame.specs.Frame.{is_frame, has_right_ending}
+use Rattle.rtu_frame.specs.Rules.{rtu_rules}
+use Rattle.frame_ending.specs.LiveBytes.{before_pause, up_to_byte}
+use Rattle.device_model.specs.RtuReads.{has_silence, rtu_reads}
+use Rattle.burst_walk.specs.Laid.{tick_at}
+use Rattle.link_format.specs.NumberedFrame.{NumberedFrame, numbers_of}
+use Rattle.sequence_journal.specs.declared.numbers.TheConstants.{LIMIT}
+use Rattle.sequence_journal.specs.Slots.{floor_of, slot_bytes}
+use Rattle.sequence_journal.specs.Uptimes.{IsUptime}
+use Rattle.sequence_journal.proofs.SlotLemmas.{held}
+use Rattle.seal_transmitter.specs.Sealing.{judged, link_line, sealed}
+use Rattle.link_verdicts.specs.Shapes.{kept}
+use Rattle.link_verdicts.specs.Verdicts.{verdict_of, checked}
+use Rattle.link_verdicts.specs.Emissions.{spoiled}
+use Rattle.link_verdicts.specs.Checking.{passed}
+use Rattle.receiver_laws.specs.Accounted.{forged}
+use Rattle.receiver_laws.specs.OverUptimes.{BoxUptime, sealed_over, passed_over, bytes_over}
+use Rattle.receiver_laws.specs.OverUptimes.{ShareDisk}
+use Rattle.receiver_laws.proofs.Worked.{READ_TEN_REGISTERS, on_line, profile}
+
+-- 36 ticks of a device, enough for its request and the trailer
+abbrev request : List Tick
+request = on_line READ_TEN_REGISTERS ++ silent 28
+
+abbrev numbered_at : ℕ → ℕ → NumberedFrame
+numbered_at number start = record { number = number; start = start; frame = READ_TEN_REGISTERS }
+
+-- slots that hold these numbers
+abbrev holding : ℕ → ℕ → Slots
+holding a b = record { a = slot_bytes a; b = slot_bytes b }
+
+abbrev uptime_of : ℕ → List Tick → Slots → BoxUptime
+uptime_of floor line image = record { floor = floor; line = line; image = image }
+
+-- The transmitter seals a request, is started anew, and seals the same request.
+abbrev first_seal : BoxUptime
+first_seal = uptime_of 0 request (holding 0 1)
+
+abbrev second_seal : BoxUptime
+second_seal = uptime_of 1 request (holding 2 1)
+
+abbrev link_of : BoxUptime → List Tick
+link_of uptime = link_line profile rtu_rules uptime.floor uptime.line
+
+-- One uptime of the receiver hears both.
+abbrev both_heard : BoxUptime
+both_heard = uptime_of 0 (link_of first_seal ++ link_of second_seal) (holding 2 1)
+
+both-sealed : sealed_over profile rtu_rules (first_seal ∷ second_seal ∷ [])
+    ≡ numbered_at 1 0 ∷ numbered_at 2 0 ∷ []
+unfolding bursts_from with_byte before_pause up_to_byte tick_at judged crc byte_step bit_steps
+    bit_step is_frame has_right_ending ends_in_check
+both-sealed = refl
+
+both-passed : passed_over profile rtu_rules (both_heard ∷ [])
+    ≡ numbered_at 1 0 ∷ numbered_at 2 36 ∷ []
+unfolding bursts_from with_byte before_pause up_to_byte tick_at judged kept spoiled verdict_of
+    checked crc byte_step bit_steps bit_step is_frame has_right_ending ends_in_check
+both-passed = refl
+
+none-forged : forged (sealed_over profile rtu_rules (first_seal ∷ second_seal ∷ []))
+    (passed_over profile rtu_rules (both_heard ∷ [])) ≡ []
+unfolding bursts_from with_byte before_pause up_to_byte tick_at judged kept spoiled verdict_of
+    checked crc byte_step bit_steps bit_step is_frame has_right_ending ends_in_check
+none-forged = refl
+
+both-read : bytes_over rtu_reads profile rtu_rules (both_heard ∷ [])
+    ≡ READ_TEN_REGISTERS ∷ READ_TEN_REGISTERS ∷ []
+unfolding bursts_from with_byte before_pause up_to_byte tick_at judged kept spoiled verdict_of
+    checked crc byte_step bit_steps bit_step is_frame has_right_ending ends_in_check has_silence
+both-read = refl
+
+-- by the second uptime's frames alone, the first one's would count as forged
+first-unknown : forged (sealed profile rtu_rules second_seal.floor second_seal.line)
+    (passed profile rtu_rules both_heard.floor both_heard.line) ≡ numbered_at 1 0 ∷ []
+unfolding bursts_from with_byte before_pause up_to_byte tick_at judged kept spoiled verdict_of
+    checked crc byte_step bit_steps bit_step is_frame has_right_ending ends_in_check
+first-unknown = refl
+
+-- ---- The receiver too is started anew, and hears the first link again before the second: what has
+-- passed before doesn't pass again.
+
+abbrev first_check : BoxUptime
+first_check = uptime_of 0 (link_of first_seal) (holding 0 1)
+
+abbrev second_check : BoxUptime
+second_check = uptime_of 1 (link_of first_seal ++ link_of second_seal) (holding 2 1)
+
+anew-passed : passed_over profile rtu_rules (first_check ∷ second_check ∷ [])
+    ≡ numbered_at 1 0 ∷ numbered_at 2 36 ∷ []
+unfolding bursts_from with_byte before_pause up_to_byte tick_at judged kept spoiled verdict_of
+    checked crc byte_step bit_steps bit_step is_frame has_right_ending ends_in_check
+anew-passed = refl
+
+anew-read : bytes_over rtu_reads profile rtu_rules (first_check ∷ second_check ∷ [])
+    ≡ READ_TEN_REGISTERS ∷ READ_TEN_REGISTERS ∷ []
+unfolding bursts_from with_byte before_pause up_to_byte tick_at judged kept spoiled verdict_of
+    checked crc byte_step bit_steps bit_step is_frame has_right_ending ends_in_check has_silence
+anew-read = refl
+
+-- ---- These are uptimes on one disk, which begins with the number 0 in both slots.
+
+floor-is : (a b : ℕ) → a ≤ LIMIT → b ≤ LIMIT → floor_of (holding a b) ≡ Some (max a b)
+floor-is a b a_within b_within = rw (held a a_within) (rw (held b b_within) refl)
+
+-- the uptime of one frame with the number
+one-frame : (floor number : ℕ) (begins image : Slots) (frames : List NumberedFrame)
+    → floor < number → floor_of begins ≡ Some floor → floor_of image ≡ Some number
+    → frames ≡ numbered_at number 0 ∷ [] → IsUptime begins (numbers_of frames) image
+one-frame floor number begins image frames above begins_is image_is is =
+    let reached : number ≤ number = omega arith in
+    subst (λ l. IsUptime begins (numbers_of l) image) (sym is) (record {
+      floor = floor;
+      loads = begins_is;
+      rise = (above, tt);
+      leaves = subst (λ o. IsSomeAnd o (λ n. number ≤ n)) (sym image_is) reached;
+    })
+
+first-sealed : sealed profile rtu_rules 0 request ≡ numbered_at 1 0 ∷ []
+unfolding bursts_from with_byte before_pause up_to_byte tick_at judged crc byte_step bit_steps
+    bit_step is_frame has_right_ending ends_in_check
+first-sealed = refl
+
+second-sealed : sealed profile rtu_rules 1 request ≡ numbered_at 2 0 ∷ []
+unfolding bursts_from with_byte before_pause up_to_byte tick_at judged crc byte_step bit_steps
+    bit_step is_frame has_right_ending ends_in_check
+second-sealed = refl
+
+shared : ShareDisk (sealed profile rtu_rules) (holding 0 0) (first_seal ∷ second_seal ∷ [])
+shared =
+    let at_first : floor_of (holding 0 0) ≡ Some 0 =
+    floor-is 0 0 (omega arith) (omega arith) in
+    let between : floor_of (holding 0 1) ≡ Some 1 = floor-is 0 1 (omega arith) (omega arith) in
+    let at_last : floor_of (holding 2 1) ≡ Some 2 = floor-is 2 1 (omega arith) (omega arith) in (
+      at_first,
+      one-frame 0 1 (holding 0 0) (holding 0 1) (sealed profile rtu_rules 0 request)
+          (omega arith) at_first between first-sealed,
+      (
+        between,
+        one-frame 1 2 (holding 0 1) (holding 2 1) (sealed profile rtu_rules 1 request)
+            (omega arith) between at_last second-sealed,
+        tt,
+      ),
+    )
