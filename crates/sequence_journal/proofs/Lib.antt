@@ -1,4 +1,6 @@
+pub mod FailedCallLaws
 pub mod FloorLaws
 pub mod NumberLaws
 pub mod SlotLemmas
+pub mod StepLaws
 pub mod UptimeLaws

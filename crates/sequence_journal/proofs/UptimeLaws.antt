@@ -25,6 +25,17 @@ last-append : (floor : ℕ) (a b : List ℕ)
 last-append floor [] b = refl
 last-append floor (n ∷ a) b = last-append n a b
 
+-- the floor that the next uptime loads
+pub next_floor : (n : ℕ) (image : Slots) → HasFloorAtLeast n image
+    → (floor : ℕ) × (floor_of image ≡ Some floor) × (n ≤ floor)
+next_floor n image from =
+    let P : Option ℕ → Type 0 = λ o. floor_of image ≡ o → IsSomeAnd o (λ floor. n ≤ floor)
+    → (floor : ℕ) × (floor_of image ≡ Some floor) × (n ≤ floor) in
+    elim (floor_of image) as P [
+      | None ↦ λ is none. absurd none
+      | Some floor ↦ λ is le. (floor, is, le)
+    ] refl from
+
 pub uptimes-rise : (begins : Slots) (floor : ℕ) (uptimes : List Uptime)
     → floor_of begins ≡ Some floor
     → AreUptimes begins uptimes → RiseFrom floor (all_numbers uptimes)
@@ -38,16 +49,6 @@ uptimes-rise begins floor (uptime ∷ uptimes) is are =
     rise-append floor uptime.numbers (all_numbers uptimes) (subst P same are.0.rise)
     (rise-lower (last_from floor uptime.numbers) next.0 (all_numbers uptimes) next.2
     (uptimes-rise uptime.image next.0 uptimes next.1 are.1))
-  where
-    next_floor : (n : ℕ) (image : Slots) → HasFloorAtLeast n image
-        → (floor : ℕ) × (floor_of image ≡ Some floor) × (n ≤ floor)
-    next_floor n image from =
-        let P : Option ℕ → Type 0 = λ o. floor_of image ≡ o → IsSomeAnd o (λ floor. n ≤ floor)
-        → (floor : ℕ) × (floor_of image ≡ Some floor) × (n ≤ floor) in
-        elim (floor_of image) as P [
-          | None ↦ λ is none. absurd none
-          | Some floor ↦ λ is le. (floor, is, le)
-        ] refl from
 
 module _ {D : Type 0} (disk : SlotDisk D) where
   -- the steps that are done, and the one in which the uptime ends

@@ -1,4 +1,5 @@
 pub mod Commits
+pub mod FailedCalls
 pub mod Journal
 pub mod Numbers
 pub mod Slots

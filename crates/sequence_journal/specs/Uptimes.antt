@@ -2,11 +2,13 @@
 -- stop or a crash, which may come at any moment inside it, and leaves an image. The next one begins
 -- on that image: that it finds the slots as they read, with nothing written and not yet synced, is
 -- a premise where a call is shown to be an uptime.
-use Rattle.std.specs.Prelude.{◌≡◌, ℕ, ◌<◌, List, [], ◌∷◌, ◌++◌, Some}
+use Rattle.std.specs.Prelude.{◌≡◌, ℕ, ◌<◌, List, [], ◌∷◌, ◌++◌, Some, Result, Ok, Err}
 use Rattle.yasir_io.specs.Disks.{Slots, LeavesOnly}
 use Rattle.yasir_io.specs.declared.disk.SlotDisk.{Ghosts as SlotDisk}
+use Rattle.sequence_journal.specs.declared.journal.Journal.{Journal}
 use Rattle.sequence_journal.specs.Slots.{floor_of}
 use Rattle.sequence_journal.specs.Journal.{HasFloorAtLeast}
+use Rattle.sequence_journal.specs.Commits.{HasCommitted}
 
 -- Each number is greater than the one before it, and the first one than the floor.
 abbrev pub RiseFrom : ℕ → List ℕ → Type 0
@@ -46,6 +48,11 @@ pub record Step (D : Type 0) : Type 0 where
   pub numbers : List ℕ
   pub after : D
 
+-- What a call answers: the numbers of its answer, and none where it fails.
+abbrev pub numbers_answered : {A E : Type 0} → (A → List ℕ) → Result A E → List ℕ
+numbers_answered numbers_of (Ok answer) = numbers_of answer
+numbers_answered numbers_of (Err fault) = []
+
 -- the numbers that these steps answer
 abbrev pub answered : {D : Type 0} → List (Step D) → List ℕ
 answered [] = []
@@ -57,6 +64,14 @@ disk_after before [] = before
 disk_after before (step ∷ steps) = disk_after step.after steps
 
 module _ {D : Type 0} (disk : SlotDisk D) where
+  -- By the numbers that it answers, a step of a box has committed the one that there is, or has
+  -- left journal and disk as they were.
+  abbrev pub CommitsAnswered : Journal → Journal → D → D → List ℕ → Type 0
+  CommitsAnswered old new before after [] = (new ≡ old) × (after ≡ before)
+  CommitsAnswered old new before after (n ∷ []) =
+      HasCommitted old new (disk.told before) (disk.told after) (disk.may_leave after) n
+  CommitsAnswered old new before after (n ∷ m ∷ more) = ⊥
+
   -- A step answers numbers above the floor before it, and a crash at any moment of it leaves an
   -- image whose floor isn't below that floor.
   pub record IsStep (floor : ℕ) (before : D) (step : Step D) : Type 0 where

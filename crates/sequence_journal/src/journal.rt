@@ -44,8 +44,8 @@ pub struct Journal {
 }
 
 impl Journal {
-    ghost use Rattle.std.specs.Prelude.{◌≡◌, ℕ, ◌≤◌, ◌<◌, true, false, Some, None, Err, OnOk};
-    ghost use Rattle.std.specs.Prelude.{OnErr, IfOk, IfErr, IfSome};
+    ghost use Rattle.std.specs.Prelude.{◌≡◌, ℕ, ◌≤◌, ◌<◌, [], ◌∷◌, true, false, Some, None, Err};
+    ghost use Rattle.std.specs.Prelude.{OnOk, OnErr, IfOk, IfErr, IfSome};
     ghost use Rattle.yasir_io.specs.declared.disk.Slot.TheVariants.{A, B};
     ghost use Rattle.yasir_io.specs.Causes.{HasCause};
     ghost use Rattle.yasir_io.specs.Disks.{Slots, NoMore, OneImage, LeavesOnly, other_slot};
@@ -55,6 +55,7 @@ impl Journal {
     ghost use Rattle.sequence_journal.specs.Journal.{HasFloorAtLeast, IsCrashSafe, told_with};
     ghost use Rattle.sequence_journal.specs.Journal.{RefusesLoad, RefusesInit};
     ghost use Rattle.sequence_journal.specs.Commits.{HasCommitted, HasFailed};
+    ghost use Rattle.sequence_journal.specs.Uptimes.{IsStep, numbers_answered};
 
     /// Makes a new journal at floor 0, in slot A, where neither slot holds a number.
     pub fn init<D: SlotDisk>(disk: &mut D) -> Result<Journal, InitError>
@@ -164,6 +165,12 @@ impl Journal {
             (HasFloorAtLeast (journal_floor self.old)) }
         ensures crash_safe { IsCrashSafe self.old (D.told disk.old) (D.may_leave disk.old)
             → IsCrashSafe self.new (D.told disk.new) (D.may_leave disk.new) }
+        // So it is a step of an uptime, in which it answers `n`, or nothing where it fails.
+        ensures is_step { IsKept self.old (D.told disk.old) (D.may_leave disk.old)
+            → IsStep D.SlotDisk (journal_floor self.old) disk.old (record {
+              numbers = numbers_answered (λ done. n ∷ []) result;
+              after = disk.new;
+            }) }
 
         ensures cause { HasCause (D.faults disk.old) (D.faults disk.new) result }
     {

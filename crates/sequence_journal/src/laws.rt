@@ -1,6 +1,9 @@
-ghost use Rattle.std.specs.Prelude.{◌≡◌, ℕ, [], List, Some};
-ghost use Rattle.yasir_io.specs.Disks.{Slots};
+ghost use Rattle.std.specs.Prelude.{◌≡◌, ℕ, [], List, Some, length};
+ghost use Rattle.yasir_io.specs.declared.disk.Slot.{Slot};
+ghost use Rattle.yasir_io.specs.declared.disk.TheConstants.{SLOT_LEN};
+ghost use Rattle.yasir_io.specs.Disks.{Slots, slot_in, Torn, Reaches, NoMore};
 ghost use Rattle.sequence_journal.specs.Slots.{floor_of};
+ghost use Rattle.sequence_journal.specs.FailedCalls.{AreWhole, HaveFailedCalls, last_disk};
 ghost use Rattle.sequence_journal.specs.Journal.{HasFloorAtLeast};
 ghost use Rattle.sequence_journal.specs.Uptimes.{RiseFrom, IsUptime, Uptime, AreUptimes};
 ghost use Rattle.sequence_journal.specs.Uptimes.{all_numbers};
@@ -25,4 +28,20 @@ pub fn uptime_ends_at_any_moment<D: SlotDisk>()
     ensures between { (floor : ℕ) (disk : D)
         → ((c : Slots) → D.may_leave disk c → HasFloorAtLeast floor c)
         → IsStep D.SlotDisk floor disk (record { numbers = []; after = disk }) }
+{}
+
+/// Calls of a disk that fail take no image away. So what a crash at a moment of a run may leave, the
+/// end of a run may leave whose disk fails from that moment on: what is proved of the images at the
+/// end of each run, with any disk, holds of a crash at any moment inside.
+pub fn failed_calls_keep_images<D: SlotDisk>()
+    ensures write { (before after : D) (slot : Slot) (image : Slots)
+        → Reaches (Torn slot) (D.may_leave before) (D.may_leave after)
+        → length (slot_in image slot) ≡ SLOT_LEN → D.may_leave before image
+        → D.may_leave after image }
+    ensures sync { (before after : D) (image : Slots)
+        → NoMore (D.may_leave after) (D.may_leave before) → D.may_leave before image
+        → D.may_leave after image }
+    ensures in_a_row { (before : D) (calls : List D) (image : Slots)
+        → HaveFailedCalls D.SlotDisk before calls → AreWhole image → D.may_leave before image
+        → D.may_leave (last_disk before calls) image }
 {}

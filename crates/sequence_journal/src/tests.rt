@@ -1,9 +1,14 @@
-use crate::laws::{numbers_rise, uptime_ends_at_any_moment};
+ghost use Rattle.std.specs.Prelude.{◌≡◌, ◌+◌, ◌≤◌, ℕ, [], ◌∷◌, List, Some, IfSome};
+ghost use Rattle.yasir_io.specs.Disks.{Slots, OneImage};
+ghost use Rattle.sequence_journal.specs.Slots.{floor_of};
+ghost use Rattle.sequence_journal.specs.Uptimes.{Step, answered, EndsInside, AreUptimes};
+
+use crate::laws::{failed_calls_keep_images, numbers_rise, uptime_ends_at_any_moment};
 use crate::{
     InitError, Journal, LIMIT, LoadError, full_number, full_number_wide, number_in, slot_of,
 };
 use std::test::Fail;
-use yasir_io::{MemSlots, Plan, Slot};
+use yasir_io::{MemSlots, Plan, Slot, SlotDisk};
 
 #[test]
 fn a_slot_holds_a_number(rt: HostRuntime) {
@@ -96,6 +101,7 @@ fn the_greater_number_is_the_floor(rt: HostRuntime) -> Result<(), Fail> {
     let refused = Journal::load(&mut disk).err();
     assert_eq!(rt; refused, Some(LoadError::Bad { a: ONES, b: BLANK }));
     numbers_rise();
+    failed_calls_keep_images::<MemSlots>();
     uptime_ends_at_any_moment::<MemSlots>();
     Ok(())
 }
@@ -142,5 +148,55 @@ fn a_new_journal_stands_at_zero(rt: HostRuntime) -> Result<(), Fail> {
         assert_eq!(rt; disk.slot(Slot::A), a);
         assert_eq!(rt; disk.slot(Slot::B), BLANK);
     }
+    Ok(())
+}
+
+// An uptime that answers one number, the next one, and ends inside the commit of the one after it:
+// nobody hears what that commit answers.
+fn answer_one<D: SlotDisk>(disk: &mut D) -> Option<u64>
+    ensures next { IfSome result (λ n. (begins : Slots) (floor : ℕ) → D.told disk.old ≡ Some begins
+        → floor_of begins ≡ Some floor → n ≡ floor + 1) }
+    ensures ends { IfSome result (λ n. (begins : Slots) (floor : ℕ) → D.told disk.old ≡ Some begins
+        → floor_of begins ≡ Some floor → OneImage (D.told disk.old) (D.may_leave disk.old)
+        → (loaded : D) × (done : List (Step D)) × (answered done ≡ n ∷ [])
+        × ((image : Slots) → D.may_leave disk.new image
+        → EndsInside D.SlotDisk floor loaded done image)) }
+{
+    let mut journal = Journal::load(disk).ok()?;
+    let number = journal.floor() + 1;
+    if number >= LIMIT {
+        return None;
+    }
+    let Ok(()) = journal.commit(disk, number) else {
+        return None;
+    };
+    let _ = journal.commit(disk, number + 1);
+    Some(number)
+}
+
+// Two of them, where the second begins on an image that the first left.
+fn answer_twice<D: SlotDisk>(first: &mut D, second: &mut D) -> Option<(u64, u64)>
+    ensures are_uptimes { IfSome result (λ n. (begins image last : Slots) (floor : ℕ)
+        → D.told first.old ≡ Some begins → floor_of begins ≡ Some floor
+        → OneImage (D.told first.old) (D.may_leave first.old)
+        → D.may_leave first.new image → D.told second.old ≡ Some image
+        → OneImage (D.told second.old) (D.may_leave second.old) → D.may_leave second.new last
+        → AreUptimes begins (record { numbers = n.0 ∷ []; image = image }
+        ∷ record { numbers = n.1 ∷ []; image = last } ∷ [])) }
+{
+    let n = answer_one(first)?;
+    let m = answer_one(second)?;
+    Some((n, m))
+}
+
+#[test]
+fn an_uptime_ends_inside_a_commit(rt: HostRuntime) -> Result<(), Fail> {
+    // Call 5 is the write of 2 into slot A, where a crash may then leave anything, as this.
+    let torn = 0x0000000000000002_ffffffffffffffff_u128.to_be_bytes();
+    let mut first = disk_of(&rt, slot_of(0), BLANK, 5)?;
+    let mut second = disk_of(&rt, torn, slot_of(1), 0)?;
+    assert_eq!(rt; answer_twice(&mut first, &mut second), Some((1, 2)));
+    assert_eq!(rt; first.slot(Slot::A), slot_of(0));
+    assert_eq!(rt; first.slot(Slot::B), slot_of(1));
     Ok(())
 }
