@@ -10,3 +10,4 @@ pub mod WholeSteps
 pub mod RunSteps
 pub mod OpenSilence
 pub mod Beginning
+pub mod Uptimes

@@ -48,6 +48,12 @@ CommitsNoted d old new disk_old disk_new (Some (Unsealed start why)) =
     (new ≡ old) × (disk_new ≡ disk_old)
 CommitsNoted d old new disk_old disk_new None = (new ≡ old) × (disk_new ≡ disk_old)
 
+-- the number that a note has
+abbrev pub numbers_noted : Option SealNote → List ℕ
+numbers_noted (Some (Sealed number start len)) = number ∷ []
+numbers_noted (Some (Unsealed start why)) = []
+numbers_noted None = []
+
 -- What a step does to the journal and its disk.
 pub record KeepsJournal {D : Type 0} (d : SlotDisk D) (old new : Journal) (disk_old disk_new : D)
     (result : Result SealStep JournalFault) : Type 0 where

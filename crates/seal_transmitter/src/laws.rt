@@ -1,13 +1,20 @@
-ghost use Rattle.std.specs.Prelude.{ℕ, List, ◌++◌};
+ghost use Rattle.std.specs.Prelude.{◌≡◌, ℕ, List, ◌++◌, Result};
 ghost use Rattle.yasir_ticks.specs.declared.tick.Tick.{Tick};
 ghost use Rattle.burst_walk.specs.Longer.{Begins, Extends};
 ghost use Rattle.link_format.specs.NumberedFrame.{AreNumberedFrom};
 ghost use Rattle.link_format.specs.Profile.{profile_of};
 ghost use Rattle.link_format.specs.Setup.{Setup};
+ghost use Rattle.sequence_journal.specs.declared.journal.Journal.{Journal};
+ghost use Rattle.sequence_journal.specs.declared.journal.JournalFault.{JournalFault};
+ghost use Rattle.sequence_journal.specs.Journal.{journal_floor, IsCrashSafe};
+ghost use Rattle.sequence_journal.specs.Uptimes.{IsStep, last_from, numbers_answered};
+ghost use Rattle.seal_transmitter.specs.declared.note.SealStep.{SealStep};
+ghost use Rattle.seal_transmitter.specs.Answers.{KeepsJournal, numbers_noted};
 ghost use Rattle.seal_transmitter.specs.Sealing.{sealer, at_floor, sealed};
 
 use hmac_tag::Mac;
 use line_rules::LineRules;
+use yasir_io::SlotDisk;
 
 /// A law of the transmitter's definitions, for words of any length, any greatest number, and each
 /// key, direction and floor: notes, link line and sealed frames of a longer line of the device
@@ -25,4 +32,21 @@ pub fn longer_lines<R: LineRules, M: Mac>()
     ensures numbered { (word_len limit : ℕ) (setup : Setup) (line : List Tick)
         → AreNumberedFrom setup.floor
         (sealed (profile_of R.LineRules M.Mac word_len limit setup) R.rules setup.floor line) }
+{}
+
+/// A call of the transmitter's `step` is a step of an uptime: it answers the number of its note,
+/// and a crash at any moment inside it leaves no floor below the one before. The next step goes on
+/// from the last number answered. The calls that take runs have no disk.
+pub fn steps_are_of_an_uptime<D: SlotDisk>()
+    ensures is_step { (old new : Journal) (before after : D) (result : Result SealStep JournalFault)
+        → KeepsJournal D.SlotDisk old new before after result
+        → IsCrashSafe old (D.told before) (D.may_leave before)
+        → IsStep D.SlotDisk (journal_floor old) before (record {
+            numbers = numbers_answered (λ step. numbers_noted step.note) result;
+            after = after;
+        }) }
+    ensures goes_on { (old new : Journal) (before after : D) (result : Result SealStep JournalFault)
+        → KeepsJournal D.SlotDisk old new before after result
+        → last_from (journal_floor old) (numbers_answered (λ step. numbers_noted step.note) result)
+        ≡ journal_floor new }
 {}

@@ -8,7 +8,7 @@ mod sealer;
 mod silence;
 
 pub use hmac_tag::Dir;
-pub use laws::longer_lines;
+pub use laws::{longer_lines, steps_are_of_an_uptime};
 pub use note::{SealNote, SealStep, UnsealedWhy};
 pub use sealer::{RunBytes, Sealer};
 

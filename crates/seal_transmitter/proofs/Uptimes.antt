@@ -1,0 +1,31 @@
+-- The number of a step's note is the one that the step commits.
+use Rattle.std.proofs.Common.{ℕ, ◌+◌, Option, Some, None, Result, Ok, Err, IfOk, OnErr}
+use Rattle.yasir_io.specs.declared.disk.SlotDisk.{Ghosts as SlotDisk}
+use Rattle.sequence_journal.specs.declared.journal.Journal.{Journal}
+use Rattle.sequence_journal.specs.declared.journal.JournalFault.{JournalFault}
+use Rattle.sequence_journal.specs.Commits.{HasFailed}
+use Rattle.sequence_journal.specs.Journal.{journal_floor}
+use Rattle.sequence_journal.specs.Uptimes.{CommitsAnswered}
+use Rattle.seal_transmitter.specs.Answers.{CommitsNoted, KeepsJournal, numbers_noted}
+use Rattle.seal_transmitter.specs.declared.note.SealNote.{SealNote}
+use Rattle.seal_transmitter.specs.declared.note.SealNote.TheVariants.{Sealed, Unsealed}
+use Rattle.seal_transmitter.specs.declared.note.SealStep.{SealStep}
+
+module _ {D : Type 0} (d : SlotDisk D) (old new : Journal) (before after : D) where
+  answered : (note : Option SealNote) → CommitsNoted d old new before after note
+      → CommitsAnswered d old new before after (numbers_noted note)
+  answered None kept = kept
+  answered (Some (Unsealed start why)) kept = kept
+  answered (Some (Sealed number start len)) commits = commits.1
+
+  pub commits-answered : (result : Result SealStep JournalFault)
+      → KeepsJournal d old new before after result
+      → IfOk result (λ step. CommitsAnswered d old new before after (numbers_noted step.note))
+  commits-answered (Ok step) keeps = answered step.note keeps.commits
+  commits-answered (Err fault) keeps = tt
+
+  pub fails-to-commit : (result : Result SealStep JournalFault)
+      → KeepsJournal d old new before after result
+      → OnErr result ((n : ℕ) × HasFailed old new (d.told before) (d.told after) n)
+  fails-to-commit (Ok step) keeps = tt
+  fails-to-commit (Err fault) keeps = (journal_floor old + 1, keeps.failed)
