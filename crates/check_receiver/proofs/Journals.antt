@@ -25,6 +25,7 @@ module _ {S : Type 0} (d : SlotDisk S) (journal : Journal) (disk : S) where
   journal-kept only_now fits step none = record {
     commits = commits-none step.note none;
     fits = fits;
+    failed = tt;
     crash_safe = λ safe. safe;
     any_moment = λ safe. record {
       later = omega arith;

@@ -21,3 +21,4 @@ pub mod LiveRuns
 pub mod RunsTaken
 pub mod Lending
 pub mod Beginnings
+pub mod Uptimes

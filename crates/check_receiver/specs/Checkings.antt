@@ -1,6 +1,6 @@
 -- What the steps of a receiver answer, and what they do to its journal.
 use Rattle.std.specs.Prelude.{◌≡◌, ℕ, List, [], ◌∷◌, ◌++◌, length, Option, Some, None}
-use Rattle.std.specs.Prelude.{Result, IfOk, OnOk}
+use Rattle.std.specs.Prelude.{Result, IfOk, OnOk, OnErr}
 use Rattle.yasir_ticks.specs.declared.tick.Tick.{Tick}
 use Rattle.yasir_io.specs.Causes.{HasCause}
 use Rattle.yasir_io.specs.Disks.{LeavesOnly}
@@ -10,7 +10,7 @@ use Rattle.burst_walk.specs.Answers.{AnswersTick as AnswersTickOf}
 use Rattle.link_format.specs.Profile.{Profile}
 use Rattle.sequence_journal.specs.declared.journal.Journal.{Journal}
 use Rattle.sequence_journal.specs.declared.journal.JournalFault.{JournalFault}
-use Rattle.sequence_journal.specs.Commits.{HasCommitted}
+use Rattle.sequence_journal.specs.Commits.{HasCommitted, HasFailed}
 use Rattle.sequence_journal.specs.Journal.{journal_floor, Fits, IsCrashSafe, HasFloorAtLeast}
 use Rattle.link_verdicts.specs.Checking.{checker, at_floor, check_notes, brief_note}
 use Rattle.link_verdicts.specs.Checking.FullNote.{passed_note}
@@ -45,11 +45,20 @@ CommitsNoted d old new disk_old disk_new (Some (Dropped start why)) =
     (new ≡ old) × (disk_new ≡ disk_old)
 CommitsNoted d old new disk_old disk_new None = (new ≡ old) × (disk_new ≡ disk_old)
 
+-- the number that a note has
+abbrev pub numbers_noted : Option CheckNote → List ℕ
+numbers_noted (Some (Passed number start len)) = number ∷ []
+numbers_noted (Some (Refused start why)) = []
+numbers_noted (Some (Dropped start why)) = []
+numbers_noted None = []
+
 -- What a step does to the journal and its disk.
 pub record KeepsJournal {S : Type 0} (d : SlotDisk S) (old new : Journal) (disk_old disk_new : S)
     (result : Result CheckStep JournalFault) : Type 0 where
   pub commits : IfOk result (λ step. CommitsNoted d old new disk_old disk_new step.note)
   pub fits : OnOk result (Fits new (d.told disk_new))
+  pub failed : OnErr result
+      ((number : ℕ) × HasFailed old new (d.told disk_old) (d.told disk_new) number)
   -- Where a crash before the step left no floor below the journal's, one after it leaves none below
   -- what is then the journal's, and one at any moment inside it leaves none below what was.
   pub crash_safe : IsCrashSafe old (d.told disk_old) (d.may_leave disk_old)

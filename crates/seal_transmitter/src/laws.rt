@@ -42,8 +42,8 @@ pub fn steps_are_of_an_uptime<D: SlotDisk>()
         → KeepsJournal D.SlotDisk old new before after result
         → IsCrashSafe old (D.told before) (D.may_leave before)
         → IsStep D.SlotDisk (journal_floor old) before (record {
-            numbers = numbers_answered (λ step. numbers_noted step.note) result;
-            after = after;
+          numbers = numbers_answered (λ step. numbers_noted step.note) result;
+          after = after;
         }) }
     ensures goes_on { (old new : Journal) (before after : D) (result : Result SealStep JournalFault)
         → KeepsJournal D.SlotDisk old new before after result

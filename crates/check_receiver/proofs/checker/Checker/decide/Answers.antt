@@ -44,6 +44,16 @@ returns-in_default-clause-err_passes g c = (
       c.in-Ok.number c.in-Ok.ensures.judged,
 )
 
+pub returns-in_default-clause-journal : goal.returns-in_default-clause-journal
+returns-in_default-clause-journal g c = record {
+  commits = tt;
+  fits = tt;
+  failed = (c.in-Ok.number, c.in_default.ensures.failed);
+  crash_safe = c.commit.ensures.crash_safe;
+  any_moment = λ safe. c.commit.ensures.any_moment safe.kept;
+  cause = search rules;
+}
+
 pub pass-requires : goal.pass-requires
 pass-requires g c = (
   search rules,
@@ -73,6 +83,7 @@ returns-clause-journal g c =
     record {
       commits = subst P (sym noted.2) c.in-Ok-commit.ensures.committed;
       fits = c.in-Ok-commit.ensures.fits;
+      failed = tt;
       crash_safe = c.commit.ensures.crash_safe;
       any_moment = λ safe. c.commit.ensures.any_moment safe.kept;
       cause = search rules;

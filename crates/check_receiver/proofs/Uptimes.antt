@@ -1,0 +1,24 @@
+-- The number of a step's note is the one that the step commits.
+use Rattle.std.proofs.Common.{Option, Some, None, Result, Ok, Err, IfOk}
+use Rattle.yasir_io.specs.declared.disk.SlotDisk.{Ghosts as SlotDisk}
+use Rattle.sequence_journal.specs.declared.journal.Journal.{Journal}
+use Rattle.sequence_journal.specs.declared.journal.JournalFault.{JournalFault}
+use Rattle.sequence_journal.specs.Uptimes.{CommitsAnswered}
+use Rattle.link_verdicts.specs.declared.note.CheckNote.{CheckNote}
+use Rattle.link_verdicts.specs.declared.note.CheckNote.TheVariants.{Passed, Refused, Dropped}
+use Rattle.check_receiver.specs.Checkings.{CommitsNoted, KeepsJournal, numbers_noted}
+use Rattle.check_receiver.specs.declared.step.CheckStep.{CheckStep}
+
+module _ {S : Type 0} (d : SlotDisk S) (old new : Journal) (before after : S) where
+  answered : (note : Option CheckNote) → CommitsNoted d old new before after note
+      → CommitsAnswered d old new before after (numbers_noted note)
+  answered None kept = kept
+  answered (Some (Refused start why)) kept = kept
+  answered (Some (Dropped start why)) kept = kept
+  answered (Some (Passed number start len)) commits = commits
+
+  pub commits-answered : (result : Result CheckStep JournalFault)
+      → KeepsJournal d old new before after result
+      → IfOk result (λ step. CommitsAnswered d old new before after (numbers_noted step.note))
+  commits-answered (Ok step) keeps = answered step.note keeps.commits
+  commits-answered (Err fault) keeps = tt

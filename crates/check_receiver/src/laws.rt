@@ -1,0 +1,26 @@
+ghost use Rattle.std.specs.Prelude.{◌≡◌, Result};
+ghost use Rattle.sequence_journal.specs.declared.journal.Journal.{Journal};
+ghost use Rattle.sequence_journal.specs.declared.journal.JournalFault.{JournalFault};
+ghost use Rattle.sequence_journal.specs.Journal.{journal_floor, IsCrashSafe};
+ghost use Rattle.sequence_journal.specs.Uptimes.{IsStep, last_from, numbers_answered};
+ghost use Rattle.check_receiver.specs.declared.step.CheckStep.{CheckStep};
+ghost use Rattle.check_receiver.specs.Checkings.{KeepsJournal, numbers_noted};
+
+use yasir_io::SlotDisk;
+
+/// A call of the receiver's `step` is a step of an uptime: it answers the number of its note, and a
+/// crash at any moment inside it leaves no floor below the one before. The next step goes on from
+/// the last number answered. The calls that take runs have no disk.
+pub fn steps_are_of_an_uptime<D: SlotDisk>()
+    ensures is_step { (old new : Journal) (before after : D) (result : Result CheckStep JournalFault)
+        → KeepsJournal D.SlotDisk old new before after result
+        → IsCrashSafe old (D.told before) (D.may_leave before)
+        → IsStep D.SlotDisk (journal_floor old) before (record {
+          numbers = numbers_answered (λ step. numbers_noted step.note) result;
+          after = after;
+        }) }
+    ensures goes_on { (old new : Journal) (before after : D) (result : Result CheckStep JournalFault)
+        → KeepsJournal D.SlotDisk old new before after result
+        → last_from (journal_floor old) (numbers_answered (λ step. numbers_noted step.note) result)
+        ≡ journal_floor new }
+{}
