@@ -2,7 +2,7 @@
 //! sync.
 ghost use Rattle.std.specs.Io.{ReadsAtMost, WritesAtMost};
 
-use crate::{Failed, FileSlots, FileSource, Slot, SlotDisk, Source};
+use crate::{Failed, FileSlots, FileSource, Lock, Slot, SlotDisk, Source};
 use std::alloc::{Allocator, Global};
 use std::cell::Cell;
 use std::fs::{Metadata, OpenFile, OpenOptions};
@@ -13,6 +13,10 @@ use std::test::Fail;
 
 const ROOM: usize = 40;
 
+// The one path: blanks belong to it, and it is longer than 64 bytes.
+const PATH: &str =
+    " a folder whose name is rather long/another one that is in it/the file of slots ";
+
 // A file system of one file. A call moves at most `piece` bytes; call `fail`, counted from 1,
 // fails.
 #[derive(Drop)]
@@ -20,6 +24,7 @@ struct OneFile {
     bytes: Cell<[u8; ROOM]>,
     len: Cell<usize>,
     exists: Cell<bool>,
+    locked: Cell<bool>,
     piece: usize,
     fail: u32,
     calls: Cell<u32>,
@@ -39,7 +44,7 @@ impl OneFile {
     }
 }
 
-// A file whose first bytes are 0, 1, 2, ..
+// A file whose first bytes are 0, 1, 2, .. An earlier run has left it unsynced.
 fn file_of(len: usize, piece: usize, fail: u32) -> OneFile {
     let mut bytes = [0; ROOM];
     let mut next = 0u8;
@@ -51,23 +56,50 @@ fn file_of(len: usize, piece: usize, fail: u32) -> OneFile {
         bytes: Cell::new(bytes),
         len: Cell::new(len),
         exists: Cell::new(true),
+        locked: Cell::new(false),
         piece,
         fail,
         calls: Cell::new(0),
         openings: Cell::new(0),
         syncs: Cell::new(0),
-        unsynced: Cell::new(false),
+        unsynced: Cell::new(true),
     }
 }
 
 #[derive(Drop)]
 struct Folder<'a>(&'a OneFile);
 
-#[derive(Drop)]
 struct Opened<'a> {
     file: &'a OneFile,
     place: usize,
     writes: bool,
+    has_lock: Cell<bool>,
+}
+
+impl Drop for Opened<'_> {
+    fn drop(self) {
+        if self.has_lock.get() {
+            self.file.locked.set(false);
+        }
+        let Opened {
+            file: _,
+            place: _,
+            writes: _,
+            has_lock: _,
+        } = self;
+    }
+}
+
+impl Lock for Opened<'_> {
+    fn try_lock(&self) -> io::Result<()> {
+        self.file.begin()?;
+        if self.file.locked.get() {
+            return Err(ErrorKind::WouldBlock.into());
+        }
+        self.file.locked.set(true);
+        self.has_lock.set(true);
+        Ok(())
+    }
 }
 
 impl Opened<'_> {
@@ -154,10 +186,10 @@ impl<'a> Files for Folder<'a> {
 
     type Dir = Opened<'a>;
 
-    fn open_file(&self, how: &OpenOptions, _path: &str) -> io::Result<Opened<'a>> {
+    fn open_file(&self, how: &OpenOptions, path: &str) -> io::Result<Opened<'a>> {
         how.check()?;
         self.0.begin()?;
-        if !self.0.exists.get() && !how.asks_create() {
+        if path != PATH || !self.0.exists.get() && !how.asks_create() {
             return Err(ErrorKind::NotFound.into());
         }
         self.0.exists.set(true);
@@ -169,6 +201,7 @@ impl<'a> Files for Folder<'a> {
             file: self.0,
             place: 0,
             writes: how.asks_write(),
+            has_lock: Cell::new(false),
         })
     }
 
@@ -220,7 +253,7 @@ fn counted(first: u8) -> [u8; 16] {
 }
 
 fn name(alloc: Global) -> Result<Option<String>, Fail> {
-    Ok(Some(String::from_str(alloc, "file")?))
+    Ok(Some(String::from_str(alloc, PATH)?))
 }
 
 // A slot whose first bytes, so many of them, count up from this one; the others are 0.
@@ -242,69 +275,78 @@ fn is_front(answer: Result<[u8; 16], Failed>, first: u8, front: Option<usize>) -
     }
 }
 
-// Both slots of a file of so many bytes are read so, with one opening.
-fn read_both(
-    rt: &impl Abort,
-    alloc: Global,
-    len: usize,
-    piece: usize,
-    fail: u32,
-    a: Option<usize>,
-    b: Option<usize>,
-) -> Result<(), Fail> {
+// How many bytes a file has, the most that a call on it moves, the call that fails; how often it is
+// opened then, and how many bytes of the file the first read of each slot gives.
+type Reads = (usize, usize, u32, u32, Option<usize>, Option<usize>);
+
+const READS: [Reads; 11] = [
+    (32, 40, 0, 1, Some(16), Some(16)),
+    (40, 5, 0, 1, Some(16), Some(16)),
+    (19, 7, 0, 1, Some(16), Some(3)),
+    (0, 40, 0, 1, Some(0), Some(0)),
+    // The opening, the lock and the first sync fail: the file isn't open then.
+    (32, 40, 1, 1, None, Some(16)),
+    (32, 40, 2, 2, None, Some(16)),
+    (32, 40, 3, 2, None, Some(16)),
+    // The seek and the read for slot A fail, the second of its reads, and the read for slot B.
+    (32, 40, 4, 1, None, Some(16)),
+    (32, 40, 5, 1, None, Some(16)),
+    (32, 9, 6, 1, None, Some(16)),
+    (32, 40, 7, 1, Some(16), None),
+];
+
+fn read_both(rt: &impl Abort, alloc: Global, row: &Reads) -> Result<(), Fail> {
+    let (len, piece, fail, openings, a, b) = *row;
     let file = file_of(len, piece, fail);
     let folder = Folder(&file);
     let mut disk = FileSlots::new(&folder, name(alloc)?, false);
     assert!(rt; is_front(disk.read_slot(Slot::A), 0, a));
     assert!(rt; is_front(disk.read_slot(Slot::B), 16, b));
-    assert!(rt; file.openings.get() == 1);
+    assert!(rt; file.openings.get() == openings);
+    assert!(rt; file.syncs.get() == 1);
     assert!(rt; file.len.get() == len);
     Ok(())
 }
 
 #[test]
 fn a_slot_is_read_whole_or_not_at_all(rt: HostRuntime) -> Result<(), Fail> {
-    // bytes of the file, most of a call, the call that fails, and how many bytes of the file the
-    // first read of each slot gives
-    let rows = [
-        (32, 40, 0, Some(16), Some(16)),
-        (40, 5, 0, Some(16), Some(16)),
-        (19, 7, 0, Some(16), Some(3)),
-        (0, 40, 0, Some(0), Some(0)),
-        // The opening, the seek and the read for slot A fail, the second of its reads, and the read
-        // for slot B.
-        (32, 40, 1, None, Some(16)),
-        (32, 40, 2, None, Some(16)),
-        (32, 40, 3, None, Some(16)),
-        (32, 9, 4, None, Some(16)),
-        (32, 40, 5, Some(16), None),
-    ];
-    for (len, piece, fail, a, b) in rows {
-        read_both(&rt, rt.alloc(), len, piece, fail, a, b)?;
+    for row in &READS {
+        read_both(&rt, rt.alloc(), row)?;
     }
     Ok(())
 }
 
-// A write of bytes 99 to slot B and a sync behind it are done, or are not; answers the file's bytes.
-fn write_and_sync(
-    rt: &impl Abort,
-    alloc: Global,
-    piece: usize,
-    fail: u32,
-    written: bool,
-    synced: bool,
-) -> Result<[u8; ROOM], Fail> {
+// The most that a call moves, the call that fails, whether a write and the sync behind it are done;
+// how often the file is opened and synced then.
+type Writes = (usize, u32, bool, bool, u32, u32);
+
+const WRITES: [Writes; 9] = [
+    (40, 0, true, true, 1, 2),
+    (16, 0, true, true, 1, 2),
+    (15, 0, false, true, 1, 2),
+    // The opening, the lock, the first sync, the seek and the write fail, and the sync behind it.
+    (40, 1, false, true, 1, 2),
+    (40, 2, false, true, 2, 2),
+    (40, 3, false, true, 2, 2),
+    (40, 4, false, true, 1, 2),
+    (40, 5, false, true, 1, 2),
+    (40, 6, true, false, 1, 1),
+];
+
+// A write of bytes 99 to slot B and a sync behind it.
+fn write_and_sync(rt: &impl Abort, alloc: Global, row: &Writes) -> Result<(), Fail> {
+    let (piece, fail, written, synced, openings, syncs) = *row;
     let file = file_of(40, piece, fail);
     let folder = Folder(&file);
     let mut disk = FileSlots::new(&folder, name(alloc)?, false);
     assert!(rt; disk.write_slot(Slot::B, &[99; 16]).is_ok() == written);
-    assert!(rt; file.syncs.get() == 0);
     assert!(rt; disk.sync().is_ok() == synced);
-    assert!(rt; file.syncs.get() == u32::from(synced));
+    assert!(rt; file.syncs.get() == syncs);
     assert!(rt; file.unsynced.get() == !synced);
     assert!(rt; file.len.get() == 40);
-    assert!(rt; file.openings.get() == 1);
-    Ok(file.bytes.get())
+    assert!(rt; file.openings.get() == openings);
+    holds(rt, file.bytes.get(), written);
+    Ok(())
 }
 
 // Only slot B was written, if anything was.
@@ -318,19 +360,56 @@ fn holds(rt: &impl Abort, bytes: [u8; ROOM], written: bool) {
 
 #[test]
 fn a_slot_is_written_whole_or_a_fault(rt: HostRuntime) -> Result<(), Fail> {
-    // most of a call, the call that fails, and whether the write and the sync behind it are done
-    let rows = [
-        (40, 0, true, true),
-        (16, 0, true, true),
-        (15, 0, false, true),
-        (40, 1, false, true),
-        (40, 3, false, true),
-        (40, 4, true, false),
-    ];
-    for (piece, fail, written, synced) in rows {
-        let bytes = write_and_sync(&rt, rt.alloc(), piece, fail, written, synced)?;
-        holds(&rt, bytes, written);
+    for row in &WRITES {
+        write_and_sync(&rt, rt.alloc(), row)?;
     }
+    Ok(())
+}
+
+// Slots one after the other: the numbers 1, 65,536 and the greatest, each behind it its complement.
+const NUMBERS: [(Slot, u128); 3] = [
+    (Slot::A, 0x0000_0000_0000_0001_ffff_ffff_ffff_fffe),
+    (Slot::B, 0x0000_0000_0001_0000_ffff_ffff_fffe_ffff),
+    (Slot::A, 0x0000_ffff_ffff_ffff_ffff_0000_0000_0000),
+];
+
+#[test]
+fn each_write_is_synced_for_itself(rt: HostRuntime) -> Result<(), Fail> {
+    let file = file_of(32, 40, 0);
+    let folder = Folder(&file);
+    let mut disk = FileSlots::new(&folder, name(rt.alloc())?, false);
+    let mut syncs = 1u32;
+    for (slot, number) in &NUMBERS {
+        let bytes = number.to_be_bytes();
+        assert_eq!(rt; disk.write_slot(*slot, &bytes), Ok(()));
+        assert!(rt; file.unsynced.get());
+        assert_eq!(rt; file.syncs.get(), syncs);
+        assert_eq!(rt; disk.sync(), Ok(()));
+        syncs = syncs.saturating_add(1);
+        assert!(rt; !file.unsynced.get());
+        assert_eq!(rt; file.syncs.get(), syncs);
+        assert_eq!(rt; disk.read_slot(*slot), Ok(bytes));
+    }
+    Ok(())
+}
+
+#[test]
+fn one_disk_has_the_file(rt: HostRuntime) -> Result<(), Fail> {
+    let file = file_of(32, 40, 0);
+    let folder = Folder(&file);
+    let mut second = FileSlots::new(&folder, name(rt.alloc())?, false);
+    {
+        let mut first = FileSlots::new(&folder, name(rt.alloc())?, false);
+        assert_eq!(rt; first.read_slot(Slot::A), Ok(counted(0)));
+        for _ in 0..2 {
+            assert_eq!(rt; second.read_slot(Slot::A), Err(Failed));
+            assert_eq!(rt; second.write_slot(Slot::A, &[99; 16]), Err(Failed));
+            assert_eq!(rt; second.sync(), Err(Failed));
+        }
+        assert_eq!(rt; first.read_slot(Slot::A), Ok(counted(0)));
+        assert_eq!(rt; file.syncs.get(), 1);
+    }
+    assert_eq!(rt; second.read_slot(Slot::A), Ok(counted(0)));
     Ok(())
 }
 
@@ -343,7 +422,7 @@ fn a_missing_file_is_made_where_it_is_said(rt: HostRuntime) -> Result<(), Fail> 
         let mut disk = FileSlots::new(&folder, name(rt.alloc())?, create);
         assert_eq!(rt; disk.sync().is_ok(), create);
         assert_eq!(rt; file.exists.get(), create);
-        assert_eq!(rt; file.syncs.get(), if create { 1 } else { 0 });
+        assert_eq!(rt; file.syncs.get(), if create { 2 } else { 0 });
     }
     Ok(())
 }

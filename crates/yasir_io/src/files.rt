@@ -1,6 +1,7 @@
 //! Real files as a source and as a disk, opened at the first call. What stands in them isn't told;
 //! faults are counted.
-ghost use Rattle.std.specs.Prelude.{◌≡◌, ◌<◌, ◌≤◌, length, take, Some, None, IsSome, OnOk, IfOk};
+ghost use Rattle.std.specs.Prelude.{◌≡◌, ◌<◌, ◌≤◌, length, take, Some, None, IsSome, OnOk, OnErr};
+ghost use Rattle.std.specs.Prelude.{IfOk};
 ghost use Rattle.std.specs.Io.{ReadsAtMost};
 ghost use Rattle.std.specs.Io.KnownBytes.{Appends, Consumes, IsAtEnd, ReadConsumes};
 ghost use Rattle.yasir_io.specs.Causes.{HasCause};
@@ -10,7 +11,7 @@ ghost use Rattle.yasir_io.specs.SlotFiles.{for_reading, for_slots, slot_place, O
 ghost use Rattle.yasir_io.specs.SlotFiles.{ReadsNext, ReadsSlot, WritesSlot};
 
 use crate::faults::Faults;
-use crate::{Failed, SLOT_LEN, Slot, SlotBytes, SlotDisk, Source};
+use crate::{Failed, Lock, SLOT_LEN, Slot, SlotBytes, SlotDisk, Source};
 use std::fs::{OpenFile, OpenOptions};
 use std::io::{self, Read, Seek, SeekFrom, Write};
 use std::rt::Files;
@@ -37,15 +38,21 @@ impl<'a, R: Files> LazyFile<'a, R> {
         }
     }
 
+    // The file, newly opened.
+    fn opened(&self) -> io::Result<R::File> {
+        let path = self.path.as_ref().ok_or(io::ErrorKind::NotFound)?;
+        self.options.open(self.rt, path.as_str())
+    }
+
     // Opens the file, unless it stands open.
     fn open(&mut self) -> io::Result<()>
         ensures opened { OnOk result (IsSome self.new.file) }
+        ensures closed { OnErr result (self.new.file ≡ self.old.file) }
         ensures same { IsSome self.old.file → self.new.file ≡ self.old.file }
         ensures options { self.new.options ≡ self.old.options }
     {
         if self.file.is_none() {
-            let path = self.path.as_ref().ok_or(io::ErrorKind::NotFound)?;
-            self.file = Some(self.options.open(self.rt, path.as_str())?);
+            self.file = Some(self.opened()?);
         }
         Ok(())
     }
@@ -62,13 +69,36 @@ impl<'a, R: Files> LazyFile<'a, R> {
             None => Err(io::ErrorKind::NotFound.into()),
         }
     }
+}
+
+impl<'a, R: Files> LazyFile<'a, R>
+where
+    R::File: Lock,
+{
+    // Opens the file for this run alone, unless it stands open. A run that was killed may have left
+    // writes that no sync has confirmed: they are synced before anything is read, since this run
+    // goes on from what it reads.
+    fn open_alone(&mut self) -> io::Result<()>
+        ensures opened { OnOk result (IsSome self.new.file) }
+        ensures closed { OnErr result (self.new.file ≡ self.old.file) }
+        ensures same { IsSome self.old.file → self.new.file ≡ self.old.file }
+        ensures options { self.new.options ≡ self.old.options }
+    {
+        if self.file.is_none() {
+            let file = self.opened()?;
+            file.try_lock()?;
+            file.sync_all()?;
+            self.file = Some(file);
+        }
+        Ok(())
+    }
 
     fn read_slot(&mut self, slot: Slot) -> io::Result<SlotBytes>
         ensures reads { OnOpen self.old.file self.new.file
             (λ f g. IfOk result (ReadsSlot R.File.Seek R.File.Read slot f g)) }
         ensures options { self.new.options ≡ self.old.options }
     {
-        self.open()?;
+        self.open_alone()?;
         match &mut self.file {
             Some(file) => read_at(file, slot),
             None => Err(io::ErrorKind::NotFound.into()),
@@ -80,7 +110,7 @@ impl<'a, R: Files> LazyFile<'a, R> {
             (λ f g. OnOk result (WritesSlot R.File.Seek R.File.Write slot f g bytes.now)) }
         ensures options { self.new.options ≡ self.old.options }
     {
-        self.open()?;
+        self.open_alone()?;
         match &mut self.file {
             Some(file) => write_at(file, slot, bytes),
             None => Err(io::ErrorKind::NotFound.into()),
@@ -91,7 +121,7 @@ impl<'a, R: Files> LazyFile<'a, R> {
         ensures file { IsSome self.old.file → self.new.file ≡ self.old.file }
         ensures options { self.new.options ≡ self.old.options }
     {
-        self.open()?;
+        self.open_alone()?;
         match &self.file {
             Some(file) => file.sync_all(),
             None => Err(io::ErrorKind::NotFound.into()),
@@ -218,7 +248,10 @@ pub struct FileSlots<'a, R: Files> {
     faults: Faults,
 }
 
-impl<'a, R: Files> FileSlots<'a, R> {
+impl<'a, R: Files> FileSlots<'a, R>
+where
+    R::File: Lock,
+{
     /// A disk in the file at a path, which isn't opened yet. A missing file is made where `create`
     /// says so.
     pub fn new(rt: &'a R, path: Option<String>, create: bool) -> FileSlots<'a, R>
@@ -235,7 +268,10 @@ impl<'a, R: Files> FileSlots<'a, R> {
     }
 }
 
-impl<'a, R: Files> SlotDisk for FileSlots<'a, R> {
+impl<'a, R: Files> SlotDisk for FileSlots<'a, R>
+where
+    R::File: Lock,
+{
     ghost told = { λ _. None };
 
     ghost may_leave = { λ _ _. ⊥ };

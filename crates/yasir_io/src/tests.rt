@@ -356,6 +356,8 @@ fn slots_stand_in_a_file(rt: HostRuntime) -> Result<(), Fail> {
         "aaaaaaaaaaaaaaaabbbbbbbbbbbbbbbb"
     );
     let mut again = FileSlots::new(&rt, Some(path.clone()?), false);
+    assert_eq!(rt; again.read_slot(Slot::B), Err(Failed));
+    drop(made);
     assert_eq!(rt; again.read_slot(Slot::B), Ok([b'b'; 16]));
     fs::remove_file(&rt, path.as_str())?;
     // A folder, and no path.
