@@ -27,7 +27,7 @@ use std::process::ExitCode;
 pub use words::{
     Command, Profile, Proto, Usage, journal_word, key_word, makes_journal, read_words,
 };
-use yasir_io::{FileSlots, FileSource, StderrSink, StdinSource, StdoutSink};
+use yasir_io::{FileSlots, FileSource, SlotFile, StderrSink, StdinSource, StdoutSink};
 
 /// The exit status where no memory is found for a path.
 const NO_MEMORY: u8 = 9;
@@ -72,6 +72,11 @@ fn main(rt: HostRuntime) -> ExitCode {
     let Ok(journal_path) = path_at(words, journal_word(words)) else {
         return ExitCode::from(NO_MEMORY);
     };
+    let journal_file = if makes_journal(words) {
+        SlotFile::New
+    } else {
+        SlotFile::Standing
+    };
     let status = run(
         rt.alloc(),
         words,
@@ -79,7 +84,7 @@ fn main(rt: HostRuntime) -> ExitCode {
         &mut StdinSource::new(rt.stdin()),
         &mut StdoutSink::new(rt.stdout()),
         &mut StderrSink::new(rt.stderr()),
-        &mut FileSlots::new(&rt, journal_path, makes_journal(words)),
+        &mut FileSlots::new(&rt, journal_path, journal_file),
     );
     ExitCode::from(status.code())
 }

@@ -7,7 +7,9 @@ use std::alloc::Global;
 use std::process::Abort;
 use std::test::Fail;
 use std::{env, fs};
-use yasir_io::{FileSlots, MemSink, MemSlots, MemSource, Plan, Sink, Slot, SlotDisk, SteadySlots};
+use yasir_io::{
+    FileSlots, MemSink, MemSlots, MemSource, Plan, Sink, Slot, SlotDisk, SlotFile, SteadySlots,
+};
 use yasir_ticks::{BadTicks, TickFault};
 
 /// A request and silence behind it, and the line that is printed of it.
@@ -466,7 +468,7 @@ fn make_at(
     status: Status,
     fault: &[u8],
 ) -> Result<(), Fail> {
-    let mut disk = FileSlots::new(host, path, true);
+    let mut disk = FileSlots::new(host, path, SlotFile::New);
     let ran = run_over(host.alloc(), "init journal", KEY, b"", 0, &mut disk)?;
     ended(rt, &ran, status, b"", fault);
     Ok(())
@@ -475,7 +477,7 @@ fn make_at(
 // The file at this path holds number 0 in its first slot, and nothing in its second one.
 fn has_journal(rt: &impl Abort, host: &HostRuntime, path: &str) -> Result<(), Fail> {
     let path = Some(String::from_str(host.alloc(), path)?);
-    let mut disk = FileSlots::new(host, path, false);
+    let mut disk = FileSlots::new(host, path, SlotFile::Standing);
     assert_eq!(rt; disk.read_slot(Slot::A), Ok(NUMBER_0));
     assert_eq!(rt; disk.read_slot(Slot::B), Ok([0; 16]));
     Ok(())

@@ -5,7 +5,10 @@ use Rattle.yasir_io.specs.declared.edge.StdinSource.{StdinSource}
 use Rattle.yasir_io.specs.declared.edge.WriterSink.{WriterSink}
 use Rattle.yasir_io.specs.declared.files.FileSource.{FileSource}
 use Rattle.yasir_io.specs.declared.files.FileSlots.{FileSlots}
+use Rattle.yasir_io.specs.declared.files.SlotFile.{SlotFile}
 use Rattle.std.specs.declared.fs.OpenOptions.{OpenOptions}
+use Rattle.std.specs.declared.string.String.{String}
+use Rattle.std.specs.declared.alloc.Global.{Global}
 
 -- what is read
 abbrev pub reader_of : {I : Type 0} → StdinSource I → I
@@ -35,6 +38,10 @@ writer_unflushed sink = sink.flushes.unflushed
 abbrev pub file_of : {R F D : Type 0} → FileSource R F D → Option F
 file_of source = source.file.file
 
+-- the path of the file, if it has one
+abbrev pub file_path : {R F D : Type 0} → FileSource R F D → Option (String Global)
+file_path source = source.file.path
+
 -- how it is opened
 abbrev pub file_options : {R F D : Type 0} → FileSource R F D → OpenOptions
 file_options source = source.file.options
@@ -46,6 +53,14 @@ file_faults source = source.faults.count
 -- the file of slots, once it stands open
 abbrev pub slots_file : {R F D : Type 0} → FileSlots R F D → Option F
 slots_file disk = disk.file.file
+
+-- the path of the file of slots, if it has one
+abbrev pub slots_path : {R F D : Type 0} → FileSlots R F D → Option (String Global)
+slots_path disk = disk.file.path
+
+-- what is expected of it
+abbrev pub slots_kind : {R F D : Type 0} → FileSlots R F D → SlotFile
+slots_kind disk = disk.kind
 
 -- how it is opened
 abbrev pub slots_options : {R F D : Type 0} → FileSlots R F D → OpenOptions

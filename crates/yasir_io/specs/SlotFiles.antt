@@ -1,6 +1,6 @@
 -- Two slots in a file: where each stands, and how it is read and written there.
-use Rattle.std.specs.Prelude.{◌≡◌, ℕ, ◌-◌, ◌<◌, List, ◌++◌, length, replicate, Bool, true, Option}
-use Rattle.std.specs.Prelude.{Some, None, IfSome}
+use Rattle.std.specs.Prelude.{◌≡◌, ℕ, ◌-◌, ◌<◌, List, ◌++◌, length, replicate, Bool, true, false}
+use Rattle.std.specs.Prelude.{Option, Some, None, IfSome, Result, IsErr, ⊤}
 use Rattle.std.specs.Io.KnownBytes.{Appends, Consumes, Keeps, IsAtEnd}
 use Rattle.std.specs.Fs.{new_options, with_read, with_write, with_create}
 use Rattle.std.specs.declared.fs.OpenOptions.{OpenOptions}
@@ -10,25 +10,39 @@ use Rattle.std.specs.declared.io.Seek.{Ghosts as Seek}
 use Rattle.yasir_io.specs.declared.disk.Slot.{Slot}
 use Rattle.yasir_io.specs.declared.disk.Slot.TheVariants.{A, B}
 use Rattle.yasir_io.specs.declared.disk.TheConstants.{SLOT_LEN}
+use Rattle.yasir_io.specs.declared.files.SlotFile.{SlotFile}
+use Rattle.yasir_io.specs.declared.files.SlotFile.TheVariants.{Standing, New}
 
 -- for reading alone
 abbrev pub for_reading : OpenOptions
 for_reading = with_read new_options true
 
--- for reading and writing, with nothing cut off; a missing file is made where `create` says so
-abbrev pub for_slots : Bool → OpenOptions
-for_slots create = with_create (with_write (with_read new_options true) true) create
+-- whether a missing file is made
+abbrev pub is_made : SlotFile → Bool
+is_made Standing = false
+is_made New = true
+
+-- for reading and writing, with nothing cut off
+abbrev pub for_slots : SlotFile → OpenOptions
+for_slots kind = with_create (with_write (with_read new_options true) true) (is_made kind)
 
 -- the place of the first byte of a slot
 abbrev pub slot_place : Slot → ℕ
 slot_place A = 0
 slot_place B = SLOT_LEN
 
--- what a call does to a file that stands open
-abbrev pub OnOpen : {F : Type 0} → Option F → Option F → (F → F → Type 0) → Type 0
-OnOpen None new P = Unit {0}
-OnOpen (Some f) None P = ⊥
-OnOpen (Some f) (Some g) P = P f g
+-- What a call does to a file, P. Where none stands open the call opens one, which Begins and goes
+-- on from there, or it fails; a file that stands open stays so.
+abbrev pub OnOpen : {F T E : Type 0} → (F → Type 0) → Option F → Option F → Result T E
+    → (F → F → Type 0) → Type 0
+OnOpen Begins None None result P = IsErr result
+OnOpen {F = F} Begins None (Some g) result P = (f : F) × Begins f × P f g
+OnOpen Begins (Some f) None result P = ⊥
+OnOpen Begins (Some f) (Some g) result P = P f g
+
+-- nothing is known of how a file begins
+abbrev pub AnyStart : {F : Type 0} → F → Type 0
+AnyStart f = ⊤
 
 -- A known position is moved to a place, and the bytes stay.
 pub record MovesTo {F : Type 0} (seek : Seek F) (place : ℕ) (old new : F) : Type 0 where
@@ -55,3 +69,18 @@ pub record WritesSlot {F : Type 0} (seek : Seek F) (write : Write F) (slot : Slo
   pub between : F
   pub moves : MovesTo seek (slot_place slot) old between
   pub writes : Appends (write.contents between) (write.contents new) bytes
+
+-- A slot of a new file is written: both slots are read before, and are zeros.
+pub record WritesFirst {F : Type 0} (seek : Seek F) (read : Read F) (write : Write F) (slot : Slot)
+    (old new : F) (bytes : List ℕ) : Type 0 where
+  pub past_a : F
+  pub past_b : F
+  pub zeros_a : ReadsSlot seek read A old past_a (replicate SLOT_LEN 0)
+  pub zeros_b : ReadsSlot seek read B past_a past_b (replicate SLOT_LEN 0)
+  pub writes : WritesSlot seek write slot past_b new bytes
+
+-- a slot of such a file is written
+abbrev pub WritesIn : {F : Type 0} → Seek F → Read F → Write F → SlotFile → Slot → F → F → List ℕ
+    → Type 0
+WritesIn seek read write Standing slot old new bytes = WritesSlot seek write slot old new bytes
+WritesIn seek read write New slot old new bytes = WritesFirst seek read write slot old new bytes

@@ -2,7 +2,7 @@
 //! sync.
 ghost use Rattle.std.specs.Io.{ReadsAtMost, WritesAtMost};
 
-use crate::{Failed, FileSlots, FileSource, Lock, Slot, SlotDisk, Source};
+use crate::{Failed, FileSlots, FileSource, Lock, Slot, SlotDisk, SlotFile, Source};
 use std::alloc::{Allocator, Global};
 use std::cell::Cell;
 use std::fs::{Metadata, OpenFile, OpenOptions};
@@ -299,7 +299,7 @@ fn read_both(rt: &impl Abort, alloc: Global, row: &Reads) -> Result<(), Fail> {
     let (len, piece, fail, openings, a, b) = *row;
     let file = file_of(len, piece, fail);
     let folder = Folder(&file);
-    let mut disk = FileSlots::new(&folder, name(alloc)?, false);
+    let mut disk = FileSlots::new(&folder, name(alloc)?, SlotFile::Standing);
     assert!(rt; is_front(disk.read_slot(Slot::A), 0, a));
     assert!(rt; is_front(disk.read_slot(Slot::B), 16, b));
     assert!(rt; file.openings.get() == openings);
@@ -338,7 +338,7 @@ fn write_and_sync(rt: &impl Abort, alloc: Global, row: &Writes) -> Result<(), Fa
     let (piece, fail, written, synced, openings, syncs) = *row;
     let file = file_of(40, piece, fail);
     let folder = Folder(&file);
-    let mut disk = FileSlots::new(&folder, name(alloc)?, false);
+    let mut disk = FileSlots::new(&folder, name(alloc)?, SlotFile::Standing);
     assert!(rt; disk.write_slot(Slot::B, &[99; 16]).is_ok() == written);
     assert!(rt; disk.sync().is_ok() == synced);
     assert!(rt; file.syncs.get() == syncs);
@@ -377,7 +377,7 @@ const NUMBERS: [(Slot, u128); 3] = [
 fn each_write_is_synced_for_itself(rt: HostRuntime) -> Result<(), Fail> {
     let file = file_of(32, 40, 0);
     let folder = Folder(&file);
-    let mut disk = FileSlots::new(&folder, name(rt.alloc())?, false);
+    let mut disk = FileSlots::new(&folder, name(rt.alloc())?, SlotFile::Standing);
     let mut syncs = 1u32;
     for (slot, number) in &NUMBERS {
         let bytes = number.to_be_bytes();
@@ -397,9 +397,9 @@ fn each_write_is_synced_for_itself(rt: HostRuntime) -> Result<(), Fail> {
 fn one_disk_has_the_file(rt: HostRuntime) -> Result<(), Fail> {
     let file = file_of(32, 40, 0);
     let folder = Folder(&file);
-    let mut second = FileSlots::new(&folder, name(rt.alloc())?, false);
+    let mut second = FileSlots::new(&folder, name(rt.alloc())?, SlotFile::Standing);
     {
-        let mut first = FileSlots::new(&folder, name(rt.alloc())?, false);
+        let mut first = FileSlots::new(&folder, name(rt.alloc())?, SlotFile::Standing);
         assert_eq!(rt; first.read_slot(Slot::A), Ok(counted(0)));
         for _ in 0..2 {
             assert_eq!(rt; second.read_slot(Slot::A), Err(Failed));
@@ -415,14 +415,14 @@ fn one_disk_has_the_file(rt: HostRuntime) -> Result<(), Fail> {
 
 #[test]
 fn a_missing_file_is_made_where_it_is_said(rt: HostRuntime) -> Result<(), Fail> {
-    for create in [false, true] {
+    for (kind, made, syncs) in [(SlotFile::Standing, false, 0), (SlotFile::New, true, 2)] {
         let file = file_of(0, 40, 0);
         file.exists.set(false);
         let folder = Folder(&file);
-        let mut disk = FileSlots::new(&folder, name(rt.alloc())?, create);
-        assert_eq!(rt; disk.sync().is_ok(), create);
-        assert_eq!(rt; file.exists.get(), create);
-        assert_eq!(rt; file.syncs.get(), if create { 2 } else { 0 });
+        let mut disk = FileSlots::new(&folder, name(rt.alloc())?, kind);
+        assert!(rt; disk.sync().is_ok() == made);
+        assert!(rt; file.exists.get() == made);
+        assert!(rt; file.syncs.get() == syncs);
     }
     Ok(())
 }
@@ -448,6 +448,55 @@ fn a_file_gives_each_byte_once(rt: HostRuntime) -> Result<(), Fail> {
         assert_eq!(rt; out.as_slice(), file.bytes.get().as_slice());
         assert_eq!(rt; file.openings.get(), 1);
         assert_eq!(rt; source.read(&mut []), Ok(0));
+    }
+    Ok(())
+}
+
+// How many bytes a file has, the place of its one byte that isn't 0, and whether a new disk writes
+// its first slot there.
+type First = (usize, Option<usize>, bool);
+
+const FIRST: [First; 9] = [
+    (0, None, true),
+    (20, None, true),
+    (32, None, true),
+    (40, Some(32), true),
+    // The first digit of a key, and slots that a write has torn.
+    (1, Some(0), false),
+    (40, Some(0), false),
+    (32, Some(15), false),
+    (32, Some(16), false),
+    (40, Some(31), false),
+];
+
+fn write_first(rt: &impl Abort, alloc: Global, row: &First) -> Result<(), Fail> {
+    let (len, place, written) = *row;
+    let mut bytes = [0; ROOM];
+    if let Some(byte) = place.and_then(|place| bytes.get_mut(place)) {
+        *byte = b'5';
+    }
+    let file = file_of(len, 40, 0);
+    file.bytes.set(bytes);
+    let folder = Folder(&file);
+    let mut disk = FileSlots::new(&folder, name(alloc)?, SlotFile::New);
+    for slot in [Slot::A, Slot::B, Slot::A] {
+        assert!(rt; disk.write_slot(slot, &[99; 16]).is_ok() == written);
+        assert!(rt; file.unsynced.get() == written);
+    }
+    let after = file.bytes.get();
+    assert!(rt; after.get(32..) == bytes.get(32..));
+    if written {
+        assert!(rt; after.get(..32) == Some([99u8; 32].as_slice()));
+    } else {
+        assert!(rt; after == bytes && file.len.get() == len);
+    }
+    Ok(())
+}
+
+#[test]
+fn a_new_disk_writes_over_zeros_alone(rt: HostRuntime) -> Result<(), Fail> {
+    for row in &FIRST {
+        write_first(&rt, rt.alloc(), row)?;
     }
     Ok(())
 }

@@ -1,20 +1,43 @@
 //! Real files as a source and as a disk, opened at the first call. What stands in them isn't told;
 //! faults are counted.
 ghost use Rattle.std.specs.Prelude.{◌≡◌, ◌<◌, ◌≤◌, length, take, Some, None, IsSome, OnOk, OnErr};
-ghost use Rattle.std.specs.Prelude.{IfOk};
+ghost use Rattle.std.specs.Prelude.{IfOk, IfSome, replicate};
 ghost use Rattle.std.specs.Io.{ReadsAtMost};
 ghost use Rattle.std.specs.Io.KnownBytes.{Appends, Consumes, IsAtEnd, ReadConsumes};
 ghost use Rattle.yasir_io.specs.Causes.{HasCause};
-ghost use Rattle.yasir_io.specs.Edge.{file_of, file_options, file_faults, slots_file};
-ghost use Rattle.yasir_io.specs.Edge.{slots_options, slots_faults};
-ghost use Rattle.yasir_io.specs.SlotFiles.{for_reading, for_slots, slot_place, OnOpen, MovesTo};
-ghost use Rattle.yasir_io.specs.SlotFiles.{ReadsNext, ReadsSlot, WritesSlot};
+ghost use Rattle.yasir_io.specs.Edge.{file_of, file_path, file_options, file_faults};
+ghost use Rattle.yasir_io.specs.Edge.{slots_file, slots_path, slots_kind, slots_options};
+ghost use Rattle.yasir_io.specs.Edge.{slots_faults};
+ghost use Rattle.yasir_io.specs.SlotFiles.{for_reading, for_slots, is_made, slot_place, OnOpen};
+ghost use Rattle.yasir_io.specs.SlotFiles.{AnyStart, MovesTo, ReadsNext, ReadsSlot, WritesSlot};
+ghost use Rattle.yasir_io.specs.SlotFiles.{WritesFirst, WritesIn};
 
 use crate::faults::Faults;
 use crate::{Failed, Lock, SLOT_LEN, Slot, SlotBytes, SlotDisk, Source};
 use std::fs::{OpenFile, OpenOptions};
 use std::io::{self, Read, Seek, SeekFrom, Write};
 use std::rt::Files;
+
+/// What is expected of the file of a disk.
+#[derive(Clone, Copy, Debug, PartialEq, Eq)]
+pub enum SlotFile {
+    /// It stands; a missing file is a fault.
+    Standing,
+    /// Its slots are yet to be written: a missing file is made, and the first write is a fault
+    /// where a slot has another byte than 0, so that no other file is written over.
+    New,
+}
+
+impl SlotFile {
+    fn is_made(self) -> bool
+        ensures { result ≡ is_made self }
+    {
+        match self {
+            SlotFile::Standing => false,
+            SlotFile::New => true,
+        }
+    }
+}
 
 /// A file that is opened at the first call that needs it.
 #[derive(Drop)]
@@ -27,6 +50,7 @@ struct LazyFile<'a, R: Files> {
 
 impl<'a, R: Files> LazyFile<'a, R> {
     fn new(rt: &'a R, path: Option<String>, options: OpenOptions) -> LazyFile<'a, R>
+        ensures path { result.path ≡ path }
         ensures options { result.options ≡ options }
         ensures closed { result.file ≡ None }
     {
@@ -59,7 +83,7 @@ impl<'a, R: Files> LazyFile<'a, R> {
 
     fn read(&mut self, buf: &mut [u8]) -> io::Result<usize>
         ensures within { ReadsAtMost result buf.new }
-        ensures reads { OnOpen self.old.file self.new.file
+        ensures reads { OnOpen AnyStart self.old.file self.new.file result
             (λ f g. ReadConsumes (R.File.remaining f) (R.File.remaining g) result buf.new) }
         ensures options { self.new.options ≡ self.old.options }
     {
@@ -82,6 +106,7 @@ where
         ensures opened { OnOk result (IsSome self.new.file) }
         ensures closed { OnErr result (self.new.file ≡ self.old.file) }
         ensures same { IsSome self.old.file → self.new.file ≡ self.old.file }
+        ensures alone { OnOk result (self.old.file ≡ None → IfSome self.new.file R.File.taken) }
         ensures options { self.new.options ≡ self.old.options }
     {
         if self.file.is_none() {
@@ -94,7 +119,7 @@ where
     }
 
     fn read_slot(&mut self, slot: Slot) -> io::Result<SlotBytes>
-        ensures reads { OnOpen self.old.file self.new.file
+        ensures reads { OnOpen R.File.taken self.old.file self.new.file result
             (λ f g. IfOk result (ReadsSlot R.File.Seek R.File.Read slot f g)) }
         ensures options { self.new.options ≡ self.old.options }
     {
@@ -105,20 +130,21 @@ where
         }
     }
 
-    fn write_slot(&mut self, slot: Slot, bytes: &SlotBytes) -> io::Result<()>
-        ensures writes { OnOpen self.old.file self.new.file
-            (λ f g. OnOk result (WritesSlot R.File.Seek R.File.Write slot f g bytes.now)) }
+    fn write_slot(&mut self, kind: SlotFile, slot: Slot, bytes: &SlotBytes) -> io::Result<()>
+        ensures writes { OnOpen R.File.taken self.old.file self.new.file result
+            (λ f g. OnOk result (WritesIn R.File.Seek R.File.Read R.File.Write kind slot f g
+            bytes.now)) }
         ensures options { self.new.options ≡ self.old.options }
     {
         self.open_alone()?;
         match &mut self.file {
-            Some(file) => write_at(file, slot, bytes),
+            Some(file) => write_in(file, kind, slot, bytes),
             None => Err(io::ErrorKind::NotFound.into()),
         }
     }
 
     fn sync(&mut self) -> io::Result<()>
-        ensures file { IsSome self.old.file → self.new.file ≡ self.old.file }
+        ensures file { OnOpen R.File.taken self.old.file self.new.file result (λ f g. g ≡ f) }
         ensures options { self.new.options ≡ self.old.options }
     {
         self.open_alone()?;
@@ -198,6 +224,44 @@ fn write_at<F: Write + Seek>(file: &mut F, slot: Slot, bytes: &SlotBytes) -> io:
     write_next(file, bytes)
 }
 
+// A slot has to be zeros, as those of a new file are.
+fn expect_zeros<F: Read + Seek>(file: &mut F, slot: Slot) -> io::Result<()>
+    ensures { OnOk result (ReadsSlot F.Seek F.Read slot file.old file.new
+        (replicate SLOT_LEN 0)) }
+{
+    let bytes = read_at(file, slot)?;
+    if bytes == [0; SLOT_LEN] {
+        return Ok(());
+    }
+    Err(io::ErrorKind::AlreadyExists.into())
+}
+
+fn write_first<F: Read + Write + Seek>(
+    file: &mut F,
+    slot: Slot,
+    bytes: &SlotBytes,
+) -> io::Result<()>
+    ensures { OnOk result (WritesFirst F.Seek F.Read F.Write slot file.old file.new bytes.now) }
+{
+    expect_zeros(file, Slot::A)?;
+    expect_zeros(file, Slot::B)?;
+    write_at(file, slot, bytes)
+}
+
+fn write_in<F: Read + Write + Seek>(
+    file: &mut F,
+    kind: SlotFile,
+    slot: Slot,
+    bytes: &SlotBytes,
+) -> io::Result<()>
+    ensures { OnOk result (WritesIn F.Seek F.Read F.Write kind slot file.old file.new bytes.now) }
+{
+    match kind {
+        SlotFile::Standing => write_at(file, slot, bytes),
+        SlotFile::New => write_first(file, slot, bytes),
+    }
+}
+
 /// A file as a source. No path, and a file that can't be opened, are faults.
 #[derive(Drop)]
 pub struct FileSource<'a, R: Files> {
@@ -210,6 +274,7 @@ impl<'a, R: Files> FileSource<'a, R> {
     pub fn new(rt: &'a R, path: Option<String>) -> FileSource<'a, R>
         ensures faults { file_faults result ≡ 0 }
         ensures closed { file_of result ≡ None }
+        ensures path { file_path result ≡ path }
         ensures options { file_options result ≡ for_reading }
     {
         let mut options = OpenOptions::new();
@@ -228,7 +293,7 @@ impl<'a, R: Files> Source for FileSource<'a, R> {
 
     fn read(&mut self, buf: &mut [u8]) -> Result<usize, Failed>
         ensures within { IfOk result (λ n. n ≤ length buf.new) }
-        ensures reads { OnOpen (file_of self.old) (file_of self.new)
+        ensures reads { OnOpen AnyStart (file_of self.old) (file_of self.new) result
             (λ f g. ReadConsumes (R.File.remaining f) (R.File.remaining g) result buf.new) }
         ensures options { file_options self.new ≡ file_options self.old }
         ensures cause { HasCause (file_faults self.old) (file_faults self.new) result }
@@ -241,10 +306,14 @@ impl<'a, R: Files> Source for FileSource<'a, R> {
 }
 
 /// A file as a disk: slot A in bytes 0 to 15, slot B in bytes 16 to 31. Bytes past the end of the
-/// file read as 0. No path, a file that can't be opened, and a write cut short are faults.
+/// file read as 0. No path, a file that can't be opened or that another has locked, and a write cut
+/// short are faults.
+///
+/// The file is locked from the first call on that opens it until the disk is dropped.
 #[derive(Drop)]
 pub struct FileSlots<'a, R: Files> {
     file: LazyFile<'a, R>,
+    kind: SlotFile,
     faults: Faults,
 }
 
@@ -252,17 +321,19 @@ impl<'a, R: Files> FileSlots<'a, R>
 where
     R::File: Lock,
 {
-    /// A disk in the file at a path, which isn't opened yet. A missing file is made where `create`
-    /// says so.
-    pub fn new(rt: &'a R, path: Option<String>, create: bool) -> FileSlots<'a, R>
+    /// A disk in the file at a path, which isn't opened yet.
+    pub fn new(rt: &'a R, path: Option<String>, kind: SlotFile) -> FileSlots<'a, R>
         ensures faults { slots_faults result ≡ 0 }
         ensures closed { slots_file result ≡ None }
-        ensures options { slots_options result ≡ for_slots create }
+        ensures path { slots_path result ≡ path }
+        ensures options { slots_options result ≡ for_slots kind }
+        ensures kind { slots_kind result ≡ kind }
     {
         let mut options = OpenOptions::new();
-        options.read(true).write(true).create(create);
+        options.read(true).write(true).create(kind.is_made());
         FileSlots {
             file: LazyFile::new(rt, path, options),
+            kind,
             faults: Faults::none(),
         }
     }
@@ -289,9 +360,10 @@ where
     ghost only_now = { λ disk c image. image };
 
     fn read_slot(&mut self, slot: Slot) -> Result<SlotBytes, Failed>
-        ensures reads { OnOpen (slots_file self.old) (slots_file self.new)
+        ensures reads { OnOpen R.File.taken (slots_file self.old) (slots_file self.new) result
             (λ f g. IfOk result (ReadsSlot R.File.Seek R.File.Read slot f g)) }
         ensures options { slots_options self.new ≡ slots_options self.old }
+        ensures kind { slots_kind self.new ≡ slots_kind self.old }
         ensures cause { HasCause (slots_faults self.old) (slots_faults self.new) result }
     {
         match self.file.read_slot(slot) {
@@ -300,21 +372,30 @@ where
         }
     }
 
+    /// A new file is from its first write on one that stands.
     fn write_slot(&mut self, slot: Slot, bytes: &SlotBytes) -> Result<(), Failed>
-        ensures writes { OnOpen (slots_file self.old) (slots_file self.new)
-            (λ f g. OnOk result (WritesSlot R.File.Seek R.File.Write slot f g bytes.now)) }
+        ensures writes { OnOpen R.File.taken (slots_file self.old) (slots_file self.new) result
+            (λ f g. OnOk result (WritesIn R.File.Seek R.File.Read R.File.Write
+            (slots_kind self.old) slot f g bytes.now)) }
         ensures options { slots_options self.new ≡ slots_options self.old }
+        ensures stands { OnOk result (slots_kind self.new ≡ SlotFile.Standing) }
+        ensures kind { OnErr result (slots_kind self.new ≡ slots_kind self.old) }
         ensures cause { HasCause (slots_faults self.old) (slots_faults self.new) result }
     {
-        match self.file.write_slot(slot, bytes) {
-            Ok(()) => Ok(()),
+        match self.file.write_slot(self.kind, slot, bytes) {
+            Ok(()) => {
+                self.kind = SlotFile::Standing;
+                Ok(())
+            }
             Err(_) => Err(self.faults.add()),
         }
     }
 
     fn sync(&mut self) -> Result<(), Failed>
-        ensures file { IsSome (slots_file self.old) → slots_file self.new ≡ slots_file self.old }
+        ensures file { OnOpen R.File.taken (slots_file self.old) (slots_file self.new) result
+            (λ f g. g ≡ f) }
         ensures options { slots_options self.new ≡ slots_options self.old }
+        ensures kind { slots_kind self.new ≡ slots_kind self.old }
         ensures cause { HasCause (slots_faults self.old) (slots_faults self.new) result }
     {
         match self.file.sync() {

@@ -25,7 +25,7 @@ mod text_room;
 pub use calls::{NoMemory, Plan};
 pub use disk::{SLOT_LEN, Slot, SlotBytes, SlotDisk};
 pub use edge::{StderrSink, StdinSource, StdoutSink, WriterSink};
-pub use files::{FileSlots, FileSource};
+pub use files::{FileSlots, FileSource, SlotFile};
 pub use lock::Lock;
 pub use mem_sink::MemSink;
 pub use mem_slots::MemSlots;

@@ -2,8 +2,8 @@ ghost use Rattle.std.specs.Io.{ReadsAtMost, WritesAtMost};
 
 use crate::{
     Failed, FileSlots, FileSource, MemSink, MemSlots, MemSource, NoMemory, Pieces, Plan, Sink,
-    Slot, SlotDisk, Source, StdinSource, StdoutSink, SteadySlots, SteadySource, TextBuffer,
-    write_all,
+    Slot, SlotDisk, SlotFile, Source, StdinSource, StdoutSink, SteadySlots, SteadySource,
+    TextBuffer, write_all,
 };
 use std::alloc::Global;
 use std::io::{self, Read, Write};
@@ -343,9 +343,9 @@ fn fresh_path(rt: &HostRuntime, name: &str) -> Result<String, Fail> {
 #[test]
 fn slots_stand_in_a_file(rt: HostRuntime) -> Result<(), Fail> {
     let path = fresh_path(&rt, "slots")?;
-    let mut missing = FileSlots::new(&rt, Some(path.clone()?), false);
+    let mut missing = FileSlots::new(&rt, Some(path.clone()?), SlotFile::Standing);
     assert_eq!(rt; missing.read_slot(Slot::A), Err(Failed));
-    let mut made = FileSlots::new(&rt, Some(path.clone()?), true);
+    let mut made = FileSlots::new(&rt, Some(path.clone()?), SlotFile::New);
     assert_eq!(rt; made.read_slot(Slot::B), Ok([0; 16]));
     assert_eq!(rt; made.write_slot(Slot::B, &[b'b'; 16]), Ok(()));
     assert_eq!(rt; made.read_slot(Slot::A), Ok([0; 16]));
@@ -355,7 +355,7 @@ fn slots_stand_in_a_file(rt: HostRuntime) -> Result<(), Fail> {
         fs::read_to_string(&rt, path.as_str())?.as_str(),
         "aaaaaaaaaaaaaaaabbbbbbbbbbbbbbbb"
     );
-    let mut again = FileSlots::new(&rt, Some(path.clone()?), false);
+    let mut again = FileSlots::new(&rt, Some(path.clone()?), SlotFile::Standing);
     assert_eq!(rt; again.read_slot(Slot::B), Err(Failed));
     drop(made);
     assert_eq!(rt; again.read_slot(Slot::B), Ok([b'b'; 16]));
@@ -363,7 +363,7 @@ fn slots_stand_in_a_file(rt: HostRuntime) -> Result<(), Fail> {
     // A folder, and no path.
     let folder = String::from_str(rt.alloc(), ".")?;
     for path in [Some(folder), None] {
-        let mut disk = FileSlots::new(&rt, path, true);
+        let mut disk = FileSlots::new(&rt, path, SlotFile::New);
         assert_eq!(rt; disk.read_slot(Slot::A), Err(Failed));
         assert_eq!(rt; disk.write_slot(Slot::A, &[0; 16]), Err(Failed));
         assert_eq!(rt; disk.sync(), Err(Failed));
