@@ -1,13 +1,10 @@
-//! The edge of the program: the runtime's readers and writers. What they move isn't told; their
-//! faults are counted.
-ghost use Rattle.std.specs.Prelude.{◌≡◌, ◌≤◌, ◌<◌, length, None, IfOk, true};
-ghost use Rattle.std.specs.Io.KnownBytes.{Keeps, ReadConsumes, WriteAppends};
-ghost use Rattle.yasir_io.specs.Causes.{HasCause};
-ghost use Rattle.yasir_io.specs.Flushing.{IsCounted};
+//! The edge of the program: the runtime's readers and writers. What they move is told as far as
+//! they tell it themselves; their faults are counted.
+ghost use Rattle.std.specs.Prelude.{◌≡◌};
 
 use crate::faults::Faults;
 use crate::flushes::Flushes;
-use crate::{Failed, Sink, Source};
+use crate::{Failed, Sink, Source, TellsHeld, TellsLeft};
 use std::io::{Read, Write};
 
 /// A reader, as standard input, as a source. It is read where the source is, so a caller with few
@@ -19,11 +16,12 @@ pub struct StdinSource<I: Read + Drop> {
 }
 
 impl<I: Read + Drop> StdinSource<I> {
-    ghost use Rattle.yasir_io.specs.Edge.{reader_faults};
+    ghost use Rattle.yasir_io.specs.Edge.{reader_of, reader_faults};
 
     /// A source of what the reader gives.
     pub fn new(reader: I) -> StdinSource<I>
-        ensures { reader_faults result ≡ 0 }
+        ensures reader { reader_of result ≡ reader }
+        ensures faults { reader_faults result ≡ 0 }
     {
         StdinSource {
             reader,
@@ -32,19 +30,14 @@ impl<I: Read + Drop> StdinSource<I> {
     }
 }
 
-impl<I: Read + Drop> Source for StdinSource<I> {
+impl<I: TellsLeft + Drop> Source for StdinSource<I> {
     ghost use Rattle.yasir_io.specs.Edge.{reader_of, reader_faults};
 
-    ghost left = { λ _. None };
+    ghost left = { λ source. I.remaining (reader_of source) };
 
     ghost faults = { λ source. reader_faults source };
 
-    fn read(&mut self, buf: &mut [u8]) -> Result<usize, Failed>
-        ensures within { IfOk result (λ n. n ≤ length buf.new) }
-        ensures reads { ReadConsumes (I.remaining (reader_of self.old))
-            (I.remaining (reader_of self.new)) result buf.new }
-        ensures cause { HasCause (reader_faults self.old) (reader_faults self.new) result }
-    {
+    fn read(&mut self, buf: &mut [u8]) -> Result<usize, Failed> {
         match self.reader.read(buf) {
             Ok(n) => Ok(n),
             Err(_) => Err(self.faults.add()),
@@ -68,10 +61,12 @@ pub type StderrSink<W> = WriterSink<W>;
 
 impl<W: Write + Drop> WriterSink<W> {
     ghost use Rattle.std.specs.Prelude.{false};
-    ghost use Rattle.yasir_io.specs.Edge.{writer_faults, writer_flushes, writer_unflushed};
+    ghost use Rattle.yasir_io.specs.Edge.{writer_of, writer_faults, writer_flushes};
+    ghost use Rattle.yasir_io.specs.Edge.{writer_unflushed};
 
     /// A sink that hands pieces to the writer.
     pub fn new(writer: W) -> WriterSink<W>
+        ensures writer { writer_of result ≡ writer }
         ensures faults { writer_faults result ≡ 0 }
         ensures flushes { writer_flushes result ≡ 0 }
         ensures unflushed { writer_unflushed result ≡ false }
@@ -84,11 +79,11 @@ impl<W: Write + Drop> WriterSink<W> {
     }
 }
 
-impl<W: Write + Drop> Sink for WriterSink<W> {
+impl<W: TellsHeld + Drop> Sink for WriterSink<W> {
     ghost use Rattle.yasir_io.specs.Edge.{writer_of, writer_faults};
     ghost use Rattle.yasir_io.specs.Edge.{writer_flushes, writer_unflushed};
 
-    ghost held = { λ _. None };
+    ghost held = { λ sink. W.contents (writer_of sink) };
 
     ghost faults = { λ sink. writer_faults sink };
 
@@ -96,33 +91,21 @@ impl<W: Write + Drop> Sink for WriterSink<W> {
 
     ghost unflushed = { λ sink. writer_unflushed sink };
 
-    fn write(&mut self, piece: &[u8]) -> Result<usize, Failed>
-        ensures within { IfOk result (λ n. n ≤ length piece.now) }
-        ensures some { IfOk result (λ n. 0 < length piece.now → 0 < n) }
-        ensures writes { WriteAppends (W.contents (writer_of self.old))
-            (W.contents (writer_of self.new)) result piece.now }
-        ensures cause { HasCause (writer_faults self.old) (writer_faults self.new) result }
-        ensures flushes { writer_flushes self.new ≡ writer_flushes self.old }
-        ensures unflushed { IfOk result (λ n. 0 < n → writer_unflushed self.new ≡ true) }
-    {
+    fn write(&mut self, piece: &[u8]) -> Result<usize, Failed> {
         if piece.is_empty() {
             return Ok(0);
         }
         match self.writer.write(piece) {
-            Ok(0) | Err(_) => Err(self.faults.add()),
+            Ok(0) => Err(self.faults.add()),
             Ok(n) => {
                 self.flushes.wait(n);
                 Ok(n)
             }
+            Err(_) => Err(self.faults.add()),
         }
     }
 
-    fn flush(&mut self) -> Result<(), Failed>
-        ensures writes { Keeps (W.contents (writer_of self.old)) (W.contents (writer_of self.new)) }
-        ensures cause { HasCause (writer_faults self.old) (writer_faults self.new) result }
-        ensures counted { IsCounted (writer_flushes self.old) (writer_flushes self.new)
-            (writer_unflushed self.new) result }
-    {
+    fn flush(&mut self) -> Result<(), Failed> {
         match self.writer.flush() {
             Ok(()) => {
                 self.flushes.add();

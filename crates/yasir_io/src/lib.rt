@@ -17,6 +17,7 @@ mod pieces;
 mod sink;
 mod source;
 mod steady;
+mod tells;
 #[cfg(test)]
 mod tests;
 mod text_buffer;
@@ -34,6 +35,7 @@ pub use pieces::Pieces;
 pub use sink::{Sink, write_all};
 pub use source::Source;
 pub use steady::{SteadySlots, SteadySource};
+pub use tells::{TellsHeld, TellsLeft};
 pub use text_buffer::TextBuffer;
 
 /// A read, a write, a flush or a call on a disk failed; the object's count of faults says so too.

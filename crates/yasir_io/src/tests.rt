@@ -1,9 +1,10 @@
 ghost use Rattle.std.specs.Io.{ReadsAtMost, WritesAtMost};
+ghost use Rattle.std.specs.Prelude.{◌≡◌, take, IfOk};
 
 use crate::{
     Failed, FileSlots, FileSource, MemSink, MemSlots, MemSource, NoMemory, Pieces, Plan, Sink,
     Slot, SlotDisk, SlotFile, Source, StdinSource, StdoutSink, SteadySlots, SteadySource,
-    TextBuffer, write_all,
+    TellsHeld, TellsLeft, TextBuffer, write_all,
 };
 use std::alloc::Global;
 use std::io::{self, Read, Write};
@@ -215,6 +216,14 @@ impl Outside {
     }
 }
 
+impl TellsLeft for &mut Outside {
+    ghost knows_left = { λ old new known. known };
+}
+
+impl TellsHeld for &mut Outside {
+    ghost knows_held = { λ old new known. known };
+}
+
 impl Read for &mut Outside {
     fn read(&mut self, buf: &mut [u8]) -> io::Result<usize> {
         self.give(buf)
@@ -242,6 +251,34 @@ fn a_reader_is_read_to_its_end(rt: HostRuntime) -> Result<(), Fail> {
     let mut source = StdinSource::new(&mut outside);
     assert_eq!(rt; drained(&mut Pieces::new(), &mut source, &mut out)?, 1);
     assert_eq!(rt; out.as_slice(), b"abcde".as_slice());
+    Ok(())
+}
+
+// The first bytes of a slice, by standard input.
+fn front_of(bytes: &[u8], buf: &mut [u8]) -> Result<usize, Failed>
+    ensures { IfOk result (λ n. take n buf.new ≡ take n bytes.now) }
+{
+    StdinSource::new(bytes).read(buf)
+}
+
+#[test]
+fn a_reader_that_tells_gives_its_bytes(rt: HostRuntime) -> Result<(), Fail> {
+    let mut two = [0; 2];
+    assert!(rt; front_of(b"abc", &mut two) == Ok(2));
+    assert!(rt; two == *b"ab");
+    Ok(())
+}
+
+// A whole buffer goes out by one call of a writer that takes all.
+#[test]
+fn a_writer_gets_a_whole_buffer_at_once(rt: HostRuntime) -> Result<(), Fail> {
+    let mut long = Vec::new(rt.alloc());
+    long.resize(65_536, b'l')?;
+    let mut out = Vec::new(rt.alloc());
+    let mut sink = StdoutSink::new(&mut out);
+    assert_eq!(rt; sink.write(long.as_slice()), Ok(65_536));
+    drop(sink);
+    assert!(rt; out.as_slice() == long.as_slice());
     Ok(())
 }
 
