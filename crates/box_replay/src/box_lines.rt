@@ -21,6 +21,9 @@ use tick_drive::{Consumer, Stop};
 use yasir_io::{Failed, Sink, SlotDisk, TextBuffer};
 use yasir_ticks::{Tick, TickWriter};
 
+#[cfg(test)]
+mod turn_tests;
+
 // How many bytes a box may answer to a run of bytes at most.
 const MAX_RUN: usize = 64;
 
