@@ -12,6 +12,9 @@ use tick_drive::{Consumer, Stop};
 use yasir_io::{Failed, Sink, SlotDisk, TextBuffer};
 use yasir_ticks::{MAX_TICKS, Tick};
 
+#[cfg(test)]
+mod turn_tests;
+
 /// Prints a line for each frame that a device reads.
 #[derive(Drop)]
 pub struct FrameLines<V> {

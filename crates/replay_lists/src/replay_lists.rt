@@ -18,6 +18,9 @@ use tick_drive::{Consumer, Stop};
 use yasir_io::{Sink, SlotDisk};
 use yasir_ticks::{MAX_TICKS, Tick};
 
+#[cfg(test)]
+mod turn_tests;
+
 // One step of a box, whose frame is kept. Answers the tick of the other line.
 #[inline]
 fn step_into<B: FrameBox>(

@@ -1,0 +1,179 @@
+//! How often the loops over two recordings call the boxes and the device: a run is handed over
+//! whole, and so is what the receiver answers to it. No clause says so.
+ghost use Rattle.std.specs.Prelude.{[], refl};
+
+use super::ReplayLists;
+use crate::frame_box::{FrameBox, FrameStep, RunBytes};
+use crate::recordings::list_recordings;
+use device_model::{Device, FrameAt, Heard};
+use hmac_tag::Dir;
+use std::alloc::Global;
+use std::test::Fail;
+use tick_drive::End;
+use yasir_io::{MemSink, Plan, SteadySource};
+use yasir_ticks::Tick;
+
+/// How often something took runs of bytes, runs of silence, and single ticks.
+#[derive(Clone, Copy, Debug, PartialEq, Eq)]
+struct Calls {
+    bytes: u32,
+    silence: u32,
+    step: u32,
+}
+
+const NO_CALLS: Calls = Calls {
+    bytes: 0,
+    silence: 0,
+    step: 0,
+};
+
+/// A wire: it sends on what it takes, as it is, and counts the calls.
+#[derive(Drop)]
+struct Wire {
+    taken: u64,
+    calls: Calls,
+}
+
+impl FrameBox for Wire {
+    ghost stands = { λ value setup line. Unit {0} };
+
+    ghost taken = { λ value. value.taken };
+
+    ghost able = { λ value. Unit {0} };
+
+    ghost numbering = { λ setup. record {
+      other_line = λ line. line;
+      frames = λ _. [];
+    } };
+
+    ghost widths_fit = { Unit {0} };
+
+    ghost shown = { λ value. [] };
+
+    fn new(_key: &[u8], _dir: Dir) -> Self {
+        Wire {
+            taken: 0,
+            calls: NO_CALLS,
+        }
+    }
+
+    fn step(&mut self, t: Tick) -> FrameStep {
+        self.calls.step = self.calls.step.saturating_add(1);
+        self.taken += 1;
+        FrameStep {
+            tick: t,
+            frame: None,
+        }
+    }
+
+    fn pass_bytes(&mut self, bytes: &[u8], left: &mut RunBytes) -> usize {
+        self.calls.bytes = self.calls.bytes.saturating_add(1);
+        let count = bytes.len().min(left.capacity());
+        left.clear();
+        left.try_extend_from_slice(&bytes[..count]).unwrap();
+        self.taken += count as u64;
+        count
+    }
+
+    fn pass_silence(&mut self, ticks: u32, left: &mut RunBytes) -> u32 {
+        self.calls.silence = self.calls.silence.saturating_add(1);
+        left.clear();
+        self.taken += u64::from(ticks);
+        ticks
+    }
+
+    fn bytes(&self) -> &[u8] {
+        &[]
+    }
+}
+
+/// A device that reads no frame, and counts the calls.
+#[derive(Drop)]
+struct Deaf {
+    taken: u64,
+    calls: Calls,
+}
+
+impl Device for Deaf {
+    ghost reads = { λ line. [] };
+
+    ghost stands = { λ value line. Unit {0} };
+
+    ghost taken = { λ value. value.taken };
+
+    fn fresh() -> Self {
+        Deaf {
+            taken: 0,
+            calls: NO_CALLS,
+        }
+    }
+
+    fn step(&mut self, _t: Tick) -> Option<FrameAt> {
+        self.calls.step = self.calls.step.saturating_add(1);
+        self.taken += 1;
+        None
+    }
+
+    fn hear_some(&mut self, bytes: &[u8]) -> Heard {
+        self.calls.bytes = self.calls.bytes.saturating_add(1);
+        self.taken += bytes.len() as u64;
+        Heard {
+            taken: bytes.len(),
+            frame: None,
+        }
+    }
+
+    fn wait_some(&mut self, ticks: usize) -> Heard {
+        self.calls.silence = self.calls.silence.saturating_add(1);
+        self.taken += ticks as u64;
+        Heard {
+            taken: ticks,
+            frame: None,
+        }
+    }
+}
+
+/// How many silent ticks the transmitter gets behind its recording.
+const DEVICE_REST: u32 = 24;
+
+// The mark parts two lines of bytes and two of silence from one line of each.
+const TEXT: &[u8] = b"+000102030405060708090a0b0c0d0e0f101112131415161718191a1b1c1d1e1f\n\
+      -1000000\n\
+      +41\n\
+      -40\n\
+      %\n\
+      +000102030405060708090a0b0c0d0e0f101112131415161718191a1b1c1d1e1f\n\
+      -1000000\n";
+
+// The lists of wires and of a device that reads nothing, behind both recordings.
+fn listed(alloc: Global) -> Result<ReplayLists<Wire, Wire, Deaf>, Fail> {
+    let mut lists: ReplayLists<Wire, Wire, Deaf> = ReplayLists::new(alloc, &[0; 16], Dir::Ab);
+    let mut input = SteadySource::new(TEXT);
+    let mut out = MemSink::with_room(alloc, 0, 512, Plan::new())?;
+    let mut log = MemSink::with_room(alloc, 0, 512, Plan::new())?;
+    match list_recordings(DEVICE_REST, &mut lists, &mut input, &mut out, &mut log) {
+        End::Whole => Ok(lists),
+        _ => Err(Fail::from("the text isn't whole")),
+    }
+}
+
+// Each line of a recording goes to its box at once, and what the receiver answers to the device.
+// The silence behind a link is one run more, and what stands behind the device's line goes alone.
+#[test]
+fn a_line_of_text_costs_a_call_of_its_box(rt: HostRuntime) -> Result<(), Fail> {
+    let lists = listed(rt.alloc())?;
+    let sealer = Calls {
+        bytes: 2,
+        silence: 2,
+        step: DEVICE_REST,
+    };
+    let behind_the_mark = Calls {
+        bytes: 1,
+        silence: 2,
+        step: 0,
+    };
+    assert_eq!(rt; lists.sealer.calls, sealer);
+    assert_eq!(rt; lists.checker.calls, behind_the_mark);
+    assert_eq!(rt; lists.device.calls, behind_the_mark);
+    Ok(())
+}
