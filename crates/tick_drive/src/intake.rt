@@ -6,6 +6,9 @@ use crate::{End, TooMuch};
 use yasir_io::{Failed, Pieces, Source};
 use yasir_ticks::{Content, FedLine, Run, TickReader};
 
+#[cfg(test)]
+mod turn_tests;
+
 /// How many bytes of an input are read at most.
 pub const MAX_INPUT_BYTES: u32 = 268_435_456;
 
