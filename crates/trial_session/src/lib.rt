@@ -33,3 +33,5 @@ pub use summary::Summary;
 
 #[cfg(test)]
 mod tests;
+#[cfg(test)]
+mod turn_tests;

@@ -15,6 +15,14 @@ pub struct Listening<V> {
     read: u64,
 }
 
+#[cfg(test)]
+impl<V> Listening<V> {
+    /// The device.
+    pub fn device(&self) -> &V {
+        &self.device
+    }
+}
+
 // How many frames a step of the device has read.
 fn frames_in(frame: Option<FrameAt>) -> u64
     ensures value { result ≡ length (frames_of frame) }

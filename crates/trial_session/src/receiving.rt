@@ -13,6 +13,19 @@ pub struct Receiving<C, V> {
     listening: Listening<V>,
 }
 
+#[cfg(test)]
+impl<C, V> Receiving<C, V> {
+    /// The receiver.
+    pub fn checking(&self) -> &Side<C> {
+        &self.checking
+    }
+
+    /// The device.
+    pub fn listening(&self) -> &Listening<V> {
+        &self.listening
+    }
+}
+
 impl<C: CountingBox, V: Device + Drop> Receiving<C, V> {
     ghost use Rattle.std.specs.Prelude.{◌≡◌, ◌+◌, ◌<◌, ◌≤◌, List, [], ◌++◌, length, map};
     ghost use Rattle.std.specs.Prelude.{take, drop};
