@@ -1,6 +1,6 @@
 -- Frames of two uptimes of a transmitter, on one link to a receiver, with a tag that stands in for
 -- HMAC.
-use Rattle.std.proofs.Common.{◌≡◌, ℕ, ◌<◌, ◌≤◌, List, [], ◌∷◌, ◌++◌, Some, IsSomeAnd}
+use Rattle.std.proofs.Common.{◌≡◌, ℕ, ◌<◌, ◌≤◌, List, [], ◌∷◌, ◌++◌, Some, IsSomeAnd, take}
 use Rattle.std.proofs.Common.{refl, sym, subst, arith}
 use Rattle.std.specs.Prelude.{max}
 use Rattle.yasir_ticks.specs.Ticks.{silent}
@@ -14,7 +14,7 @@ use Rattle.rtu_frame.specs.Rules.{rtu_rules}
 use Rattle.frame_ending.specs.LiveBytes.{before_pause, up_to_byte}
 use Rattle.device_model.specs.RtuReads.{has_silence, rtu_reads}
 use Rattle.burst_walk.specs.Laid.{tick_at}
-use Rattle.link_format.specs.NumberedFrame.{NumberedFrame, numbers_of}
+use Rattle.link_format.specs.NumberedFrame.{NumberedFrame, numbers_of, last_number}
 use Rattle.sequence_journal.specs.declared.numbers.TheConstants.{LIMIT}
 use Rattle.sequence_journal.specs.Slots.{floor_of, slot_bytes}
 use Rattle.sequence_journal.specs.Uptimes.{IsUptime}
@@ -23,10 +23,10 @@ use Rattle.seal_transmitter.specs.Sealing.{judged, link_line, sealed}
 use Rattle.link_verdicts.specs.Shapes.{kept}
 use Rattle.link_verdicts.specs.Verdicts.{verdict_of, checked}
 use Rattle.link_verdicts.specs.Emissions.{spoiled}
-use Rattle.link_verdicts.specs.Checking.{passed}
+use Rattle.link_verdicts.specs.Checking.{passed, received_line}
 use Rattle.receiver_laws.specs.Accounted.{forged}
 use Rattle.receiver_laws.specs.OverUptimes.{BoxUptime, sealed_over, passed_over, bytes_over}
-use Rattle.receiver_laws.specs.OverUptimes.{ShareDisk}
+use Rattle.receiver_laws.specs.OverUptimes.{ShareDisk, GoOnFrom}
 use Rattle.receiver_laws.proofs.Worked.{READ_TEN_REGISTERS, on_line, profile}
 
 -- 36 ticks of a device, enough for its request and the trailer
@@ -153,3 +153,38 @@ shared =
         tt,
       ),
     )
+
+-- ---- Uptimes over a journal that was set back don't go on from one another: the same number comes
+-- twice.
+
+set_back : GoOnFrom (sealed profile rtu_rules) 0 (first_seal ∷ first_seal ∷ []) → ⊥
+set_back go_on =
+    let again : last_number 0 (sealed profile rtu_rules 0 request) ≤ 0 = go_on.1.0 in
+    let above : 1 ≤ 0 = subst (λ l. last_number 0 l ≤ 0) first-sealed again in
+    absurd (omega (arith, above))
+
+-- ---- Why the device must be at rest as an uptime of the receiver begins: a frame with a byte right
+-- behind it and no trailer doesn't pass, and the byte leaves with another value. Where the receiver
+-- stops just before it does, the device hears silence there, and reads the frame.
+
+abbrev with_byte_behind : List Tick
+with_byte_behind = on_line (READ_TEN_REGISTERS ++ 0x00 ∷ []) ++ silent 40
+
+abbrev stopped : List Tick
+stopped = received_line profile rtu_rules 0 (take 26 with_byte_behind)
+
+cut_short-passed : passed profile rtu_rules 0 with_byte_behind ≡ []
+unfolding bursts_from with_byte before_pause up_to_byte tick_at kept spoiled verdict_of checked crc
+    byte_step bit_steps bit_step is_frame has_right_ending ends_in_check
+cut_short-passed = refl
+
+cut_short-unread : rtu_reads (received_line profile rtu_rules 0 with_byte_behind) ≡ []
+unfolding bursts_from with_byte before_pause up_to_byte tick_at kept spoiled verdict_of checked crc
+    byte_step bit_steps bit_step is_frame has_right_ending ends_in_check has_silence
+cut_short-unread = refl
+
+cut_short-read : rtu_reads (stopped ++ silent 4)
+    ≡ record { start = 18; frame = READ_TEN_REGISTERS } ∷ []
+unfolding bursts_from with_byte before_pause up_to_byte tick_at kept spoiled verdict_of checked crc
+    byte_step bit_steps bit_step is_frame has_right_ending ends_in_check has_silence
+cut_short-read = refl
