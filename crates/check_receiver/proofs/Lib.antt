@@ -1,3 +1,4 @@
+pub mod Comparing
 pub mod Words
 pub mod Machine
 pub mod Heads

@@ -1,3 +1,4 @@
+ghost use Rattle.std.specs.Prelude.{◌≡◌, bytes_eq};
 ghost use Rattle.link_format.specs.Profile.{IsWordLen};
 
 use arrayvec::ArrayVec;
@@ -7,6 +8,22 @@ use sequence_journal::{LIMIT, full_with};
 
 /// How many bytes a trailer has at most: a word of 4 and a tag of 16.
 const ROOM: usize = 20;
+
+// Whether these are the same bytes. All of them are looked at, wherever they differ, and none of
+// them decides a branch: the bits that differ are gathered, and whether there are any is asked once.
+// So what can be seen of the time tells nothing of how many bytes of a forged tag are right.
+fn are_same(left: &[u8], right: &[u8]) -> bool
+    ensures { result ≡ bytes_eq left.now right.now }
+{
+    if left.len() != right.len() {
+        return false;
+    }
+    let mut differing = 0;
+    for (one, other) in left.iter().zip(right) {
+        differing |= *one ^ *other;
+    }
+    differing == 0
+}
 
 /// What has come of a trailer with a word of `B` bytes.
 #[derive(Drop)]
@@ -102,8 +119,6 @@ impl<const B: usize> Arriving<B> {
         if bytes.len() < B {
             return false;
         }
-        let behind = &bytes[B..];
-        let of_tag = tag.as_slice();
-        behind == of_tag
+        are_same(&bytes[B..], tag.as_slice())
     }
 }

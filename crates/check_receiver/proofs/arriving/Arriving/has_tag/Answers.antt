@@ -10,10 +10,10 @@ returns-then-bytes g c = λ come.
 
 pub returns : goal.returns
 returns g c = λ come.
-    c.eq.ensures
-    ∙ (ap (λ x. bytes_eq x c.as_slice-of_tag.result.now)
+    c.are_same.ensures
+    ∙ (ap (λ x. bytes_eq x c.as_slice.result.now)
     (take_rest c.as_slice-bytes.result.now g.row.B)
-    ∙ (ap (λ x. bytes_eq (drop g.row.B x) c.as_slice-of_tag.result.now)
+    ∙ (ap (λ x. bytes_eq (drop g.row.B x) c.as_slice.result.now)
     c.as_slice-bytes.ensures.value
     ∙ ap (λ x. bytes_eq (drop g.row.B c.args.self.now.bytes.items) x)
-    c.as_slice-of_tag.ensures.value))
+    c.as_slice.ensures.value))
