@@ -4,15 +4,19 @@
     python3 scripts/limits.py [PROGRAM] [WORD..]
 
 With WORDs only the commands of these names run. At 16,777,216 ticks, and at 268,435,456 bytes, a run ends well; with one
-more it is refused with the first sum that was too much. It prints status, CPU time and the log's last line of each run,
+more it is refused with the first sum that was too much. Of 70,000 frames, which are more than a word of two bytes counts,
+`replay` prints each that is sealed, passes and is read. It prints status, CPU time and the log's last line of each run,
 and ends with 1 where one isn't as it should be. It is no part of the gate: all runs together read some 4 GB.
 """
 import os, subprocess, sys, tempfile
+
+from model import PAUSE, Dnp3, Rtu, Y18, trailer
 
 TICKS, BYTES = 16_777_216, 268_435_456
 KEY = b"000102030405060708090a0b0c0d0e0f"
 JOURNAL = bytes(8) + b"\xff" * 8 + bytes(16)
 FRAMES = {"rtu": b"01030000000ac5cd", "dnp3": b"056405c001000004e921"}
+MANY, SILENCE = 70_000, 40
 FULL_LINE, COMMENT = b"+" + b"5a" * 32 + b"\n", b"#" + b"x" * 120 + b"\n"
 
 
@@ -31,6 +35,22 @@ def inputs(proto, two):
         yield "ticks, silence" + ", one more" * more, [head] + [b"-1000000\n"] * 16 + [b"-%d\n" % (silence + more)], fault
     for more, fault in ((0, ""), (1, too_long)):
         yield "bytes" + ", one more" * more, [head] + [COMMENT] * comments + [b"\n" * (left + more)], fault
+
+
+def many_frames(proto):
+    """The two recordings of many frames, of which none is lost, and what is printed of them."""
+    frame, rules = FRAMES[proto], Rtu if proto == "rtu" else Dnp3
+    key, bare = (bytes.fromhex(text.decode()) for text in (KEY, frame))
+    device, link, sealed, passed, read = [], [], [], [], []
+    for number in range(1, MANY + 1):
+        behind = bytes(trailer(rules, key, 0, bare, number))
+        start = (number - 1) * (len(bare) + SILENCE)
+        device.append(b"+%s\n-%d\n" % (frame, SILENCE))
+        link.append(b"+%s\n-%d\n+%s\n-%d\n" % (frame, PAUSE, behind.hex().encode(), SILENCE - PAUSE - len(behind)))
+        sealed.append(b"sealed %d at %d %s\n" % (number, start, frame))
+        passed.append(b"passed %d at %d %s\n" % (number, start, frame))
+        read.append(b"read at %d %s\n" % (start + Y18.delay, frame))
+    return device + [b"%\n"] + link, b"".join(sealed + passed + read)
 
 
 def run(program, words, parts, folder):
@@ -70,6 +90,13 @@ def main():
                 right = status == (10 if fault else 0) and (last == fault or not fault)
                 wrong += not right
                 print("%-24s %-30s status %2d %6.2f s  %s%s" % (words, kind, status, seconds, last, "" if right else "  WRONG"), flush=True)
+            if name == "replay":
+                parts, lines = many_frames(proto)
+                status, seconds, last = run(program, words, parts, folder)
+                with open(os.path.join(folder, "out"), "rb") as out:
+                    right = (status, last, out.read()) == (0, "", lines)
+                wrong += not right
+                print("%-24s %-30s status %2d %6.2f s  %s%s" % (words, "%d frames" % MANY, status, seconds, last, "" if right else "  WRONG"), flush=True)
     sys.exit(1 if wrong else 0)
 
 
