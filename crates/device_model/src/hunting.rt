@@ -44,6 +44,7 @@ pub struct HuntingDevice<R> {
 fn bytes_before(byte: u8, bytes: &[u8]) -> usize
     ensures within { result ≤ length bytes.now }
     ensures other { (k : ℕ) → k < result → slice_index bytes.now k ≡ byte → ⊥ }
+    ensures first { result < length bytes.now → slice_index bytes.now result ≡ byte }
 {
     if !bytes.is_empty() && bytes[0] == byte {
         return 0;
