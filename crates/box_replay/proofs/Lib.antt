@@ -6,3 +6,4 @@ pub mod Floors
 pub mod Outcomes
 pub mod Replayable
 pub mod Walking
+pub mod RunsAreUptimes

@@ -4,3 +4,4 @@ pub mod Runs
 pub mod BoxLines
 pub mod Fronts
 pub mod ReplaysBox
+pub mod Uptimes

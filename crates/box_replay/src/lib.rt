@@ -4,8 +4,10 @@
 
 mod box_lines;
 mod command;
+mod laws;
 mod line_box;
 mod runs;
 
 pub use command::replay_box;
+pub use laws::runs_are_uptimes;
 pub use line_box::{BoxStep, LineBox, NoteLine, RunBytes};

@@ -1,0 +1,106 @@
+-- Each end of a run of a box leaves an uptime, or the slots as they were.
+use Rattle.std.proofs.Common.{◌≡◌, ◌∙◌, ◌⊎◌, ℕ, List, Option, Some, inl, inr}
+use Rattle.std.proofs.Common.{sym, ap, subst, ⊎_elim}
+use Rattle.yasir_io.specs.Disks.{Slots, OneImage}
+use Rattle.yasir_io.specs.declared.source.Source.{Ghosts as Source}
+use Rattle.yasir_io.specs.declared.sink.Sink.{Ghosts as Sink}
+use Rattle.yasir_io.specs.declared.disk.SlotDisk.{Ghosts as SlotDisk}
+use Rattle.yasir_ticks.specs.declared.tick.Tick.{Tick}
+use Rattle.hmac_tag.specs.declared.dir.Dir.{Dir}
+use Rattle.link_format.specs.Setup.{Setup}
+use Rattle.sequence_journal.specs.Slots.{floor_of}
+use Rattle.replay_status.specs.Outside.{Outside}
+use Rattle.replay_status.specs.declared.status.Status.{Status}
+use Rattle.replay_status.specs.declared.status.Status.TheVariants.{Done, Usage, BadTicks, ReadFault}
+use Rattle.replay_status.specs.declared.status.Status.TheVariants.{WriteFault, JournalFault}
+use Rattle.replay_status.specs.declared.status.Status.TheVariants.{TooLong, HasJournal, BadKey}
+use Rattle.replay_status.specs.declared.status.Status.TheVariants.{BadJournal, NoMemory}
+use Rattle.tick_drive.specs.declared.end.End.{End}
+use Rattle.box_replay.specs.Boxes.{Boxed}
+use Rattle.box_replay.specs.BoxLines.{ToldFloor}
+use Rattle.box_replay.specs.ReplaysBox.{Around, around_of, boxed_with, LeavesUptime}
+use Rattle.box_replay.specs.ReplaysBox.{EndsBox, LooksAtJournal}
+use Rattle.box_replay.specs.ReplaysBox.{RunsBox, RunsKeyed, ReplaysBox}
+use Rattle.box_replay.specs.Uptimes.{WasUptime, IsUptimeOrNone}
+
+-- a floor that is told is that of the slots
+floor-told : (floor : ℕ) (told : Option Slots) (begins : Slots) → told ≡ Some begins
+    → ToldFloor floor told → floor_of begins ≡ Some floor
+floor-told floor told begins is has = subst (λ t. ToldFloor floor t) is has
+
+module _ {S O L D : Type 0} (s : Source S) (o : Sink O) (l : Sink L) (d : SlotDisk D)
+    (box : ℕ → Boxed) (rest : ℕ) (before after : Around S O L D) (begins image : Slots)
+    (told : d.told before.disk ≡ Some begins)
+    (one : OneImage (d.told before.disk) (d.may_leave before.disk))
+    (left : d.may_leave after.disk image) where
+  was : (floor : ℕ) (line : List Tick) → ToldFloor floor (d.told before.disk)
+      → LeavesUptime d ((box floor).numbers line) before.disk after.disk
+      → WasUptime box begins image
+  was floor line has leaves = record {
+    floor = floor;
+    line = line;
+    loads = floor-told floor (d.told before.disk) begins told has;
+    is = leaves one begins told image left;
+  }
+
+  ended : (end : End) → EndsBox s o l d box rest before after end → WasUptime box begins image
+  ended end h = was h.floor _ h.floor_before h.replays.uptime
+
+  looked : LooksAtJournal s o l d box rest before after → image ≡ begins
+  looked h =
+      let same : Some begins ≡ Some image = sym told ∙ one image (h.images image left) in
+      cc
+
+  run-is : (status : Status) → RunsBox s o l d box rest before after status
+      → WasUptime box begins image ⊎ (image ≡ begins)
+  run-is Done h = inl (ended _ h)
+  run-is (BadTicks bad) h = inl (ended _ h)
+  run-is (TooLong what count) h = inl (ended _ h)
+  run-is ReadFault h = inl (ended _ h)
+  run-is JournalFault (inl h) = inl (was h.floor h.line h.floor_before h.replays.uptime)
+  run-is JournalFault (inr h) = inr (looked h)
+  run-is WriteFault h = inl (was h.floor _ h.floor_before h.uptime)
+  run-is (BadJournal a b) h = inr (looked h.1)
+  run-is Usage h = absurd h
+  run-is (HasJournal floor) h = absurd h
+  run-is (BadKey place) h = absurd h
+  run-is NoMemory h = absurd h
+
+module _ {K S O L D : Type 0} (k : Source K) (s : Source S) (o : Sink O) (l : Sink L)
+    (d : SlotDisk D)
+    (boxed : Setup → Boxed) (dir : Dir) (rest : ℕ) (before after : Outside K S O L D)
+    (begins image : Slots) (told : d.told before.disk ≡ Some begins)
+    (one : OneImage (d.told before.disk) (d.may_leave before.disk))
+    (left : d.may_leave after.disk image) where
+  -- nothing but the key was touched
+  untouched : around_of after ≡ around_of before → image ≡ begins
+  untouched same =
+      let disk : after.disk ≡ before.disk = ap (λ a. a.disk) same in
+      let still : d.may_leave before.disk image =
+      subst (λ x. d.may_leave x image) disk left in
+      let is : Some begins ≡ Some image = sym told ∙ one image still in
+      cc
+
+  keyed : (status : Status) → RunsKeyed k s o l d boxed dir rest before after status
+      → IsUptimeOrNone k s o l d boxed dir rest before after status begins image
+  keyed status ran = ⊎_elim
+      (λ was. inl (record { ran = ran; was = was }))
+      (λ same. inr same)
+      (run-is s o l d (boxed_with boxed ran.key dir) rest (around_of before) (around_of after)
+      begins image told one left status ran.runs)
+
+  pub uptime-or-none : (status : Status)
+      → ReplaysBox k s o l d boxed dir rest before after status
+      → IsUptimeOrNone k s o l d boxed dir rest before after status begins image
+  uptime-or-none (BadKey place) h = inr (untouched h.same)
+  uptime-or-none ReadFault (inl h) = inr (untouched h.same)
+  uptime-or-none ReadFault (inr ran) = keyed ReadFault ran
+  uptime-or-none Done ran = keyed Done ran
+  uptime-or-none Usage ran = keyed Usage ran
+  uptime-or-none (BadTicks bad) ran = keyed (BadTicks bad) ran
+  uptime-or-none WriteFault ran = keyed WriteFault ran
+  uptime-or-none JournalFault ran = keyed JournalFault ran
+  uptime-or-none (TooLong what count) ran = keyed (TooLong what count) ran
+  uptime-or-none (HasJournal floor) ran = keyed (HasJournal floor) ran
+  uptime-or-none (BadJournal a b) ran = keyed (BadJournal a b) ran
+  uptime-or-none NoMemory ran = keyed NoMemory ran
