@@ -1,4 +1,5 @@
 pub mod Worked
+mod WorkedWide
 pub mod WorkedHeaders
 pub mod Keeping
 pub mod Judging

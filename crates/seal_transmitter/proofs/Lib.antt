@@ -1,4 +1,5 @@
 pub mod Worked
+mod WorkedWide
 pub mod Causality
 pub mod Numbers
 pub mod StepLemmas

@@ -18,7 +18,7 @@ use Rattle.seal_transmitter.specs.Sealing.FullNote.{sealed_note, unsealed_note}
 use Rattle.seal_transmitter.specs.declared.note.UnsealedWhy.TheVariants.{Early, Form, Spent}
 
 -- frames of at most 256 bytes that end in their CRC, which leaves the register at 0
-abbrev rtu : Rules
+abbrev pub rtu : Rules
 rtu = headerless 1 256 (λ x. nat_le 4 (length x) && crc 0xA001 0xFFFF x == 0)
     (λ x. nat_le 2 (length x) && crc 0xA001 0xFFFF x == 0)
 
@@ -29,17 +29,17 @@ stand_in number frame = take 12 (number ∷ frame ++ replicate 12 0xEE)
 abbrev profile : Profile
 profile = record { word_len = 2; tag_len = 12; tag = stand_in; limit = 281474976710655 }
 
-abbrev on_line : List ℕ → List Tick
+abbrev pub on_line : List ℕ → List Tick
 on_line x = map (λ b. Byte b) x
 
 -- requests to read ten registers, and one
-abbrev READ_TEN_REGISTERS : List ℕ
+abbrev pub READ_TEN_REGISTERS : List ℕ
 READ_TEN_REGISTERS = 0x01 ∷ 0x03 ∷ 0x00 ∷ 0x00 ∷ 0x00 ∷ 0x0A ∷ 0xC5 ∷ 0xCD ∷ []
 
-abbrev READ_ONE_REGISTER : List ℕ
+abbrev pub READ_ONE_REGISTER : List ℕ
 READ_ONE_REGISTER = 0x01 ∷ 0x03 ∷ 0x00 ∷ 0x00 ∷ 0x00 ∷ 0x01 ∷ 0x84 ∷ 0x0A ∷ []
 
-abbrev noted_at : ℕ → FullNote → Noted FullNote
+abbrev pub noted_at : ℕ → FullNote → Noted FullNote
 noted_at tick entry = record { tick = tick; note = entry }
 
 -- ---- one frame
