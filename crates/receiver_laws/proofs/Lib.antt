@@ -28,5 +28,6 @@ pub mod InStep
 pub mod QuietLines
 pub mod Recovering
 pub mod WorkedRecovery
+mod WorkedRecoveryRtu
 mod WorkedMembers
 mod WorkedUptimes
