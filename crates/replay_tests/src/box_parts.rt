@@ -67,6 +67,28 @@ const _: () = prove!(
             + BESIDE_THE_PARTS
 );
 
+// These bounds name the parts, and say nothing where a part itself grows. So the boxes are bounded
+// by numbers too, which leave no room for a frame either.
+const SEALER_MOST: usize = 512;
+
+const CHECKER_MOST: usize = 1_056;
+
+const _: () = prove!(size_of::<Sealer<Rtu, HmacSha1, 2>>() <= SEALER_MOST);
+
+const _: () = prove!(size_of::<Sealer<Dnp, HmacSha1, 2>>() <= SEALER_MOST);
+
+const _: () = prove!(size_of::<Sealer<Rtu, HmacSha256, 4>>() <= SEALER_MOST);
+
+const _: () = prove!(size_of::<Sealer<Dnp, HmacSha256, 4>>() <= SEALER_MOST);
+
+const _: () = prove!(size_of::<Checker<Rtu, HmacSha1, 2, 18>>() <= CHECKER_MOST);
+
+const _: () = prove!(size_of::<Checker<Dnp, HmacSha1, 2, 18>>() <= CHECKER_MOST);
+
+const _: () = prove!(size_of::<Checker<Rtu, HmacSha256, 4, 24>>() <= CHECKER_MOST);
+
+const _: () = prove!(size_of::<Checker<Dnp, HmacSha256, 4, 24>>() <= CHECKER_MOST);
+
 // What leaves for the bytes 01 7e 80, which have a right ending and are no frame.
 fn last_byte(passed: bool) -> Option<u8> {
     let mut outlet = Outlet::<Rtu>::new();

@@ -15,6 +15,8 @@ mod outside;
 #[cfg(test)]
 mod over_boxes;
 #[cfg(test)]
+mod packets;
+#[cfg(test)]
 mod reading;
 #[cfg(test)]
 mod receiver_runs;
@@ -22,6 +24,8 @@ mod receiver_runs;
 mod receiver_steps;
 #[cfg(test)]
 mod runs;
+#[cfg(test)]
+mod sealer_turns;
 #[cfg(test)]
 mod sealing;
 #[cfg(test)]

@@ -1,9 +1,11 @@
 //! Runs of ticks are answered as their single ticks are, whatever their lengths and wherever a link
 //! is cut into them.
 ghost use Rattle.std.specs.Prelude.{◌≡◌, ◌+◌, ◌<◌, ◌≤◌, length, OnOk, IfOk};
+ghost use Rattle.link_format.specs.Profile.{IsWordLen};
 ghost use Rattle.sequence_journal.specs.Journal.{Fits};
 ghost use Rattle.check_receiver.specs.Stands.{ticks_taken};
 
+use crate::packets::{KEY, LINKS, Link, packet_of};
 use crate::receiver_steps::{steps, tick_of};
 use check_receiver::{CheckStep, Checker, RunBytes};
 use dnp_link_frame::Dnp;
@@ -17,30 +19,8 @@ use std::test::Fail;
 use yasir_io::{SlotDisk, SteadySlots};
 use yasir_ticks::Tick;
 
-type RtuChecker = Checker<Rtu, HmacSha1, 2, 18>;
-
-type DnpChecker = Checker<Dnp, HmacSha1, 2, 18>;
-
-type WideRtuChecker = Checker<Rtu, HmacSha256, 4, 24>;
-
-const KEY: u128 = 0x000102030405060708090a0b0c0d0e0f;
-
-// Frames with the trailer of number 1: word and tag. Points are silence. The tags are by openssl:
-//   printf 010001030000000ac5cd0000000000000001 | xxd -r -p
-//     | openssl dgst -sha1 -mac HMAC -macopt hexkey:000102030405060708090a0b0c0d0e0f
-//     | cut -c1-24
-// and so for the frame of DNP3 with 0200 in front, and by y24 with -sha256 and cut -c1-32.
-const RTU_PACKET: &[u8] = b"\x01\x03\x00\x00\x00\x0a\xc5\xcd...\
-      \x00\x01\x01\x4c\x5b\x8d\x33\xc6\xd2\x9a\x34\x70\x13\xb0";
-
-const DNP_PACKET: &[u8] = b"\x05\x64\x05\xc0\x01\x00\x00\x04\xe9\x21...\
-      \x00\x01\x79\x34\x84\xb9\xbd\xf8\x58\xbb\xd8\x2b\x55\x9e";
-
-const WIDE_RTU_PACKET: &[u8] = b"\x01\x03\x00\x00\x00\x0a\xc5\xcd...\
-      \x00\x00\x00\x01\x65\xd2\x45\xba\x10\x95\x09\xaa\x6c\x32\xac\x3c\xfa\x22\x8f\xd6";
-
 // How many of the first letters are all silence or all bytes, and so many at most.
-fn alike(link: &[u8], most: usize) -> usize
+pub fn alike(link: &[u8], most: usize) -> usize
     ensures { result ≤ length link.now }
 {
     let Some(first) = link.first() else {
@@ -149,136 +129,64 @@ fn follow<R: LineRules, M: Mac, S: SlotDisk, const B: usize, const D: usize>(
     Ok(turns)
 }
 
-// The receivers whose runs are compared: for Modbus RTU and DNP3 by y18, and for Modbus RTU by y24.
-#[derive(Clone, Copy)]
-enum Receiver {
-    Rtu,
-    Dnp,
-    WideRtu,
+// What a receiver answers to the ticks of a link.
+fn steps_by<R: LineRules, M: Mac, const B: usize, const D: usize>(
+    alloc: Global,
+    link: &[u8],
+) -> Result<Vec<CheckStep>, Fail>
+    requires word { IsWordLen B }
+    requires wide { 2 ≤ B }
+    requires delay { D ≡ 4 + B + M.TAG }
+    requires short { length link.now < 1000 }
+{
+    let mut checker: Checker<R, M, B, D> = Checker::new(&KEY.to_be_bytes(), Dir::Ab);
+    let mut disk = SteadySlots::new(slot_of(0), [0; 16]);
+    let mut journal = Journal::load(&mut disk)?;
+    steps(alloc, &mut checker, &mut journal, &mut disk, link)
 }
 
-// The packet that it lets pass.
-fn packet_of(receiver: Receiver) -> &'static [u8] {
+// Whether its runs come to the same, and how many runs and steps there are.
+fn follow_by<R: LineRules, M: Mac, const B: usize, const D: usize>(
+    rt: &impl Abort,
+    link: &[u8],
+    wanted: &[CheckStep],
+    cut: usize,
+    most: usize,
+) -> Result<usize, Fail>
+    requires word { IsWordLen B }
+    requires wide { 2 ≤ B }
+    requires delay { D ≡ 4 + B + M.TAG }
+    requires short { length link.now < 1000 }
+{
+    let mut checker: Checker<R, M, B, D> = Checker::new(&KEY.to_be_bytes(), Dir::Ab);
+    let mut disk = SteadySlots::new(slot_of(0), [0; 16]);
+    let mut journal = Journal::load(&mut disk)?;
+    follow(
+        rt,
+        &mut checker,
+        &mut journal,
+        &mut disk,
+        link,
+        wanted,
+        cut,
+        most,
+    )
+}
+
+fn steps_of(alloc: Global, receiver: Link, link: &[u8]) -> Result<Vec<CheckStep>, Fail>
+    requires short { length link.now < 1000 }
+{
     match receiver {
-        Receiver::Rtu => RTU_PACKET,
-        Receiver::Dnp => DNP_PACKET,
-        Receiver::WideRtu => WIDE_RTU_PACKET,
+        Link::Rtu => steps_by::<Rtu, HmacSha1, 2, 18>(alloc, link),
+        Link::Dnp => steps_by::<Dnp, HmacSha1, 2, 18>(alloc, link),
+        Link::WideRtu => steps_by::<Rtu, HmacSha256, 4, 24>(alloc, link),
+        Link::WideDnp => steps_by::<Dnp, HmacSha256, 4, 24>(alloc, link),
     }
 }
 
-// What each of them answers to the ticks of a link, and whether its runs come to the same.
-fn rtu_steps(alloc: Global, link: &[u8]) -> Result<Vec<CheckStep>, Fail>
-    requires short { length link.now < 1000 }
-{
-    let mut checker: RtuChecker = Checker::new(&KEY.to_be_bytes(), Dir::Ab);
-    let mut disk = SteadySlots::new(slot_of(0), [0; 16]);
-    let mut journal = Journal::load(&mut disk)?;
-    steps(alloc, &mut checker, &mut journal, &mut disk, link)
-}
-
-fn follow_rtu(
+fn follow_of(
     rt: &impl Abort,
-    link: &[u8],
-    wanted: &[CheckStep],
-    cut: usize,
-    most: usize,
-) -> Result<usize, Fail>
-    requires short { length link.now < 1000 }
-{
-    let mut checker: RtuChecker = Checker::new(&KEY.to_be_bytes(), Dir::Ab);
-    let mut disk = SteadySlots::new(slot_of(0), [0; 16]);
-    let mut journal = Journal::load(&mut disk)?;
-    follow(
-        rt,
-        &mut checker,
-        &mut journal,
-        &mut disk,
-        link,
-        wanted,
-        cut,
-        most,
-    )
-}
-
-fn dnp_steps(alloc: Global, link: &[u8]) -> Result<Vec<CheckStep>, Fail>
-    requires short { length link.now < 1000 }
-{
-    let mut checker: DnpChecker = Checker::new(&KEY.to_be_bytes(), Dir::Ab);
-    let mut disk = SteadySlots::new(slot_of(0), [0; 16]);
-    let mut journal = Journal::load(&mut disk)?;
-    steps(alloc, &mut checker, &mut journal, &mut disk, link)
-}
-
-fn follow_dnp(
-    rt: &impl Abort,
-    link: &[u8],
-    wanted: &[CheckStep],
-    cut: usize,
-    most: usize,
-) -> Result<usize, Fail>
-    requires short { length link.now < 1000 }
-{
-    let mut checker: DnpChecker = Checker::new(&KEY.to_be_bytes(), Dir::Ab);
-    let mut disk = SteadySlots::new(slot_of(0), [0; 16]);
-    let mut journal = Journal::load(&mut disk)?;
-    follow(
-        rt,
-        &mut checker,
-        &mut journal,
-        &mut disk,
-        link,
-        wanted,
-        cut,
-        most,
-    )
-}
-
-fn wide_rtu_steps(alloc: Global, link: &[u8]) -> Result<Vec<CheckStep>, Fail>
-    requires short { length link.now < 1000 }
-{
-    let mut checker: WideRtuChecker = Checker::new(&KEY.to_be_bytes(), Dir::Ab);
-    let mut disk = SteadySlots::new(slot_of(0), [0; 16]);
-    let mut journal = Journal::load(&mut disk)?;
-    steps(alloc, &mut checker, &mut journal, &mut disk, link)
-}
-
-fn follow_wide_rtu(
-    rt: &impl Abort,
-    link: &[u8],
-    wanted: &[CheckStep],
-    cut: usize,
-    most: usize,
-) -> Result<usize, Fail>
-    requires short { length link.now < 1000 }
-{
-    let mut checker: WideRtuChecker = Checker::new(&KEY.to_be_bytes(), Dir::Ab);
-    let mut disk = SteadySlots::new(slot_of(0), [0; 16]);
-    let mut journal = Journal::load(&mut disk)?;
-    follow(
-        rt,
-        &mut checker,
-        &mut journal,
-        &mut disk,
-        link,
-        wanted,
-        cut,
-        most,
-    )
-}
-
-fn steps_of(alloc: Global, receiver: Receiver, link: &[u8]) -> Result<Vec<CheckStep>, Fail>
-    requires short { length link.now < 1000 }
-{
-    match receiver {
-        Receiver::Rtu => rtu_steps(alloc, link),
-        Receiver::Dnp => dnp_steps(alloc, link),
-        Receiver::WideRtu => wide_rtu_steps(alloc, link),
-    }
-}
-
-fn follow_by(
-    rt: &impl Abort,
-    receiver: Receiver,
+    receiver: Link,
     link: &[u8],
     wanted: &[CheckStep],
     cut: usize,
@@ -287,9 +195,10 @@ fn follow_by(
     requires short { length link.now < 1000 }
 {
     match receiver {
-        Receiver::Rtu => follow_rtu(rt, link, wanted, cut, most),
-        Receiver::Dnp => follow_dnp(rt, link, wanted, cut, most),
-        Receiver::WideRtu => follow_wide_rtu(rt, link, wanted, cut, most),
+        Link::Rtu => follow_by::<Rtu, HmacSha1, 2, 18>(rt, link, wanted, cut, most),
+        Link::Dnp => follow_by::<Dnp, HmacSha1, 2, 18>(rt, link, wanted, cut, most),
+        Link::WideRtu => follow_by::<Rtu, HmacSha256, 4, 24>(rt, link, wanted, cut, most),
+        Link::WideDnp => follow_by::<Dnp, HmacSha256, 4, 24>(rt, link, wanted, cut, most),
     }
 }
 
@@ -300,9 +209,9 @@ fn add(link: &mut Vec<u8>, letter: u8, times: usize) -> Result<(), AllocError> {
     Ok(())
 }
 
-// The first ticks of the packet, so many and one of them wrong, then so many silent ticks, a burst
+// The first ticks of a packet, so many and one of them wrong, then so many silent ticks, a burst
 // of so many bytes, and silence.
-fn link_of(
+pub fn link_of(
     alloc: Global,
     packet: &[u8],
     kept: usize,
@@ -325,7 +234,7 @@ fn link_of(
 fn compare_runs(
     rt: &impl Abort,
     alloc: Global,
-    receiver: Receiver,
+    receiver: Link,
     kept: usize,
     wrong: usize,
     pause: usize,
@@ -335,14 +244,14 @@ fn compare_runs(
     let link = &link[..link.len().min(999)];
     let wanted = steps_of(alloc, receiver, link)?;
     for at in 0..link.len() {
-        follow_by(rt, receiver, link, wanted.as_slice(), at, 1000)?;
-        follow_by(rt, receiver, link, wanted.as_slice(), 0, at + 1)?;
+        follow_of(rt, receiver, link, wanted.as_slice(), at, 1000)?;
+        follow_of(rt, receiver, link, wanted.as_slice(), 0, at + 1)?;
     }
     Ok(())
 }
 
 // Each beginning of the packet, and the whole packet with each of its ticks wrong.
-fn compare_trailers(rt: &impl Abort, alloc: Global, receiver: Receiver) -> Result<(), Fail> {
+fn compare_trailers(rt: &impl Abort, alloc: Global, receiver: Link) -> Result<(), Fail> {
     let whole = packet_of(receiver).len();
     for place in 0..whole {
         compare_runs(rt, alloc, receiver, place, whole, 0, 0)?;
@@ -353,7 +262,7 @@ fn compare_trailers(rt: &impl Abort, alloc: Global, receiver: Receiver) -> Resul
 
 // Behind a packet comes a burst that joins it, one that comes too soon, and one in time, some of
 // them longer than a burst has room.
-fn compare_bursts(rt: &impl Abort, alloc: Global, receiver: Receiver) -> Result<(), Fail> {
+fn compare_bursts(rt: &impl Abort, alloc: Global, receiver: Link) -> Result<(), Fail> {
     let whole = packet_of(receiver).len();
     for pause in [0, 4, 24] {
         for count in [1, 2, 7, 17, 18, 19, 200, 300] {
@@ -363,7 +272,7 @@ fn compare_bursts(rt: &impl Abort, alloc: Global, receiver: Receiver) -> Result<
     Ok(())
 }
 
-fn compare_silence(rt: &impl Abort, alloc: Global, receiver: Receiver) -> Result<(), Fail> {
+fn compare_silence(rt: &impl Abort, alloc: Global, receiver: Link) -> Result<(), Fail> {
     let whole = packet_of(receiver).len();
     for pause in 1..25 {
         compare_runs(rt, alloc, receiver, whole, whole, pause, 3)?;
@@ -372,7 +281,7 @@ fn compare_silence(rt: &impl Abort, alloc: Global, receiver: Receiver) -> Result
 }
 
 // Compares all of these.
-fn compare_all(rt: &impl Abort, alloc: Global, receiver: Receiver) -> Result<(), Fail> {
+fn compare_all(rt: &impl Abort, alloc: Global, receiver: Link) -> Result<(), Fail> {
     compare_trailers(rt, alloc, receiver)?;
     compare_bursts(rt, alloc, receiver)?;
     compare_silence(rt, alloc, receiver)
@@ -380,35 +289,60 @@ fn compare_all(rt: &impl Abort, alloc: Global, receiver: Receiver) -> Result<(),
 
 #[test]
 fn runs_are_checked_as_their_ticks(rt: HostRuntime) -> Result<(), Fail> {
-    compare_all(&rt, rt.alloc(), Receiver::Rtu)
+    compare_all(&rt, rt.alloc(), Link::Rtu)
 }
 
 #[test]
 fn runs_of_dnp3_are_checked_as_their_ticks(rt: HostRuntime) -> Result<(), Fail> {
-    compare_all(&rt, rt.alloc(), Receiver::Dnp)
+    compare_all(&rt, rt.alloc(), Link::Dnp)
 }
 
 #[test]
 fn runs_are_checked_as_their_ticks_by_the_second_profile(rt: HostRuntime) -> Result<(), Fail> {
-    compare_all(&rt, rt.alloc(), Receiver::WideRtu)
+    compare_all(&rt, rt.alloc(), Link::WideRtu)
 }
 
-// Of a packet the receiver takes single ticks only where a note or a burst's last byte leaves, so
-// that runs and steps together are few.
-#[test]
-fn a_packet_is_taken_by_runs(rt: HostRuntime) -> Result<(), Fail> {
-    let link = link_of(
-        rt.alloc(),
-        RTU_PACKET,
-        RTU_PACKET.len(),
-        RTU_PACKET.len(),
-        0,
-        0,
-    )?;
+// Whether a receiver takes a link in so many runs and single steps at most: the first ticks of the
+// packet, so many silent ticks, a burst of so many bytes, and silence.
+fn compare_turns(
+    rt: &impl Abort,
+    alloc: Global,
+    receiver: Link,
+    kept: usize,
+    pause: usize,
+    count: usize,
+    most: usize,
+) -> Result<(), Fail> {
+    let link = link_of(alloc, packet_of(receiver), kept, kept, pause, count)?;
     let link = &link[..link.len().min(999)];
-    let wanted = steps_of(rt.alloc(), Receiver::Rtu, link)?;
-    let turns = follow_by(&rt, Receiver::Rtu, link, wanted.as_slice(), 0, 1000)?;
-    assert!(rt; link.len() == 55);
-    assert!(rt; turns <= 10, "{turns} turns");
+    let wanted = steps_of(alloc, receiver, link)?;
+    let turns = follow_of(rt, receiver, link, wanted.as_slice(), 0, 1000)?;
+    assert!(rt; turns <= most, "{turns} turns");
+    Ok(())
+}
+
+// Five runs: the frame, the pause, the trailer's bytes while nothing leaves, those while the frame
+// leaves, and the silence behind. Two single steps: the verdict, and the frame's last byte.
+#[test]
+fn a_packet_is_taken_in_seven_turns(rt: HostRuntime) -> Result<(), Fail> {
+    for receiver in LINKS {
+        let whole = packet_of(receiver).len();
+        compare_turns(&rt, rt.alloc(), receiver, whole, 0, 0, 7)?;
+        // bytes that join it are a run more
+        compare_turns(&rt, rt.alloc(), receiver, whole, 0, 200, 8)?;
+    }
+    Ok(())
+}
+
+// Five runs: the frame, the pause, silence while nothing leaves and while the frame leaves, and the
+// silence behind. Two single steps: the verdict, and the frame's last byte. A burst that comes too
+// soon is a single step more, its note, and a run.
+#[test]
+fn a_frame_without_a_trailer_is_taken_by_runs(rt: HostRuntime) -> Result<(), Fail> {
+    for receiver in LINKS {
+        let frame = alike(packet_of(receiver), 1000);
+        compare_turns(&rt, rt.alloc(), receiver, frame, 0, 0, 7)?;
+        compare_turns(&rt, rt.alloc(), receiver, frame, 4, 4, 9)?;
+    }
     Ok(())
 }
