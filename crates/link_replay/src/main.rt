@@ -8,6 +8,8 @@ ghost use Rattle.link_replay.specs.Words.{word_in};
 mod commands;
 #[cfg(test)]
 mod failing;
+#[cfg(test)]
+mod long_recordings;
 mod program;
 #[cfg(test)]
 mod recording_tests;
