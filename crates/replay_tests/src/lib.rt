@@ -9,6 +9,8 @@ mod checking;
 #[cfg(test)]
 mod dnp3_lines;
 #[cfg(test)]
+mod fast_paths;
+#[cfg(test)]
 mod order;
 #[cfg(test)]
 mod outside;

@@ -1,0 +1,378 @@
+//! How many turns a packet takes each box of the program, and how often the program reads and
+//! writes. No clause says that a run is taken at once, nor how much a call reads or writes.
+ghost use Rattle.std.specs.Prelude.{◌≡◌, ℕ, ◌+◌, ◌<◌, ◌≤◌, length, IfOk, OnOk, None, Some};
+ghost use Rattle.yasir_io.specs.Steady.{steady_slots};
+ghost use Rattle.sequence_journal.specs.Journal.{Fits};
+ghost use Rattle.yasir_ticks.specs.declared.TheConstants.{MAX_TICKS};
+
+use crate::over_boxes::KEY;
+use crate::packets::{self, DNP_PACKET, RTU_PACKET, WIDE_RTU_PACKET};
+use crate::receiver_runs::alike;
+use box_replay::{LineBox, replay_box};
+use check_replay::CheckBox;
+use dnp_link_frame::Dnp;
+use frame_boxes::{CheckNoting, SealNoting, ShownFrames};
+use hmac_tag::{Dir, HmacSha1, HmacSha256};
+use replay_lists::FrameBox;
+use replay_status::Status;
+use rtu_frame::Rtu;
+use seal_replay::SealBox;
+use sequence_journal::{Journal, slot_of};
+use std::alloc::Global;
+use std::process::Abort;
+use std::test::Fail;
+use yasir_io::{Failed, Sink, SteadySlots, SteadySource};
+use yasir_ticks::Tick;
+
+/// A box that takes ticks that are alike, as many as it can at once.
+trait Turning: Drop {
+    ghost taken: { Self → ℕ };
+
+    ghost able: { Self → Type 0 };
+
+    /// Takes the first of these bytes, one at least, and answers how many.
+    fn turn_bytes(&mut self, bytes: &[u8]) -> Result<usize, Fail>
+        requires able { able self.old }
+        requires some { 0 < length bytes.now }
+        requires room { taken self.old + length bytes.now ≤ MAX_TICKS }
+        ensures able { OnOk result (able self.new) }
+        ensures some { IfOk result (λ count. 0 < count) }
+        ensures within { IfOk result (λ count. count ≤ length bytes.now) }
+        ensures taken { IfOk result (λ count. taken self.new ≡ taken self.old + count) };
+
+    /// The same of so many silent ticks.
+    fn turn_silence(&mut self, ticks: u32) -> Result<u32, Fail>
+        requires able { able self.old }
+        requires some { 0 < ticks }
+        requires room { taken self.old + ticks ≤ MAX_TICKS }
+        ensures able { OnOk result (able self.new) }
+        ensures some { IfOk result (λ count. 0 < count) }
+        ensures within { IfOk result (λ count. count ≤ ticks) }
+        ensures taken { IfOk result (λ count. taken self.new ≡ taken self.old + count) };
+}
+
+/// A box of `seal` or `check`, and its journal.
+#[derive(Drop)]
+struct Journaled<B> {
+    line_box: B,
+    journal: Journal,
+    disk: SteadySlots,
+}
+
+impl<B: LineBox> Journaled<B> {
+    // A box that has taken no tick, over a journal at 0.
+    fn new() -> Result<Journaled<B>, Fail>
+        requires { B.widths_fit }
+        ensures taken { IfOk result (λ value. B.taken value.line_box ≡ 0) }
+        ensures fits { IfOk result
+            (λ value. Fits value.journal (Some (steady_slots value.disk))) }
+    {
+        let mut disk = SteadySlots::new(slot_of(0), [0; 16]);
+        let journal = Journal::load(&mut disk)?;
+        Ok(Journaled {
+            line_box: B::new(&packets::KEY.to_be_bytes(), Dir::Ab),
+            journal,
+            disk,
+        })
+    }
+}
+
+impl<B: LineBox> Turning for Journaled<B> {
+    ghost taken = { λ value. B.taken value.line_box };
+
+    ghost able = { λ value. Fits value.journal (Some (steady_slots value.disk)) };
+
+    fn turn_bytes(&mut self, bytes: &[u8]) -> Result<usize, Fail> {
+        let count = self.line_box.forward_bytes(bytes);
+        if count > 0 {
+            return Ok(count);
+        }
+        let mut left = box_replay::RunBytes::new();
+        let count = self.line_box.pass_bytes(bytes, &mut left);
+        if count > 0 {
+            return Ok(count);
+        }
+        let tick = Tick::Byte(bytes[0]);
+        match self.line_box.step(tick, &mut self.journal, &mut self.disk) {
+            Ok(_) => Ok(1),
+            Err(_) => Err(Fail::from("the journal failed")),
+        }
+    }
+
+    fn turn_silence(&mut self, ticks: u32) -> Result<u32, Fail> {
+        let count = self.line_box.forward_silence(ticks);
+        if count > 0 {
+            return Ok(count);
+        }
+        let mut left = box_replay::RunBytes::new();
+        let count = self.line_box.pass_silence(ticks, &mut left);
+        if count > 0 {
+            return Ok(count);
+        }
+        match self
+            .line_box
+            .step(Tick::Silent, &mut self.journal, &mut self.disk)
+        {
+            Ok(_) => Ok(1),
+            Err(_) => Err(Fail::from("the journal failed")),
+        }
+    }
+}
+
+/// A box of `replay`.
+#[derive(Drop)]
+struct Shown<X> {
+    frame_box: X,
+}
+
+impl<X: FrameBox> Shown<X> {
+    // A box that has taken no tick.
+    fn new() -> Shown<X>
+        requires { X.widths_fit }
+        ensures taken { X.taken result.frame_box ≡ 0 }
+        ensures able { X.able result.frame_box }
+    {
+        Shown {
+            frame_box: X::new(&packets::KEY.to_be_bytes(), Dir::Ab),
+        }
+    }
+}
+
+impl<X: FrameBox> Turning for Shown<X> {
+    ghost taken = { λ value. X.taken value.frame_box };
+
+    ghost able = { λ value. X.able value.frame_box };
+
+    fn turn_bytes(&mut self, bytes: &[u8]) -> Result<usize, Fail> {
+        let mut left = replay_lists::RunBytes::new();
+        let count = self.frame_box.pass_bytes(bytes, &mut left);
+        if count > 0 {
+            return Ok(count);
+        }
+        let _ = self.frame_box.step(Tick::Byte(bytes[0]));
+        Ok(1)
+    }
+
+    fn turn_silence(&mut self, ticks: u32) -> Result<u32, Fail> {
+        let mut left = replay_lists::RunBytes::new();
+        let count = self.frame_box.pass_silence(ticks, &mut left);
+        if count > 0 {
+            return Ok(count);
+        }
+        let _ = self.frame_box.step(Tick::Silent);
+        Ok(1)
+    }
+}
+
+// What a box takes at once of letters that are alike, of which a point is silence.
+fn turn<X: Turning>(line_box: &mut X, part: &[u8]) -> Result<usize, Fail>
+    requires able { X.able line_box.old }
+    requires some { 0 < length part.now }
+    requires room { X.taken line_box.old + length part.now ≤ 1000 }
+    ensures able { OnOk result (X.able line_box.new) }
+    ensures some { IfOk result (λ count. 0 < count) }
+    ensures within { IfOk result (λ count. count ≤ length part.now) }
+    ensures taken { IfOk result (λ count. X.taken line_box.new ≡ X.taken line_box.old + count) }
+{
+    match part[0] {
+        b'.' => match line_box.turn_silence(part.len() as u32) {
+            Ok(count) => Ok(count as usize),
+            Err(fail) => Err(fail),
+        },
+        _ => line_box.turn_bytes(part),
+    }
+}
+
+// How many turns a line takes a box that has taken nothing.
+fn turns<X: Turning>(rt: &impl Abort, line_box: &mut X, line: &[u8]) -> Result<usize, Fail>
+    requires able { X.able line_box.old }
+    requires begun { X.taken line_box.old ≡ 0 }
+    requires short { length line.now < 1000 }
+{
+    let mut place = 0;
+    let mut turns = 0;
+    while place < line.len() {
+        let part = &line[place..];
+        let part = &part[..alike(part, 1000)];
+        assert!(rt; !part.is_empty());
+        place += turn(line_box, part)?;
+        turns += 1;
+    }
+    Ok(turns)
+}
+
+// These ticks and as much silence as a trailer or the receiver's delay needs, and more, take a box
+// so many turns at most.
+fn takes<X: Turning>(
+    rt: &impl Abort,
+    alloc: Global,
+    mut line_box: X,
+    ticks: &[u8],
+    most: usize,
+) -> Result<(), Fail>
+    requires able { X.able line_box }
+    requires begun { X.taken line_box ≡ 0 }
+{
+    let mut line = ticks.to_vec(alloc)?;
+    line.extend_from_slice(&[b'.'; 40])?;
+    let line = &line.as_slice()[..line.len().min(999)];
+    let turns = turns(rt, &mut line_box, line)?;
+    assert!(rt; turns <= most, "{turns} turns");
+    Ok(())
+}
+
+const RTU_FRAME: &[u8] = b"\x01\x03\x00\x00\x00\x0a\xc5\xcd";
+
+// Behind a frame so little silence that its trailer is still on its way as the next burst begins.
+const EARLY_BURST: &[u8] = b"\x01\x03\x00\x00\x00\x0a\xc5\xcd......AAAAAAAAAAAAAAAAAAAA";
+
+const DNP_FRAME: &[u8] = b"\x05\x64\x05\xc0\x01\x00\x00\x04\xe9\x21";
+
+// A frame is forwarded at once, and so are the silent ticks behind it but for the one that closes
+// it, which goes alone; then the trailer goes out at once, and then there is silence.
+const TURNS_OF_A_FRAME: usize = 5;
+
+// The first two bytes of the trailer go out in silence. The first byte of the early burst goes
+// alone; the trailer's others but that one go out over the burst's next ones, and over the rest of
+// it there is silence, as in the silent ticks behind it but for the one that closes it, which goes
+// alone; then there is silence.
+const TURNS_OF_AN_EARLY_BURST: usize = 10;
+
+// The frame's bytes come while nothing leaves, and so do the silent ticks behind it and the first
+// bytes of the trailer; with the others but the last one the frame leaves. The trailer's last byte
+// brings the verdict and goes alone, as does the tick in which the frame's last byte leaves; then
+// there is silence.
+const TURNS_OF_A_PACKET: usize = 7;
+
+#[test]
+fn frames_and_packets_take_few_turns(rt: HostRuntime) -> Result<(), Fail> {
+    let (rt, alloc) = (&rt, rt.alloc());
+    let most = TURNS_OF_A_FRAME;
+    let line_box: Journaled<SealBox<Rtu, HmacSha1, 2>> = Journaled::new()?;
+    takes(rt, alloc, line_box, RTU_FRAME, most)?;
+    let line_box: Journaled<SealBox<Dnp, HmacSha1, 2>> = Journaled::new()?;
+    takes(rt, alloc, line_box, DNP_FRAME, most)?;
+    let line_box: Journaled<SealBox<Rtu, HmacSha256, 4>> = Journaled::new()?;
+    takes(rt, alloc, line_box, RTU_FRAME, most)?;
+    let line_box: Journaled<SealBox<Rtu, HmacSha1, 2>> = Journaled::new()?;
+    takes(rt, alloc, line_box, EARLY_BURST, TURNS_OF_AN_EARLY_BURST)?;
+    let most = TURNS_OF_A_PACKET;
+    let line_box: Journaled<CheckBox<Rtu, HmacSha1, 2, 18>> = Journaled::new()?;
+    takes(rt, alloc, line_box, RTU_PACKET, most)?;
+    let line_box: Journaled<CheckBox<Dnp, HmacSha1, 2, 18>> = Journaled::new()?;
+    takes(rt, alloc, line_box, DNP_PACKET, most)?;
+    let line_box: Journaled<CheckBox<Rtu, HmacSha256, 4, 24>> = Journaled::new()?;
+    takes(rt, alloc, line_box, WIDE_RTU_PACKET, most)
+}
+
+type ShownSealer<R> = ShownFrames<SealNoting<R, HmacSha1, 2>, R, SteadySlots>;
+
+type ShownChecker<R> = ShownFrames<CheckNoting<R, HmacSha1, 2, 18>, R, SteadySlots>;
+
+// The boxes of `replay` take as many.
+#[test]
+fn frames_and_packets_take_the_boxes_of_replay_few_turns(rt: HostRuntime) -> Result<(), Fail> {
+    let (rt, alloc) = (&rt, rt.alloc());
+    let line_box: Shown<ShownSealer<Rtu>> = Shown::new();
+    takes(rt, alloc, line_box, RTU_FRAME, TURNS_OF_A_FRAME)?;
+    let line_box: Shown<ShownSealer<Dnp>> = Shown::new();
+    takes(rt, alloc, line_box, DNP_FRAME, TURNS_OF_A_FRAME)?;
+    let line_box: Shown<ShownSealer<Rtu>> = Shown::new();
+    takes(rt, alloc, line_box, EARLY_BURST, TURNS_OF_AN_EARLY_BURST)?;
+    let line_box: Shown<ShownChecker<Rtu>> = Shown::new();
+    takes(rt, alloc, line_box, RTU_PACKET, TURNS_OF_A_PACKET)?;
+    let line_box: Shown<ShownChecker<Dnp>> = Shown::new();
+    takes(rt, alloc, line_box, DNP_PACKET, TURNS_OF_A_PACKET)
+}
+
+/// A sink that takes all of each piece, and counts the pieces and their bytes.
+#[derive(Drop)]
+struct CountedSink {
+    writes: u64,
+    bytes: u64,
+    flushes: u64,
+    unflushed: bool,
+}
+
+const NO_WRITES: CountedSink = CountedSink {
+    writes: 0,
+    bytes: 0,
+    flushes: 0,
+    unflushed: false,
+};
+
+impl Sink for CountedSink {
+    ghost held = { λ _. None };
+
+    ghost faults = { λ _. 0 };
+
+    ghost flushes = { λ sink. sink.flushes };
+
+    ghost unflushed = { λ sink. sink.unflushed };
+
+    fn write(&mut self, piece: &[u8]) -> Result<usize, Failed> {
+        self.writes = self.writes.saturating_add(1);
+        self.bytes = self.bytes.saturating_add(piece.len() as u64);
+        self.unflushed = true;
+        Ok(piece.len())
+    }
+
+    fn flush(&mut self) -> Result<(), Failed> {
+        self.flushes = self.flushes.saturating_add(1);
+        self.unflushed = false;
+        Ok(())
+    }
+}
+
+/// How many requests are sealed.
+const REQUESTS: u64 = 7000;
+
+/// How many bytes the link has for each of them: a line of 18 bytes, `-3`, a line of 30 and one of
+/// silence.
+const LINK_TEXT: u64 = 18 + 3 + 30 + 4;
+
+/// So many bytes wait at least as a buffer is written: 65,536 less a line, the longest of which, a
+/// note's, has 80.
+const LEAST_WRITTEN: u64 = 65_536 - 80;
+
+// Text goes out by full buffers, and by what is left at the end. Before ticks go out the notes that
+// wait do.
+#[test]
+fn text_goes_out_by_full_buffers(rt: HostRuntime) -> Result<(), Fail> {
+    let mut text = Vec::new(rt.alloc());
+    for _ in 0..REQUESTS {
+        text.extend_from_slice(b"+01030000000ac5cd\n-40\n")?;
+    }
+    let mut key = SteadySource::new(KEY);
+    let mut input = SteadySource::new(text.as_slice());
+    let mut out = NO_WRITES;
+    let mut log = NO_WRITES;
+    let mut disk = SteadySlots::new(slot_of(0), [0; 16]);
+    let status = replay_box::<
+        SealBox<Rtu, HmacSha1, 2>,
+        SteadySource,
+        SteadySource,
+        CountedSink,
+        CountedSink,
+        SteadySlots,
+    >(
+        Dir::Ab,
+        24,
+        &mut key,
+        &mut input,
+        &mut out,
+        &mut log,
+        &mut disk,
+    );
+    assert_eq!(rt; status, Status::Done);
+    assert_eq!(rt; out.bytes, REQUESTS * LINK_TEXT);
+    assert!(rt;
+        out.writes <= out.bytes / LEAST_WRITTEN + 1,
+        "{} writes",
+        out.writes
+    );
+    let full = log.bytes / LEAST_WRITTEN;
+    let most = out.writes.saturating_add(full).saturating_add(1);
+    assert!(rt; log.writes <= most, "{} writes", log.writes);
+    Ok(())
+}
