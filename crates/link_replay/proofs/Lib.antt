@@ -5,3 +5,4 @@ pub mod Headlines
 pub mod Listable
 pub mod Trials
 pub mod Numbers
+pub mod Paths

@@ -8,3 +8,4 @@ pub mod CheckCommand
 pub mod ReplayCommand
 pub mod TrialCommand
 pub mod Commands
+pub mod OverFiles

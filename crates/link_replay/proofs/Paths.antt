@@ -1,0 +1,36 @@
+-- Which of the words are the paths of files, and whether a journal's file is made.
+use Rattle.std.proofs.Common.{◌≡◌, ℕ, List, Option, Some, None, refl, sym, ap}
+use Rattle.yasir_io.specs.declared.files.SlotFile.TheVariants.{Standing, New}
+use Rattle.link_replay.specs.declared.words.Command.{Command}
+use Rattle.link_replay.specs.declared.words.Command.TheVariants.{Init, Read, Vectors, Seal, Check}
+use Rattle.link_replay.specs.declared.words.Command.TheVariants.{Replay, Trial}
+use Rattle.link_replay.specs.Words.{IsCommand, Asks, word_in}
+use Rattle.link_replay.specs.OverFiles.{path_in, journal_kind}
+use Rattle.link_replay.proofs.Asking.{asks-one}
+
+-- the word at the place that was found is the path
+pub word_in-path : (place : Command → Option ℕ) (words : List (List ℕ)) (asked : Option Command)
+    (found : Option ℕ) → ((command : Command) → IsCommand words command → found ≡ place command)
+    → (Asks words None → found ≡ None) → Asks words asked
+    → word_in words found ≡ path_in place words asked
+word_in-path place words None found right none asks = ap (word_in words) (none asks)
+word_in-path place words (Some command) found right none asks =
+    ap (word_in words) (right command asks)
+
+-- `init` alone makes a file
+pub kind-made : (words : List (List ℕ)) (asked : Option Command) → IsCommand words Init
+    → Asks words asked → New ≡ journal_kind asked
+kind-made words asked makes asks =
+    sym (ap journal_kind (asks-one words asked (Some Init) asks makes))
+
+-- and no other command does
+pub kind-kept : (words : List (List ℕ)) (asked : Option Command) → (IsCommand words Init → ⊥)
+    → Asks words asked → Standing ≡ journal_kind asked
+kind-kept words None other asks = refl
+kind-kept words (Some Init) other asks = absurd (other asks)
+kind-kept words (Some (Read proto)) other asks = refl
+kind-kept words (Some Vectors) other asks = refl
+kind-kept words (Some (Seal proto profile dir)) other asks = refl
+kind-kept words (Some (Check proto profile dir)) other asks = refl
+kind-kept words (Some (Replay proto profile dir)) other asks = refl
+kind-kept words (Some (Trial proto profile seed count)) other asks = refl

@@ -1,0 +1,100 @@
+-- The program over a file system: which files are its key and its journal, and how it ends.
+use Rattle.std.specs.Prelude.{◌≡◌, ◌↔◌, ◌⊎◌, ℕ, List, Option, Some, None, drop, map, option_map}
+use Rattle.std.specs.String.{string_bytes}
+use Rattle.std.specs.Vec.Iter.{into_iter_items}
+use Rattle.std.specs.declared.string.String.{String}
+use Rattle.std.specs.declared.alloc.Global.{Global}
+use Rattle.std.specs.declared.vec.IntoIter.{IntoIter}
+use Rattle.yasir_io.specs.declared.source.Source.{Ghosts as Source}
+use Rattle.yasir_io.specs.declared.sink.Sink.{Ghosts as Sink}
+use Rattle.yasir_io.specs.declared.disk.SlotDisk.{Ghosts as SlotDisk}
+use Rattle.yasir_io.specs.declared.files.FileSource.{FileSource}
+use Rattle.yasir_io.specs.declared.files.FileSlots.{FileSlots}
+use Rattle.yasir_io.specs.declared.files.SlotFile.{SlotFile}
+use Rattle.yasir_io.specs.declared.files.SlotFile.TheVariants.{Standing, New}
+use Rattle.yasir_io.specs.Edge.{file_of, file_path, file_options, file_faults}
+use Rattle.yasir_io.specs.Edge.{slots_file, slots_path, slots_kind, slots_options, slots_faults}
+use Rattle.yasir_io.specs.SlotFiles.{for_reading, for_slots}
+use Rattle.replay_status.specs.Outside.{Outside, outside}
+use Rattle.replay_status.specs.Statuses.{code_of}
+use Rattle.replay_status.specs.declared.status.Status.{Status}
+use Rattle.replay_status.specs.declared.status.Status.TheVariants.{Usage, NoMemory}
+use Rattle.link_replay.specs.declared.words.Command.{Command}
+use Rattle.link_replay.specs.declared.words.Command.TheVariants.{Init}
+use Rattle.link_replay.specs.declared.over_files.TheConstants.{NOT_GIVEN}
+use Rattle.link_replay.specs.Words.{key_place, journal_place, word_in}
+use Rattle.link_replay.specs.Commands.{Runs, HasCauses, MayDo, IsCalm, EndsWell, KeepsDisk}
+
+-- the words of the arguments that are still to come: all but the first, which is the program's name
+abbrev pub words_after : IntoIter (String Global) Global → List (List ℕ)
+words_after args = map string_bytes (drop 1 (into_iter_items args))
+
+-- the path of a file that has this place among the words of a command, where it has one
+abbrev pub path_in : (Command → Option ℕ) → List (List ℕ) → Option Command → Option (List ℕ)
+path_in place words None = None
+path_in place words (Some command) = word_in words (place command)
+
+-- what is expected of the journal's file: `init` alone makes one
+abbrev pub journal_kind : Option Command → SlotFile
+journal_kind (Some Init) = New
+journal_kind asked = Standing
+
+-- The file at the path, for reading, and no call on it was made.
+pub record IsKeyFile {R F D : Type 0} (bytes : Option (List ℕ)) (source : FileSource R F D)
+    : Type 0 where
+  pub path : option_map string_bytes (file_path source) ≡ bytes
+  pub closed : file_of source ≡ None
+  pub options : file_options source ≡ for_reading
+  pub faults : file_faults source ≡ 0
+
+-- The file at the path, of which this is expected, and no call on it was made.
+pub record IsJournalFile {R F D : Type 0} (bytes : Option (List ℕ)) (expected : SlotFile)
+    (disk : FileSlots R F D) : Type 0 where
+  pub path : option_map string_bytes (slots_path disk) ≡ bytes
+  pub closed : slots_file disk ≡ None
+  pub options : slots_options disk ≡ for_slots expected
+  pub kind : slots_kind disk ≡ expected
+  pub faults : slots_faults disk ≡ 0
+
+-- the input and the two sinks
+pub record Streams (S O L : Type 0) : Type 0 where
+  pub input : S
+  pub out : O
+  pub log : L
+
+abbrev pub streams : {S O L : Type 0} → S → O → L → Streams S O L
+streams input out log = record { input = input; out = out; log = log }
+
+-- these, and the files of the key and the journal
+abbrev pub with_files : {K S O L D : Type 0} → Streams S O L → K → D → Outside K S O L D
+with_files ends key disk = outside key ends.input ends.out ends.log disk
+
+module _ {R F D S O L : Type 0} (k : Source (FileSource R F D)) (s : Source S) (o : Sink O)
+    (l : Sink L) (d : SlotDisk (FileSlots R F D)) where
+  -- The program runs over the files whose paths its words are, and does what they ask for.
+  pub record RunsOverFiles (words : List (List ℕ)) (asked : Option Command)
+      (before after : Streams S O L) (status : Status) : Type 0 where
+    pub key_before : FileSource R F D
+    pub key_after : FileSource R F D
+    pub disk_before : FileSlots R F D
+    pub disk_after : FileSlots R F D
+    pub key : IsKeyFile (path_in key_place words asked) key_before
+    pub journal : IsJournalFile (path_in journal_place words asked) (journal_kind asked) disk_before
+    pub usage : (status ≡ Usage) ↔ (asked ≡ None)
+    pub runs : Runs k s o l d asked (with_files before key_before disk_before)
+        (with_files after key_after disk_after) status
+    pub any_moment : KeepsDisk d asked disk_before disk_after
+    pub done : MayDo k s o l d asked (with_files before key_before disk_before)
+        → IsCalm k s o l d (with_files before key_before disk_before)
+        (with_files after key_after disk_after)
+        → EndsWell asked status
+    pub causes : HasCauses k s o l d asked (with_files before key_before disk_before)
+        (with_files after key_after disk_after) status
+
+  -- It ends with the status of this run; or nothing was done, since the runtime refused what a run
+  -- needs, or there was no memory for a path.
+  abbrev pub EndsOverFiles : List (List ℕ) → Option Command → Streams S O L → Streams S O L → ℕ
+      → Type 0
+  EndsOverFiles words asked before after code =
+      ((status : Status) × (code ≡ code_of status) × RunsOverFiles words asked before after status)
+      ⊎ ((after ≡ before) × ((code ≡ NOT_GIVEN) ⊎ (code ≡ code_of NoMemory)))

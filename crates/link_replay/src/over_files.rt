@@ -1,0 +1,149 @@
+//! The program over a file system: the files of the key and the journal are those whose paths are
+//! words.
+ghost use Rattle.std.specs.Prelude.{◌≡◌, Option, IfOk, OnErr, IsErr, drop, map, option_map};
+ghost use Rattle.std.specs.String.{string_bytes};
+ghost use Rattle.std.specs.Vec.Iter.{into_iter_items};
+ghost use Rattle.link_replay.specs.declared.words.Command.{Command};
+ghost use Rattle.link_replay.specs.Words.{Asks, word_in, key_place, journal_place};
+ghost use Rattle.link_replay.specs.OverFiles.{words_after, path_in, journal_kind};
+ghost use Rattle.link_replay.specs.OverFiles.{IsKeyFile, IsJournalFile, streams, RunsOverFiles};
+ghost use Rattle.link_replay.specs.OverFiles.{EndsOverFiles};
+
+use crate::{journal_word, key_word, makes_journal, run};
+use replay_status::Status;
+use std::alloc::{AllocError, Global};
+use std::env::Args;
+use std::fs::File;
+use std::io;
+use std::rt::Files;
+use yasir_io::{FileSlots, FileSource, Lock, Sink, SlotDisk, SlotFile, Source};
+
+/// The exit status where the runtime refuses what a run needs: the places of the streams that are
+/// closed, the words, or memory for them.
+pub const NOT_GIVEN: u8 = 13;
+
+// The words behind the program's name.
+fn words_after_name(alloc: Global, args: Args) -> Result<Vec<String>, AllocError>
+    ensures { IfOk result (λ words. words.items ≡ drop 1 (into_iter_items args)) }
+{
+    args.skip(1).collect(alloc)
+}
+
+// A copy of the word at this place, where there is one.
+fn path_at(words: &[String], place: Option<usize>) -> Result<Option<String>, AllocError>
+    ensures { IfOk result (λ path.
+        option_map string_bytes path ≡ word_in (map string_bytes words.now) place) }
+{
+    match place {
+        Some(place) => match words.get(place) {
+            Some(word) => Ok(Some(word.clone()?)),
+            None => Ok(None),
+        },
+        None => Ok(None),
+    }
+}
+
+// The file of the key.
+fn key_file<'a, R: Files>(files: &'a R, words: &[String]) -> Result<FileSource<'a, R>, AllocError>
+    ensures { IfOk result (λ key. (asked : Option Command) → Asks (map string_bytes words.now) asked
+        → IsKeyFile (path_in key_place (map string_bytes words.now) asked) key) }
+{
+    Ok(FileSource::new(files, path_at(words, key_word(words))?))
+}
+
+// What is expected of the journal's file.
+fn kind_of(words: &[String]) -> SlotFile
+    ensures { (asked : Option Command) → Asks (map string_bytes words.now) asked
+        → result ≡ journal_kind asked }
+{
+    if makes_journal(words) {
+        SlotFile::New
+    } else {
+        SlotFile::Standing
+    }
+}
+
+// The file of the journal.
+fn journal_file<'a, R: Files>(
+    files: &'a R,
+    words: &[String],
+) -> Result<FileSlots<'a, R>, AllocError>
+where
+    R::File: Lock,
+    ensures { IfOk result (λ disk. (asked : Option Command)
+        → Asks (map string_bytes words.now) asked
+        → IsJournalFile (path_in journal_place (map string_bytes words.now) asked)
+        (journal_kind asked) disk) }
+{
+    let path = path_at(words, journal_word(words))?;
+    Ok(FileSlots::new(files, path, kind_of(words)))
+}
+
+// The program with these words.
+fn run_words<'a, R: Files + AllocGlobal, S: Source, O: Sink, L: Sink>(
+    system: &'a R,
+    words: &[String],
+    input: &mut S,
+    out: &mut O,
+    log: &mut L,
+) -> Result<Status, AllocError>
+where
+    R::File: Lock,
+    ensures runs { IfOk result (λ status. (asked : Option Command)
+        → Asks (map string_bytes words.now) asked
+        → RunsOverFiles ⟦<FileSource<'a, R> as Source>⟧ S.Source O.Sink L.Sink
+        ⟦<FileSlots<'a, R> as SlotDisk>⟧ (map string_bytes words.now) asked
+        (streams input.old out.old log.old) (streams input.new out.new log.new) status) }
+    ensures no_memory { OnErr result
+        (streams input.new out.new log.new ≡ streams input.old out.old log.old) }
+{
+    let mut key = key_file(system, words)?;
+    let mut disk = journal_file(system, words)?;
+    Ok(run(system.alloc(), words, &mut key, input, out, log, &mut disk))
+}
+
+// The system gives a file that is opened the least place that is free. These three take those of
+// standard streams that are closed, and are held as long as a run lasts: else the key would be read
+// as the input, or a note be written into the journal. A folder can be neither read nor written.
+fn take_places<R: Files>(files: &R) -> io::Result<(R::File, R::File, R::File)> {
+    let first = File::open(files, "/")?;
+    let second = File::open(files, "/")?;
+    Ok((first, second, File::open(files, "/")?))
+}
+
+/// The program with the words behind the first argument, its name: the key and the journal are
+/// files of this system. Answers the exit status.
+pub fn run_over_files<'a, R: Files + AllocGlobal, S: Source, O: Sink, L: Sink>(
+    system: &'a R,
+    args: io::Result<Args>,
+    input: &mut S,
+    out: &mut O,
+    log: &mut L,
+) -> u8
+where
+    R::File: Lock,
+    // Where the runtime gives no words, nothing is done.
+    ensures no_words { IsErr args → result ≡ NOT_GIVEN }
+    ensures untouched { IsErr args
+        → streams input.new out.new log.new ≡ streams input.old out.old log.old }
+
+    // What was done, and the exit status, for each thing that the words may ask for.
+    ensures ends { IfOk args (λ given. (asked : Option Command) → Asks (words_after given) asked
+        → EndsOverFiles ⟦<FileSource<'a, R> as Source>⟧ S.Source O.Sink L.Sink
+        ⟦<FileSlots<'a, R> as SlotDisk>⟧ (words_after given) asked
+        (streams input.old out.old log.old) (streams input.new out.new log.new) result) }
+{
+    let Ok(_places) = take_places(system) else {
+        return NOT_GIVEN;
+    };
+    let Ok(args) = args else {
+        return NOT_GIVEN;
+    };
+    let Ok(words) = words_after_name(system.alloc(), args) else {
+        return NOT_GIVEN;
+    };
+    match run_words(system, words.as_slice(), input, out, log) {
+        Ok(status) => status.code(),
+        Err(AllocError) => Status::NoMemory.code(),
+    }
+}
