@@ -1,0 +1,110 @@
+#!/usr/bin/env python3
+"""Runs `link_replay` with each choice of standard input, output and error closed, and looks at what the run leaves.
+
+    python3 scripts/closed_streams.py [PROGRAM]
+
+A file that a program opens gets the least place that is free, so with a stream closed a file of the run could take its
+place: a note would be written into the journal, or the key be read as the input. Each command must end with status 5
+where it needs its input and that is closed, and with 6 where it writes and can't; a box's key must stay as it was, its
+journal as it was or as a right run leaves it, and what stands in an open stream must be the front of what a right run
+writes, or a fault line behind it. It ends with 1 where a run leaves anything else. It is no part of the gate: which place
+a file gets is the system's choice.
+"""
+import itertools, os, subprocess, sys, tempfile
+
+KEY = b"000102030405060708090a0b0c0d0e0f\n"
+NEW = bytes(8) + b"\xff" * 8 + bytes(16)
+REQUEST = b"+01030000000ac5cd\n-40\n"
+FAULTS = {5: b"fault: read\n", 11: b"fault: journal stands at 0\n"}
+
+# words, the journal before (none: it is missing), and the streams that the command needs
+COMMANDS = [
+    ("seal rtu ab KEY JOURNAL", NEW, (0, 1, 2)),
+    ("check rtu ab KEY JOURNAL", NEW, (0, 1, 2)),
+    ("init JOURNAL", None, ()),
+    ("init JOURNAL", NEW, ()),
+    ("read rtu", NEW, (0, 1)),
+    ("replay rtu ab KEY", NEW, (0, 1)),
+    ("vectors", NEW, (1,)),
+    ("trial rtu 7 3", NEW, (1,)),
+]
+
+
+def bytes_of(path):
+    return open(path, "rb").read() if os.path.exists(path) else None
+
+
+class Runs:
+    def __init__(self, program, folder):
+        self.program = os.path.abspath(program)
+        self.places = {name: os.path.join(folder, name) for name in ("KEY", "JOURNAL", "in", "out", "log")}
+
+    def put(self, name, content):
+        if content is not None:
+            open(self.places[name], "wb").write(content)
+        elif os.path.exists(self.places[name]):
+            os.remove(self.places[name])
+
+    def run(self, words, text, journal, closed):
+        """The status, and what stands in the output, the log, the key and the journal behind it."""
+        for name, content in (("KEY", KEY), ("JOURNAL", journal), ("in", text), ("out", b""), ("log", b"")):
+            self.put(name, content)
+        with open(self.places["in"]) as source, open(self.places["out"], "w") as out, open(self.places["log"], "w") as log:
+            status = subprocess.call(
+                [self.program] + [self.places.get(word, word) for word in words.split()], stdin=source, stdout=out, stderr=log,
+                preexec_fn=lambda: [os.close(place) for place in closed])
+        return (status,) + tuple(bytes_of(self.places[name]) for name in ("out", "log", "KEY", "JOURNAL"))
+
+
+def wanted(right, needed, closed):
+    """The status that a run must end with: its input comes before its outputs."""
+    missing = [place for place in needed if place in closed]
+    return right if not missing else 5 if 0 in missing else 6
+
+
+def look_at(words, before, closed, right, seen, status):
+    """What is wrong with a run, in words."""
+    faults = []
+    if seen[0] != status:
+        faults.append("status %d in place of %d" % (seen[0], status))
+    if seen[3] != KEY:
+        faults.append("the key's file was written")
+    if seen[4] not in (before, right[4]) or (0 in closed and status == 5 and seen[4] != before):
+        faults.append("the journal's file holds %r" % seen[4])
+    for place, name in ((1, "output"), (2, "log")):
+        text, whole = seen[place], right[place]
+        if place in closed:
+            whole = b""
+        elif place == 2:
+            text = text[:-len(FAULTS[status])] if status in FAULTS and text.endswith(FAULTS[status]) else text
+        if status == right[0] and place not in closed and seen[place] != right[place]:
+            faults.append("the %s is another one" % name)
+        elif not whole.startswith(text):
+            faults.append("the %s holds %r" % (name, seen[place][:80]))
+    return faults
+
+
+def main():
+    wrong = runs_made = 0
+    with tempfile.TemporaryDirectory() as folder:
+        runs = Runs(sys.argv[1] if len(sys.argv) > 1 else "crates/link_replay/out/link_replay", folder)
+        link = runs.run("seal rtu ab KEY JOURNAL", REQUEST, NEW, ())[1]
+        for words, before, needed in COMMANDS:
+            text = link if words.startswith("check") else REQUEST + b"%\n" + link if words.startswith("replay") else REQUEST
+            right, ends = runs.run(words, text, before, ()), []
+            wrong_here = right[0] != (11 if words.startswith("init") and before else 0)
+            for closed in itertools.chain.from_iterable(itertools.combinations(range(3), n) for n in range(4)):
+                seen, status = runs.run(words, text, before, closed), wanted(right[0], needed, closed)
+                faults = look_at(words, before, closed, right, seen, status)
+                runs_made += 1
+                ends.append("%s: %d" % ("".join(map(str, closed)) or "none", seen[0]))
+                for fault in faults:
+                    print("wrong: %s with %s closed: %s" % (words, closed, fault))
+                wrong_here += bool(faults)
+            print("%-26s %s  closed and status  %s" % (words, "no journal" if before is None else "journal", ", ".join(ends)))
+            wrong += wrong_here
+    print("%d runs, %d wrong" % (runs_made, wrong))
+    sys.exit(wrong > 0)
+
+
+main()

@@ -1,0 +1,57 @@
+#!/usr/bin/env python3
+"""Runs `link_replay init` over files of each kind, and looks at the status and at what the file holds behind it.
+
+    python3 scripts/init_over.py [PROGRAM]
+
+Over a key, over a journal that was damaged, and over any other file whose first 32 bytes aren't 00, nothing may be written:
+from a new floor of 0 the numbers of an old key would come twice. It ends with 1 where a run leaves anything else. It is no
+part of the gate.
+"""
+import os, subprocess, sys, tempfile
+
+from killed import KEY
+
+ZERO = bytes(8) + b"\xff" * 8
+SEVEN = (7).to_bytes(8, "big") + (2 ** 64 - 8).to_bytes(8, "big")
+TORN = b"\x11" * 16
+STANDS = "fault: journal stands at %d\n"
+
+# what the file is, its bytes (none: it is missing), the status, the log, and its bytes behind the run (none: as before)
+CASES = [
+    ("missing", None, 0, "", ZERO),
+    ("empty", b"", 0, "", ZERO),
+    ("zeros of one slot", bytes(16), 0, "", ZERO),
+    ("zeros of both slots", bytes(32), 0, "", ZERO + bytes(16)),
+    ("zeros, and more behind the slots", bytes(32) + b"more", 0, "", ZERO + bytes(16) + b"more"),
+    ("a new journal", ZERO + bytes(16), 11, STANDS % 0, None),
+    ("a journal, one slot torn", TORN + SEVEN, 11, STANDS % 7, None),
+    ("a journal, the other slot torn", SEVEN + TORN, 11, STANDS % 7, None),
+    ("a journal, both slots torn", TORN + TORN, 7, "fault: journal\n", None),
+    ("a journal cut off in slot A", ZERO[:15], 7, "fault: journal\n", None),
+    ("one byte that isn't 00 at the end of slot B", bytes(31) + b"\x01", 7, "fault: journal\n", None),
+    ("a key", KEY.encode(), 7, "fault: journal\n", None),
+    ("a recording", b"+01030000000ac5cd\n-40\n", 7, "fault: journal\n", None),
+    ("one byte", b"\n", 7, "fault: journal\n", None),
+]
+
+
+def main():
+    program = os.path.abspath(sys.argv[1] if len(sys.argv) > 1 else "crates/link_replay/out/link_replay")
+    wrong = 0
+    with tempfile.TemporaryDirectory() as folder:
+        path = os.path.join(folder, "file")
+        for name, before, status, log, behind in CASES:
+            if os.path.exists(path):
+                os.remove(path)
+            if before is not None:
+                open(path, "wb").write(before)
+            run = subprocess.run([program, "init", path], stdin=subprocess.DEVNULL, stdout=subprocess.PIPE, stderr=subprocess.PIPE)
+            after = open(path, "rb").read() if os.path.exists(path) else None
+            right = (run.returncode, run.stdout, run.stderr.decode(), after) == (status, b"", log, before if behind is None else behind)
+            wrong += not right
+            print("init over %-44s status %2d, %s%s" % (name, run.returncode, "unchanged" if after == before else "written", "" if right else "  WRONG"))
+    print("%d files, %d wrong" % (len(CASES), wrong))
+    sys.exit(wrong > 0)
+
+
+main()
