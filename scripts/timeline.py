@@ -1,0 +1,117 @@
+#!/usr/bin/env python3
+"""Makes one HTML file that shows a session, from the texts that the program reads and writes.
+
+    python3 scripts/timeline.py OUT [P LANE=FILE.. [title=TEXT] [rate=BAUDxBITS]]..
+
+OUT is the HTML file. P begins a session: rtu, rtu24, dnp3 or dnp24, as the program's commands have it, or `any`,
+which lets the page tell it by the bytes. LANE says what a text is:
+
+    device     the device's line, which `seal` reads
+    sent       the link as `seal` wrote it
+    came       the link as it came, which `check` reads
+    received   the line that `check` wrote
+    both       a device's line, a line %, and a link, as `replay` reads them
+    notes      the notes of `seal` or `check`, or what `read` (of the received line) or `replay` printed; any number of these
+
+Each may be missing, but for one line. The rate, 9600x11 in Modbus RTU and 9600x10 in DNP3 where it isn't given, can be
+chosen in the page too. Without a session the page is empty, and takes texts by drag and drop. The page needs no network,
+and no other file. docs/TIMELINE.md says what it shows.
+"""
+import html, json, os, re, sys
+
+PAGE = os.path.join(os.path.dirname(os.path.abspath(__file__)), "timeline_page")
+PROTOCOLS = ("rtu", "rtu24", "dnp3", "dnp24", "any")
+LINES = ("device", "sent", "came", "received", "both")
+
+# The page may run what stands in it, and load nothing.
+POLICY = "default-src 'none'; script-src 'unsafe-inline'; style-src 'unsafe-inline'; img-src data:"
+
+# A character that could end the element in which the texts stand.
+ESCAPES = {ord(each): "\\u%04x" % ord(each) for each in "<>&"}
+
+
+class Wrong(Exception):
+    """What is wrong with the words or a file."""
+
+
+def text_of(lane, path):
+    """A file as the page takes it. Each byte is one character, so that the page counts bytes as the program does."""
+    try:
+        with open(path, "rb") as file:
+            content = file.read().decode("latin-1")
+    except OSError as why:
+        raise Wrong("%s: %s" % (path, why.strerror))
+    return {"name": os.path.basename(path), "lane": lane, "content": content}
+
+
+def rate_of(value):
+    found = re.fullmatch(r"([1-9][0-9]{2,6})x(10|11)", value)
+    if not found:
+        raise Wrong("the rate %s isn't baud x bits, such as 9600x11" % value)
+    return {"baud": int(found.group(1)), "bits": int(found.group(2))}
+
+
+def take(session, key, value):
+    """Adds what a word KEY=VALUE says to a session."""
+    if key in LINES and any(text["lane"] == key for text in session["texts"]):
+        raise Wrong("%s is given twice" % key)
+    if key in LINES or key == "notes":
+        session["texts"].append(text_of(key, value))
+    elif key == "title":
+        session["title"] = value
+    elif key == "rate":
+        session["rate"] = rate_of(value)
+    else:
+        raise Wrong("%s is none of device, sent, came, received, both, notes, title and rate" % key)
+
+
+def sessions_of(words):
+    sessions = []
+    for word in words:
+        if word in PROTOCOLS:
+            sessions.append({"title": "", "protocol": word, "texts": []})
+        elif "=" not in word or not sessions:
+            raise Wrong("%s begins no session, and is no LANE=FILE of one" % word)
+        else:
+            take(sessions[-1], *word.split("=", 1))
+    for session in sessions:
+        if not any(text["lane"] in LINES for text in session["texts"]):
+            raise Wrong("a session has no line")
+    return sessions
+
+
+def holder(session):
+    """The element in which a session stands in the page."""
+    return '<script type="application/json" class="session">%s</script>' % json.dumps(session).translate(ESCAPES)
+
+
+def page_of(sessions):
+    """The page: its style sheet, its scripts and the sessions in one text."""
+    def part(name):
+        with open(os.path.join(PAGE, name), encoding="utf-8") as file:
+            return file.read()
+
+    page = part("page.html")
+    page = re.sub(r'<link rel="stylesheet" href="([a-z.]+)">', lambda found: "<style>\n%s</style>" % part(found.group(1)), page)
+    page = re.sub(r'<script src="([a-z.]+)"></script>', lambda found: "<script>\n%s</script>" % part(found.group(1)), page)
+    policy = '<meta http-equiv="Content-Security-Policy" content="%s">\n<title>' % html.escape(POLICY)
+    page = page.replace("<title>", policy, 1)
+    return page.replace("<!-- The sessions stand here. -->", "\n".join(holder(session) for session in sessions), 1)
+
+
+def main(words):
+    if not words or words[0] in ("-h", "--help"):
+        raise Wrong(__doc__.strip())
+    page = page_of(sessions_of(words[1:]))
+    try:
+        with open(words[0], "w", encoding="utf-8") as file:
+            file.write(page)
+    except OSError as why:
+        raise Wrong("%s: %s" % (words[0], why.strerror))
+
+
+if __name__ == "__main__":
+    try:
+        main(sys.argv[1:])
+    except Wrong as why:
+        sys.exit("timeline: %s" % why)
