@@ -12,9 +12,9 @@ function showTip(page, event) {
   tip.replaceChildren(...lines.map((row) => element("div", `said ${row.kind}`, row.text)));
   tip.hidden = false;
   const right = event.clientX + 18 + tip.offsetWidth > window.innerWidth;
-  const low = event.clientY + 18 + tip.offsetHeight > window.innerHeight;
+  const low = event.clientY > 0.55 * window.innerHeight;
   tip.style.left = `${Math.max(4, right ? event.clientX - 14 - tip.offsetWidth : event.clientX + 18)}px`;
-  tip.style.top = `${Math.max(4, low ? event.clientY - 14 - tip.offsetHeight : event.clientY + 18)}px`;
+  tip.style.top = `${Math.max(4, low ? event.clientY - 48 - tip.offsetHeight : event.clientY + 18)}px`;
   page.paint();
 }
 

@@ -220,12 +220,14 @@ class Page {
     this.show(session.lanes[lane].start(burst), session.lanes[lane].end(burst) + 1);
     this.tellTroubles();
   }
-  /** The next place of trouble behind the one of now; where none is, behind the left edge of the view. */
+  /** The next place of trouble behind the one of now, the burst that is kept, or the left edge of the view. */
   step(by) {
     const { painter } = this, { session } = painter;
     if (!session) return;
     if (this.trouble >= 0) return void this.goToTrouble(this.trouble + by);
-    const behind = lowerBound(session.troubles.map((each) => each.tick), painter.from);
+    const { chosen } = painter, start = chosen ? session.lanes[chosen.lane].start(chosen.burst) : -1;
+    const isInView = start >= painter.from && start < painter.tickAt(painter.width);
+    const behind = lowerBound(session.troubles.map((each) => each.tick), isInView ? start : painter.from);
     this.goToTrouble(by > 0 ? behind : behind - 1);
   }
   /** Keeps a burst in the panel on the right. */
@@ -268,6 +270,8 @@ class Page {
     const start = this.found.index < 0 && by < 0 ? 0 : this.found.index;
     this.found.index = (start + by + list.length) % list.length;
     const place = list[this.found.index];
+    this.trouble = -1;
+    this.tellTroubles();
     byId("found").textContent = `${this.found.index + 1} of ${list.length}`;
     if (place.burst >= 0) this.keep(place.lane, place.burst);
     this.show(place.tick, place.end + 1);
