@@ -3,8 +3,8 @@
 
     python3 scripts/timeline_check.py [PART..] [picture=FILE]
 
-PART is one of example, outstation, altered, malformed, escaped, dropped and load; without one all are run. What a page must
-say is taken from the texts themselves, from examples/, and from the model (model.py): never from the page's own code.
+PART is one of example, outstation, words, altered, joined, replayed, malformed, escaped, dropped and load; without one all
+are run. What a page must say is taken from the texts themselves, from examples/, and from the model (model.py): never from the page's own code.
 `load` makes a session of 100,000 frames, which must be there within 3 s of the processor's time. `picture=FILE` writes the
 picture of docs/TIMELINE.md.
 It installs nothing: without a Chromium nothing is tested, and the status is 2. It is 0 only where all parts that were asked
@@ -154,14 +154,18 @@ class Page:
 
     def troubles(self):
         """The ticks of the places of trouble, from the first one on, as the key n goes through them."""
-        found = []
+        found, last = [], None
         for _ in range(200):
             self.window.key("n")
             number, count = map(int, re.match(r"(\d+) of (\d+)$", self.text("place")).groups())
+            self.checked.true("n goes to the next place of trouble", last is None or number == last % count + 1)
+            last = number
             if number == len(found) + 1:
                 found.append(re.search(r"ticks (\d+) to", self.details()[0]).group(1))
             if len(found) == count:
-                break
+                self.window.key("p")
+                self.checked.equal("p goes to the one before", self.text("place"), "%d of %d" % (count - 1 or count, count))
+                return found
         return found
 
 
@@ -237,9 +241,10 @@ def occurrences(ticks, wanted):
 
 def look_for(page, ticks):
     checked = page.checked
-    for text in ("01050000ff008c3a", "01 03", "c5cd", "00027d8e", "8c3b"):
+    # Of cd 01 the first ends a burst, and the second begins the next one.
+    for text in ("01050000ff008c3a", "01 03", "c5cd", "00027d8e", "8c3b", "cd01"):
         count = sum(occurrences(line, bytes.fromhex(text)) for line in ticks.values())
-        checked.equal("search for %s" % text, page.search(text), "1 of %d" % count)
+        checked.equal("search for %s" % text, page.search(text), "1 of %d" % count if count else "nothing found")
     notes = [line for path in RTU_NOTES for line in lines_of(path)]
     tags = sum(line.startswith("refused") and line.endswith("tag") for line in notes)
     checked.equal("search for words: on the link, and on the received line", page.search("refused tag"), "1 of %d" % (2 * tags))
@@ -330,6 +335,85 @@ def altered_session(proto, profile, folder):
         with open(paths[name], "w") as file:
             file.write(text)
     return paths, tick, third, verdicts
+
+
+# Frames without their CRCs, and what the standards call them: Modbus by function code, DNP3 by the control octet
+# (DIR 80, PRM 40) and the function of the application layer behind the transport and the application control octet.
+RTU_WORDS = (
+    ("01030000000a", "device 1: read holding registers (03)", "from 0 on, 10 of them"), ("0701000a0003", "device 7: read coils (01)", "from 10 on, 3 of them"),
+    ("0105000aff00", "device 1: write single coil (05)", "coil 10: on"), ("0105000a0000", "device 1: write single coil (05)", "coil 10: off"),
+    ("00060102ffff", "to all devices: write single register (06)", "register 258: 65535"), ("018302", "device 1: read holding registers (83)", "exception: illegal data address"),
+    ("1110000100020400010002", "device 17: write multiple registers (10)", ""), ("0141", "device 1: function (41)", ""),
+)
+DNP_WORDS = (
+    ("c4", "c0c001", "unconfirmed user data (control c4), from the master", "application: read (01)"),
+    ("44", "c0c081", "unconfirmed user data (control 44), from the outstation", "application: response (81)"),
+    ("d3", "c1c10d", "confirmed user data (control d3), from the master", "application: cold restart (0d)"),
+    ("00", "", "ACK (control 00), from the outstation", ""), ("0b", "", "link status (control 0b), from the outstation", ""),
+    ("c9", "", "request link status (control c9), from the master", ""), ("f2", "", "test link states (control f2), from the master", ""),
+)
+
+
+def test_words(page):
+    """Functions and headers in words."""
+    frames = []
+    for body, *words in RTU_WORDS:
+        frame = list(bytes.fromhex(body))
+        frames.append(("rtu", frame + list(Rtu.end(frame)), words + ["CRC right"]))
+    for control, user, *words in DNP_WORDS:
+        head, user = [5, 0x64, 5 + len(user) // 2, int(control, 16), 1, 4, 2, 3], list(bytes.fromhex(user))
+        frame = head + list(Dnp3.end(head)) + (user + list(Dnp3.end(user)) if user else [])
+        frames.append(("dnp3", frame, words + ["from 770 to 1025", "LEN %d: %d bytes" % (head[2], len(frame))]))
+    words = []
+    for index, (protocol, frame, _) in enumerate(frames):
+        path = os.path.join(page.folder, "frame%d.ticks" % index)
+        with open(path, "w") as file:
+            file.write(model.canonical(frame))
+        words += [protocol, "device=" + path]
+    page.make(*words)
+    for index, (_, frame, said) in enumerate(frames):
+        page.choose("session", str(index))
+        shown = page.hover("device", 0)
+        for row in filter(None, said):
+            page.checked.true("%s of %s: %r" % (row, bytes(frame).hex(), shown), row in shown)
+
+
+def write(page, name, text):
+    path = os.path.join(page.folder, name)
+    with open(path, "w") as file:
+        file.write(text)
+    return path
+
+
+def test_joined(page):
+    """Two bursts that left and came as one, since the silence between them was filled; and one that came as two."""
+    checked, page_words = page.checked, ["rtu"]
+    page_words += ["sent=" + write(page, "sent", "+01020304\n-5\n+05060708\n-40\n+1112131415161718\n-9\n")]
+    page_words += ["came=" + write(page, "came", "+010203040000000000050607ff\n-40\n+1112\n-4\n+1718\n-9\n")]
+    page.make(*page_words)
+    for tick, said in ((4, "left as silence, came as 00"), (12, "left as 08, came as ff"), (55, "left as 13, came as silence"),
+                       (58, "left as 16, came as silence")):
+        checked.true("%d: %s" % (tick, said), said in page.hover("came", tick))
+    for tick in (0, 3, 9, 11, 53, 60):
+        checked.true("%d came as it left" % tick, not any(row.startswith("left as") for row in page.hover("came", tick)))
+    checked.equal("nothing is lost as a whole", page.search("lost"), "nothing found")
+    checked.equal("what is altered", page.chips(), ["altered 3"])
+
+
+def test_replayed(page):
+    """What `replay` reads and prints: two lines with a mark between, and lists of frames."""
+    checked = page.checked
+    with open(RTU_FILES["device"]) as device, open(RTU_FILES["came"]) as came:
+        both = write(page, "both", device.read() + "%\n" + came.read())
+    page.make("rtu", "both=" + both, "notes=" + expected("session.lists.txt"))
+    checked.equal("messages", page.messages(), [])
+    look_at_counts(page, [expected("session.lists.txt")])
+    for note, lane in (("sealed 2 at 131 01034021", "device"), ("passed 2 at 300 01034021", "came")):
+        checked.true(note, note in page.hover(lane, 131 if lane == "device" else 300))
+    page.make("rtu", "came=" + RTU_FILES["came"], "notes=" + expected("session_forged.lists.txt"))
+    look_at_counts(page, [expected("session_forged.lists.txt")])
+    checked.equal("what is forged is trouble", page.troubles(), ["0", "300"])
+    checked.true("it is said", "It passed, and wasn't sealed with this number." in page.details())
 
 
 def test_altered(page):
@@ -492,7 +576,8 @@ def take_picture(page, path):
     page.window.picture(path)
 
 
-PARTS = {"example": test_example, "outstation": test_outstation, "altered": test_altered, "malformed": test_malformed,
+PARTS = {"example": test_example, "outstation": test_outstation, "words": test_words, "altered": test_altered, "joined": test_joined,
+         "replayed": test_replayed, "malformed": test_malformed,
          "escaped": test_escaped, "dropped": test_dropped, "load": test_load}
 
 

@@ -5,9 +5,12 @@
 const FATES = ["as it left", "moved", "repeated", "altered", "added"];
 const WHOLE = 0, MOVED = 1, REPEATED = 2, ALTERED = 3, ADDED = 4;
 
+// The longest frame of both protocols.
+const MOST_LIVE = 292;
+
 /** How many bytes of a burst can be a frame's: those before two silent ticks in a row, if there is room. */
 function liveCount(line, burst, protocol) {
-  const from = line.first[burst], to = line.first[burst + 1];
+  const from = line.first[burst], to = Math.min(line.first[burst + 1], from + MOST_LIVE);
   let place = from + 1;
   while (place < to && line.at[place] - line.at[place - 1] <= 2) place++;
   return Math.min(place - from, roomFor(line.bytes.subarray(from, place), protocol));
@@ -110,10 +113,12 @@ class Comparison {
   }
   /** How many bytes of a burst left as they are, so many ticks before. */
   equals(burst, shift) {
-    let count = 0;
-    for (let place = this.came.first[burst]; place < this.came.first[burst + 1]; place++) {
-      const left = this.sent.placeAt(this.came.at[place] - shift);
-      if (left >= 0 && this.sent.bytes[left] === this.came.bytes[place]) count++;
+    const { sent, came } = this;
+    let count = 0, left = lowerBound(sent.at, came.start(burst) - shift);
+    for (let place = came.first[burst]; place < came.first[burst + 1]; place++) {
+      const tick = came.at[place] - shift;
+      while (left < sent.at.length && sent.at[left] < tick) left++;
+      if (sent.at[left] === tick && sent.bytes[left] === came.bytes[place]) count++;
     }
     return count;
   }
@@ -159,24 +164,23 @@ class Comparison {
     const left = this.sent.placeAt(this.came.at[place] - this.shift[burst]);
     return left < 0 ? -1 : this.sent.bytes[left];
   }
-  /** The bytes that left and didn't come, of the sent bursts that an altered one is compared with: ticks and bytes. */
-  missing(burst) {
+  /** The bytes that left and didn't come, of the sent bursts that an altered one is compared with, in some ticks. */
+  missing(burst, start = 0, end = MOST_TICKS) {
     if (this.fate[burst] !== ALTERED) return [];
     const shift = this.shift[burst], found = [];
     const [from, to] = shift === 0 ? this.besides(burst)
       : [this.origin[burst], this.origin[burst] + 1];
-    for (let place = this.sent.first[from]; place < this.sent.first[to]; place++) {
+    let place = Math.max(this.sent.first[from], lowerBound(this.sent.at, start - shift));
+    for (; place < this.sent.first[to]; place++) {
       const tick = this.sent.at[place] + shift;
+      if (tick >= end) break;
       if (this.came.placeAt(tick) < 0) found.push({ tick, byte: this.sent.bytes[place] });
     }
     return found;
   }
   /** How many bytes of an altered burst came as another one, came for silence, or didn't come. */
   differences(burst) {
-    let count = this.missing(burst).length;
-    for (let place = this.came.first[burst]; place < this.came.first[burst + 1]; place++) {
-      if (this.leftAs(burst, place) !== this.came.bytes[place]) count++;
-    }
-    return count;
+    const count = this.came.first[burst + 1] - this.came.first[burst];
+    return count - this.equals(burst, this.shift[burst]) + this.missing(burst).length;
   }
 }

@@ -103,8 +103,8 @@ function leftIn(session, tick) {
   const { came } = session.lanes, { comparison } = session;
   for (const burst of [came.burstBefore(tick), came.burstBefore(tick) + 1]) {
     if (burst < 0 || burst >= came.bursts) continue;
-    const missing = comparison.missing(burst).find((lost) => lost.tick === tick);
-    if (missing) return missing.byte;
+    const missing = comparison.missing(burst, tick, tick + 1);
+    if (missing.length > 0) return missing[0].byte;
   }
   const left = comparison.sent.placeAt(tick);
   return left < 0 ? -1 : comparison.sent.bytes[left];

@@ -193,7 +193,9 @@ class Painter {
     const { comparison, lanes } = this.session, [from, to] = this.inView("sent");
     for (let burst = from; burst < to; burst++) {
       if (comparison.reached[burst]) continue;
-      for (let place = lanes.sent.first[burst]; place < lanes.sent.first[burst + 1]; place++) {
+      let place = Math.max(lanes.sent.first[burst], lowerBound(lanes.sent.at, this.from - 1));
+      for (; place < lanes.sent.first[burst + 1]; place++) {
+        if (lanes.sent.at[place] > this.tickAt(this.width)) break;
         this.paintMissing(lanes.sent.at[place], lanes.sent.bytes[place]);
       }
     }
@@ -228,11 +230,13 @@ class Painter {
   /** The bytes of a burst: each a cell, or where they are narrow a bar for those that are alike. */
   paintBurst(lane, burst) {
     const { session, scale } = this, line = session.lanes[lane], first = line.first[burst];
-    const parts = session.partsOf(lane, burst), marks = session.marksOf(lane, burst);
+    const from = Math.max(0, lowerBound(line.at, this.from - 1) - first);
+    const to = Math.min(line.first[burst + 1], lowerBound(line.at, this.tickAt(this.width) + 1)) - first;
+    const parts = session.partsOf(lane, burst), marks = session.marksOf(lane, burst, from, to);
     const isFine = scale >= 5;
-    for (let place = 0; place < parts.length;) {
+    for (let place = from; place < to;) {
       let end = place + 1;
-      while (!isFine && end < parts.length && parts[end] === parts[place]
+      while (!isFine && end < to && parts[end] === parts[place]
         && marks[end] === marks[place] && line.at[first + end] === line.at[first + end - 1] + 1) end++;
       const x = this.x(line.at[first + place]);
       const wide = (end - place) * scale - (scale > 8 ? 1 : 0);
@@ -289,7 +293,8 @@ class Painter {
     const { pen, colours, session } = this, { came } = session.lanes;
     const fate = session.comparison.fate[burst];
     if (fate === ALTERED) {
-      for (const lost of session.comparison.missing(burst)) this.paintMissing(lost.tick, lost.byte);
+      const missing = session.comparison.missing(burst, Math.floor(this.from) - 1, this.tickAt(this.width));
+      for (const lost of missing) this.paintMissing(lost.tick, lost.byte);
     }
     if (fate !== ADDED && fate !== REPEATED) return;
     const y = this.laneTop("came") + CELL_TOP + CELL + 4;
@@ -356,7 +361,7 @@ class Painter {
   }
   /** A sign that tells notes apart without colour: a tick, a cross, a bar for what is dropped or unsealed. */
   paintSign(x, y, note, level, colour) {
-    const { pen } = this, word = note ? note.word : "";
+    const { pen } = this, word = note && level !== 1 ? note.word : "";
     const strokes = word === "refused" ? [[-3, -3, 3, 3], [-3, 3, 3, -3]]
       : word === "dropped" ? [[0, -4, 0, 3], [-3, 0, 0, 3], [3, 0, 0, 3]]
         : word === "unsealed" ? [[-3, 0, 3, 0]]

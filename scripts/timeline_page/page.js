@@ -3,6 +3,8 @@
 
 const byId = (id) => document.getElementById(id);
 const ROW = 26;
+// The most bytes of a burst that are written on the right.
+const MOST_SHOWN = 600;
 const BAUDS = [300, 600, 1200, 2400, 4800, 9600, 19200, 38400, 57600, 115200];
 
 const CAUSES = {
@@ -242,8 +244,8 @@ class Page {
   dump(lane, burst) {
     const { session } = this.painter, line = session.lanes[lane], dump = element("div", "code dump");
     dump.id = "dump";
-    const parts = session.partsOf(lane, burst), marks = session.marksOf(lane, burst);
-    parts.forEach((part, place) => {
+    const parts = session.partsOf(lane, burst), marks = session.marksOf(lane, burst, 0, MOST_SHOWN);
+    parts.subarray(0, MOST_SHOWN).forEach((part, place) => {
       const colour = marks[place] === ALTERED_BYTE ? "altered" : marks[place] ? "spoiled" : PART_COLOURS[part];
       const byte = element("span", "", hexOf(line.bytes[line.first[burst] + place]));
       byte.style.background = `var(--${colour})`;
@@ -251,6 +253,7 @@ class Page {
       dump.append(byte);
       if (line.at[line.first[burst] + place + 1] - line.at[line.first[burst] + place] > 1) dump.append(" ");
     });
+    if (parts.length > MOST_SHOWN) dump.append(`… ${parts.length} bytes`);
     return dump;
   }
   /** Goes to the next or the one before of what a search finds. */
@@ -286,7 +289,7 @@ class Page {
     this.paint();
   }
   least() {
-    return this.painter.width / (this.painter.session.span * 1.02 + 2);
+    return this.painter.width / (this.painter.session.span * 1.06 + 2);
   }
   fitAll() {
     this.paint();

@@ -157,18 +157,18 @@ class Session {
     }
     return parts;
   }
-  /** What is to be said of each byte of a burst besides. */
-  marksOf(lane, burst) {
+  /** What is to be said of each byte of a burst besides, for those from one place up to another. */
+  marksOf(lane, burst, start = 0, end = MOST_TICKS) {
     const line = this.lanes[lane], from = line.first[burst];
-    const marks = new Uint8Array(line.first[burst + 1] - from);
+    const marks = new Uint8Array(line.first[burst + 1] - from), last = Math.min(end, marks.length);
     if (lane === "came" && this.comparison && this.comparison.fate[burst] === ALTERED) {
-      for (let place = 0; place < marks.length; place++) {
+      for (let place = start; place < last; place++) {
         const left = this.comparison.leftAs(burst, from + place);
         if (left !== line.bytes[from + place]) marks[place] = ALTERED_BYTE;
       }
     }
     if (lane === "received") {
-      for (let place = 0; place < marks.length; place++) {
+      for (let place = start; place < last; place++) {
         if (this.isSpoiled(burst, place)) marks[place] = SPOILED_BYTE;
       }
     }
