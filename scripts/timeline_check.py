@@ -131,6 +131,19 @@ class Page:
                         "return [...c.getContext('2d').getImageData(Math.round(%f - r.left), Math.round(%f - r.top), 1, 1).data].slice(0, 3);})()"
                         % (x - 4, y + down + 2))
 
+    def has_frame(self, lane, tick):
+        """Whether the colour of what was altered stands above the middle of a cell that is else empty: its dashed frame."""
+        x, y = self.place(lane, tick)
+        altered, panel = self.legend("altered"), self.see("(() => {const s = document.createElement('i'); s.style.color = 'var(--panel)';"
+                                                          "document.body.append(s); const c = getComputedStyle(s).color; s.remove(); return c;})()")
+        pixels = self.see("(() => {const c = document.getElementById('lanes'), r = c.getBoundingClientRect();"
+                          "return [...c.getContext('2d').getImageData(Math.round(%f - r.left), Math.round(%f - r.top), 14, 32).data];})()"
+                          % (x - 7, y - 14))
+        colours = [pixels[place:place + 3] for place in range(0, len(pixels), 4)]
+        ground = [int(part) for part in re.findall(r"\d+", panel)[:3]]
+        near = lambda colour: all(abs(one - other) < 70 for one, other in zip(colour, altered))
+        return any(map(near, colours)) and 2 * sum(colour == ground for colour in colours) > len(colours)
+
     def legend(self, name):
         """The colour that the legend has for a word."""
         found = self.see("getComputedStyle(document.querySelector('#legend i.%s')).backgroundColor" % name)
@@ -157,7 +170,10 @@ class Page:
         found, last = [], None
         for _ in range(200):
             self.window.key("n")
-            number, count = map(int, re.match(r"(\d+) of (\d+)$", self.text("place")).groups())
+            shown = re.match(r"(\d+) of (\d+)$", self.text("place"))
+            if not shown:
+                return found
+            number, count = int(shown.group(1)), int(shown.group(2))
             self.checked.true("n goes to the next place of trouble", last is None or number == last % count + 1)
             last = number
             if number == len(found) + 1:
@@ -396,6 +412,14 @@ def test_joined(page):
         checked.true("%d: %s" % (tick, said), said in page.hover("came", tick))
     for tick in (0, 3, 9, 11, 53, 60):
         checked.true("%d came as it left" % tick, not any(row.startswith("left as") for row in page.hover("came", tick)))
+    for tick, said in ((0, "altered: 6 bytes"), (53, "altered: 4 bytes"), (59, "altered: 4 bytes")):
+        page.search("@%d" % tick)
+        checked.true("%s at %d: %r" % (said, tick, page.hover("came", tick)), said in page.hover("came", tick))
+    page.search("@53")
+    page.window.mouse("mouseMoved", 5, 5)
+    for tick, is_painted in ((52, False), (54, False), (55, True), (58, True), (59, False)):
+        checked.equal("a frame where a byte is missing, at %d" % tick, page.has_frame("came", tick), is_painted)
+    page.window.key("0")
     checked.equal("nothing is lost as a whole", page.search("lost"), "nothing found")
     checked.equal("what is altered", page.chips(), ["altered 3"])
 

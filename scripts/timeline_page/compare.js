@@ -8,7 +8,8 @@ const WHOLE = 0, MOVED = 1, REPEATED = 2, ALTERED = 3, ADDED = 4;
 // The longest frame of both protocols.
 const MOST_LIVE = 292;
 
-/** How many bytes of a burst can be a frame's: those before two silent ticks in a row, if there is room. */
+/** How many bytes of a burst can be a frame's: those before two silent ticks in a row, if there is
+ * room. */
 function liveCount(line, burst, protocol) {
   const from = line.first[burst], to = Math.min(line.first[burst + 1], from + MOST_LIVE);
   let place = from + 1;
@@ -16,7 +17,8 @@ function liveCount(line, burst, protocol) {
   return Math.min(place - from, roomFor(line.bytes.subarray(from, place), protocol));
 }
 
-/** Where the word of a packet would stand among the bytes: four ticks behind the last live byte; or -1. */
+/** Where the word of a packet would stand among the bytes: four ticks behind the last live byte; or
+ * -1. */
 function wordPlace(line, burst, protocol) {
   const place = line.first[burst] + liveCount(line, burst, protocol);
   if (place + protocol.word > line.first[burst + 1]) return -1;
@@ -33,7 +35,8 @@ function wordAt(line, place, protocol) {
   return word;
 }
 
-/** A number of a burst's bytes and silences, the same for two bursts that differ in when they begin alone. */
+/** A number of a burst's bytes and silences, the same for two bursts that differ in when they begin
+ * alone. */
 function burstKey(line, burst) {
   const first = line.first[burst], start = line.at[first];
   let key = 0;
@@ -84,7 +87,8 @@ class Comparison {
     }
     return true;
   }
-  /** The sent bursts by their content, and by the word behind them: the last of each, and of each the one before. */
+  /** The sent bursts by their content, and by the word behind them: the last of each, and of each
+   * the one before. */
   index() {
     const { sent, protocol } = this;
     this.byKey = new Map();
@@ -122,7 +126,8 @@ class Comparison {
     }
     return count;
   }
-  /** The sent burst that has the word behind this one, the nearest if there are more, and by how much it moved. */
+  /** The sent burst that has the word behind this one, the nearest if there are more, and by how
+   * much it moved. */
   byItsWord(burst) {
     const place = wordPlace(this.came, burst, this.protocol);
     if (place < 0) return null;
@@ -164,7 +169,8 @@ class Comparison {
     const left = this.sent.placeAt(this.came.at[place] - this.shift[burst]);
     return left < 0 ? -1 : this.sent.bytes[left];
   }
-  /** The bytes that left and didn't come, of the sent bursts that an altered one is compared with, in some ticks. */
+  /** The bytes that left and didn't come, of the sent bursts that an altered one is compared with,
+   * in some ticks. */
   missing(burst, start = 0, end = MOST_TICKS) {
     if (this.fate[burst] !== ALTERED) return [];
     const shift = this.shift[burst], found = [];

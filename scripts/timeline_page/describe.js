@@ -1,7 +1,8 @@
 "use strict";
 // What the page says of a tick and of a burst, and what a search finds.
 
-/** A line of what is said: its text, and how it is painted ("title", "bad", "link", "code", "faint" or ""). */
+/** A line of what is said: its text, and how it is painted ("title", "bad", "link", "code", "faint"
+ * or ""). */
 function said(text, kind = "") {
   return { text, kind };
 }
@@ -60,7 +61,8 @@ function originWords(session, burst) {
 function noteWords(session, lane, burst) {
   const note = session.noteOf(lane, burst), lines = [];
   if (note) lines.push(said(note.text, note.why ? "bad" : "good"));
-  if (session.isForged(lane, burst)) lines.push(said(meaningOf({ word: "forged" }, session.protocol), "bad"));
+  const forged = meaningOf({ word: "forged" }, session.protocol);
+  if (session.isForged(lane, burst)) lines.push(said(forged, "bad"));
   if (lane === "came") lines.push(...originWords(session, burst));
   if (lane === "sent" && session.isLost(burst)) lines.push(said("lost: it didn't come", "link"));
   if (lane === "received" && session.isRead(burst)) lines.push(said("the device reads it", "good"));
@@ -74,8 +76,10 @@ function wordWords(session, lane, burst) {
   if (place < 0) return [];
   const word = line.bytes.subarray(place, place + session.protocol.word);
   const tag = line.bytes.subarray(place + word.length, line.first[burst + 1]);
-  const lines = [said(`word ${hexList(word)}: the low bytes of a number, ${wordAt(line, place, session.protocol)}`)];
-  if (tag.length > 0) lines.push(said(`tag ${hexList(tag.subarray(0, session.protocol.tag))}`, "code"));
+  const number = wordAt(line, place, session.protocol);
+  const lines = [said(`word ${hexList(word)}: the low bytes of a number, ${number}`)];
+  const shown = hexList(tag.subarray(0, session.protocol.tag));
+  if (tag.length > 0) lines.push(said(`tag ${shown}`, "code"));
   return lines;
 }
 
@@ -139,7 +143,8 @@ function describeBurst(session, lane, burst, rate) {
   if (note) lines.push(said(meaningOf(note, session.protocol), "faint"));
   lines.push(...frameWords(frame, session.protocol).map((text) => said(text)));
   lines.push(said(crcWords(frame, session.protocol)), ...wordWords(session, lane, burst));
-  lines.push(said(`${timeWords((start * rate.bits) / rate.baud)}, for ${timeWords((span * rate.bits) / rate.baud)}`, "faint"));
+  const time = (ticks) => timeWords((ticks * rate.bits) / rate.baud);
+  lines.push(said(`${time(start)}, for ${time(span)}`, "faint"));
   return lines.filter((row) => row.text !== "");
 }
 
@@ -172,13 +177,15 @@ function findBursts(session, isWanted) {
   return found;
 }
 
-/** The text that words are sought in: the note, what became of the burst, and its function or header. */
+/** The text that words are sought in: the note, what became of the burst, and its function or
+ * header. */
 function wordsOf(session, lane, burst) {
   const note = session.noteOf(lane, burst);
   const frame = session.frameOf(lane, burst);
   const labels = session.labelOf(lane, burst).join(" ");
   const extra = lane === "received" && hasSpoiled(session, burst) ? " spoiled" : "";
-  return `${note ? note.text : ""} ${labels}${extra} ${frameWords(frame, session.protocol).join(" ")}`;
+  const meant = frameWords(frame, session.protocol).join(" ");
+  return `${note ? note.text : ""} ${labels}${extra} ${meant}`;
 }
 
 function hasSpoiled(session, burst) {
@@ -210,7 +217,8 @@ function search(session, query) {
     for (const lane of session.shown) found.push(...findBytes(session, lane, wanted));
   } else if (byNumber < 0) {
     const words = text.split(/\s+/);
-    found.push(...findBursts(session, (lane, burst) => hasWords(wordsOf(session, lane, burst), words)));
+    const isWanted = (lane, burst) => hasWords(wordsOf(session, lane, burst), words);
+    found.push(...findBursts(session, isWanted));
   }
   return found.sort((a, b) => a.tick - b.tick || LANES.indexOf(a.lane) - LANES.indexOf(b.lane));
 }

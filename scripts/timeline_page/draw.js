@@ -147,7 +147,7 @@ class Painter {
       pen.stroke();
     }
   }
-  /** Where a lane's bytes are many: how much of each pixel's ticks they fill, and where trouble is. */
+  /** Where bytes are many: how much of each pixel's ticks they fill, and where trouble is. */
   paintDensity(lane) {
     const { pen, colours } = this, line = this.session.lanes[lane];
     const levels = this.session.levels[lane], top = this.laneTop(lane) + CELL_TOP;
@@ -231,18 +231,22 @@ class Painter {
   paintBurst(lane, burst) {
     const { session, scale } = this, line = session.lanes[lane], first = line.first[burst];
     const from = Math.max(0, lowerBound(line.at, this.from - 1) - first);
-    const to = Math.min(line.first[burst + 1], lowerBound(line.at, this.tickAt(this.width) + 1)) - first;
+    const behind = lowerBound(line.at, this.tickAt(this.width) + 1);
+    const to = Math.min(line.first[burst + 1], behind) - first;
     const parts = session.partsOf(lane, burst), marks = session.marksOf(lane, burst, from, to);
     const isFine = scale >= 5;
     for (let place = from; place < to;) {
       let end = place + 1;
-      while (!isFine && end < to && parts[end] === parts[place]
-        && marks[end] === marks[place] && line.at[first + end] === line.at[first + end - 1] + 1) end++;
+      const isAlike = () => parts[end] === parts[place] && marks[end] === marks[place]
+        && line.at[first + end] === line.at[first + end - 1] + 1;
+      while (!isFine && end < to && isAlike()) end++;
       const x = this.x(line.at[first + place]);
       const wide = (end - place) * scale - (scale > 8 ? 1 : 0);
       if (x < this.width && x + wide > 0) {
         this.paintCell(lane, x, wide, parts[place], marks[place]);
-        if (scale >= READABLE) this.paintByte(lane, burst, place, x + wide / 2, parts[place], marks[place]);
+        if (scale >= READABLE) {
+          this.paintByte(lane, burst, place, x + wide / 2, parts[place], marks[place]);
+        }
       }
       place = end;
     }
@@ -288,12 +292,14 @@ class Painter {
     const colour = mark === ALTERED_BYTE ? colours.altered : colours.spoiled;
     if (was >= 0) this.hex(was, x, top + CELL + 16, colour, false, 12);
   }
-  /** What became of a burst on the link: a line beneath one that was added or came again; bytes that didn't come. */
+  /** What became of a burst on the link: a line beneath one that was added or came again; bytes
+   * that didn't come. */
   paintFate(burst) {
     const { pen, colours, session } = this, { came } = session.lanes;
     const fate = session.comparison.fate[burst];
     if (fate === ALTERED) {
-      const missing = session.comparison.missing(burst, Math.floor(this.from) - 1, this.tickAt(this.width));
+      const start = Math.floor(this.from) - 1, end = this.tickAt(this.width);
+      const missing = session.comparison.missing(burst, start, end);
       for (const lost of missing) this.paintMissing(lost.tick, lost.byte);
     }
     if (fate !== ADDED && fate !== REPEATED) return;
@@ -326,7 +332,8 @@ class Painter {
         if (levels[pill.burst] !== wanted) continue;
         const text = session.labelOf(lane, pill.burst).join(", ");
         if (text === "") continue;
-        const wide = pen.measureText(text).width + 24, x = Math.max(2, pill.x);
+        const wide = pen.measureText(text).width + 24;
+        const x = Math.max(2, Math.min(pill.x, this.width - wide - 2));
         const index = lowerBound(taken.map((other) => other.x), x);
         const before = taken[index - 1], after = taken[index];
         if ((before && before.x + before.wide + 4 > x) || (after && x + wide + 4 > after.x)) {
@@ -359,13 +366,15 @@ class Painter {
     pen.textBaseline = "middle";
     pen.fillText(text, x + 19, y + PILL / 2 + 0.5);
   }
-  /** A sign that tells notes apart without colour: a tick, a cross, a bar for what is dropped or unsealed. */
+  /** A sign that tells notes apart without colour: a tick, a cross, a bar for what is dropped or
+   * unsealed. */
   paintSign(x, y, note, level, colour) {
     const { pen } = this, word = note && level !== 1 ? note.word : "";
     const strokes = word === "refused" ? [[-3, -3, 3, 3], [-3, 3, 3, -3]]
       : word === "dropped" ? [[0, -4, 0, 3], [-3, 0, 0, 3], [3, 0, 0, 3]]
         : word === "unsealed" ? [[-3, 0, 3, 0]]
-          : word !== "" ? [[-3, 0, -1, 3], [-1, 3, 3, -3]] : [[-3, 3, 0, -3], [0, -3, 3, 3], [-3, 3, 3, 3]];
+          : word !== "" ? [[-3, 0, -1, 3], [-1, 3, 3, -3]]
+            : [[-3, 3, 0, -3], [0, -3, 3, 3], [-3, 3, 3, 3]];
     pen.strokeStyle = colour;
     pen.lineWidth = 1.7;
     pen.beginPath();
@@ -378,7 +387,9 @@ class Painter {
   /** Faint bands from a burst to what became of it in the next lane. */
   paintRibbons() {
     const { session } = this, { device, sent, came, received } = session.lanes;
-    if (device && sent) this.ribbons("device", "sent", (burst) => sent.burstAt(device.start(burst)));
+    if (device && sent) {
+      this.ribbons("device", "sent", (burst) => sent.burstAt(device.start(burst)));
+    }
     if (sent && came) {
       this.backwards("came", "sent", (burst) => session.comparison.origin[burst],
         (burst) => session.comparison.shift[burst] !== 0);
@@ -446,7 +457,8 @@ class Painter {
   }
 }
 
-/** The places of trouble in the overview: a mark for each, or where they are many a bar for each pixel. */
+/** The places of trouble in the overview: a mark for each, or where they are many a bar for each
+ * pixel. */
 function paintTroubles(context, painter, scale, height) {
   const { session, colours } = painter, places = new Map();
   for (const { tick, lane, burst } of session.troubles) {
@@ -455,7 +467,8 @@ function paintTroubles(context, painter, scale, height) {
     place.level = Math.max(place.level, session.levels[lane][burst]);
     places.set(x, place);
   }
-  const isMany = places.size > 120, most = Math.max(1, ...[...places.values()].map((place) => place.count));
+  const isMany = places.size > 120;
+  const most = Math.max(1, ...[...places.values()].map((place) => place.count));
   for (const [x, { count, level }] of places) {
     context.fillStyle = level === 2 ? colours.spoiled : colours.altered;
     if (isMany) {
@@ -472,7 +485,8 @@ function paintTroubles(context, painter, scale, height) {
   }
 }
 
-/** The overview: all ticks of the session, where bytes are in each lane, the places of trouble, and what is in view. */
+/** The overview: all ticks of the session, where bytes are in each lane, the places of trouble, and
+ * what is in view. */
 function paintOverview(canvas, painter) {
   const { session, colours } = painter, { context, width, height } = fitCanvas(canvas);
   context.fillStyle = colours.panel;

@@ -13,12 +13,15 @@ function showTip(page, event) {
   tip.hidden = false;
   const right = event.clientX + 18 + tip.offsetWidth > window.innerWidth;
   const low = event.clientY > 0.55 * window.innerHeight;
-  tip.style.left = `${Math.max(4, right ? event.clientX - 14 - tip.offsetWidth : event.clientX + 18)}px`;
-  tip.style.top = `${Math.max(4, low ? event.clientY - 48 - tip.offsetHeight : event.clientY + 18)}px`;
+  const left = right ? event.clientX - 14 - tip.offsetWidth : event.clientX + 18;
+  const top = low ? event.clientY - 48 - tip.offsetHeight : event.clientY + 18;
+  tip.style.left = `${Math.max(4, left)}px`;
+  tip.style.top = `${Math.max(4, top)}px`;
   page.paint();
 }
 
-/** The tick under the mouse; where ticks are narrower than three pixels, that of a byte close to it. */
+/** The tick under the mouse; where ticks are narrower than three pixels, that of a byte close to
+ * it. */
 function nearest(painter, lane, x) {
   const tick = Math.floor(painter.tickAt(x)), line = painter.session.lanes[lane];
   if (painter.scale >= 3 || line.placeAt(tick) >= 0) return tick;
@@ -66,7 +69,8 @@ function listenToMouse(page) {
     if (Math.abs(sideways) > Math.abs(event.deltaY) || event.shiftKey) {
       return page.move((sideways * lines) / painter.scale);
     }
-    page.zoom(Math.exp(-event.deltaY * lines * 0.0022), event.clientX - canvas.getBoundingClientRect().left);
+    const x = event.clientX - canvas.getBoundingClientRect().left;
+    page.zoom(Math.exp(-event.deltaY * lines * 0.0022), x);
   }, { passive: false });
 }
 
@@ -79,7 +83,8 @@ function keepAt(page, event) {
   const burst = line.burstBefore(tick);
   if (burst < 0 || tick > line.end(burst)) return;
   page.keep(lane, burst);
-  page.trouble = painter.session.troubles.findIndex((each) => each.lane === lane && each.burst === burst);
+  page.trouble = painter.session.troubles
+    .findIndex((each) => each.lane === lane && each.burst === burst);
   page.tellTroubles();
   page.paint();
 }
@@ -143,14 +148,17 @@ function listenToKeys(page) {
 function listenToButtons(page) {
   const clicks = {
     next: () => page.step(1), previous: () => page.step(-1),
-    after: () => page.search(byId("search").value, 1), before: () => page.search(byId("search").value, -1),
+    after: () => page.search(byId("search").value, 1),
+    before: () => page.search(byId("search").value, -1),
     in: () => page.zoom(1.6), out: () => page.zoom(1 / 1.6), all: () => page.fitAll(),
     help: () => byId("keys").showModal(),
     open: () => byId("files").click(), choose: () => byId("files").click(),
   };
   for (const [id, click] of Object.entries(clicks)) byId(id).addEventListener("click", click);
   byId("files").addEventListener("change", (event) => page.takeFiles([...event.target.files]));
-  byId("session").addEventListener("change", (event) => page.choose(page.sessions[Number(event.target.value)]));
+  byId("session").addEventListener("change", (event) => {
+    page.choose(page.sessions[Number(event.target.value)]);
+  });
   byId("protocol").addEventListener("change", (event) => {
     page.current.protocol = event.target.value;
     page.build();
@@ -187,8 +195,8 @@ function listenToFiles(page) {
 
 /** Says what went wrong in place of a page that shows nothing. */
 function tellFault(why) {
-  const said = element("p", "", `This page can't show these texts: ${why && why.message ? why.message : why}`);
-  byId("messages").append(said);
+  const reason = why && why.message ? why.message : why;
+  byId("messages").append(element("p", "", `This page can't show these texts: ${reason}`));
 }
 
 function begin() {

@@ -47,7 +47,8 @@ class Page {
     this.messages = [];
     this.found = { query: "", list: [], index: -1 };
     this.trouble = -1;
-    fillSelect(byId("protocol"), Object.keys(PROTOCOLS).map((word) => [word, PROTOCOLS[word].title]));
+    const protocols = Object.keys(PROTOCOLS).map((word) => [word, PROTOCOLS[word].title]);
+    fillSelect(byId("protocol"), protocols);
     fillSelect(byId("baud"), BAUDS.map((baud) => [String(baud), String(baud)]));
     fillSelect(byId("bits"), [["10", "10 bits"], ["11", "11 bits"]]);
     this.paintLegend();
@@ -63,7 +64,8 @@ class Page {
   choose(session) {
     this.current = session;
     byId("session").hidden = this.sessions.length < 2;
-    fillSelect(byId("session"), this.sessions.map((each, index) => [String(index), each.title || `session ${index + 1}`]));
+    const titles = this.sessions.map((each, index) => each.title || `session ${index + 1}`);
+    fillSelect(byId("session"), titles.map((title, index) => [String(index), title]));
     byId("session").value = String(this.sessions.indexOf(session));
     byId("title").textContent = session.title || "Timeline";
     document.title = session.title ? `${session.title} · timeline` : "Timeline";
@@ -81,7 +83,9 @@ class Page {
     const hasLine = LANES.some((lane) => lanes[lane]);
     const word = PROTOCOLS[this.current.protocol] ? this.current.protocol : guessProtocol(lanes);
     const session = hasLine ? new Session(word, lanes, notes) : null;
-    if (!hasLine && this.current.texts.length > 0) this.message("No line is here: notes alone can't be shown.");
+    if (!hasLine && this.current.texts.length > 0) {
+      this.message("No line is here: notes alone can't be shown.");
+    }
     this.setRate(this.current.rate || { baud: 9600, bits: PROTOCOLS[word].dnp ? 10 : 11 });
     byId("protocol").value = word;
     if (session) this.tellStrays(session.strays);
@@ -95,18 +99,15 @@ class Page {
   }
   tellStrays(strays) {
     strays.slice(0, 5).forEach((stray) => this.message(stray));
-    if (strays.length > 5) this.message(`${strays.length - 5} more notes that fit no burst. Do these texts belong together?`);
+    if (strays.length <= 5) return;
+    const more = `${strays.length - 5} more notes that fit no burst.`;
+    this.message(`${more} Do these texts belong together?`);
   }
   /** Reads one text into the lanes and notes. */
   take(text, lanes, notes) {
     if (text.lane === "none") return;
     if (text.lane === "notes") {
-      const read = readNotes(text.content);
-      for (const note of read.notes) notes.push(note);
-      read.faults.forEach((fault) => this.message(`${text.name}: the run ended with "${fault}".`));
-      read.wrong.slice(0, 3).forEach((row) => this.message(`${text.name}: line ${row.row} is no note: ${row.content}`));
-      if (read.wrong.length > 3) this.message(`${text.name}: ${read.wrong.length - 3} more lines are no notes.`);
-      return;
+      return this.takeNotes(text, notes);
     }
     const { lines, fault } = new TickReader(text.content).read();
     if (fault) {
@@ -114,11 +115,23 @@ class Page {
         + "The lines before it are shown.");
     }
     const homes = text.lane === "both" ? ["device", "came"] : [text.lane];
-    if (lines.length > homes.length) this.message(`${text.name}: what stands behind the mark isn't shown.`);
+    if (lines.length > homes.length) {
+      this.message(`${text.name}: what stands behind the mark isn't shown.`);
+    }
     homes.forEach((lane, index) => {
-      if (lines[index] && !lanes[lane]) lanes[lane] = lines[index];
-      else if (lines[index]) this.message(`${text.name}: there is another text of ${LANE_TITLES[lane]}; this one isn't shown.`);
+      if (!lines[index]) return;
+      if (!lanes[lane]) lanes[lane] = lines[index];
+      else this.message(`${text.name}: ${LANE_TITLES[lane]} has another text; this isn't shown.`);
     });
+  }
+  takeNotes(text, notes) {
+    const read = readNotes(text.content), more = read.wrong.length - 3;
+    for (const note of read.notes) notes.push(note);
+    for (const fault of read.faults) this.message(`${text.name}: the run ended with "${fault}".`);
+    for (const { row, content } of read.wrong.slice(0, 3)) {
+      this.message(`${text.name}: line ${row} is no note: ${content}`);
+    }
+    if (more > 0) this.message(`${text.name}: ${more} more lines are no notes.`);
   }
   setRate(rate) {
     this.painter.rate = rate;
@@ -131,6 +144,7 @@ class Page {
   tell() {
     const { session } = this.painter;
     byId("empty").hidden = session !== null;
+    document.body.classList.toggle("without", session === null);
     byId("messages").replaceChildren(...this.messages.map((text) => element("p", "", text)));
     this.tellCounts();
     this.tellTexts();
@@ -143,8 +157,11 @@ class Page {
   }
   tellCounts() {
     const { session } = this.painter, chips = [];
-    const kinds = { refused: "bad", dropped: "bad", unsealed: "bad", forged: "bad", sealed: "good", passed: "good",
-      read: "good", lost: "link", added: "link", repeated: "link", moved: "link", altered: "link" };
+    const kinds = {
+      refused: "bad", dropped: "bad", unsealed: "bad", forged: "bad",
+      sealed: "good", passed: "good", read: "good",
+      lost: "link", added: "link", repeated: "link", moved: "link", altered: "link",
+    };
     for (const [word, kind] of Object.entries(kinds)) {
       const count = session ? session.counts.get(word) || 0 : 0;
       if (count === 0) continue;
@@ -159,8 +176,8 @@ class Page {
     byId("counts").replaceChildren(...chips);
   }
   tellTexts() {
-    const choices = [...LANES.map((lane) => [lane, LANE_TITLES[lane]]), ["both", "the device's line, % and the link"],
-      ["notes", "notes"], ["none", "not shown"]];
+    const choices = [...LANES.map((lane) => [lane, LANE_TITLES[lane]]),
+      ["both", "the device's line, % and the link"], ["notes", "notes"], ["none", "not shown"]];
     byId("texts").replaceChildren(...this.current.texts.map((text) => {
       const row = element("div"), select = element("select");
       row.append(element("span", "", text.name), select);
@@ -176,8 +193,11 @@ class Page {
   }
   tellLabels() {
     const { session } = this.painter;
-    const own = { device: "before the transmitter", sent: "after the transmitter", came: "before the receiver",
-      received: session ? `after the receiver, ${session.protocol.delay} ticks later` : "" };
+    const delay = session ? session.protocol.delay : 0;
+    const own = {
+      device: "before the transmitter", sent: "after the transmitter",
+      came: "before the receiver", received: `after the receiver, ${delay} ticks later`,
+    };
     byId("labels").replaceChildren(...(session ? session.shown : []).map((lane) => {
       const label = element("div", "", LANE_TITLES[lane]);
       label.dataset.lane = lane;
@@ -202,8 +222,8 @@ class Page {
     const { session } = this.painter, { lane, burst } = trouble;
     const row = element("div", index === this.trouble ? "now" : "");
     row.style.top = `${index * ROW}px`;
-    row.append(element("i", session.levels[lane][burst] === 1 ? "link" : ""), element("b", "", `@${trouble.tick}`),
-      session.labelOf(lane, burst).join(", "));
+    row.append(element("i", session.levels[lane][burst] === 1 ? "link" : ""),
+      element("b", "", `@${trouble.tick}`), session.labelOf(lane, burst).join(", "));
     row.title = LANE_TITLES[lane];
     row.addEventListener("click", () => this.goToTrouble(index));
     return row;
@@ -222,36 +242,42 @@ class Page {
     this.show(session.lanes[lane].start(burst), session.lanes[lane].end(burst) + 1);
     this.tellTroubles();
   }
-  /** The next place of trouble behind the one of now, the burst that is kept, or the left edge of the view. */
+  /** The next place of trouble behind the one of now, the burst that is kept, or the left edge of
+   * the view. */
   step(by) {
     const { painter } = this, { session } = painter;
     if (!session) return;
     if (this.trouble >= 0) return void this.goToTrouble(this.trouble + by);
-    const { chosen } = painter, start = chosen ? session.lanes[chosen.lane].start(chosen.burst) : -1;
+    const { chosen } = painter;
+    const start = chosen ? session.lanes[chosen.lane].start(chosen.burst) : -1;
     const isInView = start >= painter.from && start < painter.tickAt(painter.width);
-    const behind = lowerBound(session.troubles.map((each) => each.tick), isInView ? start : painter.from);
+    const ticks = session.troubles.map((each) => each.tick);
+    const behind = lowerBound(ticks, isInView ? start : painter.from);
     this.goToTrouble(by > 0 ? behind : behind - 1);
   }
   /** Keeps a burst in the panel on the right. */
   keep(lane, burst) {
     const { session, rate } = this.painter;
     this.painter.chosen = { lane, burst };
-    const lines = describeBurst(session, lane, burst, rate).map((row) => element("div", `said ${row.kind}`, row.text));
+    const lines = describeBurst(session, lane, burst, rate)
+      .map((row) => element("div", `said ${row.kind}`, row.text));
     byId("details").replaceChildren(...lines, this.dump(lane, burst));
     byId("details").scrollTop = 0;
   }
   /** The bytes of a burst in hex, in the colours of the lanes. */
   dump(lane, burst) {
-    const { session } = this.painter, line = session.lanes[lane], dump = element("div", "code dump");
+    const { session } = this.painter, line = session.lanes[lane], first = line.first[burst];
+    const dump = element("div", "code dump");
     dump.id = "dump";
     const parts = session.partsOf(lane, burst), marks = session.marksOf(lane, burst, 0, MOST_SHOWN);
     parts.subarray(0, MOST_SHOWN).forEach((part, place) => {
-      const colour = marks[place] === ALTERED_BYTE ? "altered" : marks[place] ? "spoiled" : PART_COLOURS[part];
-      const byte = element("span", "", hexOf(line.bytes[line.first[burst] + place]));
+      const marked = marks[place] === ALTERED_BYTE ? "altered" : "spoiled";
+      const colour = marks[place] ? marked : PART_COLOURS[part];
+      const byte = element("span", "", hexOf(line.bytes[first + place]));
       byte.style.background = `var(--${colour})`;
       byte.style.color = `var(--on${colour})`;
       dump.append(byte);
-      if (line.at[line.first[burst] + place + 1] - line.at[line.first[burst] + place] > 1) dump.append(" ");
+      if (line.at[first + place + 1] - line.at[first + place] > 1) dump.append(" ");
     });
     if (parts.length > MOST_SHOWN) dump.append(`… ${parts.length} bytes`);
     return dump;
@@ -284,7 +310,9 @@ class Page {
     const { painter } = this, room = painter.width;
     const fitting = Math.min(22, (0.8 * room) / (to - from + 8));
     const wide = (to - from) * painter.scale;
-    if (painter.scale < 0.6 * fitting || (wide > 0.85 * room && painter.scale > fitting)) painter.scale = Math.max(fitting, this.least());
+    if (painter.scale < 0.6 * fitting || (wide > 0.85 * room && painter.scale > fitting)) {
+      painter.scale = Math.max(fitting, this.least());
+    }
     painter.from = from - Math.max(6, (0.3 * room) / painter.scale - 0.3 * (to - from));
     this.paint();
   }
@@ -339,9 +367,10 @@ class Page {
     }
   }
   paintLegend() {
-    const entries = [["frame", "frame"], ["word", "word: low bytes of the number"], ["tag", "tag"], ["noframe", "no frame"],
-      ["other", "not live"], ["fill", "fill"], ["altered", "altered"], ["altered lost", "didn't come"],
-      ["altered added", "added or repeated"], ["spoiled", "spoiled"]];
+    const entries = [["frame", "frame"], ["word", "word: low bytes of the number"], ["tag", "tag"],
+      ["noframe", "no frame"], ["other", "not live"], ["fill", "fill"], ["altered", "altered"],
+      ["altered lost", "didn't come"], ["altered added", "added or repeated"],
+      ["spoiled", "spoiled"]];
     byId("legend").replaceChildren(...entries.map(([name, title]) => {
       const entry = element("span"), swatch = element("i", name);
       if (!name.includes(" lost")) swatch.style.backgroundColor = `var(--${name.split(" ")[0]})`;
@@ -349,7 +378,8 @@ class Page {
       return entry;
     }));
   }
-  /** Takes files that were dropped or chosen: into the session of such files, which begins with the first of them. */
+  /** Takes files that were dropped or chosen: into the session of such files, which begins with the
+   * first of them. */
   async takeFiles(files) {
     let session = this.sessions.find((each) => each.isDropped);
     if (!session) {

@@ -81,7 +81,8 @@ class Session {
     if (told) this.strays.push(`two notes of tick ${note.tick}: ${told.text}; ${note.text}`);
     const shift = lane === "received" && note.word !== "read" ? this.protocol.delay : 0;
     const line = this.lanes[lane], burst = line ? line.burstAt(note.tick + shift) : 0;
-    const isFree = (note.word === "read" && this.protocol.dnp) || (note.why === "early" && lane === "sent");
+    const isFree = (note.word === "read" && this.protocol.dnp)
+      || (note.why === "early" && lane === "sent");
     if (burst < 0 && !isFree) {
       this.strays.push(`${note.text}: no burst of ${LANE_TITLES[lane]} begins there`);
     }
@@ -128,12 +129,10 @@ class Session {
   }
   /** How many live bytes a burst has; on the received line without its fill. */
   lengthOf(lane, burst) {
-    if (lane === "received") {
-      const source = this.sourceOf(burst), line = this.lanes.received;
-      const count = line.first[burst + 1] - line.first[burst];
-      return source < 0 ? count : Math.min(count, liveCount(this.lanes.came, source, this.protocol));
-    }
-    return liveCount(this.lanes[lane], burst, this.protocol);
+    const line = this.lanes[lane], source = lane === "received" ? this.sourceOf(burst) : -1;
+    if (source < 0) return liveCount(line, burst, this.protocol);
+    const count = line.first[burst + 1] - line.first[burst];
+    return Math.min(count, liveCount(this.lanes.came, source, this.protocol));
   }
   /** The live bytes of a burst. */
   frameOf(lane, burst) {
@@ -145,10 +144,10 @@ class Session {
     const line = this.lanes[lane], from = line.first[burst];
     const parts = new Uint8Array(line.first[burst + 1] - from);
     const live = this.lengthOf(lane, burst);
-    const bytes = lane === "received" ? line.bytes.subarray(from, from + parts.length)
-      : line.bytes.subarray(from, from + live);
+    const isFilled = lane === "received" && this.sourceOf(burst) >= 0;
+    const bytes = line.bytes.subarray(from, from + (isFilled ? parts.length : live));
     parts.fill(isFrame(bytes, this.protocol) ? FRAME : NO_FRAME, 0, live);
-    parts.fill(lane === "received" ? FILL : OTHER, live);
+    parts.fill(isFilled ? FILL : OTHER, live);
     if (lane === "device" || lane === "received") return parts;
     const tick = line.at[from + live - 1] + CUT, length = this.protocol.word + this.protocol.tag;
     for (let place = live, byte = 0; place < parts.length && byte < length; place++, byte++) {
@@ -200,7 +199,8 @@ class Session {
   isLost(burst) {
     return this.comparison !== null && this.comparison.reached[burst] === 0;
   }
-  /** How bad it is: 0 for nothing, 1 for what the link or its attacker did, 2 for what a box refused. */
+  /** How bad it is: 0 for nothing, 1 for what the link or its attacker did, 2 for what a box
+   * refused. */
   levelOf(lane, burst) {
     const note = this.noteOf(lane, burst);
     if (this.isForged(lane, burst)) return 2;
@@ -209,15 +209,17 @@ class Session {
     if (lane !== "came" || !this.comparison) return 0;
     return this.comparison.fate[burst] >= REPEATED ? 1 : 0;
   }
-  /** The places of trouble in the order of their ticks; one for each burst, in the lane where it arose. */
+  /** The places of trouble in the order of their ticks; one for each burst, in the lane where it
+   * arose. */
   findTroubles() {
     const found = [];
     const homes = this.shown.filter((lane) => lane !== "received" || !this.lanes.came);
     this.levels = {};
     if (this.comparison) {
       const { fate, reached } = this.comparison;
-      FATES.forEach((name, which) => this.count(name, fate.reduce((sum, each) => sum + (each === which), 0)));
-      this.count("lost", reached.reduce((sum, each) => sum + (each === 0), 0));
+      const count = (list, wanted) => list.reduce((sum, each) => sum + (each === wanted), 0);
+      FATES.forEach((name, which) => this.count(name, count(fate, which)));
+      this.count("lost", count(reached, 0));
     }
     for (const lane of this.shown) {
       const line = this.lanes[lane], levels = new Uint8Array(line.bursts);

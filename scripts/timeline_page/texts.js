@@ -38,7 +38,7 @@ class Growing {
   }
 }
 
-/** A line: its bytes in order, the tick of each, and the place among them where each burst begins. */
+/** A line: its bytes in order, the tick of each, and where among them each burst begins. */
 class Line {
   constructor(bytes, at, ticks) {
     this.bytes = bytes;
@@ -89,7 +89,8 @@ const LF = 10, CR = 13;
 /** Why a text is refused: the cause's word, which the reader below adds the line to. */
 class Refusal extends Error {}
 
-/** Reads a tick text as the program does: its lines (one, or two with a mark between), and its fault. */
+/** Reads a tick text as the program does: its lines (one, or two with a mark between), and its
+ * fault. */
 class TickReader {
   constructor(text) {
     this.text = text;
@@ -191,7 +192,8 @@ class TickReader {
 const DECIMAL = "(0|[1-9][0-9]*)";
 const HEX = "(?:[0-9a-f]{2})+";
 const NOTE = new RegExp(
-  "^(?:(sealed|passed|forged) " + DECIMAL + " at " + DECIMAL + " (?:len " + DECIMAL + "|(" + HEX + "))"
+  "^(?:(sealed|passed|forged) " + DECIMAL + " at " + DECIMAL
+  + " (?:len " + DECIMAL + "|(" + HEX + "))"
   + "|(unsealed) at " + DECIMAL + " (form|early|spent)"
   + "|(refused) at " + DECIMAL + " (trailer|form|number|tag)"
   + "|(dropped) at " + DECIMAL + " (busy|head)"
@@ -203,12 +205,12 @@ function readNote(text) {
   if (!m) return null;
   if (m[1]) {
     const length = m[4] ? Number(m[4]) : m[5].length / 2;
-    return { text, word: m[1], number: Number(m[2]), tick: Number(m[3]), length, hex: m[5], why: "" };
+    const number = Number(m[2]), tick = Number(m[3]);
+    return { text, word: m[1], number, tick, length, why: "" };
   }
   const group = m[6] ? 6 : m[9] ? 9 : m[12] ? 12 : 15;
-  const note = { text, word: m[group], number: -1, tick: Number(m[group + 1]), length: 0, why: "" };
-  if (group === 15) note.hex = m[17]; else note.why = m[group + 2];
-  return note;
+  const why = group === 15 ? "" : m[group + 2];
+  return { text, word: m[group], number: -1, tick: Number(m[group + 1]), length: 0, why };
 }
 
 /** The notes of a text, and what else stands in it: fault lines, and lines that are no note. */
@@ -225,7 +227,8 @@ function readNotes(text) {
   return { notes, faults, wrong };
 }
 
-/** Whether a text is meant as notes: its first line that is neither empty nor a comment begins with a letter. */
+/** Whether a text is meant as notes: its first line that is neither empty nor a comment begins with
+ * a letter. */
 function looksLikeNotes(text) {
   const row = /^(?![ \t\r]*$|#).+$/m.exec(text.slice(0, 100000));
   return row !== null && /^[a-z]/.test(row[0]);

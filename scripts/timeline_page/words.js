@@ -56,7 +56,7 @@ function meaningOf(note, protocol) {
       : "It is no frame. It leaves with a wrong ending.",
     early: `It begins fewer than ${spaced} silent ticks after a sealed frame. It isn't forwarded.`,
     spent: "It is a frame, and the last number was used before. Take a new key and a new journal.",
-    passed: `A frame with its number and the right tag. It leaves ${delay} ticks later, as it came.`,
+    passed: `A frame with its number and right tag. It leaves ${delay} ticks later, as it came.`,
     trailer: "No number and tag stand behind it in their ticks. It leaves with a wrong ending.",
     number: "No number is left that its trailer can stand for. It leaves with a wrong ending.",
     tag: "Its tag isn't that of its number and its bytes. It leaves with a wrong ending.",
@@ -107,7 +107,8 @@ function roomFor(bytes, protocol) {
   return bytes.length >= 3 && bytes[2] >= 5 ? dnpSize(bytes[2]) : 292;
 }
 
-/** The function of a Modbus RTU frame, and what a request or reply of it asks, as far as its length tells. */
+/** The function of a Modbus RTU frame, and what a request or reply of it asks, as far as its length
+ * tells. */
 function modbusWords(bytes) {
   if (bytes.length < 2) return [];
   const address = bytes[0] === 0 ? "to all devices" : `device ${bytes[0]}`;
