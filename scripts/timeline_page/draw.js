@@ -333,17 +333,25 @@ class Painter {
         const text = session.labelOf(lane, pill.burst).join(", ");
         if (text === "") continue;
         const wide = pen.measureText(text).width + 24;
-        const x = Math.max(2, Math.min(pill.x, this.width - wide - 2));
-        const index = lowerBound(taken.map((other) => other.x), x);
-        const before = taken[index - 1], after = taken[index];
-        if ((before && before.x + before.wide + 4 > x) || (after && x + wide + 4 > after.x)) {
+        const whole = Math.min(pill.x, this.width - wide - 2);
+        const x = [whole, pill.x].map((each) => Math.max(2, each))
+          .find((each) => this.takeRoom(taken, each, wide));
+        if (x === undefined) {
           if (wanted > 0) this.paintDot(pill.x, y + PILL - 5, wanted);
           continue;
         }
-        taken.splice(index, 0, { x, wide });
         this.paintPill(x, y, wide, text, wanted, session.noteOf(lane, pill.burst));
       }
     }
+  }
+  /** Takes room for a note from x on, if no other one has it. */
+  takeRoom(taken, x, wide) {
+    const index = lowerBound(taken.map((other) => other.x), x);
+    const before = taken[index - 1], after = taken[index];
+    if (before && before.x + before.wide + 4 > x) return false;
+    if (after && x + wide + 4 > after.x) return false;
+    taken.splice(index, 0, { x, wide });
+    return true;
   }
   paintDot(x, y, level) {
     this.pen.fillStyle = level === 2 ? this.colours.bad : this.colours.altered;
