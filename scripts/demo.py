@@ -8,6 +8,8 @@ What the prover says goes into out/demo.log. The exit status is 0 where everythi
 """
 import concurrent.futures, difflib, os, subprocess, sys, tempfile, threading, time
 
+import timeline
+
 ROOT = os.path.dirname(os.path.dirname(os.path.abspath(__file__)))
 LOG = os.path.join(ROOT, "out", "demo.log")
 PROGRAM = os.path.join(ROOT, "crates", "link_replay", "out", "link_replay")
@@ -159,6 +161,24 @@ def show_sessions(folder):
                                "The same link without the line: nothing was sealed, so what passes is named as forged", folder)
 
 
+def session_of(protocol, title, side, altered):
+    """The words by which timeline.py shows a line and its link as an attacker left it, of texts that the program has just written."""
+    expected = lambda name: os.path.join(EXAMPLES, "expected", name)
+    return [protocol, "title=" + title,
+            "device=" + os.path.join(EXAMPLES, side + ".ticks"), "sent=" + expected(side + ".link.ticks"),
+            "came=" + os.path.join(EXAMPLES, altered + ".ticks"), "received=" + expected(altered + ".received.ticks"),
+            "notes=" + expected(side + ".notes.txt"), "notes=" + expected(altered + ".verdicts.txt"),
+            "notes=" + expected(altered + ".acts.txt")]
+
+
+def show_picture():
+    """Writes a page that shows the altered links, tick by tick, and says where it is."""
+    page = os.path.join(ROOT, "out", "timeline.html")
+    timeline.main([page] + session_of("rtu", "Requests, as an attacker left the link", "requests", "altered")
+                  + session_of("dnp3", "The same for the outstation", "outstation", "outstation_altered"))
+    print("A picture of it, for a browser: %s (docs/TIMELINE.md says what it shows)" % os.path.relpath(page, ROOT))
+
+
 def main():
     jobs = int(sys.argv[1]) if len(sys.argv) > 1 else max(1, (os.cpu_count() or 2) // 2)
     os.makedirs(os.path.dirname(LOG), exist_ok=True)
@@ -171,6 +191,8 @@ def main():
         same &= show_side("outstation", "dnp3", "ab", "From the control centre to a DNP3 outstation", "outstation", folder)
         same &= show_altered("outstation_altered", "dnp3", "This link again", "outstation", folder)
         same &= show_sessions(folder)
+    if same:
+        show_picture()
     print("All of it is what examples/expected/ has." if same else "Something differs from examples/expected/.")
     return 0 if same else 1
 
