@@ -88,8 +88,8 @@ impl Drop for Opened<'_> {
     }
 }
 
-impl Read for Opened<'_> {
-    fn read(&mut self, buf: &mut [u8]) -> io::Result<usize>
+impl Opened<'_> {
+    fn give(&mut self, buf: &mut [u8]) -> io::Result<usize>
         ensures { ReadsAtMost result buf.new }
     {
         let file = self.file.ok_or(ErrorKind::IsADirectory)?;
@@ -101,10 +101,8 @@ impl Read for Opened<'_> {
         self.place = self.place.saturating_add(n);
         Ok(n)
     }
-}
 
-impl Write for Opened<'_> {
-    fn write(&mut self, buf: &[u8]) -> io::Result<usize>
+    fn take(&mut self, buf: &[u8]) -> io::Result<usize>
         ensures { WritesAtMost result buf.now }
     {
         let file = self.file.ok_or(ErrorKind::IsADirectory)?;
@@ -119,6 +117,18 @@ impl Write for Opened<'_> {
         file.len
             .set(Some(file.len.get().unwrap_or(0).max(self.place)));
         Ok(n)
+    }
+}
+
+impl Read for Opened<'_> {
+    fn read(&mut self, buf: &mut [u8]) -> io::Result<usize> {
+        self.give(buf)
+    }
+}
+
+impl Write for Opened<'_> {
+    fn write(&mut self, buf: &[u8]) -> io::Result<usize> {
+        self.take(buf)
     }
 
     fn flush(&mut self) -> io::Result<()> {
