@@ -6,8 +6,8 @@ ghost use Rattle.sequence_journal.specs.Journal.{Fits};
 ghost use Rattle.yasir_ticks.specs.declared.TheConstants.{MAX_TICKS};
 
 use crate::over_boxes::KEY;
-use crate::packets::{self, DNP_PACKET, RTU_PACKET, WIDE_RTU_PACKET};
-use crate::receiver_runs::alike;
+use crate::packets::{self, DNP_PACKET, LINKS, Link, RTU_PACKET, packet_of};
+use crate::receiver_runs::{alike, link_of};
 use box_replay::{LineBox, replay_box};
 use check_replay::CheckBox;
 use dnp_link_frame::Dnp;
@@ -228,15 +228,135 @@ const EARLY_BURST: &[u8] = b"\x01\x03\x00\x00\x00\x0a\xc5\xcd......AAAAAAAAAAAAA
 
 const DNP_FRAME: &[u8] = b"\x05\x64\x05\xc0\x01\x00\x00\x04\xe9\x21";
 
+// A transmitter takes these ticks in so many turns at most.
+fn seals(
+    rt: &impl Abort,
+    alloc: Global,
+    link: Link,
+    ticks: &[u8],
+    most: usize,
+) -> Result<(), Fail> {
+    match link {
+        Link::Rtu => {
+            let line_box: Journaled<SealBox<Rtu, HmacSha1, 2>> = Journaled::new()?;
+            takes(rt, alloc, line_box, ticks, most)
+        }
+        Link::Dnp => {
+            let line_box: Journaled<SealBox<Dnp, HmacSha1, 2>> = Journaled::new()?;
+            takes(rt, alloc, line_box, ticks, most)
+        }
+        Link::WideRtu => {
+            let line_box: Journaled<SealBox<Rtu, HmacSha256, 4>> = Journaled::new()?;
+            takes(rt, alloc, line_box, ticks, most)
+        }
+        Link::WideDnp => {
+            let line_box: Journaled<SealBox<Dnp, HmacSha256, 4>> = Journaled::new()?;
+            takes(rt, alloc, line_box, ticks, most)
+        }
+    }
+}
+
+// A receiver takes these ticks in so many turns at most.
+fn checks(
+    rt: &impl Abort,
+    alloc: Global,
+    link: Link,
+    ticks: &[u8],
+    most: usize,
+) -> Result<(), Fail> {
+    match link {
+        Link::Rtu => {
+            let line_box: Journaled<CheckBox<Rtu, HmacSha1, 2, 18>> = Journaled::new()?;
+            takes(rt, alloc, line_box, ticks, most)
+        }
+        Link::Dnp => {
+            let line_box: Journaled<CheckBox<Dnp, HmacSha1, 2, 18>> = Journaled::new()?;
+            takes(rt, alloc, line_box, ticks, most)
+        }
+        Link::WideRtu => {
+            let line_box: Journaled<CheckBox<Rtu, HmacSha256, 4, 24>> = Journaled::new()?;
+            takes(rt, alloc, line_box, ticks, most)
+        }
+        Link::WideDnp => {
+            let line_box: Journaled<CheckBox<Dnp, HmacSha256, 4, 24>> = Journaled::new()?;
+            takes(rt, alloc, line_box, ticks, most)
+        }
+    }
+}
+
+// The frame of a packet, so many silent ticks and a burst of so many bytes, at a transmitter.
+fn seals_frame(
+    rt: &impl Abort,
+    alloc: Global,
+    link: Link,
+    pause: usize,
+    count: usize,
+    most: usize,
+) -> Result<(), Fail> {
+    let packet = packet_of(link);
+    let frame = alike(packet, 1000);
+    let line = link_of(alloc, packet, frame, frame, pause, count)?;
+    seals(rt, alloc, link, line.as_slice(), most)
+}
+
+// A packet and a burst of so many bytes that joins it, at a receiver.
+fn checks_packet(
+    rt: &impl Abort,
+    alloc: Global,
+    link: Link,
+    count: usize,
+    most: usize,
+) -> Result<(), Fail> {
+    let packet = packet_of(link);
+    let line = link_of(alloc, packet, packet.len(), packet.len(), 0, count)?;
+    checks(rt, alloc, link, line.as_slice(), most)
+}
+
+// The frame of a packet, so many silent ticks and a burst of so many bytes, at a receiver.
+fn checks_frame(
+    rt: &impl Abort,
+    alloc: Global,
+    link: Link,
+    pause: usize,
+    count: usize,
+    most: usize,
+) -> Result<(), Fail> {
+    let packet = packet_of(link);
+    let frame = alike(packet, 1000);
+    let line = link_of(alloc, packet, frame, frame, pause, count)?;
+    checks(rt, alloc, link, line.as_slice(), most)
+}
+
 // A frame is forwarded at once, and so are the silent ticks behind it but for the one that closes
 // it, which goes alone; then the trailer goes out at once, and then there is silence.
 const TURNS_OF_A_FRAME: usize = 5;
 
-// The first two bytes of the trailer go out in silence. The first byte of the early burst goes
-// alone; the trailer's others but that one go out over the burst's next ones, and over the rest of
-// it there is silence, as in the silent ticks behind it but for the one that closes it, which goes
-// alone; then there is silence.
+// The first byte of an early burst goes alone, and the others are a run. The tick that closes a
+// burst goes alone, and the silence up to it and behind it are runs. So there are five turns more,
+// and one more where a part of the trailer goes out before the burst or behind it.
 const TURNS_OF_AN_EARLY_BURST: usize = 10;
+
+#[test]
+fn frames_are_sealed_in_few_turns(rt: HostRuntime) -> Result<(), Fail> {
+    for link in LINKS {
+        seals_frame(&rt, rt.alloc(), link, 0, 0, TURNS_OF_A_FRAME)?;
+    }
+    Ok(())
+}
+
+#[test]
+fn bursts_that_are_not_sealed_take_few_turns(rt: HostRuntime) -> Result<(), Fail> {
+    for link in LINKS {
+        let packet = packet_of(link);
+        let behind = packet.len() + 1 - alike(packet, 1000).min(packet.len());
+        // Early, while the trailer goes out, and behind it.
+        seals_frame(&rt, rt.alloc(), link, 6, 8, TURNS_OF_AN_EARLY_BURST)?;
+        seals_frame(&rt, rt.alloc(), link, behind, 4, TURNS_OF_AN_EARLY_BURST)?;
+        // Bytes that join the frame and aren't live are a run more.
+        seals_frame(&rt, rt.alloc(), link, 2, 5, 6)?;
+    }
+    Ok(())
+}
 
 // The frame's bytes come while nothing leaves, and so do the silent ticks behind it and the first
 // bytes of the trailer; with the others but the last one the frame leaves. The trailer's last byte
@@ -245,24 +365,24 @@ const TURNS_OF_AN_EARLY_BURST: usize = 10;
 const TURNS_OF_A_PACKET: usize = 7;
 
 #[test]
-fn frames_and_packets_take_few_turns(rt: HostRuntime) -> Result<(), Fail> {
-    let (rt, alloc) = (&rt, rt.alloc());
-    let most = TURNS_OF_A_FRAME;
-    let line_box: Journaled<SealBox<Rtu, HmacSha1, 2>> = Journaled::new()?;
-    takes(rt, alloc, line_box, RTU_FRAME, most)?;
-    let line_box: Journaled<SealBox<Dnp, HmacSha1, 2>> = Journaled::new()?;
-    takes(rt, alloc, line_box, DNP_FRAME, most)?;
-    let line_box: Journaled<SealBox<Rtu, HmacSha256, 4>> = Journaled::new()?;
-    takes(rt, alloc, line_box, RTU_FRAME, most)?;
-    let line_box: Journaled<SealBox<Rtu, HmacSha1, 2>> = Journaled::new()?;
-    takes(rt, alloc, line_box, EARLY_BURST, TURNS_OF_AN_EARLY_BURST)?;
-    let most = TURNS_OF_A_PACKET;
-    let line_box: Journaled<CheckBox<Rtu, HmacSha1, 2, 18>> = Journaled::new()?;
-    takes(rt, alloc, line_box, RTU_PACKET, most)?;
-    let line_box: Journaled<CheckBox<Dnp, HmacSha1, 2, 18>> = Journaled::new()?;
-    takes(rt, alloc, line_box, DNP_PACKET, most)?;
-    let line_box: Journaled<CheckBox<Rtu, HmacSha256, 4, 24>> = Journaled::new()?;
-    takes(rt, alloc, line_box, WIDE_RTU_PACKET, most)
+fn packets_are_checked_in_few_turns(rt: HostRuntime) -> Result<(), Fail> {
+    for link in LINKS {
+        checks_packet(&rt, rt.alloc(), link, 0, TURNS_OF_A_PACKET)?;
+        // Bytes that join it are a run more.
+        checks_packet(&rt, rt.alloc(), link, 200, TURNS_OF_A_PACKET + 1)?;
+    }
+    Ok(())
+}
+
+// Silence comes in place of the trailer, in as many turns. A burst that comes too soon goes with its
+// first byte alone, for its note, and is a run.
+#[test]
+fn bursts_that_do_not_pass_take_few_turns(rt: HostRuntime) -> Result<(), Fail> {
+    for link in LINKS {
+        checks_frame(&rt, rt.alloc(), link, 0, 0, TURNS_OF_A_PACKET)?;
+        checks_frame(&rt, rt.alloc(), link, 4, 4, TURNS_OF_A_PACKET + 2)?;
+    }
+    Ok(())
 }
 
 type ShownSealer<R> = ShownFrames<SealNoting<R, HmacSha1, 2>, R, SteadySlots>;

@@ -27,8 +27,6 @@ mod receiver_steps;
 #[cfg(test)]
 mod runs;
 #[cfg(test)]
-mod sealer_turns;
-#[cfg(test)]
 mod sealing;
 #[cfg(test)]
 mod second_profile;

@@ -1,11 +1,10 @@
 //! Runs of ticks are answered as their single ticks are, whatever their lengths and wherever a link
 //! is cut into them.
 ghost use Rattle.std.specs.Prelude.{◌≡◌, ◌+◌, ◌<◌, ◌≤◌, length, OnOk, IfOk};
-ghost use Rattle.link_format.specs.Profile.{IsWordLen};
 ghost use Rattle.sequence_journal.specs.Journal.{Fits};
 ghost use Rattle.check_receiver.specs.Stands.{ticks_taken};
 
-use crate::packets::{KEY, LINKS, Link, packet_of};
+use crate::packets::{DNP_PACKET, KEY, RTU_PACKET, WIDE_RTU_PACKET};
 use crate::receiver_steps::{steps, tick_of};
 use check_receiver::{CheckStep, Checker, RunBytes};
 use dnp_link_frame::Dnp;
@@ -18,6 +17,12 @@ use std::process::Abort;
 use std::test::Fail;
 use yasir_io::{SlotDisk, SteadySlots};
 use yasir_ticks::Tick;
+
+type RtuChecker = Checker<Rtu, HmacSha1, 2, 18>;
+
+type DnpChecker = Checker<Dnp, HmacSha1, 2, 18>;
+
+type WideRtuChecker = Checker<Rtu, HmacSha256, 4, 24>;
 
 // How many of the first letters are all silence or all bytes, and so many at most.
 pub fn alike(link: &[u8], most: usize) -> usize
@@ -129,36 +134,43 @@ fn follow<R: LineRules, M: Mac, S: SlotDisk, const B: usize, const D: usize>(
     Ok(turns)
 }
 
-// What a receiver answers to the ticks of a link.
-fn steps_by<R: LineRules, M: Mac, const B: usize, const D: usize>(
-    alloc: Global,
-    link: &[u8],
-) -> Result<Vec<CheckStep>, Fail>
-    requires word { IsWordLen B }
-    requires wide { 2 ≤ B }
-    requires delay { D ≡ 4 + B + M.TAG }
+// The receivers whose runs are compared: for Modbus RTU and DNP3 by y18, and for Modbus RTU by y24.
+#[derive(Clone, Copy)]
+enum Receiver {
+    Rtu,
+    Dnp,
+    WideRtu,
+}
+
+// The packet that it lets pass.
+fn packet_of(receiver: Receiver) -> &'static [u8] {
+    match receiver {
+        Receiver::Rtu => RTU_PACKET,
+        Receiver::Dnp => DNP_PACKET,
+        Receiver::WideRtu => WIDE_RTU_PACKET,
+    }
+}
+
+// What each of them answers to the ticks of a link, and whether its runs come to the same.
+fn rtu_steps(alloc: Global, link: &[u8]) -> Result<Vec<CheckStep>, Fail>
     requires short { length link.now < 1000 }
 {
-    let mut checker: Checker<R, M, B, D> = Checker::new(&KEY.to_be_bytes(), Dir::Ab);
+    let mut checker: RtuChecker = Checker::new(&KEY.to_be_bytes(), Dir::Ab);
     let mut disk = SteadySlots::new(slot_of(0), [0; 16]);
     let mut journal = Journal::load(&mut disk)?;
     steps(alloc, &mut checker, &mut journal, &mut disk, link)
 }
 
-// Whether its runs come to the same, and how many runs and steps there are.
-fn follow_by<R: LineRules, M: Mac, const B: usize, const D: usize>(
+fn follow_rtu(
     rt: &impl Abort,
     link: &[u8],
     wanted: &[CheckStep],
     cut: usize,
     most: usize,
 ) -> Result<usize, Fail>
-    requires word { IsWordLen B }
-    requires wide { 2 ≤ B }
-    requires delay { D ≡ 4 + B + M.TAG }
     requires short { length link.now < 1000 }
 {
-    let mut checker: Checker<R, M, B, D> = Checker::new(&KEY.to_be_bytes(), Dir::Ab);
+    let mut checker: RtuChecker = Checker::new(&KEY.to_be_bytes(), Dir::Ab);
     let mut disk = SteadySlots::new(slot_of(0), [0; 16]);
     let mut journal = Journal::load(&mut disk)?;
     follow(
@@ -173,20 +185,85 @@ fn follow_by<R: LineRules, M: Mac, const B: usize, const D: usize>(
     )
 }
 
-fn steps_of(alloc: Global, receiver: Link, link: &[u8]) -> Result<Vec<CheckStep>, Fail>
+fn dnp_steps(alloc: Global, link: &[u8]) -> Result<Vec<CheckStep>, Fail>
+    requires short { length link.now < 1000 }
+{
+    let mut checker: DnpChecker = Checker::new(&KEY.to_be_bytes(), Dir::Ab);
+    let mut disk = SteadySlots::new(slot_of(0), [0; 16]);
+    let mut journal = Journal::load(&mut disk)?;
+    steps(alloc, &mut checker, &mut journal, &mut disk, link)
+}
+
+fn follow_dnp(
+    rt: &impl Abort,
+    link: &[u8],
+    wanted: &[CheckStep],
+    cut: usize,
+    most: usize,
+) -> Result<usize, Fail>
+    requires short { length link.now < 1000 }
+{
+    let mut checker: DnpChecker = Checker::new(&KEY.to_be_bytes(), Dir::Ab);
+    let mut disk = SteadySlots::new(slot_of(0), [0; 16]);
+    let mut journal = Journal::load(&mut disk)?;
+    follow(
+        rt,
+        &mut checker,
+        &mut journal,
+        &mut disk,
+        link,
+        wanted,
+        cut,
+        most,
+    )
+}
+
+fn wide_rtu_steps(alloc: Global, link: &[u8]) -> Result<Vec<CheckStep>, Fail>
+    requires short { length link.now < 1000 }
+{
+    let mut checker: WideRtuChecker = Checker::new(&KEY.to_be_bytes(), Dir::Ab);
+    let mut disk = SteadySlots::new(slot_of(0), [0; 16]);
+    let mut journal = Journal::load(&mut disk)?;
+    steps(alloc, &mut checker, &mut journal, &mut disk, link)
+}
+
+fn follow_wide_rtu(
+    rt: &impl Abort,
+    link: &[u8],
+    wanted: &[CheckStep],
+    cut: usize,
+    most: usize,
+) -> Result<usize, Fail>
+    requires short { length link.now < 1000 }
+{
+    let mut checker: WideRtuChecker = Checker::new(&KEY.to_be_bytes(), Dir::Ab);
+    let mut disk = SteadySlots::new(slot_of(0), [0; 16]);
+    let mut journal = Journal::load(&mut disk)?;
+    follow(
+        rt,
+        &mut checker,
+        &mut journal,
+        &mut disk,
+        link,
+        wanted,
+        cut,
+        most,
+    )
+}
+
+fn steps_of(alloc: Global, receiver: Receiver, link: &[u8]) -> Result<Vec<CheckStep>, Fail>
     requires short { length link.now < 1000 }
 {
     match receiver {
-        Link::Rtu => steps_by::<Rtu, HmacSha1, 2, 18>(alloc, link),
-        Link::Dnp => steps_by::<Dnp, HmacSha1, 2, 18>(alloc, link),
-        Link::WideRtu => steps_by::<Rtu, HmacSha256, 4, 24>(alloc, link),
-        Link::WideDnp => steps_by::<Dnp, HmacSha256, 4, 24>(alloc, link),
+        Receiver::Rtu => rtu_steps(alloc, link),
+        Receiver::Dnp => dnp_steps(alloc, link),
+        Receiver::WideRtu => wide_rtu_steps(alloc, link),
     }
 }
 
-fn follow_of(
+fn follow_by(
     rt: &impl Abort,
-    receiver: Link,
+    receiver: Receiver,
     link: &[u8],
     wanted: &[CheckStep],
     cut: usize,
@@ -195,10 +272,9 @@ fn follow_of(
     requires short { length link.now < 1000 }
 {
     match receiver {
-        Link::Rtu => follow_by::<Rtu, HmacSha1, 2, 18>(rt, link, wanted, cut, most),
-        Link::Dnp => follow_by::<Dnp, HmacSha1, 2, 18>(rt, link, wanted, cut, most),
-        Link::WideRtu => follow_by::<Rtu, HmacSha256, 4, 24>(rt, link, wanted, cut, most),
-        Link::WideDnp => follow_by::<Dnp, HmacSha256, 4, 24>(rt, link, wanted, cut, most),
+        Receiver::Rtu => follow_rtu(rt, link, wanted, cut, most),
+        Receiver::Dnp => follow_dnp(rt, link, wanted, cut, most),
+        Receiver::WideRtu => follow_wide_rtu(rt, link, wanted, cut, most),
     }
 }
 
@@ -209,7 +285,7 @@ fn add(link: &mut Vec<u8>, letter: u8, times: usize) -> Result<(), AllocError> {
     Ok(())
 }
 
-// The first ticks of a packet, so many and one of them wrong, then so many silent ticks, a burst
+// The first ticks of the packet, so many and one of them wrong, then so many silent ticks, a burst
 // of so many bytes, and silence.
 pub fn link_of(
     alloc: Global,
@@ -234,7 +310,7 @@ pub fn link_of(
 fn compare_runs(
     rt: &impl Abort,
     alloc: Global,
-    receiver: Link,
+    receiver: Receiver,
     kept: usize,
     wrong: usize,
     pause: usize,
@@ -244,14 +320,14 @@ fn compare_runs(
     let link = &link[..link.len().min(999)];
     let wanted = steps_of(alloc, receiver, link)?;
     for at in 0..link.len() {
-        follow_of(rt, receiver, link, wanted.as_slice(), at, 1000)?;
-        follow_of(rt, receiver, link, wanted.as_slice(), 0, at + 1)?;
+        follow_by(rt, receiver, link, wanted.as_slice(), at, 1000)?;
+        follow_by(rt, receiver, link, wanted.as_slice(), 0, at + 1)?;
     }
     Ok(())
 }
 
 // Each beginning of the packet, and the whole packet with each of its ticks wrong.
-fn compare_trailers(rt: &impl Abort, alloc: Global, receiver: Link) -> Result<(), Fail> {
+fn compare_trailers(rt: &impl Abort, alloc: Global, receiver: Receiver) -> Result<(), Fail> {
     let whole = packet_of(receiver).len();
     for place in 0..whole {
         compare_runs(rt, alloc, receiver, place, whole, 0, 0)?;
@@ -262,7 +338,7 @@ fn compare_trailers(rt: &impl Abort, alloc: Global, receiver: Link) -> Result<()
 
 // Behind a packet comes a burst that joins it, one that comes too soon, and one in time, some of
 // them longer than a burst has room.
-fn compare_bursts(rt: &impl Abort, alloc: Global, receiver: Link) -> Result<(), Fail> {
+fn compare_bursts(rt: &impl Abort, alloc: Global, receiver: Receiver) -> Result<(), Fail> {
     let whole = packet_of(receiver).len();
     for pause in [0, 4, 24] {
         for count in [1, 2, 7, 17, 18, 19, 200, 300] {
@@ -272,7 +348,7 @@ fn compare_bursts(rt: &impl Abort, alloc: Global, receiver: Link) -> Result<(), 
     Ok(())
 }
 
-fn compare_silence(rt: &impl Abort, alloc: Global, receiver: Link) -> Result<(), Fail> {
+fn compare_silence(rt: &impl Abort, alloc: Global, receiver: Receiver) -> Result<(), Fail> {
     let whole = packet_of(receiver).len();
     for pause in 1..25 {
         compare_runs(rt, alloc, receiver, whole, whole, pause, 3)?;
@@ -281,7 +357,7 @@ fn compare_silence(rt: &impl Abort, alloc: Global, receiver: Link) -> Result<(),
 }
 
 // Compares all of these.
-fn compare_all(rt: &impl Abort, alloc: Global, receiver: Link) -> Result<(), Fail> {
+fn compare_all(rt: &impl Abort, alloc: Global, receiver: Receiver) -> Result<(), Fail> {
     compare_trailers(rt, alloc, receiver)?;
     compare_bursts(rt, alloc, receiver)?;
     compare_silence(rt, alloc, receiver)
@@ -289,60 +365,35 @@ fn compare_all(rt: &impl Abort, alloc: Global, receiver: Link) -> Result<(), Fai
 
 #[test]
 fn runs_are_checked_as_their_ticks(rt: HostRuntime) -> Result<(), Fail> {
-    compare_all(&rt, rt.alloc(), Link::Rtu)
+    compare_all(&rt, rt.alloc(), Receiver::Rtu)
 }
 
 #[test]
 fn runs_of_dnp3_are_checked_as_their_ticks(rt: HostRuntime) -> Result<(), Fail> {
-    compare_all(&rt, rt.alloc(), Link::Dnp)
+    compare_all(&rt, rt.alloc(), Receiver::Dnp)
 }
 
 #[test]
 fn runs_are_checked_as_their_ticks_by_the_second_profile(rt: HostRuntime) -> Result<(), Fail> {
-    compare_all(&rt, rt.alloc(), Link::WideRtu)
-}
-
-// Whether a receiver takes a link in so many runs and single steps at most: the first ticks of the
-// packet, so many silent ticks, a burst of so many bytes, and silence.
-fn compare_turns(
-    rt: &impl Abort,
-    alloc: Global,
-    receiver: Link,
-    kept: usize,
-    pause: usize,
-    count: usize,
-    most: usize,
-) -> Result<(), Fail> {
-    let link = link_of(alloc, packet_of(receiver), kept, kept, pause, count)?;
-    let link = &link[..link.len().min(999)];
-    let wanted = steps_of(alloc, receiver, link)?;
-    let turns = follow_of(rt, receiver, link, wanted.as_slice(), 0, 1000)?;
-    assert!(rt; turns <= most, "{turns} turns");
-    Ok(())
+    compare_all(&rt, rt.alloc(), Receiver::WideRtu)
 }
 
 // Five runs: the frame, the pause, the trailer's bytes while nothing leaves, those while the frame
 // leaves, and the silence behind. Two single steps: the verdict, and the frame's last byte.
 #[test]
 fn a_packet_is_taken_in_seven_turns(rt: HostRuntime) -> Result<(), Fail> {
-    for receiver in LINKS {
-        let whole = packet_of(receiver).len();
-        compare_turns(&rt, rt.alloc(), receiver, whole, 0, 0, 7)?;
-        // bytes that join it are a run more
-        compare_turns(&rt, rt.alloc(), receiver, whole, 0, 200, 8)?;
-    }
-    Ok(())
-}
-
-// Five runs: the frame, the pause, silence while nothing leaves and while the frame leaves, and the
-// silence behind. Two single steps: the verdict, and the frame's last byte. A burst that comes too
-// soon is a single step more, its note, and a run.
-#[test]
-fn a_frame_without_a_trailer_is_taken_by_runs(rt: HostRuntime) -> Result<(), Fail> {
-    for receiver in LINKS {
-        let frame = alike(packet_of(receiver), 1000);
-        compare_turns(&rt, rt.alloc(), receiver, frame, 0, 0, 7)?;
-        compare_turns(&rt, rt.alloc(), receiver, frame, 4, 4, 9)?;
-    }
+    let link = link_of(
+        rt.alloc(),
+        RTU_PACKET,
+        RTU_PACKET.len(),
+        RTU_PACKET.len(),
+        0,
+        0,
+    )?;
+    let link = &link[..link.len().min(999)];
+    let wanted = steps_of(rt.alloc(), Receiver::Rtu, link)?;
+    let turns = follow_by(&rt, Receiver::Rtu, link, wanted.as_slice(), 0, 1000)?;
+    assert!(rt; link.len() == 55);
+    assert!(rt; turns <= 7, "{turns} turns");
     Ok(())
 }
