@@ -7,7 +7,6 @@ use Rattle.std.proofs.lemmas.Slice.{take-put_mid_below}
 use Rattle.std.proofs.KnownBytes.{Consumes-trans}
 use Rattle.std.specs.Io.KnownBytes.{Consumes, IsAtEnd}
 use Rattle.std.specs.declared.io.Read.{Ghosts as Read}
-use Rattle.yasir_io.specs.declared.disk.TheConstants.{SLOT_LEN}
 use Rattle.yasir_io.specs.SlotFiles.{ReadsNext}
 use Rattle.yasir_io.specs.Disks.{Elapses}
 use borrow.Rule.Slice.PartMut.{put_mid, post_of}
@@ -71,16 +70,17 @@ read_none start before after len n buf part within fits none first more =
     subst P same (read_more start before after len n buf part within fits first more)
 
 -- bytes that were read, and zeros behind them
-pub read_and_zeros : {F : Type 0} (read : Read F) (old new : F) (n : ℕ) (buf front : List ℕ)
-    → length buf ≡ SLOT_LEN
+pub read_and_zeros : {F : Type 0} (read : Read F) (size : ℕ) (old new : F) (n : ℕ)
+    (buf front : List ℕ) → length buf ≡ size
     → n ≤ length buf → Consumes (read.remaining old) (read.remaining new) (take n buf)
     → (n < length buf → IsAtEnd (read.remaining new)) → front ≡ take n buf
-    → ReadsNext read old new (front ++ drop n (replicate 16 0))
-read_and_zeros read old new n buf front size within taken end is =
+    → ReadsNext read size old new (front ++ drop n (replicate size 0))
+read_and_zeros read size old new n buf front full within taken end is =
     let long : length front ≡ n = ap length is ∙ length-take-le n buf within in
     record {
       front = front;
-      is = ap (λ l. front ++ l) (drop-replicate n 16 0 ∙ ap (λ k. replicate (16 - k) 0) (sym long));
+      is = ap (λ l. front ++ l)
+          (drop-replicate n size 0 ∙ ap (λ k. replicate (size - k) 0) (sym long));
       taken = subst (Consumes (read.remaining old) (read.remaining new)) (sym is) taken;
       end = λ less. end (omega arith);
     }

@@ -6,8 +6,10 @@ use Rattle.yasir_io.specs.declared.disk.Slot.{Slot}
 use Rattle.yasir_io.specs.declared.disk.TheConstants.{SLOT_LEN}
 use Rattle.yasir_io.specs.declared.disk.Slot.TheVariants.{A, B}
 use Rattle.yasir_io.specs.declared.mem_slots.Moment.{Moment}
-use Rattle.yasir_io.specs.Disks.{Slots, slot_in, other_slot, with_slot, Torn, Elapses}
-use Rattle.yasir_io.specs.MemSlots.{IsImage, IsImageOfAny, MayAdd, slots_at, is_written}
+use Rattle.yasir_io.specs.Disks.{Slots, slot_in, other_slot, with_slot, Torn}
+use Rattle.yasir_io.specs.Disks.{Elapses}
+use Rattle.yasir_io.specs.MemSlots.{IsImage, IsImageOfAny, MayAdd, old_slots_at, slots_at}
+use Rattle.yasir_io.specs.MemSlots.{is_written}
 
 -- what a crash since t might have left, the moments before being past and the present one this
 abbrev pub Left : List Moment → Moment → ℕ → Slots → Type 0
@@ -81,12 +83,13 @@ pub record IsMarked (slot : Slot) (before after : Moment) : Type 0 where
   pub other_mark : is_written after (other_slot slot) ≡ is_written before (other_slot slot)
   pub other_bytes : slot_in (slots_at after) (other_slot slot)
       ≡ slot_in (slots_at before) (other_slot slot)
+  pub old_bytes : old_slots_at after ≡ old_slots_at before
 
 -- each image of after is one of before, but for the slot
 pub images_torn : (slot : Slot) (before after : Moment) → IsMarked slot before after → (c : Slots)
     → IsImage after c → (d : Slots) × IsImage before d × Torn slot d c
 images_torn A before after is c image =
-    let d : Slots = record { a = before.a; b = c.b } in
+    let d : Slots = record { a = before.a; b = c.b; old = c.old } in
     let was : IsImage before d = record {
       size = λ slot. elim slot as (λ slot. length (slot_in d slot) ≡ SLOT_LEN)
           [ A ↦ before.a_size | B ↦ image.size B ];
@@ -95,10 +98,11 @@ images_torn A before after is c image =
             | A ↦ λ h. refl
             | B ↦ λ h. image.synced B (is.other_mark ∙ h) ∙ is.other_bytes
           ];
+      old = image.old ∙ is.old_bytes;
     } in
     (d, was, (c.a, image.size A, refl))
 images_torn B before after is c image =
-    let d : Slots = record { a = c.a; b = before.b } in
+    let d : Slots = record { a = c.a; b = before.b; old = c.old } in
     let was : IsImage before d = record {
       size = λ slot. elim slot as (λ slot. length (slot_in d slot) ≡ SLOT_LEN)
           [ A ↦ image.size A | B ↦ before.b_size ];
@@ -107,6 +111,7 @@ images_torn B before after is c image =
             | A ↦ λ h. image.synced A (is.other_mark ∙ h) ∙ is.other_bytes
             | B ↦ λ h. refl
           ];
+      old = image.old ∙ is.old_bytes;
     } in
     (d, was, (c.b, image.size B, refl))
 
@@ -120,6 +125,7 @@ images_more A before after is c image = record {
         | A ↦ λ h. cc
         | B ↦ λ h. image.synced B (sym is.other_mark ∙ h) ∙ sym is.other_bytes
       ];
+  old = image.old ∙ sym is.old_bytes;
 }
 images_more B before after is c image = record {
   size = image.size;
@@ -128,6 +134,7 @@ images_more B before after is c image = record {
         | A ↦ λ h. image.synced A (sym is.other_mark ∙ h) ∙ sym is.other_bytes
         | B ↦ λ h. cc
       ];
+  old = image.old ∙ sym is.old_bytes;
 }
 
 -- whatever such a step makes of an image of before is an image of after
@@ -141,6 +148,7 @@ images_reached A before after is d image c torn = subst (IsImage after) (sym tor
         | A ↦ λ h. cc
         | B ↦ λ h. image.synced B (sym is.other_mark ∙ h) ∙ sym is.other_bytes
       ];
+  old = image.old ∙ sym is.old_bytes;
 })
 images_reached B before after is d image c torn = subst (IsImage after) (sym torn.2) (record {
   size = λ slot. elim slot as (λ slot. length (slot_in (with_slot d B torn.0) slot) ≡ SLOT_LEN)
@@ -150,20 +158,26 @@ images_reached B before after is d image c torn = subst (IsImage after) (sym tor
         | A ↦ λ h. image.synced A (sym is.other_mark ∙ h) ∙ sym is.other_bytes
         | B ↦ λ h. cc
       ];
+  old = image.old ∙ sym is.old_bytes;
 })
 
 -- where no slot was written since a sync, the one image is the slots
 pub only_image : (moment : Moment) → ((slot : Slot) → is_written moment slot ≡ false) → (c : Slots)
     → IsImage moment c → Some (slots_at moment) ≡ Some c
 only_image moment settled c image =
-    ap (λ (p : List ℕ × List ℕ). Some (record { a = p.0; b = p.1 }))
-    (ap (λ a. (a, moment.b)) (sym (image.synced A (settled A)))
-    ∙ ap (λ b. (c.a, b)) (sym (image.synced B (settled B))))
+    ap (λ a. Some (record (slots_at moment) { a = a })) (sym (image.synced A (settled A)))
+    ∙ ap (λ b. Some (record (slots_at moment) { a = c.a; b = b })) (sym (image.synced B (settled B)))
+    ∙ ap (λ old. Some (record c { old = old })) (sym image.old)
 
 untouched : (slot : Slot) (slots : Slots) (bytes : List ℕ)
     → slot_in (with_slot slots slot bytes) (other_slot slot) ≡ slot_in slots (other_slot slot)
 untouched A slots bytes = refl
 untouched B slots bytes = refl
+
+old_untouched : (slot : Slot) (slots : Slots) (bytes : List ℕ)
+    → (with_slot slots slot bytes).old ≡ slots.old
+old_untouched A slots bytes = refl
+old_untouched B slots bytes = refl
 
 -- what marking a slot does
 pub marks : (slot : Slot) (before middle after : Moment) → middle ≡ before
@@ -175,6 +189,7 @@ marks slot before middle after same slots marked other = record {
   other_mark = other ∙ ap (λ m. is_written m (other_slot slot)) same;
   other_bytes = ap (λ s. slot_in s (other_slot slot)) slots
       ∙ ap (λ m. slot_in (slots_at m) (other_slot slot)) same;
+  old_bytes = ap (λ s. s.old) slots ∙ ap old_slots_at same;
 }
 
 -- what setting it does then
@@ -186,6 +201,7 @@ sets slot before middle after bytes is slots marks = record {
   other_mark = marks (other_slot slot) ∙ is.other_mark;
   other_bytes = ap (λ s. slot_in s (other_slot slot)) slots ∙ untouched slot (slots_at middle) bytes
       ∙ is.other_bytes;
+  old_bytes = ap (λ s. s.old) slots ∙ old_untouched slot (slots_at middle) bytes ∙ is.old_bytes;
 }
 
 -- a call that changes nothing of the present moment

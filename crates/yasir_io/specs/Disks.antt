@@ -1,17 +1,27 @@
--- A disk of two slots, and what a crash may leave of it.
+-- A disk of two slots beside two old ones, and what a crash may leave of it.
 use Rattle.std.specs.Prelude.{◌≡◌, ℕ, ◌≤◌, ◌⊎◌, List, length, Option, Some, IsSomeAnd}
 use Rattle.yasir_io.specs.declared.disk.Slot.{Slot}
 use Rattle.yasir_io.specs.declared.disk.TheConstants.{SLOT_LEN}
 use Rattle.yasir_io.specs.declared.disk.Slot.TheVariants.{A, B}
 
--- what both slots hold, as a read gives them
+-- what both old slots hold, which no call writes
+pub record OldSlots : Type 0 where
+  pub a : List ℕ
+  pub b : List ℕ
+
+-- what all slots hold, as a read gives them
 pub record Slots : Type 0 where
   pub a : List ℕ
   pub b : List ℕ
+  pub old : OldSlots
 
 abbrev pub slot_in : Slots → Slot → List ℕ
 slot_in slots A = slots.a
 slot_in slots B = slots.b
+
+abbrev pub old_slot_in : Slots → Slot → List ℕ
+old_slot_in slots A = slots.old.a
+old_slot_in slots B = slots.old.b
 
 abbrev pub other_slot : Slot → Slot
 other_slot A = B
@@ -26,7 +36,7 @@ with_slot slots B bytes = record slots { b = bytes }
 pub record IsSlot (bytes : List ℕ) : Type 0 where
   pub size : length bytes ≡ SLOT_LEN
 
--- the slot may hold any bytes, and the other is as it was
+-- the slot may hold any bytes, and all others are as they were
 abbrev pub Torn : Slot → Slots → Slots → Type 0
 Torn slot old new = (bytes : List ℕ) × (length bytes ≡ SLOT_LEN) × (new ≡ with_slot old slot bytes)
 

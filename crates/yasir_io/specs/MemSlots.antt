@@ -5,12 +5,16 @@ use Rattle.yasir_io.specs.declared.disk.TheConstants.{SLOT_LEN}
 use Rattle.yasir_io.specs.declared.disk.Slot.TheVariants.{A, B}
 use Rattle.yasir_io.specs.declared.mem_slots.Moment.{Moment}
 use Rattle.yasir_io.specs.declared.mem_slots.MemSlots.{MemSlots}
-use Rattle.yasir_io.specs.Disks.{Slots, slot_in}
+use Rattle.yasir_io.specs.Disks.{Slots, OldSlots, slot_in}
 use Rattle.yasir_io.specs.Calls.{IsPlanned}
 
--- both slots, as a read gives them at a moment
+-- both old slots, as a read gives them at a moment
+abbrev pub old_slots_at : Moment → OldSlots
+old_slots_at moment = record { a = moment.old_a; b = moment.old_b }
+
+-- all slots, as a read gives them at a moment
 abbrev pub slots_at : Moment → Slots
-slots_at moment = record { a = moment.a; b = moment.b }
+slots_at moment = record { a = moment.a; b = moment.b; old = old_slots_at moment }
 
 -- whether a slot was written since the last sync
 abbrev pub is_written : Moment → Slot → Bool
@@ -18,11 +22,12 @@ is_written moment A = moment.a_written
 is_written moment B = moment.b_written
 
 -- What a crash at a moment may leave: any bytes in a slot that was written since the last sync, the
--- other as it reads.
+-- other and the old ones as they read.
 pub record IsImage (moment : Moment) (image : Slots) : Type 0 where
   pub size : (slot : Slot) → length (slot_in image slot) ≡ SLOT_LEN
   pub synced : (slot : Slot) → is_written moment slot ≡ false
       → slot_in image slot ≡ slot_in (slots_at moment) slot
+  pub old : image.old ≡ old_slots_at moment
 
 -- a crash at one of these moments may have left the image
 abbrev pub IsImageOfAny : List Moment → Slots → Type 0

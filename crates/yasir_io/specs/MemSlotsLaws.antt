@@ -14,6 +14,7 @@ present_is_image moment = record {
   size = λ slot. elim slot as (λ slot. length (slot_in (slots_at moment) slot) ≡ SLOT_LEN)
       [ A ↦ moment.a_size | B ↦ moment.b_size ];
   synced = λ slot same. refl;
+  old = refl;
 }
 
 pub reads_an_image_law : (disk : MemSlots) (s c : Slots) → Some (mem_slots disk) ≡ Some s

@@ -1,4 +1,4 @@
--- Two slots in a file: where each stands, and how it is read and written there.
+-- Slots in a file, old ones and new: where each stands, and how it is read and written there.
 use Rattle.std.specs.Prelude.{◌≡◌, ℕ, ◌-◌, ◌<◌, List, ◌++◌, length, replicate, Bool, true, false}
 use Rattle.std.specs.Prelude.{Option, Some, None, IfSome, Result, IsErr, ⊤}
 use Rattle.std.specs.Io.KnownBytes.{Appends, Consumes, Keeps, IsAtEnd}
@@ -9,7 +9,7 @@ use Rattle.std.specs.declared.io.Write.{Ghosts as Write}
 use Rattle.std.specs.declared.io.Seek.{Ghosts as Seek}
 use Rattle.yasir_io.specs.declared.disk.Slot.{Slot}
 use Rattle.yasir_io.specs.declared.disk.Slot.TheVariants.{A, B}
-use Rattle.yasir_io.specs.declared.disk.TheConstants.{SLOT_LEN}
+use Rattle.yasir_io.specs.declared.disk.TheConstants.{SLOT_LEN, OLD_SLOT_LEN}
 use Rattle.yasir_io.specs.declared.files.SlotFile.{SlotFile}
 use Rattle.yasir_io.specs.declared.files.SlotFile.TheVariants.{Standing, New}
 
@@ -26,10 +26,19 @@ is_made New = true
 abbrev pub for_slots : SlotFile → OpenOptions
 for_slots kind = with_create (with_write (with_read new_options true) true) (is_made kind)
 
+-- the place of the first byte of an old slot
+abbrev pub old_place : Slot → ℕ
+old_place A = 0
+old_place B = 16
+
 -- the place of the first byte of a slot
 abbrev pub slot_place : Slot → ℕ
-slot_place A = 0
-slot_place B = SLOT_LEN
+slot_place A = 32
+slot_place B = 56
+
+-- how many bytes of the file slots have
+abbrev pub slots_end : ℕ
+slots_end = 80
 
 -- What a call does to a file, P. Where none stands open the call opens one, which Begins and goes
 -- on from there, or it fails; a file that stands open stays so.
@@ -49,19 +58,30 @@ pub record MovesTo {F : Type 0} (seek : Seek F) (place : ℕ) (old new : F) : Ty
   pub position : IfSome (seek.stream_position old) (λ _. seek.stream_position new ≡ Some place)
   pub bytes : Keeps (seek.stream_bytes old) (seek.stream_bytes new)
 
--- The bytes of a slot are the next ones that are left, in their order; past the end they are 0.
-pub record ReadsNext {F : Type 0} (read : Read F) (old new : F) (slot : List ℕ) : Type 0 where
+-- So many bytes are the next ones that are left, in their order; past the end they are 0.
+pub record ReadsNext {F : Type 0} (read : Read F) (size : ℕ) (old new : F) (bytes : List ℕ) :
+    Type 0 where
   pub front : List ℕ
-  pub is : slot ≡ front ++ replicate (SLOT_LEN - length front) 0
+  pub is : bytes ≡ front ++ replicate (size - length front) 0
   pub taken : Consumes (read.remaining old) (read.remaining new) front
-  pub end : length front < SLOT_LEN → IsAtEnd (read.remaining new)
+  pub end : length front < size → IsAtEnd (read.remaining new)
 
--- A slot is read: from its place on.
-pub record ReadsSlot {F : Type 0} (seek : Seek F) (read : Read F) (slot : Slot) (old new : F)
+-- So many bytes are read, from a place on.
+pub record ReadsAt {F : Type 0} (seek : Seek F) (read : Read F) (size place : ℕ) (old new : F)
     (bytes : List ℕ) : Type 0 where
   pub between : F
-  pub moves : MovesTo seek (slot_place slot) old between
-  pub reads : ReadsNext read between new bytes
+  pub moves : MovesTo seek place old between
+  pub reads : ReadsNext read size between new bytes
+
+-- an old slot is read
+abbrev pub ReadsOld : {F : Type 0} → Seek F → Read F → Slot → F → F → List ℕ → Type 0
+ReadsOld seek read slot old new bytes =
+    ReadsAt seek read OLD_SLOT_LEN (old_place slot) old new bytes
+
+-- a slot is read
+abbrev pub ReadsSlot : {F : Type 0} → Seek F → Read F → Slot → F → F → List ℕ → Type 0
+ReadsSlot seek read slot old new bytes =
+    ReadsAt seek read SLOT_LEN (slot_place slot) old new bytes
 
 -- A slot is written: from its place on, and all of it.
 pub record WritesSlot {F : Type 0} (seek : Seek F) (write : Write F) (slot : Slot) (old new : F)
@@ -70,14 +90,13 @@ pub record WritesSlot {F : Type 0} (seek : Seek F) (write : Write F) (slot : Slo
   pub moves : MovesTo seek (slot_place slot) old between
   pub writes : Appends (write.contents between) (write.contents new) bytes
 
--- A slot of a new file is written: both slots are read before, and are zeros.
+-- A slot of a new file is written: all bytes up to the end of the slots are read before, and are
+-- zeros.
 pub record WritesFirst {F : Type 0} (seek : Seek F) (read : Read F) (write : Write F) (slot : Slot)
     (old new : F) (bytes : List ℕ) : Type 0 where
-  pub past_a : F
-  pub past_b : F
-  pub zeros_a : ReadsSlot seek read A old past_a (replicate SLOT_LEN 0)
-  pub zeros_b : ReadsSlot seek read B past_a past_b (replicate SLOT_LEN 0)
-  pub writes : WritesSlot seek write slot past_b new bytes
+  pub looked : F
+  pub zeros : ReadsAt seek read slots_end 0 old looked (replicate slots_end 0)
+  pub writes : WritesSlot seek write slot looked new bytes
 
 -- a slot of such a file is written
 abbrev pub WritesIn : {F : Type 0} → Seek F → Read F → Write F → SlotFile → Slot → F → F → List ℕ

@@ -1,13 +1,18 @@
 -- What a source and a disk are that never fail.
-use Rattle.std.specs.Prelude.{ℕ, List}
+use Rattle.std.specs.Prelude.{ℕ, List, replicate}
 use Rattle.yasir_io.specs.declared.steady.SteadySource.{SteadySource}
 use Rattle.yasir_io.specs.declared.steady.SteadySlots.{SteadySlots}
-use Rattle.yasir_io.specs.Disks.{Slots}
+use Rattle.yasir_io.specs.declared.disk.TheConstants.{OLD_SLOT_LEN}
+use Rattle.yasir_io.specs.Disks.{Slots, OldSlots}
 
 -- the bytes that are left
 abbrev pub steady_bytes : SteadySource → List ℕ
 steady_bytes source = source.bytes.now
 
--- both slots
+-- old slots in which nothing was ever written
+abbrev pub blank_old : OldSlots
+blank_old = record { a = replicate OLD_SLOT_LEN 0; b = replicate OLD_SLOT_LEN 0 }
+
+-- all slots, the old ones being blank
 abbrev pub steady_slots : SteadySlots → Slots
-steady_slots disk = record { a = disk.a; b = disk.b }
+steady_slots disk = record { a = disk.a; b = disk.b; old = blank_old }

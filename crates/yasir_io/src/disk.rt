@@ -5,10 +5,16 @@ ghost use Rattle.yasir_io.specs.Causes.{HasCause};
 use crate::Failed;
 
 /// How many bytes a slot has.
-pub const SLOT_LEN: usize = 16;
+pub const SLOT_LEN: usize = 24;
+
+/// How many bytes an old slot has, as the first version of a disk has them.
+pub const OLD_SLOT_LEN: usize = 16;
 
 /// The bytes of a slot.
 pub type SlotBytes = [u8; SLOT_LEN];
+
+/// The bytes of an old slot.
+pub type OldSlotBytes = [u8; OLD_SLOT_LEN];
 
 /// The name of a slot.
 #[derive(Clone, Copy, Debug, PartialEq, Eq)]
@@ -31,10 +37,11 @@ impl Slot {
     }
 }
 
-/// A disk of two slots.
+/// A disk of two slots, beside two old ones that are only read.
 pub trait SlotDisk {
-    ghost use Rattle.yasir_io.specs.Disks.{Slots, slot_in, with_slot, Torn, Follows, Reaches};
-    ghost use Rattle.yasir_io.specs.Disks.{NoMore, OneImage, LeavesAsRead, Elapses};
+    ghost use Rattle.yasir_io.specs.Disks.{Slots, slot_in, old_slot_in, with_slot, Torn};
+    ghost use Rattle.yasir_io.specs.Disks.{Follows, Reaches, NoMore, OneImage};
+    ghost use Rattle.yasir_io.specs.Disks.{LeavesAsRead, Elapses};
 
     /// The slots as a read gives them, where the disk tells them.
     ghost told: { Self → Option Slots };
@@ -50,6 +57,17 @@ pub trait SlotDisk {
 
     /// How often a call has failed.
     ghost faults: { Self → ℕ };
+
+    /// An old slot. No call writes one.
+    fn read_old(&mut self, slot: Slot) -> Result<OldSlotBytes, Failed>
+        ensures bytes { IfOk result (λ bytes. IfSome (told self.old)
+            (λ slots. bytes ≡ old_slot_in slots slot)) }
+        ensures told { told self.new ≡ told self.old }
+        ensures images { NoMore (may_leave self.old) (may_leave self.new) }
+        ensures images_back { NoMore (may_leave self.new) (may_leave self.old) }
+        ensures time { Elapses (moment self.old) (moment self.new) (left_since self.old)
+            (left_since self.new) (may_leave self.new) }
+        ensures cause { HasCause (faults self.old) (faults self.new) result };
 
     fn read_slot(&mut self, slot: Slot) -> Result<SlotBytes, Failed>
         ensures bytes { IfOk result (λ bytes. IfSome (told self.old)

@@ -2,7 +2,7 @@
 //! sync.
 ghost use Rattle.std.specs.Io.{ReadsAtMost, WritesAtMost};
 
-use crate::{Failed, FileSlots, FileSource, Lock, Slot, SlotDisk, SlotFile, Source};
+use crate::{Failed, FileSlots, FileSource, Lock, Slot, SlotBytes, SlotDisk, SlotFile, Source};
 use std::alloc::{Allocator, Global};
 use std::cell::Cell;
 use std::fs::{Metadata, OpenFile, OpenOptions};
@@ -11,7 +11,7 @@ use std::process::Abort;
 use std::rt::Files;
 use std::test::Fail;
 
-const ROOM: usize = 40;
+const ROOM: usize = 88;
 
 // The one path: blanks belong to it, and it is longer than 64 bytes.
 const PATH: &str =
@@ -242,66 +242,72 @@ impl<'a> Files for Folder<'a> {
     }
 }
 
-// Sixteen bytes that count up from this one.
-fn counted(first: u8) -> [u8; 16] {
-    let mut next = first;
-    [0u8; 16].map(|_| {
-        let byte = next;
-        next = next.wrapping_add(1);
-        byte
-    })
-}
-
 fn name(alloc: Global) -> Result<Option<String>, Fail> {
     Ok(Some(String::from_str(alloc, PATH)?))
 }
 
-// A slot whose first bytes, so many of them, count up from this one; the others are 0.
-fn counted_front(first: u8, len: usize) -> [u8; 16] {
-    let mut place = 0;
-    counted(first).map(|byte| {
-        let kept = if place < len { byte } else { 0 };
-        place = place.saturating_add(1);
-        kept
-    })
+// Whether the first of these bytes, so many of them, count up from this one, and the others are 0.
+fn counts_up(bytes: &[u8], first: u8, len: usize) -> bool {
+    let mut next = first;
+    let mut left = len;
+    for byte in bytes {
+        let want = if left > 0 { next } else { 0 };
+        if *byte != want {
+            return false;
+        }
+        next = next.wrapping_add(1);
+        left = left.saturating_sub(1);
+    }
+    true
 }
 
 // Whether an answer is a slot's front of so many of its bytes, or a failure.
-fn is_front(answer: Result<[u8; 16], Failed>, first: u8, front: Option<usize>) -> bool {
+fn is_front<const N: usize>(
+    answer: Result<[u8; N], Failed>,
+    first: u8,
+    front: Option<usize>,
+) -> bool {
     match (answer, front) {
-        (Ok(bytes), Some(len)) => bytes == counted_front(first, len),
+        (Ok(bytes), Some(len)) => counts_up(&bytes, first, len),
         (Err(Failed), None) => true,
         _ => false,
     }
 }
 
 // How many bytes a file has, the most that a call on it moves, the call that fails; how often it is
-// opened then, and how many bytes of the file the first read of each slot gives.
-type Reads = (usize, usize, u32, u32, Option<usize>, Option<usize>);
+// opened then, and how many bytes of the file the reads of old slots A and B and of slots A and B
+// give.
+type Reads = (usize, usize, u32, u32, [Option<usize>; 4]);
 
-const READS: [Reads; 11] = [
-    (32, 40, 0, 1, Some(16), Some(16)),
-    (40, 5, 0, 1, Some(16), Some(16)),
-    (19, 7, 0, 1, Some(16), Some(3)),
-    (0, 40, 0, 1, Some(0), Some(0)),
+const READS: [Reads; 13] = [
+    (80, 88, 0, 1, [Some(16), Some(16), Some(24), Some(24)]),
+    (88, 5, 0, 1, [Some(16), Some(16), Some(24), Some(24)]),
+    (67, 7, 0, 1, [Some(16), Some(16), Some(24), Some(11)]),
+    // A file of the first version, one that ends inside a slot of it, and an empty one.
+    (32, 88, 0, 1, [Some(16), Some(16), Some(0), Some(0)]),
+    (19, 7, 0, 1, [Some(16), Some(3), Some(0), Some(0)]),
+    (0, 88, 0, 1, [Some(0); 4]),
     // The opening, the lock and the first sync fail: the file isn't open then.
-    (32, 40, 1, 1, None, Some(16)),
-    (32, 40, 2, 2, None, Some(16)),
-    (32, 40, 3, 2, None, Some(16)),
-    // The seek and the read for slot A fail, the second of its reads, and the read for slot B.
-    (32, 40, 4, 1, None, Some(16)),
-    (32, 40, 5, 1, None, Some(16)),
-    (32, 9, 6, 1, None, Some(16)),
-    (32, 40, 7, 1, Some(16), None),
+    (80, 88, 1, 1, [None, Some(16), Some(24), Some(24)]),
+    (80, 88, 2, 2, [None, Some(16), Some(24), Some(24)]),
+    (80, 88, 3, 2, [None, Some(16), Some(24), Some(24)]),
+    // The seek and the read for the first slot fail, the second of its reads, the read for the next
+    // slot, and the seek for the last one.
+    (80, 88, 4, 1, [None, Some(16), Some(24), Some(24)]),
+    (80, 9, 6, 1, [None, Some(16), Some(24), Some(24)]),
+    (80, 88, 7, 1, [Some(16), None, Some(24), Some(24)]),
+    (80, 88, 10, 1, [Some(16), Some(16), Some(24), None]),
 ];
 
-fn read_both(rt: &impl Abort, alloc: Global, row: &Reads) -> Result<(), Fail> {
-    let (len, piece, fail, openings, a, b) = *row;
+fn read_all(rt: &impl Abort, alloc: Global, row: &Reads) -> Result<(), Fail> {
+    let (len, piece, fail, openings, [old_a, old_b, a, b]) = *row;
     let file = file_of(len, piece, fail);
     let folder = Folder(&file);
     let mut disk = FileSlots::new(&folder, name(alloc)?, SlotFile::Standing);
-    assert!(rt; is_front(disk.read_slot(Slot::A), 0, a));
-    assert!(rt; is_front(disk.read_slot(Slot::B), 16, b));
+    assert!(rt; is_front(disk.read_old(Slot::A), 0, old_a));
+    assert!(rt; is_front(disk.read_old(Slot::B), 16, old_b));
+    assert!(rt; is_front(disk.read_slot(Slot::A), 32, a));
+    assert!(rt; is_front(disk.read_slot(Slot::B), 56, b));
     assert!(rt; file.openings.get() == openings);
     assert!(rt; file.syncs.get() == 1);
     assert!(rt; file.len.get() == len);
@@ -311,7 +317,7 @@ fn read_both(rt: &impl Abort, alloc: Global, row: &Reads) -> Result<(), Fail> {
 #[test]
 fn a_slot_is_read_whole_or_not_at_all(rt: HostRuntime) -> Result<(), Fail> {
     for row in &READS {
-        read_both(&rt, rt.alloc(), row)?;
+        read_all(&rt, rt.alloc(), row)?;
     }
     Ok(())
 }
@@ -321,29 +327,29 @@ fn a_slot_is_read_whole_or_not_at_all(rt: HostRuntime) -> Result<(), Fail> {
 type Writes = (usize, u32, bool, bool, u32, u32);
 
 const WRITES: [Writes; 9] = [
-    (40, 0, true, true, 1, 2),
-    (16, 0, true, true, 1, 2),
-    (15, 0, false, true, 1, 2),
+    (88, 0, true, true, 1, 2),
+    (24, 0, true, true, 1, 2),
+    (23, 0, false, true, 1, 2),
     // The opening, the lock, the first sync, the seek and the write fail, and the sync behind it.
-    (40, 1, false, true, 1, 2),
-    (40, 2, false, true, 2, 2),
-    (40, 3, false, true, 2, 2),
-    (40, 4, false, true, 1, 2),
-    (40, 5, false, true, 1, 2),
-    (40, 6, true, false, 1, 1),
+    (88, 1, false, true, 1, 2),
+    (88, 2, false, true, 2, 2),
+    (88, 3, false, true, 2, 2),
+    (88, 4, false, true, 1, 2),
+    (88, 5, false, true, 1, 2),
+    (88, 6, true, false, 1, 1),
 ];
 
 // A write of bytes 99 to slot B and a sync behind it.
 fn write_and_sync(rt: &impl Abort, alloc: Global, row: &Writes) -> Result<(), Fail> {
     let (piece, fail, written, synced, openings, syncs) = *row;
-    let file = file_of(40, piece, fail);
+    let file = file_of(88, piece, fail);
     let folder = Folder(&file);
     let mut disk = FileSlots::new(&folder, name(alloc)?, SlotFile::Standing);
-    assert!(rt; disk.write_slot(Slot::B, &[99; 16]).is_ok() == written);
+    assert!(rt; disk.write_slot(Slot::B, &[99; 24]).is_ok() == written);
     assert!(rt; disk.sync().is_ok() == synced);
     assert!(rt; file.syncs.get() == syncs);
     assert!(rt; file.unsynced.get() == !synced);
-    assert!(rt; file.len.get() == 40);
+    assert!(rt; file.len.get() == 88);
     assert!(rt; file.openings.get() == openings);
     holds(rt, file.bytes.get(), written);
     Ok(())
@@ -351,10 +357,10 @@ fn write_and_sync(rt: &impl Abort, alloc: Global, row: &Writes) -> Result<(), Fa
 
 // Only slot B was written, if anything was.
 fn holds(rt: &impl Abort, bytes: [u8; ROOM], written: bool) {
-    assert!(rt; bytes.get(..16) == Some(counted(0).as_slice()));
-    assert!(rt; bytes.get(32..) == counted(32).get(..8));
+    assert!(rt; counts_up(bytes.get(..56).unwrap_or(&[1]), 0, 56));
+    assert!(rt; counts_up(bytes.get(80..).unwrap_or(&[1]), 80, 8));
     if written {
-        assert!(rt; bytes.get(16..32) == Some([99u8; 16].as_slice()));
+        assert!(rt; bytes.get(56..80) == Some([99u8; 24].as_slice()));
     }
 }
 
@@ -366,57 +372,57 @@ fn a_slot_is_written_whole_or_a_fault(rt: HostRuntime) -> Result<(), Fail> {
     Ok(())
 }
 
-// Slots one after the other: the numbers 1, 65,536 and the greatest, each behind it its complement.
-const NUMBERS: [(Slot, u128); 3] = [
-    (Slot::A, 0x0000_0000_0000_0001_ffff_ffff_ffff_fffe),
-    (Slot::B, 0x0000_0000_0001_0000_ffff_ffff_fffe_ffff),
-    (Slot::A, 0x0000_ffff_ffff_ffff_ffff_0000_0000_0000),
+// Slots one after the other.
+const NUMBERS: [(Slot, SlotBytes); 3] = [
+    (Slot::A, *b"the number one, and then"),
+    (Slot::B, *b"a number of three bytes."),
+    (Slot::A, *b"and the greatest of all."),
 ];
 
 #[test]
 fn each_write_is_synced_for_itself(rt: HostRuntime) -> Result<(), Fail> {
-    let file = file_of(32, 40, 0);
+    let file = file_of(80, 88, 0);
     let folder = Folder(&file);
     let mut disk = FileSlots::new(&folder, name(rt.alloc())?, SlotFile::Standing);
     let mut syncs = 1u32;
-    for (slot, number) in &NUMBERS {
-        let bytes = number.to_be_bytes();
-        assert_eq!(rt; disk.write_slot(*slot, &bytes), Ok(()));
+    for (slot, bytes) in &NUMBERS {
+        assert_eq!(rt; disk.write_slot(*slot, bytes), Ok(()));
         assert!(rt; file.unsynced.get());
         assert_eq!(rt; file.syncs.get(), syncs);
         assert_eq!(rt; disk.sync(), Ok(()));
         syncs = syncs.saturating_add(1);
         assert!(rt; !file.unsynced.get());
         assert_eq!(rt; file.syncs.get(), syncs);
-        assert_eq!(rt; disk.read_slot(*slot), Ok(bytes));
+        assert_eq!(rt; disk.read_slot(*slot), Ok(*bytes));
     }
     Ok(())
 }
 
 #[test]
 fn one_disk_has_the_file(rt: HostRuntime) -> Result<(), Fail> {
-    let file = file_of(32, 40, 0);
+    let file = file_of(80, 88, 0);
     let folder = Folder(&file);
     let mut second = FileSlots::new(&folder, name(rt.alloc())?, SlotFile::Standing);
     {
         let mut first = FileSlots::new(&folder, name(rt.alloc())?, SlotFile::Standing);
-        assert_eq!(rt; first.read_slot(Slot::A), Ok(counted(0)));
+        assert!(rt; is_front(first.read_old(Slot::A), 0, Some(16)));
         for _ in 0..2 {
+            assert_eq!(rt; second.read_old(Slot::A), Err(Failed));
             assert_eq!(rt; second.read_slot(Slot::A), Err(Failed));
-            assert_eq!(rt; second.write_slot(Slot::A, &[99; 16]), Err(Failed));
+            assert_eq!(rt; second.write_slot(Slot::A, &[99; 24]), Err(Failed));
             assert_eq!(rt; second.sync(), Err(Failed));
         }
-        assert_eq!(rt; first.read_slot(Slot::A), Ok(counted(0)));
+        assert!(rt; is_front(first.read_slot(Slot::A), 32, Some(24)));
         assert_eq!(rt; file.syncs.get(), 1);
     }
-    assert_eq!(rt; second.read_slot(Slot::A), Ok(counted(0)));
+    assert!(rt; is_front(second.read_slot(Slot::A), 32, Some(24)));
     Ok(())
 }
 
 #[test]
 fn a_missing_file_is_made_where_it_is_said(rt: HostRuntime) -> Result<(), Fail> {
     for (kind, made, syncs) in [(SlotFile::Standing, false, 0), (SlotFile::New, true, 2)] {
-        let file = file_of(0, 40, 0);
+        let file = file_of(0, 88, 0);
         file.exists.set(false);
         let folder = Folder(&file);
         let mut disk = FileSlots::new(&folder, name(rt.alloc())?, kind);
@@ -430,9 +436,9 @@ fn a_missing_file_is_made_where_it_is_said(rt: HostRuntime) -> Result<(), Fail> 
 #[test]
 fn a_file_gives_each_byte_once(rt: HostRuntime) -> Result<(), Fail> {
     // most of a call, the call that fails, and how many answers of a failure come
-    let rows: [(usize, u32, u32); 5] = [(40, 0, 0), (7, 0, 0), (7, 1, 1), (7, 3, 1), (9, 6, 1)];
+    let rows: [(usize, u32, u32); 5] = [(88, 0, 0), (7, 0, 0), (7, 1, 1), (7, 3, 1), (9, 6, 1)];
     for (piece, fail, failed) in rows {
-        let file = file_of(40, piece, fail);
+        let file = file_of(88, piece, fail);
         let folder = Folder(&file);
         let mut source = FileSource::new(&folder, name(rt.alloc())?);
         let mut out = Vec::new(rt.alloc());
@@ -456,17 +462,19 @@ fn a_file_gives_each_byte_once(rt: HostRuntime) -> Result<(), Fail> {
 // its first slot there.
 type First = (usize, Option<usize>, bool);
 
-const FIRST: [First; 9] = [
+const FIRST: [First; 11] = [
     (0, None, true),
     (20, None, true),
-    (32, None, true),
-    (40, Some(32), true),
-    // The first digit of a key, and slots that a write has torn.
+    (80, None, true),
+    (88, Some(80), true),
+    // The first digit of a key, old slots, and slots that a write has torn.
     (1, Some(0), false),
-    (40, Some(0), false),
-    (32, Some(15), false),
-    (32, Some(16), false),
-    (40, Some(31), false),
+    (88, Some(0), false),
+    (32, Some(31), false),
+    (80, Some(32), false),
+    (56, Some(55), false),
+    (80, Some(56), false),
+    (88, Some(79), false),
 ];
 
 fn write_first(rt: &impl Abort, alloc: Global, row: &First) -> Result<(), Fail> {
@@ -475,18 +483,19 @@ fn write_first(rt: &impl Abort, alloc: Global, row: &First) -> Result<(), Fail> 
     if let Some(byte) = place.and_then(|place| bytes.get_mut(place)) {
         *byte = b'5';
     }
-    let file = file_of(len, 40, 0);
+    let file = file_of(len, 88, 0);
     file.bytes.set(bytes);
     let folder = Folder(&file);
     let mut disk = FileSlots::new(&folder, name(alloc)?, SlotFile::New);
     for slot in [Slot::A, Slot::B, Slot::A] {
-        assert!(rt; disk.write_slot(slot, &[99; 16]).is_ok() == written);
+        assert!(rt; disk.write_slot(slot, &[99; 24]).is_ok() == written);
         assert!(rt; file.unsynced.get() == written);
     }
     let after = file.bytes.get();
-    assert!(rt; after.get(32..) == bytes.get(32..));
+    assert!(rt; after.get(..32) == bytes.get(..32));
+    assert!(rt; after.get(80..) == bytes.get(80..));
     if written {
-        assert!(rt; after.get(..32) == Some([99u8; 32].as_slice()));
+        assert!(rt; after.get(32..80) == Some([99u8; 48].as_slice()));
     } else {
         assert!(rt; after == bytes && file.len.get() == len);
     }

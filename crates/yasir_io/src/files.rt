@@ -8,15 +8,19 @@ ghost use Rattle.yasir_io.specs.Causes.{HasCause};
 ghost use Rattle.yasir_io.specs.Edge.{file_of, file_path, file_options, file_faults};
 ghost use Rattle.yasir_io.specs.Edge.{slots_file, slots_path, slots_kind, slots_options};
 ghost use Rattle.yasir_io.specs.Edge.{slots_faults};
-ghost use Rattle.yasir_io.specs.SlotFiles.{for_reading, for_slots, is_made, slot_place, OnOpen};
-ghost use Rattle.yasir_io.specs.SlotFiles.{AnyStart, MovesTo, ReadsNext, ReadsSlot, WritesSlot};
-ghost use Rattle.yasir_io.specs.SlotFiles.{WritesFirst, WritesIn};
+ghost use Rattle.yasir_io.specs.SlotFiles.{for_reading, for_slots, is_made, old_place, slot_place};
+ghost use Rattle.yasir_io.specs.SlotFiles.{OnOpen, slots_end};
+ghost use Rattle.yasir_io.specs.SlotFiles.{AnyStart, MovesTo, ReadsNext, ReadsAt, ReadsOld, ReadsSlot};
+ghost use Rattle.yasir_io.specs.SlotFiles.{WritesSlot, WritesFirst, WritesIn};
 
 use crate::faults::Faults;
-use crate::{Failed, Lock, SLOT_LEN, Slot, SlotBytes, SlotDisk, Source};
+use crate::{Failed, Lock, OldSlotBytes, SLOT_LEN, Slot, SlotBytes, SlotDisk, Source};
 use std::fs::{OpenFile, OpenOptions};
 use std::io::{self, Read, Seek, SeekFrom, Write};
 use std::rt::Files;
+
+/// How many bytes of a file slots have, the old ones and the new.
+const SLOTS_END: usize = 80;
 
 /// What is expected of the file of a disk.
 #[derive(Clone, Copy, Debug, PartialEq, Eq)]
@@ -24,7 +28,7 @@ pub enum SlotFile {
     /// It stands; a missing file is a fault.
     Standing,
     /// Its slots are yet to be written: a missing file is made, and the first write is a fault
-    /// where a slot has another byte than 0, so that no other file is written over.
+    /// where a slot, old or new, has another byte than 0, so that no other file is written over.
     New,
 }
 
@@ -118,14 +122,14 @@ where
         Ok(())
     }
 
-    fn read_slot(&mut self, slot: Slot) -> io::Result<SlotBytes>
+    fn read_at<const N: usize>(&mut self, place: u64) -> io::Result<[u8; N]>
         ensures reads { OnOpen R.File.taken self.old.file self.new.file result
-            (λ f g. IfOk result (ReadsSlot R.File.Seek R.File.Read slot f g)) }
+            (λ f g. IfOk result (ReadsAt R.File.Seek R.File.Read N place f g)) }
         ensures options { self.new.options ≡ self.old.options }
     {
         self.open_alone()?;
         match &mut self.file {
-            Some(file) => read_at(file, slot),
+            Some(file) => read_at(file, place),
             None => Err(io::ErrorKind::NotFound.into()),
         }
     }
@@ -155,12 +159,21 @@ where
     }
 }
 
+fn old_place_of(slot: Slot) -> u64
+    ensures { result ≡ old_place slot }
+{
+    match slot {
+        Slot::A => 0,
+        Slot::B => 16,
+    }
+}
+
 fn place_of(slot: Slot) -> u64
     ensures { result ≡ slot_place slot }
 {
     match slot {
-        Slot::A => 0,
-        Slot::B => SLOT_LEN as u64,
+        Slot::A => 32,
+        Slot::B => 56,
     }
 }
 
@@ -189,21 +202,21 @@ fn read_up_to<F: Read>(file: &mut F, buf: &mut [u8]) -> io::Result<usize>
     Ok(len)
 }
 
-// The next bytes of a file, as many as a slot has; past its end they are 0.
-fn read_next<F: Read>(file: &mut F) -> io::Result<SlotBytes>
-    ensures { IfOk result (ReadsNext F.Read file.old file.new) }
+// The next bytes of a file; past its end they are 0.
+fn read_next<F: Read, const N: usize>(file: &mut F) -> io::Result<[u8; N]>
+    ensures { IfOk result (ReadsNext F.Read N file.old file.new) }
 {
-    let mut read = [0; SLOT_LEN];
+    let mut read = [0; N];
     let n = read_up_to(file, &mut read)?;
-    let mut bytes = [0; SLOT_LEN];
+    let mut bytes = [0; N];
     bytes[..n].copy_from_slice(&read[..n]);
     Ok(bytes)
 }
 
-fn read_at<F: Read + Seek>(file: &mut F, slot: Slot) -> io::Result<SlotBytes>
-    ensures { IfOk result (ReadsSlot F.Seek F.Read slot file.old file.new) }
+fn read_at<F: Read + Seek, const N: usize>(file: &mut F, place: u64) -> io::Result<[u8; N]>
+    ensures { IfOk result (ReadsAt F.Seek F.Read N place file.old file.new) }
 {
-    move_to(file, place_of(slot))?;
+    move_to(file, place)?;
     read_next(file)
 }
 
@@ -224,13 +237,13 @@ fn write_at<F: Write + Seek>(file: &mut F, slot: Slot, bytes: &SlotBytes) -> io:
     write_next(file, bytes)
 }
 
-// A slot has to be zeros, as those of a new file are.
-fn expect_zeros<F: Read + Seek>(file: &mut F, slot: Slot) -> io::Result<()>
-    ensures { OnOk result (ReadsSlot F.Seek F.Read slot file.old file.new
-        (replicate SLOT_LEN 0)) }
+// All slots have to be zeros, as those of a new file are.
+fn expect_zeros<F: Read + Seek>(file: &mut F) -> io::Result<()>
+    ensures { OnOk result (ReadsAt F.Seek F.Read slots_end 0 file.old file.new
+        (replicate slots_end 0)) }
 {
-    let bytes = read_at(file, slot)?;
-    if bytes == [0; SLOT_LEN] {
+    let bytes: [u8; SLOTS_END] = read_at(file, 0)?;
+    if bytes == [0; SLOTS_END] {
         return Ok(());
     }
     Err(io::ErrorKind::AlreadyExists.into())
@@ -243,8 +256,7 @@ fn write_first<F: Read + Write + Seek>(
 ) -> io::Result<()>
     ensures { OnOk result (WritesFirst F.Seek F.Read F.Write slot file.old file.new bytes.now) }
 {
-    expect_zeros(file, Slot::A)?;
-    expect_zeros(file, Slot::B)?;
+    expect_zeros(file)?;
     write_at(file, slot, bytes)
 }
 
@@ -305,8 +317,8 @@ impl<'a, R: Files> Source for FileSource<'a, R> {
     }
 }
 
-/// A file as a disk: slot A in bytes 0 to 15, slot B in bytes 16 to 31. Bytes past the end of the
-/// file read as 0. No path, a file that can't be opened or that another has locked, and a write cut
+/// A file as a disk: old slot A in bytes 0 to 15 and old slot B in bytes 16 to 31, slot A in bytes
+/// 32 to 55 and slot B in bytes 56 to 79. Bytes past the end of the file read as 0. No path, a file that can't be opened or that another has locked, and a write cut
 /// short are faults.
 ///
 /// The file is locked from the first call on that opens it until the disk is dropped.
@@ -359,6 +371,19 @@ where
 
     ghost only_now = { λ disk c image. image };
 
+    fn read_old(&mut self, slot: Slot) -> Result<OldSlotBytes, Failed>
+        ensures reads { OnOpen R.File.taken (slots_file self.old) (slots_file self.new) result
+            (λ f g. IfOk result (ReadsOld R.File.Seek R.File.Read slot f g)) }
+        ensures options { slots_options self.new ≡ slots_options self.old }
+        ensures kind { slots_kind self.new ≡ slots_kind self.old }
+        ensures cause { HasCause (slots_faults self.old) (slots_faults self.new) result }
+    {
+        match self.file.read_at(old_place_of(slot)) {
+            Ok(bytes) => Ok(bytes),
+            Err(_) => Err(self.faults.add()),
+        }
+    }
+
     fn read_slot(&mut self, slot: Slot) -> Result<SlotBytes, Failed>
         ensures reads { OnOpen R.File.taken (slots_file self.old) (slots_file self.new) result
             (λ f g. IfOk result (ReadsSlot R.File.Seek R.File.Read slot f g)) }
@@ -366,7 +391,7 @@ where
         ensures kind { slots_kind self.new ≡ slots_kind self.old }
         ensures cause { HasCause (slots_faults self.old) (slots_faults self.new) result }
     {
-        match self.file.read_slot(slot) {
+        match self.file.read_at(place_of(slot)) {
             Ok(bytes) => Ok(bytes),
             Err(_) => Err(self.faults.add()),
         }

@@ -24,7 +24,7 @@ mod text_buffer;
 mod text_room;
 
 pub use calls::{NoMemory, Plan};
-pub use disk::{SLOT_LEN, Slot, SlotBytes, SlotDisk};
+pub use disk::{OLD_SLOT_LEN, OldSlotBytes, SLOT_LEN, Slot, SlotBytes, SlotDisk};
 pub use edge::{StderrSink, StdinSource, StdoutSink, WriterSink};
 pub use files::{FileSlots, FileSource, SlotFile};
 pub use lock::Lock;

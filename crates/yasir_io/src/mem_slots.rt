@@ -2,12 +2,14 @@ ghost use Rattle.std.specs.Prelude.{◌≡◌, ◌≤◌, length, vec_len, vec_c
 ghost use Rattle.yasir_io.specs.declared.disk.TheConstants.{SLOT_LEN};
 
 use crate::calls::{Calls, NoMemory, Plan};
-use crate::{Failed, Slot, SlotBytes, SlotDisk};
+use crate::{Failed, OldSlotBytes, Slot, SlotBytes, SlotDisk};
 use std::alloc::Global;
 
-/// Both slots at a moment, and which of them were written since the last sync.
+/// All slots at a moment, and which of them were written since the last sync.
 #[derive(Clone, Copy)]
 pub(crate) struct Moment {
+    old_a: OldSlotBytes,
+    old_b: OldSlotBytes,
     a: SlotBytes,
     b: SlotBytes,
     a_written: bool,
@@ -31,8 +33,17 @@ pub struct MemSlots {
 impl Moment {
     ghost use Rattle.std.specs.Prelude.{◌≡◌, true, false};
     ghost use Rattle.yasir_io.specs.declared.disk.Slot.{Slot};
-    ghost use Rattle.yasir_io.specs.Disks.{slot_in, with_slot, other_slot};
+    ghost use Rattle.yasir_io.specs.Disks.{slot_in, old_slot_in, with_slot, other_slot};
     ghost use Rattle.yasir_io.specs.MemSlots.{slots_at, is_written};
+
+    fn old_slot(&self, which: Slot) -> OldSlotBytes
+        ensures { result ≡ old_slot_in (slots_at self.now) which }
+    {
+        match which {
+            Slot::A => self.old_a,
+            Slot::B => self.old_b,
+        }
+    }
 
     fn slot(&self, which: Slot) -> SlotBytes
         ensures { result ≡ slot_in (slots_at self.now) which }
@@ -79,20 +90,26 @@ impl MemSlots {
     ghost use Rattle.std.specs.Prelude.{◌≡◌, ◌+◌, ◌-◌, ◌^◌, ◌<◌, ◌≤◌, ◌↔◌, [], ◌∷◌, ◌++◌, min};
     ghost use Rattle.std.specs.Prelude.{Some, IfOk, OnOk, IsErr, IsTrue, if◌then◌else◌};
     ghost use Rattle.yasir_io.specs.Causes.{HasCause};
-    ghost use Rattle.yasir_io.specs.Disks.{slot_in, OneImage};
+    ghost use Rattle.yasir_io.specs.Disks.{slot_in, old_slot_in, OneImage};
     ghost use Rattle.yasir_io.specs.MemSlots.{mem_slots, slots_plan, slots_calls, slots_room};
     ghost use Rattle.yasir_io.specs.MemSlots.{slots_recorded, MayAdd, MayLeave, SlotsFail};
 
-    /// A disk with these slots, both synced, and room to record so many calls, which is taken at
+    /// A disk with these slots, all synced, and room to record so many calls, which is taken at
     /// once. The calls in `fail`, counted from 1, fail, and so does each one past `calls`.
     pub fn with_room(
         alloc: Global,
+        old_a: OldSlotBytes,
+        old_b: OldSlotBytes,
         a: SlotBytes,
         b: SlotBytes,
         calls: usize,
         fail: Plan,
     ) -> Result<MemSlots, NoMemory>
-        ensures slots { IfOk result (λ disk. mem_slots disk ≡ record { a = a; b = b }) }
+        ensures slots { IfOk result (λ disk. mem_slots disk ≡ record {
+          a = a;
+          b = b;
+          old = record { a = old_a; b = old_b };
+        }) }
         ensures room { IfOk result (λ disk. slots_room disk ≡ calls) }
         ensures recorded { IfOk result (λ disk. slots_recorded disk ≡ 0) }
         ensures plan { IfOk result (λ disk. slots_plan disk ≡ fail.items) }
@@ -104,6 +121,8 @@ impl MemSlots {
         };
         Ok(MemSlots {
             present: Moment {
+                old_a,
+                old_b,
                 a,
                 b,
                 a_written: false,
@@ -120,6 +139,13 @@ impl MemSlots {
         ensures { result ≡ slot_in (mem_slots self.now) which }
     {
         self.present.slot(which)
+    }
+
+    /// The old slot as a read gives it. It doesn't count as a call.
+    pub fn old_slot(&self, which: Slot) -> OldSlotBytes
+        ensures { result ≡ old_slot_in (mem_slots self.now) which }
+    {
+        self.present.old_slot(which)
     }
 
     // Records a call and counts it. It fails where it is planned to, or where its record finds no
@@ -170,8 +196,8 @@ impl SlotDisk for MemSlots {
     ghost use Rattle.std.specs.Prelude.{option_map, IsErr, IfOk, IfSome, OnOk, OnErr};
     ghost use Rattle.std.proofs.Common.{inl};
     ghost use Rattle.yasir_io.specs.Causes.{HasCause};
-    ghost use Rattle.yasir_io.specs.Disks.{slot_in, with_slot, Torn, Follows, Reaches, NoMore};
-    ghost use Rattle.yasir_io.specs.Disks.{OneImage, LeavesAsRead, Elapses};
+    ghost use Rattle.yasir_io.specs.Disks.{slot_in, old_slot_in, with_slot, Torn, Follows, Reaches};
+    ghost use Rattle.yasir_io.specs.Disks.{NoMore, OneImage, LeavesAsRead, Elapses};
     ghost use Rattle.yasir_io.specs.MemSlots.{mem_slots, MayLeave, LeftSince, slots_plan};
     ghost use Rattle.yasir_io.specs.MemSlots.{slots_calls, slots_room, slots_recorded, SlotsFail};
     ghost use Rattle.yasir_io.specs.MemSlotsLaws.{reads_an_image_law, only_now_law};
@@ -191,6 +217,27 @@ impl SlotDisk for MemSlots {
     ghost counts_now = { λ disk t c le image. inl image };
 
     ghost only_now = { λ disk c left. only_now_law disk c left };
+
+    fn read_old(&mut self, slot: Slot) -> Result<OldSlotBytes, Failed>
+        ensures bytes { IfOk result (λ bytes. IfSome (Some (mem_slots self.old))
+            (λ slots. bytes ≡ old_slot_in slots slot)) }
+        ensures told { Some (mem_slots self.new) ≡ Some (mem_slots self.old) }
+        ensures images { NoMore (MayLeave self.old) (MayLeave self.new) }
+        ensures images_back { NoMore (MayLeave self.new) (MayLeave self.old) }
+        ensures time { Elapses (slots_recorded self.old) (slots_recorded self.new)
+            (LeftSince self.old) (LeftSince self.new) (MayLeave self.new) }
+        ensures cause { HasCause self.old.calls.faults.count self.new.calls.faults.count result }
+
+        ensures fails { IsErr result ↔ SlotsFail self.old }
+        ensures calls { slots_calls self.new ≡ min (slots_calls self.old + 1) (2 ^ 64 - 1) }
+        ensures plan { slots_plan self.new ≡ slots_plan self.old }
+        ensures room { slots_room self.new ≡ slots_room self.old }
+        ensures recorded { slots_recorded self.new
+            ≡ min (slots_recorded self.old + 1) (slots_room self.old) }
+    {
+        self.begin()?;
+        Ok(self.old_slot(slot))
+    }
 
     fn read_slot(&mut self, slot: Slot) -> Result<SlotBytes, Failed>
         ensures bytes { IfOk result (λ bytes. IfSome (Some (mem_slots self.old))

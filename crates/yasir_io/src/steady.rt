@@ -1,8 +1,8 @@
 ghost use Rattle.std.specs.Prelude.{◌≡◌, Some};
 ghost use Rattle.yasir_io.specs.Disks.{slot_in};
-ghost use Rattle.yasir_io.specs.Steady.{steady_bytes, steady_slots};
+ghost use Rattle.yasir_io.specs.Steady.{steady_bytes, steady_slots, blank_old};
 
-use crate::{Failed, Slot, SlotBytes, SlotDisk, Source};
+use crate::{Failed, OLD_SLOT_LEN, OldSlotBytes, Slot, SlotBytes, SlotDisk, Source};
 
 /// Bytes in memory as a source that never fails.
 #[derive(Drop)]
@@ -33,7 +33,7 @@ impl<'a> Source for SteadySource<'a> {
     }
 }
 
-/// Two slots in memory. No call fails, and of a crash nothing is told.
+/// Two slots in memory, beside old ones of zeros. No call fails, and of a crash nothing is told.
 #[derive(Drop)]
 pub struct SteadySlots {
     a: SlotBytes,
@@ -43,7 +43,7 @@ pub struct SteadySlots {
 impl SteadySlots {
     /// A disk with these slots.
     pub fn new(a: SlotBytes, b: SlotBytes) -> SteadySlots
-        ensures { steady_slots result ≡ record { a = a; b = b } }
+        ensures { steady_slots result ≡ record { a = a; b = b; old = blank_old } }
     {
         SteadySlots { a, b }
     }
@@ -75,6 +75,10 @@ impl SlotDisk for SteadySlots {
     ghost counts_now = { λ disk t c le image. image };
 
     ghost only_now = { λ disk c image. image };
+
+    fn read_old(&mut self, _slot: Slot) -> Result<OldSlotBytes, Failed> {
+        Ok([0; OLD_SLOT_LEN])
+    }
 
     fn read_slot(&mut self, slot: Slot) -> Result<SlotBytes, Failed> {
         Ok(self.slot(slot))

@@ -157,10 +157,11 @@ fn a_buffer_writes_a_text_in_order(rt: HostRuntime) -> Result<(), Fail> {
 
 #[test]
 fn steady_slots_hold_what_is_written(rt: HostRuntime) {
-    let mut disk = SteadySlots::new([1; 16], [2; 16]);
-    assert_eq!(rt; disk.write_slot(Slot::B, &[3; 16]), Ok(()));
+    let mut disk = SteadySlots::new([1; 24], [2; 24]);
+    assert_eq!(rt; disk.write_slot(Slot::B, &[3; 24]), Ok(()));
     assert_eq!(rt; disk.sync(), Ok(()));
-    for (slot, want) in [(Slot::A, [1; 16]), (Slot::B, [3; 16])] {
+    for (slot, want) in [(Slot::A, [1; 24]), (Slot::B, [3; 24])] {
+        assert_eq!(rt; disk.read_old(slot), Ok([0; 16]));
         assert_eq!(rt; disk.read_slot(slot), Ok(want));
         assert_eq!(rt; disk.slot(slot), want);
     }
@@ -321,11 +322,19 @@ fn a_writer_gets_each_piece_at_once(rt: HostRuntime) -> Result<(), Fail> {
     Ok(())
 }
 
+// Slots of bytes 1 and 2 beside old ones of bytes 5 and 6.
+fn slots_of(alloc: Global, calls: usize, fail: Plan) -> Result<MemSlots, NoMemory> {
+    MemSlots::with_room(alloc, [5; 16], [6; 16], [1; 24], [2; 24], calls, fail)
+}
+
 #[test]
 fn slots_in_memory_are_read(rt: HostRuntime) -> Result<(), Fail> {
-    let mut disk = MemSlots::with_room(rt.alloc(), [1; 16], [2; 16], 8, Plan::new())?;
-    assert!(rt; disk.read_slot(Slot::A) == Ok([1; 16]));
-    assert!(rt; disk.read_slot(Slot::B) == Ok([2; 16]));
+    let mut disk = slots_of(rt.alloc(), 8, Plan::new())?;
+    for (slot, old, new) in [(Slot::A, [5; 16], [1; 24]), (Slot::B, [6; 16], [2; 24])] {
+        assert!(rt; disk.read_old(slot) == Ok(old));
+        assert!(rt; disk.old_slot(slot) == old);
+        assert!(rt; disk.read_slot(slot) == Ok(new));
+    }
     Ok(())
 }
 
@@ -338,12 +347,13 @@ fn done_of(
     fail: u32,
     byte: u8,
 ) -> Result<[bool; 3], Fail> {
-    let mut disk = MemSlots::with_room(alloc, [1; 16], [2; 16], calls, plan([fail, 0]))?;
-    let written = disk.write_slot(Slot::B, &[3; 16]).is_ok();
+    let mut disk = slots_of(alloc, calls, plan([fail, 0]))?;
+    let written = disk.write_slot(Slot::B, &[3; 24]).is_ok();
     let synced = disk.sync().is_ok();
     let read = disk.read_slot(Slot::B).is_ok();
-    assert!(rt; disk.slot(Slot::A) == [1; 16]);
-    assert!(rt; disk.slot(Slot::B) == [byte; 16]);
+    assert!(rt; disk.slot(Slot::A) == [1; 24]);
+    assert!(rt; disk.slot(Slot::B) == [byte; 24]);
+    assert!(rt; disk.old_slot(Slot::B) == [6; 16]);
     Ok([written, synced, read])
 }
 
@@ -363,7 +373,7 @@ fn slots_in_memory_fail_where_they_are_told_to(rt: HostRuntime) -> Result<(), Fa
         let found = done_of(&rt, rt.alloc(), calls, fail, byte)?;
         assert!(rt; found == done);
     }
-    let refused = MemSlots::with_room(rt.alloc(), [1; 16], [2; 16], usize::MAX, Plan::new());
+    let refused = slots_of(rt.alloc(), usize::MAX, Plan::new());
     assert!(rt; matches!(refused, Err(NoMemory)));
     Ok(())
 }
@@ -383,26 +393,31 @@ fn slots_stand_in_a_file(rt: HostRuntime) -> Result<(), Fail> {
     let mut missing = FileSlots::new(&rt, Some(path.clone()?), SlotFile::Standing);
     assert_eq!(rt; missing.read_slot(Slot::A), Err(Failed));
     let mut made = FileSlots::new(&rt, Some(path.clone()?), SlotFile::New);
-    assert_eq!(rt; made.read_slot(Slot::B), Ok([0; 16]));
-    assert_eq!(rt; made.write_slot(Slot::B, &[b'b'; 16]), Ok(()));
-    assert_eq!(rt; made.read_slot(Slot::A), Ok([0; 16]));
-    assert_eq!(rt; made.write_slot(Slot::A, &[b'a'; 16]), Ok(()));
+    assert_eq!(rt; made.read_slot(Slot::B), Ok([0; 24]));
+    assert_eq!(rt; made.write_slot(Slot::B, &[b'b'; 24]), Ok(()));
+    assert_eq!(rt; made.read_slot(Slot::A), Ok([0; 24]));
+    assert_eq!(rt; made.write_slot(Slot::A, &[b'a'; 24]), Ok(()));
     assert_eq!(rt; made.sync(), Ok(()));
     assert_eq!(rt;
         fs::read_to_string(&rt, path.as_str())?.as_str(),
-        "aaaaaaaaaaaaaaaabbbbbbbbbbbbbbbb"
+        concat!(
+            "\0\0\0\0\0\0\0\0\0\0\0\0\0\0\0\0\0\0\0\0\0\0\0\0\0\0\0\0\0\0\0\0",
+            "aaaaaaaaaaaaaaaaaaaaaaaabbbbbbbbbbbbbbbbbbbbbbbb"
+        )
     );
     let mut again = FileSlots::new(&rt, Some(path.clone()?), SlotFile::Standing);
     assert_eq!(rt; again.read_slot(Slot::B), Err(Failed));
     drop(made);
-    assert_eq!(rt; again.read_slot(Slot::B), Ok([b'b'; 16]));
+    assert_eq!(rt; again.read_slot(Slot::B), Ok([b'b'; 24]));
+    assert_eq!(rt; again.read_old(Slot::B), Ok([0; 16]));
     fs::remove_file(&rt, path.as_str())?;
     // A folder, and no path.
     let folder = String::from_str(rt.alloc(), ".")?;
     for path in [Some(folder), None] {
         let mut disk = FileSlots::new(&rt, path, SlotFile::New);
         assert_eq!(rt; disk.read_slot(Slot::A), Err(Failed));
-        assert_eq!(rt; disk.write_slot(Slot::A, &[0; 16]), Err(Failed));
+        assert_eq!(rt; disk.read_old(Slot::A), Err(Failed));
+        assert_eq!(rt; disk.write_slot(Slot::A, &[0; 24]), Err(Failed));
         assert_eq!(rt; disk.sync(), Err(Failed));
     }
     Ok(())

@@ -3,6 +3,16 @@ use Rattle.yasir_io.proofs.FileLemmas.{always_ok, always_on_ok, nothing_elapses}
 use Rattle.yasir_io.proofs.OutputLemmas.{always_on_err}
 use Rattle.yasir_io.proofs.files.FileSlotsSlotDisk.TheImpl.Goals as goal
 
+pub read_old-tells : goal.read_old-tells
+read_old-tells g c = record {
+  bytes = always_ok _ c.result (λ bytes. tt);
+  told = refl;
+  images = λ image none. none;
+  images_back = λ image none. none;
+  time = nothing_elapses;
+  cause = c.ensures.cause;
+}
+
 pub read_slot-tells : goal.read_slot-tells
 read_slot-tells g c = record {
   bytes = always_ok _ c.result (λ bytes. tt);
