@@ -4,8 +4,8 @@ use Rattle.yasir_io.specs.Disks.{LeavesOnly}
 use Rattle.yasir_io.specs.declared.disk.SlotDisk.{Ghosts as SlotDisk}
 use Rattle.sequence_journal.specs.declared.journal.Journal.{Journal}
 use Rattle.sequence_journal.specs.Commits.{HasFailed}
-use Rattle.sequence_journal.specs.Journal.{journal_floor, HasFloorAtLeast}
-use Rattle.sequence_journal.specs.Uptimes.{RiseFrom, last_from, IsStep, CommitsAnswered}
+use Rattle.sequence_journal.specs.Journal.{journal_floor, HasFloorFrom}
+use Rattle.sequence_journal.specs.Uptimes.{RiseFrom, last_from, IsStepOf, CommitsAnswered}
 use Rattle.sequence_journal.specs.Uptimes.{numbers_answered}
 
 module _ {D : Type 0} (disk : SlotDisk D) (old new : Journal) (before after : D) where
@@ -24,8 +24,8 @@ module _ {D : Type 0} (disk : SlotDisk D) (old new : Journal) (before after : D)
   module _ {A E : Type 0} (numbers_of : A → List ℕ) where
     pub is-step : (result : Result A E)
         → IfOk result (λ answer. CommitsAnswered disk old new before after (numbers_of answer))
-        → LeavesOnly disk.moment disk.left_since before after (HasFloorAtLeast (journal_floor old))
-        → IsStep disk (journal_floor old) before
+        → LeavesOnly disk.moment disk.left_since before after (HasFloorFrom old)
+        → IsStepOf disk old before
         (record { numbers = numbers_answered numbers_of result; after = after })
     is-step (Ok answer) commits leaves = record {
       rise = rise (numbers_of answer) commits;

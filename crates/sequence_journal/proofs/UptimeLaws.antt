@@ -1,12 +1,18 @@
 -- The numbers of uptimes over one disk rise, whatever moments they end at.
-use Rattle.std.proofs.Common.{◌≡◌, ℕ, ◌<◌, ◌≤◌, List, [], ◌∷◌, ◌++◌, Option, Some, None}
-use Rattle.std.proofs.Common.{IsSomeAnd, refl, sym, subst, arith}
+use Rattle.std.proofs.Common.{◌≡◌, ℕ, ◌<◌, ◌≤◌, ◌∙◌, List, [], ◌∷◌, ◌++◌, Option, Some, None}
+use Rattle.std.proofs.Common.{IsSomeAnd, IfSome, inl, inr, refl, sym, ap, subst, arith, unwrap_or}
+use Rattle.yasir_io.specs.declared.disk.Slot.{Slot}
+use Rattle.yasir_io.specs.declared.disk.Slot.TheVariants.{A}
 use Rattle.yasir_io.specs.Disks.{Slots}
 use Rattle.yasir_io.specs.declared.disk.SlotDisk.{Ghosts as SlotDisk}
-use Rattle.sequence_journal.specs.Slots.{floor_of}
+use Rattle.sequence_journal.specs.declared.link.LinkId.{LinkId}
+use Rattle.sequence_journal.specs.Slots.{own_floor, any_floor, old_floor, any_number_held, floor_by}
+use Rattle.sequence_journal.specs.Slots.{floor_of, greater, place_of_greater, wrong_by}
+use Rattle.sequence_journal.specs.Slots.{wrong_slot}
 use Rattle.sequence_journal.specs.Journal.{HasFloorAtLeast}
-use Rattle.sequence_journal.specs.Uptimes.{RiseFrom, last_from, IsUptime, Uptime, AreUptimes}
-use Rattle.sequence_journal.specs.Uptimes.{all_numbers}
+use Rattle.sequence_journal.specs.Loading.{KeepsLoadable}
+use Rattle.sequence_journal.specs.Uptimes.{RiseFrom, last_from, IsUptime, IsIdle, HasNoFloorBelow}
+use Rattle.sequence_journal.specs.Uptimes.{Uptime, AreUptimes, all_numbers}
 use Rattle.sequence_journal.specs.Uptimes.{Step, answered, disk_after, IsStep, AreSteps, EndsInside}
 
 -- from a lower floor numbers rise too
@@ -26,47 +32,90 @@ last-append floor [] b = refl
 last-append floor (n ∷ a) b = last-append n a b
 
 -- the floor that the next uptime loads
-pub next_floor : (n : ℕ) (image : Slots) → HasFloorAtLeast n image
-    → (floor : ℕ) × (floor_of image ≡ Some floor) × (n ≤ floor)
-next_floor n image from =
-    let P : Option ℕ → Type 0 = λ o. floor_of image ≡ o → IsSomeAnd o (λ floor. n ≤ floor)
-    → (floor : ℕ) × (floor_of image ≡ Some floor) × (n ≤ floor) in
-    elim (floor_of image) as P [
+pub next_floor : (link : LinkId) (n : ℕ) (image : Slots) → HasFloorAtLeast link n image
+    → (floor : ℕ) × (floor_of link image ≡ Some floor) × (n ≤ floor)
+next_floor link n image from =
+    let P : Option ℕ → Type 0 = λ o. floor_of link image ≡ o → IsSomeAnd o (λ floor. n ≤ floor)
+    → (floor : ℕ) × (floor_of link image ≡ Some floor) × (n ≤ floor) in
+    elim (floor_of link image) as P [
       | None ↦ λ is none. absurd none
       | Some floor ↦ λ is le. (floor, is, le)
     ] refl from
 
-pub uptimes-rise : (begins : Slots) (floor : ℕ) (uptimes : List Uptime)
-    → floor_of begins ≡ Some floor
-    → AreUptimes begins uptimes → RiseFrom floor (all_numbers uptimes)
-uptimes-rise begins floor [] is are = tt
-uptimes-rise begins floor (uptime ∷ uptimes) is are =
-    let same : are.0.floor ≡ floor = cc in
-    let P : ℕ → Type 0 = λ n. RiseFrom n uptime.numbers in
-    let Q : ℕ → Type 0 = λ n. HasFloorAtLeast (last_from n uptime.numbers) uptime.image in
-    let next = next_floor (last_from floor uptime.numbers) uptime.image
-    (subst Q same are.0.leaves) in
-    rise-append floor uptime.numbers (all_numbers uptimes) (subst P same are.0.rise)
-    (rise-lower (last_from floor uptime.numbers) next.0 (all_numbers uptimes) next.2
-    (uptimes-rise uptime.image next.0 uptimes next.1 are.1))
+some_weaker : (o : Option ℕ) (n : ℕ) → IsSomeAnd o (λ floor. n ≤ floor)
+    → IfSome o (λ floor. n ≤ floor)
+some_weaker None n from = absurd from
+some_weaker (Some floor) n le = le
 
-module _ {D : Type 0} (disk : SlotDisk D) where
+lower_still : (o : Option ℕ) (m n : ℕ) → m ≤ n → IfSome o (λ floor. n ≤ floor)
+    → IfSome o (λ floor. m ≤ floor)
+lower_still None m n le from = tt
+lower_still (Some floor) m n le from = omega arith
+
+pub uptimes-rise : (link : LinkId) (begins : Slots) (floor : ℕ) (uptimes : List Uptime)
+    → HasNoFloorBelow link floor begins → AreUptimes link begins uptimes
+    → RiseFrom floor (all_numbers uptimes)
+uptimes-rise link begins floor [] from are = tt
+uptimes-rise link begins floor (uptime ∷ uptimes) from (inl is, are) =
+    let loads : floor ≤ is.floor =
+    subst (λ o. IfSome o (λ loaded. floor ≤ loaded)) is.loads from in
+    let last = last_from is.floor uptime.numbers in
+    rise-lower floor is.floor (uptime.numbers ++ all_numbers uptimes) loads
+    (rise-append is.floor uptime.numbers (all_numbers uptimes) is.rise
+    (uptimes-rise link uptime.image last uptimes
+    (some_weaker (floor_of link uptime.image) last is.leaves) are))
+uptimes-rise link begins floor (uptime ∷ uptimes) from (inr idle, are) =
+    subst (λ numbers. RiseFrom floor (numbers ++ all_numbers uptimes)) (sym idle.answers_none)
+    (uptimes-rise link uptime.image floor uptimes (idle.leaves floor from) are)
+
+-- where the slots are another link's, they have no floor for this one
+no_floor_of_others : (own any old : Option ℕ) (a b : Option ℕ)
+    → wrong_by own (place_of_greater a b) ≡ Some A
+    → any ≡ greater a b → floor_by own any old ≡ None
+no_floor_of_others (Some m) any old a b wrong is = absurd cc
+no_floor_of_others None any old None None wrong is = absurd cc
+no_floor_of_others None any old None (Some b) wrong is = rw is refl
+no_floor_of_others None any old (Some a) None wrong is = rw is refl
+no_floor_of_others None any old (Some a) (Some b) wrong is = rw is refl
+
+-- an uptime that ends while its journal is loaded
+pub ends-loading : (link : LinkId) (begins : Slots) (floor : ℕ) (image : Slots)
+    → floor_of link begins ≡ Some floor → KeepsLoadable link begins floor image
+    → IsIdle link begins [] image
+ends-loading link begins floor image is (inl from) = record {
+  answers_none = refl;
+  leaves = λ n below. (
+      let le : n ≤ floor = subst (λ o. IfSome o (λ floor. n ≤ floor)) is below in
+      lower_still (floor_of link image) n floor le (some_weaker (floor_of link image) floor from)
+      );
+}
+ends-loading link begins floor image is (inr others) = record {
+  answers_none = refl;
+  leaves = λ n below. (
+      let none : floor_of link image ≡ None =
+      no_floor_of_others (own_floor link image) (any_floor image) (old_floor image)
+      (any_number_held image.a) (any_number_held image.b) others.1 refl in
+      subst (λ o. IfSome o (λ floor. n ≤ floor)) (sym none) tt
+      );
+}
+
+module _ {D : Type 0} (disk : SlotDisk D) (link : LinkId) where
   -- the steps that are done, and the one in which the uptime ends
   steps-part : (floor : ℕ) (before : D) (done : List (Step D)) (last : Step D)
-      → AreSteps disk floor before (done ++ last ∷ [])
+      → AreSteps disk link floor before (done ++ last ∷ [])
       → RiseFrom floor (answered done)
-      × IsStep disk (last_from floor (answered done)) (disk_after before done) last
+      × IsStep disk link (last_from floor (answered done)) (disk_after before done) last
   steps-part floor before [] last are = (tt, are.0)
   steps-part floor before (step ∷ done) last are =
       let rest = steps-part (last_from floor step.numbers) step.after done last are.1 in
-      let S : ℕ → Type 0 = λ n. IsStep disk n (disk_after step.after done) last in (
+      let S : ℕ → Type 0 = λ n. IsStep disk link n (disk_after step.after done) last in (
         rise-append floor step.numbers (answered done) are.0.rise rest.0,
         subst S (sym (last-append floor step.numbers (answered done))) rest.1,
       )
 
   pub ends-inside : (begins : Slots) (floor : ℕ) (loaded : D) (done : List (Step D)) (image : Slots)
-      → floor_of begins ≡ Some floor → EndsInside disk floor loaded done image
-      → IsUptime begins (answered done) image
+      → floor_of link begins ≡ Some floor → EndsInside disk link floor loaded done image
+      → IsUptime link begins (answered done) image
   ends-inside begins floor loaded done image is ends =
       let parts = steps-part floor loaded done ends.last ends.are_steps in
       record {

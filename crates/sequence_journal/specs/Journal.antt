@@ -4,15 +4,16 @@ use Rattle.std.specs.Prelude.{IsSomeAnd, option_map}
 use Rattle.yasir_io.specs.declared.disk.Slot.{Slot}
 use Rattle.yasir_io.specs.declared.disk.Slot.TheVariants.{A}
 use Rattle.yasir_io.specs.Causes.{Rose}
-use Rattle.yasir_io.specs.Disks.{Slots, slot_in, with_slot}
+use Rattle.yasir_io.specs.Disks.{Slots, slot_in, other_slot, with_slot}
 use Rattle.sequence_journal.specs.declared.journal.Journal.{Journal}
-use Rattle.sequence_journal.specs.declared.journal.LoadError.{LoadError}
-use Rattle.sequence_journal.specs.declared.journal.LoadError.TheVariants as Load
 use Rattle.sequence_journal.specs.declared.journal.InitError.{InitError}
 use Rattle.sequence_journal.specs.declared.journal.InitError.TheVariants as Init
-use Rattle.sequence_journal.specs.Slots.{number_held, greater, place_of_greater, floor_of}
-use Rattle.sequence_journal.specs.Slots.{floor_slot, slot_bytes}
-use Rattle.sequence_journal.specs.declared.numbers.TheConstants.{LIMIT}
+use Rattle.sequence_journal.specs.declared.link.LinkId.{LinkId}
+use Rattle.sequence_journal.specs.Slots.{greatest, floor_of, floor_slot, slot_bytes}
+
+-- the link that it serves
+abbrev pub journal_link : Journal → LinkId
+journal_link journal = journal.link
 
 -- the last number used
 abbrev pub journal_floor : Journal → ℕ
@@ -26,33 +27,39 @@ kept_slot journal = journal.kept
 abbrev pub is_broken : Journal → Bool
 is_broken journal = journal.broken
 
--- The disk fits the journal: it isn't broken, and where the slots are told, they have its floor in
--- the slot that keeps it.
+-- The disk fits the journal: it isn't broken, and where the slots are told, their floor for its
+-- link is the journal's, and the slot that it keeps holds the greatest number for this link.
 pub record Fits (journal : Journal) (told : Option Slots) : Type 0 where
   pub whole : is_broken journal ≡ false
-  pub floor : IfSome told (λ slots. floor_of slots ≡ Some (journal_floor journal))
-  pub kept : IfSome told (λ slots. floor_slot slots ≡ kept_slot journal)
+  pub floor : IfSome told (λ slots. floor_of (journal_link journal) slots
+      ≡ Some (journal_floor journal))
+  pub kept : IfSome told (λ slots. floor_slot (journal_link journal) slots
+      ≡ Some (kept_slot journal))
 
--- a slot is as it was
-abbrev pub HasSame : Slot → Slots → Slots → Type 0
-HasSame slot old new = slot_in new slot ≡ slot_in old slot
+-- all slots are as they were, but for this one
+abbrev pub AreSameBut : Slot → Slots → Slots → Type 0
+AreSameBut slot old new = new ≡ with_slot old slot (slot_in new slot)
 
--- the slot that keeps the floor is in every image as a read gives it
+-- an image which is as one of these but for a slot
+abbrev pub IsBut : Slot → (Slots → Type 0) → Slots → Type 0
+IsBut slot images c = (d : Slots) × images d × AreSameBut slot d c
+
+-- every image is as a read gives the slots, but for the slot that doesn't keep the floor
 abbrev pub IsKept : Journal → Option Slots → (Slots → Type 0) → Type 0
 IsKept journal told images = (c : Slots) → images c
-    → IsSomeAnd told (λ slots. HasSame (kept_slot journal) slots c)
+    → IsSomeAnd told (λ slots. AreSameBut (other_slot (kept_slot journal)) slots c)
 
--- an image in which the slot is as in one of these
-abbrev pub IsBeside : Slot → (Slots → Type 0) → Slots → Type 0
-IsBeside slot images c = (d : Slots) × images d × HasSame slot d c
+-- slots whose floor for a link isn't below n
+abbrev pub HasFloorAtLeast : LinkId → ℕ → Slots → Type 0
+HasFloorAtLeast link n slots = IsSomeAnd (floor_of link slots) (λ floor. n ≤ floor)
 
--- slots whose floor isn't below n
-abbrev pub HasFloorAtLeast : ℕ → Slots → Type 0
-HasFloorAtLeast n slots = IsSomeAnd (floor_of slots) (λ floor. n ≤ floor)
+-- slots whose floor for the journal's link isn't below the journal's
+abbrev pub HasFloorFrom : Journal → Slots → Type 0
+HasFloorFrom journal = HasFloorAtLeast (journal_link journal) (journal_floor journal)
 
--- slots whose floor is one of two
-abbrev pub IsEitherFloor : ℕ → ℕ → Slots → Type 0
-IsEitherFloor m n slots = (floor_of slots ≡ Some m) ⊎ (floor_of slots ≡ Some n)
+-- slots whose floor for a link is one of two
+abbrev pub IsEitherFloor : LinkId → ℕ → ℕ → Slots → Type 0
+IsEitherFloor link m n slots = (floor_of link slots ≡ Some m) ⊎ (floor_of link slots ≡ Some n)
 
 -- the slots as told, with one of them set
 abbrev pub told_with : Option Slots → Slot → List ℕ → Option Slots
@@ -62,33 +69,17 @@ told_with told slot bytes = option_map (λ slots. with_slot slots slot bytes) to
 abbrev pub MaySet : Option Slots → Slot → List ℕ → Option Slots → Type 0
 MaySet old slot bytes new = (new ≡ old) ⊎ (new ≡ told_with old slot bytes)
 
--- the greater number of two slots, and where it stands
-abbrev pub IsFloorOf : List ℕ → List ℕ → Option (ℕ × Slot) → Type 0
-IsFloorOf a b None = greater (number_held a) (number_held b) ≡ None
-IsFloorOf a b (Some found) =
-    (greater (number_held a) (number_held b) ≡ Some found.0)
-    × (place_of_greater (number_held a) (number_held b) ≡ found.1) × (found.0 ≤ LIMIT)
-
--- both slots, as they were read
-abbrev pub AreRead : Option Slots → List ℕ → List ℕ → Type 0
-AreRead told a b = IfSome told (λ slots. (slots.a ≡ a) × (slots.b ≡ b))
-
--- Why a journal isn't loaded: a read failed, or neither slot, as read, holds a number.
-abbrev pub RefusesLoad : Option Slots → ℕ → ℕ → LoadError → Type 0
-RefusesLoad told before now Load.Fault = Rose before now
-RefusesLoad told before now (Load.Bad a b) =
-    (number_held a ≡ None) × (number_held b ≡ None) × AreRead told a b × (now ≡ before)
-
 -- Why a journal isn't made: a call failed, and slot A may be set, or a slot holds a number already,
--- and nothing is written.
-abbrev pub RefusesInit : Option Slots → Option Slots → ℕ → ℕ → InitError → Type 0
-RefusesInit old new before now Init.Fault = Rose before now × MaySet old A (slot_bytes 0) new
-RefusesInit old new before now (Init.Stands floor) =
-    IfSome old (λ slots. floor_of slots ≡ Some floor) × (new ≡ old) × (now ≡ before)
+-- for whatever link, and nothing is written.
+abbrev pub RefusesInit : LinkId → Option Slots → Option Slots → ℕ → ℕ → InitError → Type 0
+RefusesInit link old new before now Init.Fault =
+    Rose before now × MaySet old A (slot_bytes 0 link) new
+RefusesInit link old new before now (Init.Stands floor) =
+    IfSome old (λ slots. greatest slots ≡ Some floor) × (new ≡ old) × (now ≡ before)
 
--- The floor's slot is in every image as a read gives it, and no image has a floor below the
--- journal's.
+-- Every image is as a read gives the slots, but for the slot that doesn't keep the floor, and no
+-- image has a floor below the journal's.
 pub record IsCrashSafe (journal : Journal) (told : Option Slots) (images : Slots → Type 0) :
     Type 0 where
   pub kept : IsKept journal told images
-  pub floors : (c : Slots) → images c → HasFloorAtLeast (journal_floor journal) c
+  pub floors : (c : Slots) → images c → HasFloorFrom journal c

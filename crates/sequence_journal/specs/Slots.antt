@@ -1,27 +1,60 @@
--- The numbers that slots hold, and the floor of two slots.
-use Rattle.std.specs.Prelude.{ℕ, ◌-◌, ◌&&◌, List, ◌++◌, map, max, nat_lt, nat_le, if◌then◌else◌}
-use Rattle.std.specs.Prelude.{Option, Some, None}
+-- The numbers that slots hold, and the floor of the slots of a disk.
+use Rattle.std.specs.Prelude.{ℕ, ◌-◌, ◌&&◌, List, ◌++◌, map, max, nat_lt, nat_le}
+use Rattle.std.specs.Prelude.{Option, Some, None, option_map, get_or, if◌then◌else◌}
 use Rattle.std.specs.Str.{bytes_eq}
 use Rattle.byteorder.specs.Endian.{big_bytes, big_number}
 use Rattle.yasir_io.specs.declared.disk.Slot.{Slot}
 use Rattle.yasir_io.specs.declared.disk.Slot.TheVariants.{A, B}
 use Rattle.yasir_io.specs.Disks.{Slots}
 use Rattle.sequence_journal.specs.declared.numbers.TheConstants.{LIMIT}
+use Rattle.sequence_journal.specs.declared.link.LinkId.{LinkId}
+use Rattle.sequence_journal.specs.Links.{is_link, link_bytes}
 
 -- some bytes, and then the complement of each
 abbrev pub with_complement : List ℕ → List ℕ
 with_complement half = half ++ map (λ b. 255 - b) half
 
--- the slot that holds a number: its eight bytes, the highest first, and then their complement
-unfoldable pub slot_bytes : ℕ → List ℕ
-slot_bytes n = with_complement (big_bytes 8 n)
+-- the slot that holds a number for a link: the eight bytes of the number, the highest first, the
+-- four of the link, and then the complement of these
+unfoldable pub slot_bytes : ℕ → LinkId → List ℕ
+slot_bytes n link = with_complement (big_bytes 8 n ++ link_bytes link)
 
--- the number that a slot holds: none where it isn't the slot of its first eight bytes, or where
--- these are above the limit
-unfoldable pub number_held : List ℕ → Option ℕ
-number_held slot =
-    let n = big_number 8 slot in
-    if bytes_eq slot (slot_bytes n) && nat_le n LIMIT then Some n else None
+-- the old slot that holds a number: its eight bytes, the highest first, and then their complement
+unfoldable pub old_slot_bytes : ℕ → List ℕ
+old_slot_bytes n = with_complement (big_bytes 8 n)
+
+-- The number that bytes hold, by what is made of a number: none where they aren't what is made of
+-- their first eight, or where these are above the limit.
+abbrev pub held_by : (ℕ → List ℕ) → List ℕ → Option ℕ
+held_by made bytes =
+    let n = big_number 8 bytes in
+    if bytes_eq bytes (made n) && nat_le n LIMIT then Some n else None
+
+-- the number that a slot holds for a link
+unfoldable pub number_held : LinkId → List ℕ → Option ℕ
+number_held link slot = held_by (λ n. slot_bytes n link) slot
+
+-- the number that an old slot holds
+unfoldable pub old_number_held : List ℕ → Option ℕ
+old_number_held slot = held_by old_slot_bytes slot
+
+-- the link that a slot names in its bytes 8 to 10
+abbrev pub link_named : List ℕ → LinkId
+link_named slot = record {
+  label = get_or slot 8 0;
+  dir = get_or slot 9 0;
+  profile = get_or slot 10 0;
+}
+
+-- the number that a slot holds, and the link that it holds it for
+unfoldable pub link_held : List ℕ → Option (ℕ × LinkId)
+link_held slot =
+    let link = link_named slot in
+    if is_link link then option_map (λ n. (n, link)) (number_held link slot) else None
+
+-- the number that a slot holds, for whatever link
+abbrev pub any_number_held : List ℕ → Option ℕ
+any_number_held slot = option_map (λ (held : ℕ × LinkId). held.0) (link_held slot)
 
 -- the greater of two numbers, where there is any
 abbrev pub greater : Option ℕ → Option ℕ → Option ℕ
@@ -29,17 +62,50 @@ greater None b = b
 greater (Some a) None = Some a
 greater (Some a) (Some b) = Some (max a b)
 
--- the place of the greater one; at a tie, and where there is none, slot A
-abbrev pub place_of_greater : Option ℕ → Option ℕ → Slot
-place_of_greater None None = A
-place_of_greater None (Some b) = B
-place_of_greater (Some a) None = A
-place_of_greater (Some a) (Some b) = if nat_lt a b then B else A
+-- the place of the greater one, where there is any; at a tie slot A
+abbrev pub place_of_greater : Option ℕ → Option ℕ → Option Slot
+place_of_greater None None = None
+place_of_greater None (Some b) = Some B
+place_of_greater (Some a) None = Some A
+place_of_greater (Some a) (Some b) = Some (if nat_lt a b then B else A)
 
--- the floor of two slots: the greater number that they hold
-abbrev pub floor_of : Slots → Option ℕ
-floor_of slots = greater (number_held slots.a) (number_held slots.b)
+-- the greatest number that the slots hold for a link
+abbrev pub own_floor : LinkId → Slots → Option ℕ
+own_floor link slots = greater (number_held link slots.a) (number_held link slots.b)
 
--- the slot that holds the floor
-abbrev pub floor_slot : Slots → Slot
-floor_slot slots = place_of_greater (number_held slots.a) (number_held slots.b)
+-- the greatest number that they hold for any link
+abbrev pub any_floor : Slots → Option ℕ
+any_floor slots = greater (any_number_held slots.a) (any_number_held slots.b)
+
+-- the greatest number that the old slots hold
+abbrev pub old_floor : Slots → Option ℕ
+old_floor slots = greater (old_number_held slots.old.a) (old_number_held slots.old.b)
+
+-- the greatest number of all slots
+abbrev pub greatest : Slots → Option ℕ
+greatest slots = greater (any_floor slots) (old_floor slots)
+
+-- the floor by a link's own numbers, those of any link, and the old ones
+abbrev pub floor_by : Option ℕ → Option ℕ → Option ℕ → Option ℕ
+floor_by (Some own) any old = greater (Some own) old
+floor_by None (Some any) old = None
+floor_by None None old = old
+
+-- The floor of a disk for a link. Old slots name no link: they count where a slot holds a number
+-- for this link, and where none holds one for any.
+abbrev pub floor_of : LinkId → Slots → Option ℕ
+floor_of link slots = floor_by (own_floor link slots) (any_floor slots) (old_floor slots)
+
+-- the slot that holds the greatest number for a link
+abbrev pub floor_slot : LinkId → Slots → Option Slot
+floor_slot link slots = place_of_greater (number_held link slots.a) (number_held link slots.b)
+
+-- where there is no number of the own link, the place of another's
+abbrev pub wrong_by : Option ℕ → Option Slot → Option Slot
+wrong_by (Some own) place = None
+wrong_by None place = place
+
+-- where the slots hold numbers for other links alone, the slot of the greatest
+abbrev pub wrong_slot : LinkId → Slots → Option Slot
+wrong_slot link slots = wrong_by (own_floor link slots)
+    (place_of_greater (any_number_held slots.a) (any_number_held slots.b))

@@ -2,12 +2,14 @@
 -- stop or a crash, which may come at any moment inside it, and leaves an image. The next one begins
 -- on that image: that it finds the slots as they read, with nothing written and not yet synced, is
 -- a premise where a call is shown to be an uptime.
-use Rattle.std.specs.Prelude.{◌≡◌, ℕ, ◌<◌, List, [], ◌∷◌, ◌++◌, Some, Result, Ok, Err}
+use Rattle.std.specs.Prelude.{◌≡◌, ℕ, ◌<◌, ◌≤◌, ◌⊎◌, List, [], ◌∷◌, ◌++◌, Some, IfSome, Result}
+use Rattle.std.specs.Prelude.{Ok, Err}
 use Rattle.yasir_io.specs.Disks.{Slots, LeavesOnly}
 use Rattle.yasir_io.specs.declared.disk.SlotDisk.{Ghosts as SlotDisk}
 use Rattle.sequence_journal.specs.declared.journal.Journal.{Journal}
+use Rattle.sequence_journal.specs.declared.link.LinkId.{LinkId}
 use Rattle.sequence_journal.specs.Slots.{floor_of}
-use Rattle.sequence_journal.specs.Journal.{HasFloorAtLeast}
+use Rattle.sequence_journal.specs.Journal.{journal_link, journal_floor, HasFloorAtLeast}
 use Rattle.sequence_journal.specs.Commits.{HasCommitted}
 
 -- Each number is greater than the one before it, and the first one than the floor.
@@ -22,21 +24,36 @@ last_from floor (n ∷ numbers) = last_from n numbers
 
 -- An uptime loads the floor of the slots that it begins on, answers these numbers before it ends,
 -- and leaves an image whose floor isn't below them.
-pub record IsUptime (begins : Slots) (numbers : List ℕ) (image : Slots) : Type 0 where
+pub record IsUptime (link : LinkId) (begins : Slots) (numbers : List ℕ) (image : Slots) :
+    Type 0 where
   pub floor : ℕ
-  pub loads : floor_of begins ≡ Some floor
+  pub loads : floor_of link begins ≡ Some floor
   pub rise : RiseFrom floor numbers
-  pub leaves : HasFloorAtLeast (last_from floor numbers) image
+  pub leaves : HasFloorAtLeast link (last_from floor numbers) image
+
+-- slots whose floor, where they have one, isn't below n
+abbrev pub HasNoFloorBelow : LinkId → ℕ → Slots → Type 0
+HasNoFloorBelow link n slots = IfSome (floor_of link slots) (λ floor. n ≤ floor)
+
+-- An uptime that ends before it has loaded a floor answers no number, and the image that it leaves
+-- has no floor below a number that the slots had none below.
+pub record IsIdle (link : LinkId) (begins : Slots) (numbers : List ℕ) (image : Slots) :
+    Type 0 where
+  pub answers_none : numbers ≡ []
+  pub leaves : (n : ℕ) → HasNoFloorBelow link n begins → HasNoFloorBelow link n image
 
 -- the numbers that an uptime has answered, and the image that it left
 pub record Uptime : Type 0 where
   pub numbers : List ℕ
   pub image : Slots
 
-abbrev pub AreUptimes : Slots → List Uptime → Type 0
-AreUptimes begins [] = Unit {0}
-AreUptimes begins (uptime ∷ uptimes) =
-    IsUptime begins uptime.numbers uptime.image × AreUptimes uptime.image uptimes
+-- uptimes over one disk and for one link, each on the image that the one before it left
+abbrev pub AreUptimes : LinkId → Slots → List Uptime → Type 0
+AreUptimes link begins [] = Unit {0}
+AreUptimes link begins (uptime ∷ uptimes) =
+    (IsUptime link begins uptime.numbers uptime.image ⊎ IsIdle link begins uptime.numbers
+    uptime.image)
+    × AreUptimes link uptime.image uptimes
 
 -- the numbers of all uptimes
 abbrev pub all_numbers : List Uptime → List ℕ
@@ -74,21 +91,26 @@ module _ {D : Type 0} (disk : SlotDisk D) where
 
   -- A step answers numbers above the floor before it, and a crash at any moment of it leaves an
   -- image whose floor isn't below that floor.
-  pub record IsStep (floor : ℕ) (before : D) (step : Step D) : Type 0 where
+  pub record IsStep (link : LinkId) (floor : ℕ) (before : D) (step : Step D) : Type 0 where
     pub rise : RiseFrom floor step.numbers
     pub any_moment : LeavesOnly disk.moment disk.left_since before step.after
-        (HasFloorAtLeast floor)
+        (HasFloorAtLeast link floor)
+
+  -- a step from the journal's floor on, for the journal's link
+  abbrev pub IsStepOf : Journal → D → Step D → Type 0
+  IsStepOf journal before step =
+      IsStep (journal_link journal) (journal_floor journal) before step
 
   -- steps, one after the other
-  abbrev pub AreSteps : ℕ → D → List (Step D) → Type 0
-  AreSteps floor before [] = Unit {0}
-  AreSteps floor before (step ∷ steps) =
-      IsStep floor before step × AreSteps (last_from floor step.numbers) step.after steps
+  abbrev pub AreSteps : LinkId → ℕ → D → List (Step D) → Type 0
+  AreSteps link floor before [] = Unit {0}
+  AreSteps link floor before (step ∷ steps) = IsStep link floor before step
+      × AreSteps link (last_from floor step.numbers) step.after steps
 
   -- After these steps the uptime ends at a moment inside one step more, its beginning and its end
   -- counted, before that step answers; a crash at that moment leaves the image.
-  pub record EndsInside (floor : ℕ) (loaded : D) (done : List (Step D)) (image : Slots) :
-      Type 0 where
+  pub record EndsInside (link : LinkId) (floor : ℕ) (loaded : D) (done : List (Step D))
+      (image : Slots) : Type 0 where
     pub last : Step D
-    pub are_steps : AreSteps floor loaded (done ++ last ∷ [])
+    pub are_steps : AreSteps link floor loaded (done ++ last ∷ [])
     pub left : disk.left_since last.after (disk.moment (disk_after loaded done)) image

@@ -1,10 +1,12 @@
 ghost use Rattle.std.specs.Prelude.{◌≤◌};
 ghost use Rattle.sequence_journal.specs.declared.numbers.TheConstants.{LIMIT};
+ghost use Rattle.sequence_journal.specs.Links.{IsLink};
 
+use crate::link::LinkId;
 use crate::numbers::{LIMIT, slot_of};
-use crate::slots::{floor_in, read_slots, write_and_sync};
+use crate::slots::{Standing, read_slots, write_and_sync};
 use thiserror::Error;
-use yasir_io::{Slot, SlotBytes, SlotDisk};
+use yasir_io::{Failed, Slot, SlotBytes, SlotDisk};
 
 /// A commit failed: the disk's count of faults rose. The journal is broken: the next uptime loads
 /// it anew.
@@ -15,12 +17,15 @@ pub struct JournalFault;
 /// Why a journal isn't loaded.
 #[derive(Clone, Copy, Debug, PartialEq, Eq, Error)]
 pub enum LoadError {
-    /// A read failed.
+    /// A call of the disk failed.
     #[error("the journal's disk failed")]
     Fault,
-    /// Neither slot holds a number.
-    #[error("neither slot holds a number: {a:?} {b:?}")]
+    /// No slot holds a number, and no old one does.
+    #[error("no slot holds a number: {a:?} {b:?}")]
     Bad { a: SlotBytes, b: SlotBytes },
+    /// The slots hold numbers for other links alone; this is the slot of the greatest.
+    #[error("the journal is another link's: {slot:?}")]
+    WrongLink { slot: SlotBytes },
 }
 
 /// Why a journal isn't made.
@@ -29,18 +34,20 @@ pub enum InitError {
     /// A call of the disk failed.
     #[error("the journal's disk failed")]
     Fault,
-    /// A slot holds a number already; this is the greater one.
+    /// A slot holds a number already, for whatever link; this is the greatest.
     #[error("a journal stands at {floor}")]
     Stands { floor: u64 },
 }
 
-/// The last number that a box used, kept in one of the two slots of a disk.
+/// The last number that a box used on its link, kept in one of the two slots of a disk.
 #[derive(Drop)]
 pub struct Journal {
+    link: LinkId,
     floor: u64,
     kept: Slot,
     broken: bool,
     ghost within: { floor ≤ LIMIT },
+    ghost serves: { IsLink link },
 }
 
 impl Journal {
@@ -48,33 +55,40 @@ impl Journal {
     ghost use Rattle.std.specs.Prelude.{OnOk, OnErr, IfOk, IfErr, IfSome};
     ghost use Rattle.yasir_io.specs.declared.disk.Slot.TheVariants.{A, B};
     ghost use Rattle.yasir_io.specs.Causes.{HasCause};
-    ghost use Rattle.yasir_io.specs.Disks.{Slots, NoMore, OneImage, LeavesOnly, other_slot};
-    ghost use Rattle.sequence_journal.specs.Slots.{slot_bytes, floor_of};
-    ghost use Rattle.sequence_journal.specs.Journal.{journal_floor, kept_slot, is_broken, Fits};
-    ghost use Rattle.sequence_journal.specs.Journal.{IsKept, IsBeside};
-    ghost use Rattle.sequence_journal.specs.Journal.{HasFloorAtLeast, IsCrashSafe, told_with};
-    ghost use Rattle.sequence_journal.specs.Journal.{RefusesLoad, RefusesInit};
+    ghost use Rattle.yasir_io.specs.Disks.{Slots, NoMore, OneImage, LeavesOnly};
+    ghost use Rattle.sequence_journal.specs.Links.{IsLink};
+    ghost use Rattle.sequence_journal.specs.Slots.{slot_bytes, greatest, floor_of};
+    ghost use Rattle.sequence_journal.specs.Journal.{journal_link, journal_floor, kept_slot};
+    ghost use Rattle.sequence_journal.specs.Journal.{is_broken, Fits, IsKept, IsBut, HasFloorFrom};
+    ghost use Rattle.sequence_journal.specs.Journal.{IsCrashSafe, told_with, MaySet, RefusesInit};
+    ghost use Rattle.sequence_journal.specs.Loading.{MayBegin, IsLoaded, RefusesLoad, IsUntouched};
+    ghost use Rattle.sequence_journal.specs.Loading.{MayLeaveLoading, KeepsLoadable};
     ghost use Rattle.sequence_journal.specs.Commits.{HasCommitted, HasFailed};
-    ghost use Rattle.sequence_journal.specs.Uptimes.{IsStep, numbers_answered};
+    ghost use Rattle.sequence_journal.specs.Uptimes.{IsStepOf, numbers_answered};
 
-    /// Makes a new journal at floor 0, in slot A, where neither slot holds a number.
-    pub fn init<D: SlotDisk>(disk: &mut D) -> Result<Journal, InitError>
+    /// Makes a new journal of a link at floor 0, in slot A, where no slot holds a number.
+    pub fn init<D: SlotDisk>(disk: &mut D, link: &LinkId) -> Result<Journal, InitError>
+        requires link { IsLink link.now }
+
         ensures fits { IfOk result (λ journal. Fits journal (D.told disk.new)) }
+        ensures link_is { IfOk result (λ journal. journal_link journal ≡ link.now) }
         ensures floor { IfOk result (λ journal. journal_floor journal ≡ 0) }
-        ensures none { OnOk result (IfSome (D.told disk.old) (λ slots. floor_of slots ≡ None)) }
-        ensures set { OnOk result (D.told disk.new ≡ told_with (D.told disk.old) A (slot_bytes 0)) }
+        ensures none { OnOk result (IfSome (D.told disk.old) (λ slots. greatest slots ≡ None)) }
+        ensures set { OnOk result (D.told disk.new
+            ≡ told_with (D.told disk.old) A (slot_bytes 0 link.now)) }
         ensures synced { OnOk result (OneImage (D.told disk.new) (D.may_leave disk.new)) }
-        ensures image { OnOk result ((c : Slots) → D.may_leave disk.new c → floor_of c ≡ Some 0) }
+        ensures image { OnOk result ((c : Slots) → D.may_leave disk.new c
+            → floor_of link.now c ≡ Some 0) }
 
-        ensures refused { IfErr result (RefusesInit (D.told disk.old) (D.told disk.new)
+        ensures refused { IfErr result (RefusesInit link.now (D.told disk.old) (D.told disk.new)
             (D.faults disk.old) (D.faults disk.new)) }
         ensures untouched { (floor : ℕ) → result ≡ Err (InitError.Stands floor)
             → NoMore (D.may_leave disk.old) (D.may_leave disk.new)
             × NoMore (D.may_leave disk.new) (D.may_leave disk.old) }
 
-        // At any moment slot B is as it was.
+        // At any moment all slots but A are as they were.
         ensures any_moment { LeavesOnly D.moment D.left_since disk.old disk.new
-            (IsBeside B (D.may_leave disk.old)) }
+            (IsBut A (D.may_leave disk.old)) }
 
         ensures never_falls { D.faults disk.old ≤ D.faults disk.new }
         ensures same { OnOk result (D.faults disk.new ≡ D.faults disk.old) }
@@ -82,47 +96,92 @@ impl Journal {
         let Ok(slots) = read_slots(disk) else {
             return Err(InitError::Fault);
         };
-        let a = slots.0;
-        let b = slots.1;
-        if let Some((floor, _)) = floor_in(&a, &b) {
+        if let Some(floor) = slots.greatest() {
             return Err(InitError::Stands { floor });
         }
-        let Ok(()) = write_and_sync(disk, Slot::A, &slot_of(0)) else {
+        let Ok(journal) = Journal::begin(disk, link, 0) else {
             return Err(InitError::Fault);
         };
+        Ok(journal)
+    }
+
+    // Begins a journal of a link at `n`, in slot A.
+    fn begin<D: SlotDisk>(disk: &mut D, link: &LinkId, n: u64) -> Result<Journal, Failed>
+        requires link { IsLink link.now }
+        requires within { n ≤ LIMIT }
+        requires free { IfSome (D.told disk.old) (MayBegin link.now n) }
+
+        ensures fits { IfOk result (λ journal. Fits journal (D.told disk.new)) }
+        ensures link_is { IfOk result (λ journal. journal_link journal ≡ link.now) }
+        ensures floor { IfOk result (λ journal. journal_floor journal ≡ n) }
+        ensures set { OnOk result (D.told disk.new
+            ≡ told_with (D.told disk.old) A (slot_bytes n link.now)) }
+        ensures synced { OnOk result (OneImage (D.told disk.new) (D.may_leave disk.new)) }
+        ensures may_set { OnErr result
+            (MaySet (D.told disk.old) A (slot_bytes n link.now) (D.told disk.new)) }
+        ensures any_moment { LeavesOnly D.moment D.left_since disk.old disk.new
+            (IsBut A (D.may_leave disk.old)) }
+        ensures cause { HasCause (D.faults disk.old) (D.faults disk.new) result }
+    {
+        write_and_sync(disk, Slot::A, &slot_of(n, link))?;
         Ok(Journal {
-            floor: 0,
+            link: *link,
+            floor: n,
             kept: Slot::A,
             broken: false,
         })
     }
 
-    /// Loads the journal that the disk holds, and writes nothing.
-    pub fn load<D: SlotDisk>(disk: &mut D) -> Result<Journal, LoadError>
-        ensures fits { IfOk result (λ journal. Fits journal (D.told disk.new)) }
-        ensures told { D.told disk.new ≡ D.told disk.old }
-        ensures images { NoMore (D.may_leave disk.old) (D.may_leave disk.new) }
-        ensures images_back { NoMore (D.may_leave disk.new) (D.may_leave disk.old) }
-        ensures any_moment { LeavesOnly D.moment D.left_since disk.old disk.new
-            (D.may_leave disk.old) }
+    /// Loads the journal of a link that the disk holds. Where old slots alone hold a number it is
+    /// taken over: their greatest number is written into slot A and synced. Else nothing is written.
+    pub fn load<D: SlotDisk>(disk: &mut D, link: &LinkId) -> Result<Journal, LoadError>
+        requires link { IsLink link.now }
 
-        ensures refused { IfErr result (RefusesLoad (D.told disk.old) (D.faults disk.old)
-            (D.faults disk.new)) }
+        ensures fits { IfOk result (λ journal. Fits journal (D.told disk.new)) }
+        ensures loaded { IfOk result (IsLoaded link.now (D.told disk.old) (D.told disk.new)
+            (D.may_leave disk.old) (D.may_leave disk.new)) }
+        ensures crash_safe { IfOk result (λ journal.
+            OneImage (D.told disk.old) (D.may_leave disk.old)
+            → IsCrashSafe journal (D.told disk.new) (D.may_leave disk.new)) }
+
+        // A journal that has a number of its own is loaded at any moment of a load, and one that is
+        // taken over is loaded or seen as another link's.
+        ensures any_moment { LeavesOnly D.moment D.left_since disk.old disk.new
+            (MayLeaveLoading (D.told disk.old) (D.may_leave disk.old)) }
+        ensures crash { (slots : Slots) (floor : ℕ) → D.told disk.old ≡ Some slots
+            → OneImage (D.told disk.old) (D.may_leave disk.old)
+            → floor_of link.now slots ≡ Some floor
+            → LeavesOnly D.moment D.left_since disk.old disk.new
+            (KeepsLoadable link.now slots floor) }
+
+        ensures refused { IfErr result (RefusesLoad link.now (D.told disk.old) (D.told disk.new)
+            (D.faults disk.old) (D.faults disk.new)) }
+        ensures untouched { IfErr result (IsUntouched (D.may_leave disk.old)
+            (D.may_leave disk.new)) }
         ensures never_falls { D.faults disk.old ≤ D.faults disk.new }
         ensures same { OnOk result (D.faults disk.new ≡ D.faults disk.old) }
     {
         let Ok(slots) = read_slots(disk) else {
             return Err(LoadError::Fault);
         };
-        let a = slots.0;
-        let b = slots.1;
-        match floor_in(&a, &b) {
-            Some((floor, kept)) => Ok(Journal {
+        match slots.standing(link) {
+            Standing::Kept { floor, kept } => Ok(Journal {
+                link: *link,
                 floor,
                 kept,
                 broken: false,
             }),
-            None => Err(LoadError::Bad { a, b }),
+            Standing::OfAnother(slot) => Err(LoadError::WrongLink {
+                slot: slots.slot(slot),
+            }),
+            Standing::Old(floor) => match Journal::begin(disk, link, floor) {
+                Ok(journal) => Ok(journal),
+                Err(Failed) => Err(LoadError::Fault),
+            },
+            Standing::Blank => Err(LoadError::Bad {
+                a: slots.a,
+                b: slots.b,
+            }),
         }
     }
 
@@ -147,10 +206,12 @@ impl Journal {
         requires rises { journal_floor self.old < n }
         requires within { n ≤ LIMIT }
 
+        ensures link { journal_link self.new ≡ journal_link self.old }
         ensures fits { OnOk result (Fits self.new (D.told disk.new)) }
         ensures committed { OnOk result (HasCommitted self.old self.new
             (D.told disk.old) (D.told disk.new) (D.may_leave disk.new) n) }
-        ensures image { OnOk result ((c : Slots) → D.may_leave disk.new c → floor_of c ≡ Some n) }
+        ensures image { OnOk result ((c : Slots) → D.may_leave disk.new c → floor_of (journal_link self.old) c
+            ≡ Some n) }
 
         // After a fault the journal isn't to be used again.
         ensures failed { OnErr result
@@ -161,13 +222,12 @@ impl Journal {
         ensures kept { IsKept self.old (D.told disk.old) (D.may_leave disk.old)
             → IsKept self.new (D.told disk.new) (D.may_leave disk.new) }
         ensures any_moment { IsKept self.old (D.told disk.old) (D.may_leave disk.old)
-            → LeavesOnly D.moment D.left_since disk.old disk.new
-            (HasFloorAtLeast (journal_floor self.old)) }
+            → LeavesOnly D.moment D.left_since disk.old disk.new (HasFloorFrom self.old) }
         ensures crash_safe { IsCrashSafe self.old (D.told disk.old) (D.may_leave disk.old)
             → IsCrashSafe self.new (D.told disk.new) (D.may_leave disk.new) }
         // So it is a step of an uptime, in which it answers `n`, or nothing where it fails.
         ensures is_step { IsKept self.old (D.told disk.old) (D.may_leave disk.old)
-            → IsStep D.SlotDisk (journal_floor self.old) disk.old (record {
+            → IsStepOf D.SlotDisk self.old disk.old (record {
               numbers = numbers_answered (λ done. n ∷ []) result;
               after = disk.new;
             }) }
@@ -175,7 +235,7 @@ impl Journal {
         ensures cause { HasCause (D.faults disk.old) (D.faults disk.new) result }
     {
         let slot = self.kept.other();
-        let Ok(()) = write_and_sync(disk, slot, &slot_of(n)) else {
+        let Ok(()) = write_and_sync(disk, slot, &slot_of(n, &self.link)) else {
             self.broken = true;
             return Err(JournalFault);
         };

@@ -2,32 +2,38 @@ ghost use Rattle.std.specs.Prelude.{◌≡◌, ℕ, [], List, Some, length};
 ghost use Rattle.yasir_io.specs.declared.disk.Slot.{Slot};
 ghost use Rattle.yasir_io.specs.declared.disk.TheConstants.{SLOT_LEN};
 ghost use Rattle.yasir_io.specs.Disks.{Slots, slot_in, Torn, Reaches, NoMore};
+ghost use Rattle.sequence_journal.specs.declared.link.LinkId.{LinkId};
 ghost use Rattle.sequence_journal.specs.Slots.{floor_of};
 ghost use Rattle.sequence_journal.specs.FailedCalls.{AreWhole, HaveFailedCalls, last_disk};
 ghost use Rattle.sequence_journal.specs.Journal.{HasFloorAtLeast};
-ghost use Rattle.sequence_journal.specs.Uptimes.{RiseFrom, IsUptime, Uptime, AreUptimes};
-ghost use Rattle.sequence_journal.specs.Uptimes.{all_numbers};
+ghost use Rattle.sequence_journal.specs.Loading.{KeepsLoadable};
+ghost use Rattle.sequence_journal.specs.Uptimes.{RiseFrom, IsUptime, IsIdle, HasNoFloorBelow};
+ghost use Rattle.sequence_journal.specs.Uptimes.{Uptime, AreUptimes, all_numbers};
 ghost use Rattle.sequence_journal.specs.Uptimes.{Step, answered, IsStep, EndsInside};
 
 use yasir_io::SlotDisk;
 
-/// Over uptimes on one disk, whatever moments they ended at, the numbers that they answered rise:
-/// none comes twice.
+/// Over uptimes on one disk and for one link, whatever moments they ended at, also while they were
+/// being loaded, the numbers that they answered rise: none comes twice.
 pub fn numbers_rise()
-    ensures { (begins : Slots) (floor : ℕ) (uptimes : List Uptime) → floor_of begins ≡ Some floor
-        → AreUptimes begins uptimes → RiseFrom floor (all_numbers uptimes) }
+    ensures { (link : LinkId) (begins : Slots) (floor : ℕ) (uptimes : List Uptime)
+        → HasNoFloorBelow link floor begins
+        → AreUptimes link begins uptimes → RiseFrom floor (all_numbers uptimes) }
 {}
 
 /// An uptime may end at any moment: inside a step, a commit included, for the numbers answered by
-/// then, and also while nothing goes on, as a step that answers none.
+/// then, also while nothing goes on, as a step that answers none, and while its journal is loaded.
 pub fn uptime_ends_at_any_moment<D: SlotDisk>()
-    ensures inside { (begins : Slots) (floor : ℕ) (loaded : D) (done : List (Step D))
-        (image : Slots)
-        → floor_of begins ≡ Some floor → EndsInside D.SlotDisk floor loaded done image
-        → IsUptime begins (answered done) image }
-    ensures between { (floor : ℕ) (disk : D)
-        → ((c : Slots) → D.may_leave disk c → HasFloorAtLeast floor c)
-        → IsStep D.SlotDisk floor disk (record { numbers = []; after = disk }) }
+    ensures inside { (link : LinkId) (begins : Slots) (floor : ℕ) (loaded : D)
+        (done : List (Step D)) (image : Slots)
+        → floor_of link begins ≡ Some floor → EndsInside D.SlotDisk link floor loaded done image
+        → IsUptime link begins (answered done) image }
+    ensures between { (link : LinkId) (floor : ℕ) (disk : D)
+        → ((c : Slots) → D.may_leave disk c → HasFloorAtLeast link floor c)
+        → IsStep D.SlotDisk link floor disk (record { numbers = []; after = disk }) }
+    ensures loading { (link : LinkId) (begins : Slots) (floor : ℕ) (image : Slots)
+        → floor_of link begins ≡ Some floor → KeepsLoadable link begins floor image
+        → IsIdle link begins [] image }
 {}
 
 /// Calls of a disk that fail take no image away. So what a crash at a moment of a run may leave, the

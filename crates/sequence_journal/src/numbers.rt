@@ -1,23 +1,50 @@
-ghost use Rattle.std.specs.Prelude.{◌≡◌, ◌≤◌, ◌<◌, ◌-◌, ◌^◌, ◌++◌, ℕ, map, Some, IfSome, IfNone};
+ghost use Rattle.std.specs.Prelude.{◌≡◌, ◌≤◌, ◌<◌, ◌-◌, ◌^◌, ◌++◌, ℕ, map, Some, IfSome};
+ghost use Rattle.std.specs.Prelude.{IfNone};
 ghost use Rattle.sequence_journal.specs.Numbers.{IsLeastWith, full_of};
-ghost use Rattle.sequence_journal.specs.Slots.{slot_bytes, number_held, with_complement};
+ghost use Rattle.sequence_journal.specs.declared.link.LinkId.{LinkId};
+ghost use Rattle.sequence_journal.specs.Links.{IsLink};
+ghost use Rattle.sequence_journal.specs.Slots.{slot_bytes, old_slot_bytes, number_held, link_held};
+ghost use Rattle.sequence_journal.specs.Slots.{old_number_held, with_complement};
 
+use crate::link::LinkId;
 use byteorder::{BigEndian, ByteOrder};
-use yasir_io::{SLOT_LEN, SlotBytes};
+use yasir_io::{OLD_SLOT_LEN, OldSlotBytes, SLOT_LEN, SlotBytes};
 
-/// How many bytes of a slot hold its number; their complement fills the rest.
+/// How many bytes of a slot hold its number and its link; their complement fills the rest.
 const HALF: usize = SLOT_LEN / 2;
+
+/// How many bytes of an old slot hold its number; their complement fills the rest.
+const OLD_HALF: usize = OLD_SLOT_LEN / 2;
+
+/// The version of a slot that names its link.
+const VERSION: u8 = 2;
 
 /// The greatest number, 2^48 - 1.
 pub const LIMIT: u64 = 281_474_976_710_655;
 
-/// The slot that holds a number: its eight bytes, the highest first, and then their complement.
+/// The slot that holds a number for a link: the eight bytes of the number, the highest first, the
+/// label, the direction and the profile of the link, the version 2, and then the complement of
+/// these twelve.
 #[tactic(auto, unfolding(crate::specs::Slots::slot_bytes))]
-pub fn slot_of(n: u64) -> SlotBytes
-    requires { n ≤ LIMIT }
-    ensures { result ≡ slot_bytes n }
+pub fn slot_of(n: u64, link: &LinkId) -> SlotBytes
+    requires within { n ≤ LIMIT }
+    requires link { IsLink link.now }
+    ensures { result ≡ slot_bytes n link.now }
 {
-    let mut half = [0; HALF];
+    let mut half = [
+        0,
+        0,
+        0,
+        0,
+        0,
+        0,
+        0,
+        0,
+        link.label,
+        link.dir,
+        link.profile,
+        VERSION,
+    ];
     BigEndian::write_u64(&mut half, n);
     completed(half)
 }
@@ -32,17 +59,77 @@ fn completed(half: [u8; HALF]) -> SlotBytes
     slot
 }
 
-/// The number that a slot holds. There is none where the slot isn't that of a number up to the
-/// limit.
+/// The number that a slot holds for a link. There is none where the slot isn't that of a number up
+/// to the limit for this link.
 #[tactic(auto, unfolding(crate::specs::Slots::number_held))]
-pub fn number_in(slot: &SlotBytes) -> Option<u64>
-    ensures value { result ≡ number_held slot.now }
+pub fn number_in(slot: &SlotBytes, link: &LinkId) -> Option<u64>
+    requires link { IsLink link.now }
+    ensures value { result ≡ number_held link.now slot.now }
     ensures within { IfSome result (λ n. n ≤ LIMIT) }
-    ensures found { IfSome result (λ n. slot.now ≡ slot_bytes n) }
-    ensures only { (n : ℕ) → n ≤ LIMIT → slot.now ≡ slot_bytes n → result ≡ Some n }
+    ensures found { IfSome result (λ n. slot.now ≡ slot_bytes n link.now) }
+    ensures only { (n : ℕ) → n ≤ LIMIT → slot.now ≡ slot_bytes n link.now → result ≡ Some n }
 {
     let n = BigEndian::read_u64(slot);
-    if n <= LIMIT && slot_of(n) == *slot {
+    if n <= LIMIT && slot_of(n, link) == *slot {
+        Some(n)
+    } else {
+        None
+    }
+}
+
+/// The number that a slot holds, and the link that it holds it for. There is none where the slot
+/// isn't that of a number up to the limit for any link.
+#[tactic(auto, unfolding(crate::specs::Slots::link_held))]
+pub fn link_in(slot: &SlotBytes) -> Option<(u64, LinkId)>
+    ensures value { result ≡ link_held slot.now }
+    ensures within { IfSome result (λ held. held.0 ≤ LIMIT) }
+    ensures found { IfSome result (λ held. IsLink held.1 × (slot.now ≡ slot_bytes held.0 held.1)) }
+    ensures only { (n : ℕ) (link : LinkId) → n ≤ LIMIT → IsLink link → slot.now ≡ slot_bytes n link
+        → result ≡ Some (n, link) }
+{
+    let link = LinkId {
+        label: slot[8],
+        dir: slot[9],
+        profile: slot[10],
+    };
+    if !link.is_known() {
+        return None;
+    }
+    let n = number_in(slot, &link)?;
+    Some((n, link))
+}
+
+#[tactic(auto, unfolding(crate::specs::Slots::old_slot_bytes))]
+fn old_slot_of(n: u64) -> OldSlotBytes
+    requires { n ≤ LIMIT }
+    ensures { result ≡ old_slot_bytes n }
+{
+    let mut half = [0; OLD_HALF];
+    BigEndian::write_u64(&mut half, n);
+    old_completed(half)
+}
+
+fn old_completed(half: [u8; OLD_HALF]) -> OldSlotBytes
+    ensures { result ≡ with_complement half }
+{
+    let mut slot = [0; OLD_SLOT_LEN];
+    let complement = half.map(|b| u8::MAX - b);
+    slot[..OLD_HALF].copy_from_slice(&half);
+    slot[OLD_HALF..].copy_from_slice(&complement);
+    slot
+}
+
+/// The number that an old slot holds: its eight bytes, the highest first, and then their
+/// complement. There is none where the slot isn't that of a number up to the limit.
+#[tactic(auto, unfolding(crate::specs::Slots::old_number_held))]
+pub fn number_in_old(slot: &OldSlotBytes) -> Option<u64>
+    ensures value { result ≡ old_number_held slot.now }
+    ensures within { IfSome result (λ n. n ≤ LIMIT) }
+    ensures found { IfSome result (λ n. slot.now ≡ old_slot_bytes n) }
+    ensures only { (n : ℕ) → n ≤ LIMIT → slot.now ≡ old_slot_bytes n → result ≡ Some n }
+{
+    let n = BigEndian::read_u64(slot);
+    if n <= LIMIT && old_slot_of(n) == *slot {
         Some(n)
     } else {
         None

@@ -1,40 +1,117 @@
 ghost use Rattle.std.specs.Prelude.{◌≡◌, ◌+◌, ◌≤◌, ℕ, [], ◌∷◌, List, Some, IfSome};
 ghost use Rattle.yasir_io.specs.Disks.{Slots, OneImage};
+ghost use Rattle.sequence_journal.specs.Links.{IsLink};
 ghost use Rattle.sequence_journal.specs.Slots.{floor_of};
-ghost use Rattle.sequence_journal.specs.Uptimes.{Step, answered, EndsInside, AreUptimes};
+ghost use Rattle.sequence_journal.specs.Uptimes.{Step, answered, EndsInside, IsIdle, AreUptimes};
 
 use crate::laws::{failed_calls_keep_images, numbers_rise, uptime_ends_at_any_moment};
 use crate::{
-    InitError, Journal, LIMIT, LoadError, full_number, full_number_wide, number_in, slot_of,
+    InitError, Journal, LIMIT, LinkId, LoadError, full_number, full_number_wide, link_in,
+    number_in, number_in_old, slot_of,
 };
 use std::test::Fail;
 use yasir_io::{MemSlots, Plan, Slot, SlotDisk};
 
+const RTU_AB: LinkId = LinkId {
+    label: 1,
+    dir: 0,
+    profile: 18,
+};
+
+const DNP_BA_24: LinkId = LinkId {
+    label: 2,
+    dir: 1,
+    profile: 24,
+};
+
+// The bytes of three words, the highest first.
+fn bytes_of(words: &[u64; 3]) -> [u8; 24] {
+    let mut bytes = [0; 24];
+    bytes[..8].copy_from_slice(&words[0].to_be_bytes());
+    bytes[8..16].copy_from_slice(&words[1].to_be_bytes());
+    bytes[16..].copy_from_slice(&words[2].to_be_bytes());
+    bytes
+}
+
+const HELD: [(u64, LinkId, [u64; 3]); 4] = [
+    (0, RTU_AB, [0, 0x01001202_ffffffff, 0xffffffff_feffedfd]),
+    (6, RTU_AB, [6, 0x01001202_ffffffff, 0xfffffff9_feffedfd]),
+    (
+        65_536,
+        DNP_BA_24,
+        [65_536, 0x02011802_ffffffff, 0xfffeffff_fdfee7fd],
+    ),
+    (
+        281_474_976_710_655,
+        RTU_AB,
+        [0xffff_ffffffff, 0x01001202_ffff0000, 0x00000000_feffedfd],
+    ),
+];
+
 #[test]
-fn a_slot_holds_a_number(rt: HostRuntime) {
-    let rows: [(u64, u128); 5] = [
-        (0, 0x0000000000000000_ffffffffffffffff),
-        (1, 0x0000000000000001_fffffffffffffffe),
-        (5, 0x0000000000000005_fffffffffffffffa),
-        (65_536, 0x0000000000010000_fffffffffffeffff),
-        (281_474_976_710_655, 0x0000ffffffffffff_ffff000000000000),
-    ];
-    for (n, slot) in rows {
+fn a_slot_holds_a_number_for_a_link(rt: HostRuntime) {
+    for (n, link, words) in &HELD {
+        let (n, link, slot) = (*n, *link, bytes_of(words));
         assert!(rt; n <= LIMIT);
-        assert_eq!(rt; slot_of(n), slot.to_be_bytes());
-        assert_eq!(rt; number_in(&slot.to_be_bytes()), Some(n));
+        assert!(rt; link.is_known());
+        assert_eq!(rt; slot_of(n, &link), slot);
+        assert_eq!(rt; number_in(&slot, &link), Some(n));
+        assert_eq!(rt; link_in(&slot), Some((n, link)));
+        let other = LinkId {
+            profile: 42 - link.profile,
+            ..link
+        };
+        assert!(rt; other.is_known());
+        assert_eq!(rt; number_in(&slot, &other), None);
     }
-    // Nothing written, a complement that is wrong in its first or last bit, a number above the
-    // limit.
-    let none: [u128; 5] = [
-        0,
-        0x11111111111111111111111111111111,
-        0x0000000000000005_7ffffffffffffffa,
-        0x0000000000000005_fffffffffffffffb,
-        0x0001000000000000_fffeffffffffffff,
+}
+
+// Nothing written, no complement, one that is wrong in its first or last bit, a number above the
+// limit, a version of 1, a label of 3, a direction of 2 and a profile of 20.
+const NONE_HELD: [[u64; 3]; 9] = [
+    [0, 0, 0],
+    [0x1111111111111111, 0x1111111111111111, 0x1111111111111111],
+    [5, 0x01001202_7fffffff, 0xfffffffa_feffedfd],
+    [5, 0x01001202_ffffffff, 0xfffffffa_feffedfc],
+    [
+        0x00010000_00000000,
+        0x01001202_fffeffff,
+        0xffffffff_feffedfd,
+    ],
+    [5, 0x01001201_ffffffff, 0xfffffffa_feffedfe],
+    [5, 0x03001202_ffffffff, 0xfffffffa_fcffedfd],
+    [5, 0x01021202_ffffffff, 0xfffffffa_fefdedfd],
+    [5, 0x01001402_ffffffff, 0xfffffffa_feffebfd],
+];
+
+#[test]
+fn other_slots_hold_none(rt: HostRuntime) {
+    for words in &NONE_HELD {
+        let slot = bytes_of(words);
+        assert_eq!(rt; number_in(&slot, &RTU_AB), None);
+        assert_eq!(rt; link_in(&slot), None);
+    }
+}
+
+#[test]
+fn an_old_slot_holds_a_number(rt: HostRuntime) {
+    let rows: [(u128, Option<u64>); 8] = [
+        (0x0000000000000000_ffffffffffffffff, Some(0)),
+        (0x0000000000000005_fffffffffffffffa, Some(5)),
+        (
+            0x0000ffffffffffff_ffff000000000000,
+            Some(281_474_976_710_655),
+        ),
+        // Nothing written, a complement that is wrong in its first or last bit, a number above the
+        // limit.
+        (0, None),
+        (0x11111111111111111111111111111111, None),
+        (0x0000000000000005_7ffffffffffffffa, None),
+        (0x0000000000000005_fffffffffffffffb, None),
+        (0x0001000000000000_fffeffffffffffff, None),
     ];
-    for slot in none {
-        assert_eq!(rt; number_in(&slot.to_be_bytes()), None);
+    for (slot, n) in rows {
+        assert_eq!(rt; number_in_old(&slot.to_be_bytes()), n);
     }
 }
 
@@ -66,40 +143,86 @@ fn a_word_stands_for_the_next_number_that_has_it(rt: HostRuntime) {
     }
 }
 
+// The slots of a disk: old A and B, A and B.
+type AllBytes = ([u8; 16], [u8; 16], [u8; 24], [u8; 24]);
+
 // A disk with these slots, whose call `fail` fails.
-fn disk_of(rt: &HostRuntime, a: [u8; 16], b: [u8; 16], fail: u32) -> Result<MemSlots, Fail> {
+fn disk_of(rt: &HostRuntime, slots: &AllBytes, fail: u32) -> Result<MemSlots, Fail> {
+    let (old_a, old_b, a, b) = *slots;
     let mut plan = Plan::new();
     plan.push(fail);
-    Ok(MemSlots::with_room(rt.alloc(), a, b, 16, plan)?)
+    Ok(MemSlots::with_room(rt.alloc(), old_a, old_b, a, b, 16, plan)?)
 }
 
-const BLANK: [u8; 16] = [0; 16];
+// A disk whose old slots are blank.
+fn new_disk_of(rt: &HostRuntime, a: [u8; 24], b: [u8; 24], fail: u32) -> Result<MemSlots, Fail> {
+    disk_of(rt, &(OLD_BLANK, OLD_BLANK, a, b), fail)
+}
 
-const ONES: [u8; 16] = [0x11; 16];
+const OLD_BLANK: [u8; 16] = [0; 16];
+
+const OLD_ONES: [u8; 16] = [0x11; 16];
+
+const BLANK: [u8; 24] = [0; 24];
+
+const ONES: [u8; 24] = [0x11; 24];
+
+// An old slot.
+fn old(n: u64) -> [u8; 16] {
+    ((u128::from(n) << 64) | u128::from(!n)).to_be_bytes()
+}
+
+fn own(n: u64) -> [u8; 24] {
+    slot_of(n.min(LIMIT), &RTU_AB)
+}
+
+fn another(n: u64) -> [u8; 24] {
+    slot_of(n.min(LIMIT), &DNP_BA_24)
+}
+
+// All slots of a disk.
+fn slots_of(disk: &MemSlots) -> AllBytes {
+    (
+        disk.old_slot(Slot::A),
+        disk.old_slot(Slot::B),
+        disk.slot(Slot::A),
+        disk.slot(Slot::B),
+    )
+}
 
 #[test]
 fn the_greater_number_is_the_floor(rt: HostRuntime) -> Result<(), Fail> {
-    // slots A and B, the floor, and the slot that the next commit writes
-    let rows: [([u8; 16], [u8; 16], u64, Slot); 5] = [
-        (slot_of(5), ONES, 5, Slot::B),
-        (ONES, slot_of(5), 5, Slot::A),
-        (slot_of(5), slot_of(6), 6, Slot::A),
-        (slot_of(6), slot_of(5), 6, Slot::B),
-        (slot_of(5), slot_of(5), 5, Slot::B),
+    // The slots, the floor, slot A once loaded, and the slot that the next commit writes.
+    let rows: [(AllBytes, u64, [u8; 24], Slot); 9] = [
+        ((OLD_BLANK, OLD_BLANK, own(5), ONES), 5, own(5), Slot::B),
+        ((OLD_BLANK, OLD_ONES, ONES, own(5)), 5, ONES, Slot::A),
+        ((OLD_ONES, OLD_BLANK, own(5), own(6)), 6, own(5), Slot::A),
+        ((OLD_ONES, OLD_ONES, own(6), own(5)), 6, own(6), Slot::B),
+        ((OLD_BLANK, OLD_BLANK, own(5), own(5)), 5, own(5), Slot::B),
+        // Beside another link's number, and beside old ones.
+        (
+            (OLD_BLANK, OLD_BLANK, another(9), own(5)),
+            5,
+            another(9),
+            Slot::A,
+        ),
+        ((old(7), old(4), own(5), ONES), 7, own(5), Slot::B),
+        // Old ones alone are taken over.
+        ((old(5), OLD_ONES, BLANK, BLANK), 5, own(5), Slot::B),
+        ((old(5), old(6), ONES, ONES), 6, own(6), Slot::B),
     ];
-    for (a, b, floor, written) in rows {
-        let mut disk = disk_of(&rt, a, b, 0)?;
-        let mut journal = Journal::load(&mut disk)?;
-        assert_eq!(rt; journal.floor(), floor);
+    for row in &rows {
+        let (slots, floor, a, written) = row;
+        let mut disk = disk_of(&rt, slots, 0)?;
+        let mut journal = Journal::load(&mut disk, &RTU_AB)?;
+        assert_eq!(rt; journal.floor(), *floor);
         assert!(rt; !journal.broken());
+        assert!(rt; slots_of(&disk) == (slots.0, slots.1, *a, slots.3));
         assert!(rt; journal.floor() < 9);
         assert_eq!(rt; journal.commit(&mut disk, 9), Ok(()));
-        assert_eq!(rt; disk.slot(written), slot_of(9));
-        assert_eq!(rt; Journal::load(&mut disk)?.floor(), 9);
+        assert_eq!(rt; disk.slot(*written), own(9));
+        assert_eq!(rt; Journal::load(&mut disk, &RTU_AB)?.floor(), 9);
     }
-    let mut disk = disk_of(&rt, ONES, BLANK, 0)?;
-    let refused = Journal::load(&mut disk).err();
-    assert_eq!(rt; refused, Some(LoadError::Bad { a: ONES, b: BLANK }));
     numbers_rise();
     failed_calls_keep_images::<MemSlots>();
     uptime_ends_at_any_moment::<MemSlots>();
@@ -107,44 +230,96 @@ fn the_greater_number_is_the_floor(rt: HostRuntime) -> Result<(), Fail> {
 }
 
 #[test]
-fn a_fault_of_a_commit_keeps_the_floor(rt: HostRuntime) -> Result<(), Fail> {
-    // Call 3 is the write and call 4 the sync; slot B then, and the floor that a later run loads.
-    let rows: [(u32, bool, [u8; 16], u64); 3] = [
-        (3, false, ONES, 5),
-        (4, false, slot_of(6), 6),
-        (5, true, slot_of(6), 6),
+fn other_disks_are_refused(rt: HostRuntime) -> Result<(), Fail> {
+    let bad = LoadError::Bad { a: ONES, b: BLANK };
+    let first = LoadError::WrongLink { slot: another(5) };
+    let second = LoadError::WrongLink { slot: another(6) };
+    let rows: [(AllBytes, LoadError); 6] = [
+        ((OLD_BLANK, OLD_ONES, ONES, BLANK), bad),
+        ((OLD_BLANK, OLD_ONES, another(5), BLANK), first),
+        ((OLD_BLANK, OLD_ONES, BLANK, another(6)), second),
+        ((OLD_BLANK, OLD_ONES, another(5), another(6)), second),
+        ((OLD_BLANK, OLD_ONES, another(5), another(4)), first),
+        // Old numbers are no longer heeded then.
+        ((old(9), old(8), another(5), BLANK), first),
     ];
-    for (fail, done, b, later) in rows {
-        let mut disk = disk_of(&rt, slot_of(5), ONES, fail)?;
-        let mut journal = Journal::load(&mut disk)?;
-        assert!(rt; journal.floor() < 6);
-        assert_eq!(rt; journal.commit(&mut disk, 6).is_ok(), done);
-        assert_eq!(rt; journal.broken(), !done);
-        assert_eq!(rt; journal.floor(), if done { 6 } else { 5 });
-        assert_eq!(rt; disk.slot(Slot::A), slot_of(5));
-        assert_eq!(rt; disk.slot(Slot::B), b);
-        let mut again = disk_of(&rt, disk.slot(Slot::A), disk.slot(Slot::B), 0)?;
-        assert_eq!(rt; Journal::load(&mut again)?.floor(), later);
-    }
-    for fail in 1..3 {
-        let mut disk = disk_of(&rt, slot_of(5), ONES, fail)?;
-        assert!(rt; matches!(Journal::load(&mut disk), Err(LoadError::Fault)));
+    for row in &rows {
+        let (slots, why) = row;
+        let mut disk = disk_of(&rt, slots, 0)?;
+        assert!(rt; Journal::load(&mut disk, &RTU_AB).err() == Some(*why));
+        assert!(rt; slots_of(&disk) == *slots);
     }
     Ok(())
 }
 
 #[test]
+fn a_fault_of_a_commit_keeps_the_floor(rt: HostRuntime) -> Result<(), Fail> {
+    // Call 5 is the write and call 6 the sync; slot B then, and the floor that a later run loads.
+    let rows: [(u32, bool, [u8; 24], u64); 3] = [
+        (5, false, ONES, 5),
+        (6, false, own(6), 6),
+        (7, true, own(6), 6),
+    ];
+    for (fail, done, b, later) in rows {
+        let mut disk = new_disk_of(&rt, own(5), ONES, fail)?;
+        let mut journal = Journal::load(&mut disk, &RTU_AB)?;
+        assert!(rt; journal.floor() < 6);
+        assert_eq!(rt; journal.commit(&mut disk, 6).is_ok(), done);
+        assert_eq!(rt; journal.broken(), !done);
+        assert_eq!(rt; journal.floor(), if done { 6 } else { 5 });
+        assert_eq!(rt; disk.slot(Slot::A), own(5));
+        assert_eq!(rt; disk.slot(Slot::B), b);
+        let mut again = new_disk_of(&rt, disk.slot(Slot::A), disk.slot(Slot::B), 0)?;
+        assert_eq!(rt; Journal::load(&mut again, &RTU_AB)?.floor(), later);
+    }
+    for fail in 1..5 {
+        let mut disk = new_disk_of(&rt, own(5), ONES, fail)?;
+        assert!(rt; matches!(Journal::load(&mut disk, &RTU_AB), Err(LoadError::Fault)));
+    }
+    Ok(())
+}
+
+#[test]
+fn a_fault_of_a_taking_over_keeps_the_floor(rt: HostRuntime) -> Result<(), Fail> {
+    // Call 5 is the write and call 6 the sync; slot A then.
+    for (fail, a) in [(5, BLANK), (6, own(5))] {
+        let mut disk = disk_of(&rt, &(old(5), OLD_ONES, BLANK, BLANK), fail)?;
+        assert!(rt; matches!(Journal::load(&mut disk, &RTU_AB), Err(LoadError::Fault)));
+        assert!(rt; slots_of(&disk) == (old(5), OLD_ONES, a, BLANK));
+        assert_eq!(rt; Journal::load(&mut disk, &RTU_AB)?.floor(), 5);
+    }
+    // A slot that a crash tore: it holds nothing, or reads as another link's.
+    let mut torn = disk_of(&rt, &(old(5), OLD_ONES, ONES, BLANK), 0)?;
+    assert_eq!(rt; Journal::load(&mut torn, &RTU_AB)?.floor(), 5);
+    let mut torn = disk_of(&rt, &(old(5), OLD_ONES, another(9), BLANK), 0)?;
+    let why = LoadError::WrongLink { slot: another(9) };
+    assert!(rt; Journal::load(&mut torn, &RTU_AB).err() == Some(why));
+    Ok(())
+}
+
+#[test]
 fn a_new_journal_stands_at_zero(rt: HostRuntime) -> Result<(), Fail> {
-    let mut disk = disk_of(&rt, ONES, ONES, 0)?;
-    assert_eq!(rt; Journal::init(&mut disk)?.floor(), 0);
-    assert_eq!(rt; disk.slot(Slot::A), slot_of(0));
-    assert_eq!(rt; disk.slot(Slot::B), ONES);
-    let again = Journal::init(&mut disk);
-    assert!(rt; matches!(again, Err(InitError::Stands { floor: 0 })));
-    // Calls 1 and 2 are the reads, 3 the write, 4 the sync; slot A then.
-    for (fail, a) in [(1, BLANK), (2, BLANK), (3, BLANK), (4, slot_of(0))] {
-        let mut disk = disk_of(&rt, BLANK, BLANK, fail)?;
-        assert!(rt; matches!(Journal::init(&mut disk), Err(InitError::Fault)));
+    let mut disk = disk_of(&rt, &(OLD_ONES, OLD_BLANK, ONES, ONES), 0)?;
+    assert_eq!(rt; Journal::init(&mut disk, &RTU_AB)?.floor(), 0);
+    assert!(rt; slots_of(&disk) == (OLD_ONES, OLD_BLANK, own(0), ONES));
+    // The greatest number stands there, for whatever link.
+    let rows: [(AllBytes, u64); 4] = [
+        (slots_of(&disk), 0),
+        ((OLD_BLANK, OLD_BLANK, own(5), another(6)), 6),
+        ((OLD_BLANK, old(4), BLANK, BLANK), 4),
+        ((old(7), OLD_BLANK, BLANK, own(5)), 7),
+    ];
+    for row in &rows {
+        let (slots, floor) = row;
+        let mut disk = disk_of(&rt, slots, 0)?;
+        let stands = InitError::Stands { floor: *floor };
+        assert!(rt; Journal::init(&mut disk, &RTU_AB).err() == Some(stands));
+        assert!(rt; slots_of(&disk) == *slots);
+    }
+    // Calls 1 to 4 are the reads, 5 the write, 6 the sync; slot A then.
+    for (fail, a) in [(1, BLANK), (4, BLANK), (5, BLANK), (6, own(0))] {
+        let mut disk = new_disk_of(&rt, BLANK, BLANK, fail)?;
+        assert!(rt; matches!(Journal::init(&mut disk, &RTU_AB), Err(InitError::Fault)));
         assert_eq!(rt; disk.slot(Slot::A), a);
         assert_eq!(rt; disk.slot(Slot::B), BLANK);
     }
@@ -153,16 +328,19 @@ fn a_new_journal_stands_at_zero(rt: HostRuntime) -> Result<(), Fail> {
 
 // An uptime that answers one number, the next one, and ends inside the commit of the one after it:
 // nobody hears what that commit answers.
-fn answer_one<D: SlotDisk>(disk: &mut D) -> Option<u64>
+fn answer_one<D: SlotDisk>(disk: &mut D, link: &LinkId) -> Option<u64>
+    requires { IsLink link.now }
     ensures next { IfSome result (λ n. (begins : Slots) (floor : ℕ) → D.told disk.old ≡ Some begins
-        → floor_of begins ≡ Some floor → n ≡ floor + 1) }
+        → floor_of link.now begins ≡ Some floor → n ≡ floor + 1) }
     ensures ends { IfSome result (λ n. (begins : Slots) (floor : ℕ) → D.told disk.old ≡ Some begins
-        → floor_of begins ≡ Some floor → OneImage (D.told disk.old) (D.may_leave disk.old)
+        → floor_of link.now begins ≡ Some floor → OneImage (D.told disk.old) (D.may_leave disk.old)
         → (loaded : D) × (done : List (Step D)) × (answered done ≡ n ∷ [])
         × ((image : Slots) → D.may_leave disk.new image
-        → EndsInside D.SlotDisk floor loaded done image)) }
+        → EndsInside D.SlotDisk link.now floor loaded done image)) }
 {
-    let mut journal = Journal::load(disk).ok()?;
+    let Ok(mut journal) = Journal::load(disk, link) else {
+        return None;
+    };
     let number = journal.floor() + 1;
     if number >= LIMIT {
         return None;
@@ -174,29 +352,54 @@ fn answer_one<D: SlotDisk>(disk: &mut D) -> Option<u64>
     Some(number)
 }
 
-// Two of them, where the second begins on an image that the first left.
-fn answer_twice<D: SlotDisk>(first: &mut D, second: &mut D) -> Option<(u64, u64)>
+// An uptime that ends inside its load, of which nobody hears an answer.
+fn answer_none<D: SlotDisk>(disk: &mut D, link: &LinkId)
+    requires { IsLink link.now }
+    ensures idle { (begins image : Slots) (floor : ℕ) → D.told disk.old ≡ Some begins
+        → floor_of link.now begins ≡ Some floor → OneImage (D.told disk.old) (D.may_leave disk.old)
+        → D.left_since disk.new (D.moment disk.old) image → IsIdle link.now begins [] image }
+{
+    let _ = Journal::load(disk, link);
+}
+
+// Two of the first kind, where the second begins on an image that the first left.
+fn answer_twice<D: SlotDisk>(first: &mut D, second: &mut D, link: &LinkId) -> Option<(u64, u64)>
+    requires { IsLink link.now }
     ensures are_uptimes { IfSome result (λ n. (begins image last : Slots) (floor : ℕ)
-        → D.told first.old ≡ Some begins → floor_of begins ≡ Some floor
+        → D.told first.old ≡ Some begins → floor_of link.now begins ≡ Some floor
         → OneImage (D.told first.old) (D.may_leave first.old)
         → D.may_leave first.new image → D.told second.old ≡ Some image
         → OneImage (D.told second.old) (D.may_leave second.old) → D.may_leave second.new last
-        → AreUptimes begins (record { numbers = n.0 ∷ []; image = image }
+        → AreUptimes link.now begins (record { numbers = n.0 ∷ []; image = image }
         ∷ record { numbers = n.1 ∷ []; image = last } ∷ [])) }
 {
-    let n = answer_one(first)?;
-    let m = answer_one(second)?;
+    let n = answer_one(first, link)?;
+    let m = answer_one(second, link)?;
     Some((n, m))
 }
 
 #[test]
 fn an_uptime_ends_inside_a_commit(rt: HostRuntime) -> Result<(), Fail> {
-    // Call 5 is the write of 2 into slot A, where a crash may then leave anything, as this.
-    let torn = 0x0000000000000002_ffffffffffffffff_u128.to_be_bytes();
-    let mut first = disk_of(&rt, slot_of(0), BLANK, 5)?;
-    let mut second = disk_of(&rt, torn, slot_of(1), 0)?;
-    assert_eq!(rt; answer_twice(&mut first, &mut second), Some((1, 2)));
-    assert_eq!(rt; first.slot(Slot::A), slot_of(0));
-    assert_eq!(rt; first.slot(Slot::B), slot_of(1));
+    // Call 7 is the write of 2 into slot A, where a crash may then leave anything, as this.
+    let torn = bytes_of(&[2, 0x01001202_ffffffff, 0xffffffff_feffedfd]);
+    let mut first = new_disk_of(&rt, own(0), BLANK, 7)?;
+    let mut second = new_disk_of(&rt, torn, own(1), 0)?;
+    assert_eq!(rt;
+        answer_twice(&mut first, &mut second, &RTU_AB),
+        Some((1, 2))
+    );
+    assert_eq!(rt; first.slot(Slot::A), own(0));
+    assert_eq!(rt; first.slot(Slot::B), own(1));
+    Ok(())
+}
+
+#[test]
+fn an_uptime_ends_inside_its_load(rt: HostRuntime) -> Result<(), Fail> {
+    // Call 5 is the write of 5 into slot A, where a crash may then leave anything.
+    let mut first = disk_of(&rt, &(old(5), OLD_ONES, BLANK, BLANK), 5)?;
+    answer_none(&mut first, &RTU_AB);
+    let mut second = disk_of(&rt, &(old(5), OLD_ONES, ONES, BLANK), 0)?;
+    assert_eq!(rt; answer_one(&mut second, &RTU_AB), Some(6));
+    assert_eq!(rt; second.slot(Slot::B), own(6));
     Ok(())
 }

@@ -1,0 +1,23 @@
+use Rattle.std.proofs.Common.{◌≡◌, ◌∙◌, ℕ, Option, None, Some, rules}
+use Rattle.sequence_journal.specs.declared.link.LinkId.{LinkId}
+use Rattle.sequence_journal.specs.Slots.{link_held}
+use Rattle.sequence_journal.proofs.SlotLemmas.{link_holds}
+use Rattle.sequence_journal.proofs.numbers.link_in.Goals as goal
+
+pub returns-then-not-is_known-clause-only : goal.returns-then-not-is_known-clause-only
+unfolding link_held
+returns-then-not-is_known-clause-only c n link within right is =
+    let none : None ≡ link_held c.args.slot.now = search rules in
+    none ∙ link_holds n link c.args.slot.now within right is
+
+pub returns-in_err-n-clause-only : goal.returns-in_err-n-clause-only
+unfolding link_held
+returns-in_err-n-clause-only c n link within right is =
+    let none : c.from_residual.result ≡ link_held c.args.slot.now = search rules in
+    none ∙ link_holds n link c.args.slot.now within right is
+
+pub returns-clause-only : goal.returns-clause-only
+unfolding link_held
+returns-clause-only c n link within right is =
+    let found : Some _ ≡ link_held c.args.slot.now = search rules in
+    found ∙ link_holds n link c.args.slot.now within right is
