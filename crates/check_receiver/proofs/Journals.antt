@@ -24,6 +24,7 @@ module _ {S : Type 0} (d : SlotDisk S) (journal : Journal) (disk : S) where
       → KeepsJournal d journal journal disk disk (Ok step)
   journal-kept only_now fits step none = record {
     commits = commits-none step.note none;
+    link = refl;
     fits = fits;
     failed = tt;
     crash_safe = λ safe. safe;

@@ -11,7 +11,7 @@ use Rattle.link_format.specs.Profile.{Profile}
 use Rattle.sequence_journal.specs.declared.journal.Journal.{Journal}
 use Rattle.sequence_journal.specs.declared.journal.JournalFault.{JournalFault}
 use Rattle.sequence_journal.specs.Commits.{HasCommitted, HasFailed}
-use Rattle.sequence_journal.specs.Journal.{journal_floor, Fits, IsCrashSafe, HasFloorAtLeast}
+use Rattle.sequence_journal.specs.Journal.{journal_link, Fits, IsCrashSafe, HasFloorFrom}
 use Rattle.link_verdicts.specs.Checking.{checker, at_floor, check_notes, brief_note}
 use Rattle.link_verdicts.specs.Checking.FullNote.{passed_note}
 use Rattle.link_verdicts.specs.declared.note.CheckNote.{CheckNote}
@@ -56,6 +56,7 @@ numbers_noted None = []
 pub record KeepsJournal {S : Type 0} (d : SlotDisk S) (old new : Journal) (disk_old disk_new : S)
     (result : Result CheckStep JournalFault) : Type 0 where
   pub commits : IfOk result (λ step. CommitsNoted d old new disk_old disk_new step.note)
+  pub link : journal_link new ≡ journal_link old
   pub fits : OnOk result (Fits new (d.told disk_new))
   pub failed : OnErr result
       ((number : ℕ) × HasFailed old new (d.told disk_old) (d.told disk_new) number)
@@ -64,5 +65,5 @@ pub record KeepsJournal {S : Type 0} (d : SlotDisk S) (old new : Journal) (disk_
   pub crash_safe : IsCrashSafe old (d.told disk_old) (d.may_leave disk_old)
       → IsCrashSafe new (d.told disk_new) (d.may_leave disk_new)
   pub any_moment : IsCrashSafe old (d.told disk_old) (d.may_leave disk_old)
-      → LeavesOnly d.moment d.left_since disk_old disk_new (HasFloorAtLeast (journal_floor old))
+      → LeavesOnly d.moment d.left_since disk_old disk_new (HasFloorFrom old)
   pub cause : HasCause (d.faults disk_old) (d.faults disk_new) result

@@ -2,7 +2,7 @@ ghost use Rattle.std.specs.Prelude.{◌≡◌, Result};
 ghost use Rattle.sequence_journal.specs.declared.journal.Journal.{Journal};
 ghost use Rattle.sequence_journal.specs.declared.journal.JournalFault.{JournalFault};
 ghost use Rattle.sequence_journal.specs.Journal.{journal_floor, IsCrashSafe};
-ghost use Rattle.sequence_journal.specs.Uptimes.{IsStep, last_from, numbers_answered};
+ghost use Rattle.sequence_journal.specs.Uptimes.{IsStepOf, last_from, numbers_answered};
 ghost use Rattle.check_receiver.specs.declared.step.CheckStep.{CheckStep};
 ghost use Rattle.check_receiver.specs.Checkings.{KeepsJournal, numbers_noted};
 
@@ -15,7 +15,7 @@ pub fn steps_are_of_an_uptime<D: SlotDisk>()
     ensures is_step { (old new : Journal) (before after : D) (result : Result CheckStep JournalFault)
         → KeepsJournal D.SlotDisk old new before after result
         → IsCrashSafe old (D.told before) (D.may_leave before)
-        → IsStep D.SlotDisk (journal_floor old) before (record {
+        → IsStepOf D.SlotDisk old before (record {
           numbers = numbers_answered (λ step. numbers_noted step.note) result;
           after = after;
         }) }

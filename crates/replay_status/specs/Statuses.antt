@@ -10,7 +10,7 @@ use Rattle.replay_status.specs.declared.status.Status.{Status}
 use Rattle.replay_status.specs.declared.status.Status.TheVariants.{Done, Usage, BadTicks, ReadFault}
 use Rattle.replay_status.specs.declared.status.Status.TheVariants.{WriteFault, JournalFault}
 use Rattle.replay_status.specs.declared.status.Status.TheVariants.{TooLong, HasJournal, BadKey}
-use Rattle.replay_status.specs.declared.status.Status.TheVariants.{BadJournal, NoMemory}
+use Rattle.replay_status.specs.declared.status.Status.TheVariants.{BadJournal, WrongLink, NoMemory}
 
 abbrev pub code_of : Status → ℕ
 code_of Done = 0
@@ -23,6 +23,7 @@ code_of (TooLong what count) = 10
 code_of (HasJournal floor) = 11
 code_of (BadKey place) = 3
 code_of (BadJournal a b) = 8
+code_of (WrongLink slot) = 12
 code_of NoMemory = 9
 
 abbrev pub fault_word : TickFault → List ℕ
@@ -53,3 +54,4 @@ fault_line (HasJournal floor) = codes "fault: journal stands at " ++ decimal flo
 fault_line (BadKey place) = codes "fault: key at " ++ decimal place ++ codes "\n"
 fault_line (BadJournal a b) = codes "fault: bad journal " ++ encode_lower a ++ codes " "
     ++ encode_lower b ++ codes "\n"
+fault_line (WrongLink slot) = codes "fault: wrong link " ++ encode_lower slot ++ codes "\n"

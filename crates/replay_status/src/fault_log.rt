@@ -88,6 +88,16 @@ fn bad_journal_line(a: &SlotBytes, b: &SlotBytes) -> Line
     line
 }
 
+fn wrong_link_line(slot: &SlotBytes) -> Line
+    ensures { result.items ≡ fault_line (Status.WrongLink slot.now) }
+{
+    let mut line = Line::new();
+    line.try_extend_from_slice(b"fault: wrong link ").unwrap();
+    push_digits(&mut line, slot);
+    line.push(b'\n');
+    line
+}
+
 // A line of a fixed text.
 fn fixed_line(text: &[u8]) -> Line
     requires { length text.now ≤ 20 }
@@ -113,6 +123,7 @@ fn fault_line(status: &Status) -> Line
         Status::HasJournal { floor } => has_journal_line(*floor),
         Status::BadKey { place } => bad_key_line(*place),
         Status::BadJournal { a, b } => bad_journal_line(a, b),
+        Status::WrongLink { slot } => wrong_link_line(slot),
     }
 }
 

@@ -29,6 +29,9 @@ pub enum Status {
     BadKey { place: u32 },
     /// The disk holds no journal; these are its slots as they were read.
     BadJournal { a: SlotBytes, b: SlotBytes },
+    /// The disk holds another link's journal; this is its slot as it was read, and of two the one
+    /// with the greater number.
+    WrongLink { slot: SlotBytes },
     /// There was no memory for what is kept of the input.
     NoMemory,
 }
@@ -51,6 +54,7 @@ impl Status {
             Status::HasJournal { .. } => 11,
             Status::BadKey { .. } => 3,
             Status::BadJournal { .. } => 8,
+            Status::WrongLink { .. } => 12,
             Status::NoMemory => 9,
         }
     }

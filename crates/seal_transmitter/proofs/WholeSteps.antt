@@ -97,6 +97,7 @@ pub journal-kept : {D : Type 0} (d : SlotDisk D) (journal : Journal) (disk : D) 
     → KeepsJournal d journal journal disk disk (Ok step)
 journal-kept d journal disk step only_now fits commits = record {
   commits = commits;
+  link = refl;
   fits = fits;
   failed = tt;
   crash_safe = λ safe. safe;

@@ -11,7 +11,8 @@ use Rattle.link_format.specs.Profile.{Profile}
 use Rattle.sequence_journal.specs.declared.journal.Journal.{Journal}
 use Rattle.sequence_journal.specs.declared.journal.JournalFault.{JournalFault}
 use Rattle.sequence_journal.specs.Commits.{HasCommitted, HasFailed}
-use Rattle.sequence_journal.specs.Journal.{journal_floor, Fits, IsCrashSafe, HasFloorAtLeast}
+use Rattle.sequence_journal.specs.Journal.{journal_link, journal_floor, Fits, IsCrashSafe}
+use Rattle.sequence_journal.specs.Journal.{HasFloorFrom}
 use Rattle.seal_transmitter.specs.Sealing.{FullNote, sealer, at_floor, seal_notes}
 use Rattle.seal_transmitter.specs.Sealing.FullNote.{sealed_note, unsealed_note}
 use Rattle.seal_transmitter.specs.declared.note.SealNote.{SealNote}
@@ -58,6 +59,7 @@ numbers_noted None = []
 pub record KeepsJournal {D : Type 0} (d : SlotDisk D) (old new : Journal) (disk_old disk_new : D)
     (result : Result SealStep JournalFault) : Type 0 where
   pub commits : IfOk result (λ step. CommitsNoted d old new disk_old disk_new step.note)
+  pub link : journal_link new ≡ journal_link old
   pub fits : OnOk result (Fits new (d.told disk_new))
   -- the one number that a step commits is the next one
   pub failed : OnErr result
@@ -67,5 +69,5 @@ pub record KeepsJournal {D : Type 0} (d : SlotDisk D) (old new : Journal) (disk_
   pub crash_safe : IsCrashSafe old (d.told disk_old) (d.may_leave disk_old)
       → IsCrashSafe new (d.told disk_new) (d.may_leave disk_new)
   pub any_moment : IsCrashSafe old (d.told disk_old) (d.may_leave disk_old)
-      → LeavesOnly d.moment d.left_since disk_old disk_new (HasFloorAtLeast (journal_floor old))
+      → LeavesOnly d.moment d.left_since disk_old disk_new (HasFloorFrom old)
   pub cause : HasCause (d.faults disk_old) (d.faults disk_new) result

@@ -7,7 +7,7 @@ ghost use Rattle.link_format.specs.Setup.{Setup};
 ghost use Rattle.sequence_journal.specs.declared.journal.Journal.{Journal};
 ghost use Rattle.sequence_journal.specs.declared.journal.JournalFault.{JournalFault};
 ghost use Rattle.sequence_journal.specs.Journal.{journal_floor, IsCrashSafe};
-ghost use Rattle.sequence_journal.specs.Uptimes.{IsStep, last_from, numbers_answered};
+ghost use Rattle.sequence_journal.specs.Uptimes.{IsStepOf, last_from, numbers_answered};
 ghost use Rattle.seal_transmitter.specs.declared.note.SealStep.{SealStep};
 ghost use Rattle.seal_transmitter.specs.Answers.{KeepsJournal, numbers_noted};
 ghost use Rattle.seal_transmitter.specs.Sealing.{sealer, at_floor, sealed};
@@ -41,7 +41,7 @@ pub fn steps_are_of_an_uptime<D: SlotDisk>()
     ensures is_step { (old new : Journal) (before after : D) (result : Result SealStep JournalFault)
         → KeepsJournal D.SlotDisk old new before after result
         → IsCrashSafe old (D.told before) (D.may_leave before)
-        → IsStep D.SlotDisk (journal_floor old) before (record {
+        → IsStepOf D.SlotDisk old before (record {
           numbers = numbers_answered (λ step. numbers_noted step.note) result;
           after = after;
         }) }

@@ -6,7 +6,7 @@ ghost use Rattle.seal_transmitter.specs.Stands.{ticks_taken};
 use super::*;
 use hmac_tag::HmacSha1;
 use line_rules::FourBytes;
-use sequence_journal::{Journal, slot_of};
+use sequence_journal::{Journal, LinkId, slot_of};
 use std::alloc::{AllocError, Global};
 use std::test::Fail;
 use yasir_io::{SlotDisk, SteadySlots};
@@ -123,8 +123,9 @@ fn link_of(
     requires bytes { bytes.0 + bytes.1 ≤ 8 }
 {
     let mut sealer: FourSealer = Sealer::new(b"a key of sixteen", Dir::Ab);
-    let mut disk = SteadySlots::new(slot_of(7), [0; 16]);
-    let mut journal = Journal::load(&mut disk)?;
+    let served = LinkId::of_no_file();
+    let mut disk = SteadySlots::new(slot_of(7, &served), [0; 24]);
+    let mut journal = Journal::load(&mut disk, &served)?;
     let mut link = Vec::new(alloc);
     hear(&mut sealer, &mut journal, &mut disk, by_runs, 4, &mut link)?;
     wait(

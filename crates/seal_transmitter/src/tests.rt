@@ -5,7 +5,7 @@ ghost use Rattle.seal_transmitter.specs.Stands.{ticks_taken};
 use super::*;
 use hmac_tag::{HmacSha1, Mac};
 use line_rules::{FourBytes, LineRules};
-use sequence_journal::{Journal, slot_of};
+use sequence_journal::{Journal, LinkId, slot_of};
 use std::alloc::Global;
 use std::test::Fail;
 use yasir_io::{SlotDisk, SteadySlots};
@@ -43,8 +43,9 @@ const KEY: u128 = 0x000102030405060708090a0b0c0d0e0f;
 #[test]
 fn a_frame_is_sealed_and_another_burst_is_not(rt: HostRuntime) -> Result<(), Fail> {
     let mut sealer: Sealer<FourBytes, HmacSha1, 2> = Sealer::new(&KEY.to_be_bytes(), Dir::Ab);
-    let mut disk = SteadySlots::new(slot_of(0x10202), [0; 16]);
-    let mut journal = Journal::load(&mut disk)?;
+    let served = LinkId::of_no_file();
+    let mut disk = SteadySlots::new(slot_of(0x10202, &served), [0; 24]);
+    let mut journal = Journal::load(&mut disk, &served)?;
     let line: &[u8] = b"\x01\x02\x03\x00.....................\x05\x06....";
     let steps = steps(rt.alloc(), &mut sealer, &mut journal, &mut disk, line)?;
 
@@ -83,8 +84,9 @@ fn a_frame_is_sealed_and_another_burst_is_not(rt: HostRuntime) -> Result<(), Fai
 #[test]
 fn a_word_may_have_four_bytes(rt: HostRuntime) -> Result<(), Fail> {
     let mut sealer: Sealer<FourBytes, HmacSha1, 4> = Sealer::new(&KEY.to_be_bytes(), Dir::Ab);
-    let mut disk = SteadySlots::new(slot_of(0x10202), [0; 16]);
-    let mut journal = Journal::load(&mut disk)?;
+    let served = LinkId::of_no_file();
+    let mut disk = SteadySlots::new(slot_of(0x10202, &served), [0; 24]);
+    let mut journal = Journal::load(&mut disk, &served)?;
     let line: &[u8] = b"\x01\x02\x03\x00......................\x05\x06\x07\x00....";
     let steps = steps(rt.alloc(), &mut sealer, &mut journal, &mut disk, line)?;
 

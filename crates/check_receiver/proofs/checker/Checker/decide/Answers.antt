@@ -47,6 +47,7 @@ returns-in_default-clause-err_passes g c = (
 pub returns-in_default-clause-journal : goal.returns-in_default-clause-journal
 returns-in_default-clause-journal g c = record {
   commits = tt;
+  link = c.commit.ensures.link;
   fits = tt;
   failed = (c.in-Ok.number, c.in_default.ensures.failed);
   crash_safe = c.commit.ensures.crash_safe;
@@ -82,6 +83,7 @@ returns-clause-journal g c =
     let noted = c.pass.ensures.note in
     record {
       commits = subst P (sym noted.2) c.in-Ok-commit.ensures.committed;
+      link = c.commit.ensures.link;
       fits = c.in-Ok-commit.ensures.fits;
       failed = tt;
       crash_safe = c.commit.ensures.crash_safe;

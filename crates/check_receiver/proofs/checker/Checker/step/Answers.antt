@@ -1,3 +1,5 @@
+use Rattle.std.proofs.Common.{◌∙◌, ap}
+use Rattle.std.proofs.lemmas.Result.{on_ok_weaker}
 use Rattle.sequence_journal.specs.Commits.{HasFailed}
 use Rattle.sequence_journal.specs.Journal.{journal_floor}
 use Rattle.check_receiver.proofs.Journals.{journal-kept}
@@ -62,3 +64,7 @@ returns-in-Live-clause-journal g c = journal-kept g.S.SlotDisk c.args.journal.no
 pub returns-in-Pause-clause-journal : goal.returns-in-Pause-clause-journal
 returns-in-Pause-clause-journal g c = journal-kept g.S.SlotDisk c.args.journal.now c.args.disk.now
     (g.met.S.SlotDisk.only_now c.args.disk.now) c.requires.fits c.wait.result c.wait.ensures.note
+
+pub returns-in-Extra-clause-taken : goal.returns-in-Extra-clause-taken
+returns-in-Extra-clause-taken g c = on_ok_weaker c.hear_extra.result
+    (λ same. ap (λ cut. cut.taken) same ∙ c.step-cut.ensures.taken) c.hear_extra.ensures.cut

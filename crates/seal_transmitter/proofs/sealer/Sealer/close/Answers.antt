@@ -43,6 +43,7 @@ returns-in_default-clause-journal g c =
     (g.D.SlotDisk.told c.args.disk.now) (g.D.SlotDisk.told c.commit.new.disk) n in
     record {
       commits = tt;
+      link = c.commit.ensures.link;
       fits = tt;
       failed = subst F (ap (λ n. n + 1) c.floor-number.ensures.value) c.in_default.ensures.failed;
       crash_safe = c.commit.ensures.crash_safe;
@@ -58,6 +59,7 @@ returns-in-Ok-clause-journal g c =
     record {
       commits = subst P (sym noted.2)
           (ap (λ n. n + 1) c.floor-number.ensures.value, c.in-Ok.ensures.committed);
+      link = c.commit.ensures.link;
       fits = c.in-Ok.ensures.fits;
       failed = tt;
       crash_safe = c.commit.ensures.crash_safe;
