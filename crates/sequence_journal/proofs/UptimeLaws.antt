@@ -42,7 +42,7 @@ next_floor link n image from =
       | Some floor ↦ λ is le. (floor, is, le)
     ] refl from
 
-some_weaker : (o : Option ℕ) (n : ℕ) → IsSomeAnd o (λ floor. n ≤ floor)
+pub some_weaker : (o : Option ℕ) (n : ℕ) → IsSomeAnd o (λ floor. n ≤ floor)
     → IfSome o (λ floor. n ≤ floor)
 some_weaker None n from = absurd from
 some_weaker (Some floor) n le = le
