@@ -9,7 +9,10 @@ use Rattle.yasir_ticks.specs.CanonicalText.{canonical_text}
 use Rattle.yasir_ticks.specs.Writer.{HasWritten}
 use Rattle.yasir_ticks.specs.declared.tick.Tick.{Tick}
 use Rattle.yasir_ticks.specs.declared.writer.TickWriter.{TickWriter}
-use Rattle.sequence_journal.specs.Journal.{HasFloorAtLeast}
+use Rattle.sequence_journal.specs.declared.journal.Journal.{Journal}
+use Rattle.sequence_journal.specs.declared.link.LinkId.{LinkId}
+use Rattle.sequence_journal.specs.Journal.{journal_link, journal_floor, HasFloorAtLeast}
+use Rattle.sequence_journal.specs.Journal.{HasFloorFrom}
 use Rattle.sequence_journal.specs.Slots.{floor_of}
 use Rattle.tick_drive.specs.Consumers.{Outputs}
 use Rattle.tick_drive.proofs.ItemLaws.{ticks_in-append, ticks_in-mark}
@@ -26,8 +29,16 @@ from_less m n None le has = has
 from_less m n (Some f) le has = omega arith
 
 -- a floor that isn't below a number isn't below a smaller one
-pub floor_from_less : (m n : ℕ) → m ≤ n → (c : Slots) → HasFloorAtLeast n c → HasFloorAtLeast m c
-floor_from_less m n le c has = from_less m n (floor_of c) le has
+pub floor_from_less : (link : LinkId) (m n : ℕ) → m ≤ n → (c : Slots) → HasFloorAtLeast link n c
+    → HasFloorAtLeast link m c
+floor_from_less link m n le c has = from_less m n (floor_of link c) le has
+
+-- nor is one that isn't below the floor of a journal after a step below that of the one before it
+pub floor_from_later : (old new : Journal) → journal_link new ≡ journal_link old
+    → journal_floor old ≤ journal_floor new → (c : Slots) → HasFloorFrom new c → HasFloorFrom old c
+floor_from_later old new same le c has =
+    floor_from_less (journal_link old) (journal_floor old) (journal_floor new) le c
+    (subst (λ link. HasFloorAtLeast link (journal_floor new) c) same has)
 
 pub one_more : (items : List Item) (t : Tick)
     → ticks_in (items ++ tick t ∷ []) ≡ ticks_in items ++ t ∷ []
@@ -40,6 +51,7 @@ pub drives_at_mark : {B N : Type 0} (b : LineBox B N) (lines : BoxLines B) (orig
 drives_at_mark b lines origin outputs items before = record {
   steps = rw (ticks_in-mark items) before.steps;
   sends = rw (ticks_in-mark items) before.sends;
+  link_is = before.link_is;
   floor_told = before.floor_told;
 }
 

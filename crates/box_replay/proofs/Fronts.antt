@@ -110,6 +110,7 @@ module _ {B N O L D : Type 0} (b : LineBox B N) (o : Sink O) (l : Sink L) (d : S
           (run_noted (b.boxed origin.setup) (ticks_in before) run answer
           (answers old.journal origin.setup (ticks_in before) drives.steps))
           (waiting_in old) (waiting_in new) origin.texts texts0 texts1 drives.sends x pushed);
+      link_is = drives.link_is;
       floor_told = drives.floor_told;
     };
     stopped = tt;
@@ -155,6 +156,7 @@ module _ {B N O L D : Type 0} (b : LineBox B N) (o : Sink O) (l : Sink L) (d : S
                 floor = b.floor_is box old.journal origin.setup _
                     (subst (b.stands box old.journal origin.setup) next
                     (steps old.journal origin.setup (ticks_in before) drives.steps));
+                link_is = drives.link_is;
                 floor_told = drives.floor_told;
               };
         };

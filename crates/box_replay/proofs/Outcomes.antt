@@ -20,7 +20,9 @@ use Rattle.yasir_ticks.proofs.CanonicalLaws.{canonical_text-stands}
 use Rattle.yasir_ticks.proofs.TextLaws.{ended_items-begin}
 use Rattle.hmac_tag.specs.declared.dir.Dir.{Dir}
 use Rattle.link_format.specs.Setup.{Setup, setup_of}
-use Rattle.sequence_journal.specs.Journal.{journal_floor, HasFloorAtLeast, IsEitherFloor}
+use Rattle.sequence_journal.specs.declared.link.LinkId.{LinkId}
+use Rattle.sequence_journal.specs.Journal.{journal_link, journal_floor, HasFloorAtLeast}
+use Rattle.sequence_journal.specs.Journal.{IsEitherFloor}
 use Rattle.tick_drive.specs.Consumers.{Outputs, state_of, is_write_fault}
 use Rattle.tick_drive.specs.Input.{Takes}
 use Rattle.tick_drive.specs.Drive.{Drives, answer_of}
@@ -36,7 +38,8 @@ use Rattle.box_replay.specs.Boxes.{Boxed, IsBoxed, FailsBox}
 use Rattle.box_replay.specs.Sending.{SinkTexts, SendsBoxed, HasSent, HasSentFronts}
 use Rattle.box_replay.specs.BoxLines.{BoxOrigin, ToldFloor, waiting_in, DrivesBox, StopsAtNumber}
 use Rattle.box_replay.specs.BoxLines.{StopsAtWrite, driving}
-use Rattle.box_replay.specs.ReplaysBox.{Around, KeepsFloor, LeavesUptime, boxed_with, texts_of}
+use Rattle.box_replay.specs.ReplaysBox.{Around, KeepsFloor, KeepsFloorFromLoad, LeavesUptime}
+use Rattle.box_replay.specs.ReplaysBox.{boxed_with, texts_of}
 use Rattle.box_replay.specs.ReplaysBox.{EndsBox, FailsAtNumber, WritesFronts, RunsBox}
 use Rattle.box_replay.specs.declared.line_box.LineBox.{Ghosts as LineBox}
 use Rattle.box_replay.specs.declared.box_lines.BoxLines.{BoxLines}
@@ -96,9 +99,10 @@ number_of_lines box floor all k before now laws sent =
 -- ---- one line that was sent
 
 -- a floor is one of two
-either_of : (n m : ℕ) (told : Option Slots) → ToldFloor n told → IfSome told (IsEitherFloor n m)
-either_of n m None floor = tt
-either_of n m (Some slots) floor = inl floor
+either_of : (link : LinkId) (n m : ℕ) (told : Option Slots) → ToldFloor link n told
+    → IfSome told (IsEitherFloor link n m)
+either_of link n m None floor = tt
+either_of link n m (Some slots) floor = inl floor
 
 -- what was sent whole was sent in part
 fronts_of_all : (box : Boxed) (before now : SinkTexts) (line : List Tick)
@@ -131,14 +135,17 @@ ticks_in-cut items n = ap ticks_in (sym (take-append-drop n items))
 -- A box of this setup was driven from `old` to `new`, and then what waited was written, or not.
 module _ {B N S O L D : Type 0} (b : LineBox B N) (s : Source S) (o : Sink O) (l : Sink L)
     (d : SlotDisk D)
-    (key : List ℕ) (dir : Dir) (floor rest : ℕ) (before mid : Around S O L D) (loaded : D)
+    (link : LinkId) (key : List ℕ) (dir : Dir) (floor rest : ℕ) (before mid : Around S O L D)
+    (loaded : D)
     (old new : BoxLines B)
     (laws : IsBoxed (b.boxed (setup_of key dir floor)) floor)
     (begun : (texts : SinkTexts) → DrivesBox b old
-    (record { setup = setup_of key dir floor; texts = texts })
+    (record { link = link; setup = setup_of key dir floor; texts = texts })
     (record { out = texts.out; log = texts.log; slots = d.told loaded }) [])
-    (floor_before : ToldFloor floor (d.told before.disk))
-    (images : KeepsFloor d (journal_floor new.journal) before.disk mid.disk) where
+    (floor_before : ToldFloor link floor (d.told before.disk))
+    (images : journal_link new.journal ≡ link
+    → KeepsFloor d link (journal_floor new.journal) before.disk mid.disk)
+    (since_load : KeepsFloorFromLoad d link floor before.disk mid.disk) where
   abbrev box : Boxed
   box = b.boxed (setup_of key dir floor)
 
@@ -146,24 +153,26 @@ module _ {B N S O L D : Type 0} (b : LineBox B N) (s : Source S) (o : Sink O) (l
   boxes = boxed_with b.boxed key dir
 
   abbrev origin : BoxOrigin
-  origin = record { setup = setup_of key dir floor; texts = texts_of o l before }
+  origin = record { link = link; setup = setup_of key dir floor; texts = texts_of o l before }
 
   abbrev outputs : Outputs
   outputs = record { out = o.held mid.out; log = l.held mid.log; slots = d.told mid.disk }
 
-  keeps : (n : ℕ) → journal_floor new.journal ≡ n → KeepsFloor d n before.disk mid.disk
-  keeps n is = subst (λ m. KeepsFloor d m before.disk mid.disk) is images
+  keeps : (n : ℕ) → journal_link new.journal ≡ link → journal_floor new.journal ≡ n
+      → KeepsFloor d link n before.disk mid.disk
+  keeps n served is = subst (λ m. KeepsFloor d link m before.disk mid.disk) is (images served)
 
   -- each image makes an uptime: the box's numbers rise from the floor that the slots had, and the
   -- last isn't above the image's
-  uptime_to : (line : List Tick) → journal_floor new.journal ≡ box.number line
-      → LeavesUptime d (box.numbers line) before.disk mid.disk
-  uptime_to line is one starts told image left = record {
+  uptime_to : (line : List Tick) → journal_link new.journal ≡ link
+      → journal_floor new.journal ≡ box.number line
+      → LeavesUptime d link (box.numbers line) before.disk mid.disk
+  uptime_to line served is one starts told image left = record {
     floor = floor;
-    loads = subst (ToldFloor floor) told floor_before;
+    loads = subst (ToldFloor link floor) told floor_before;
     rise = laws.rising line;
-    leaves = subst (λ n. HasFloorAtLeast n image) (sym (laws.last_is line))
-        (keeps _ is one image left);
+    leaves = subst (λ n. HasFloorAtLeast link n image) (sym (laws.last_is line))
+        (keeps _ served is one image left);
   }
 
   module _ (after : Around S O L D) (input : after.input ≡ mid.input)
@@ -184,12 +193,15 @@ module _ {B N S O L D : Type 0} (b : LineBox B N) (s : Source S) (o : Sink O) (l
     takes_after items end = subst (λ i. Takes 0 rest (s.left before.input) (s.left i) items end)
         (sym input)
 
+    since_load_after : KeepsFloorFromLoad d link floor before.disk after.disk
+    since_load_after = subst (KeepsFloorFromLoad d link floor before.disk) (sym disk) since_load
+
     told_after : (P : Option Slots → Type 0) → P (d.told mid.disk) → P (d.told after.disk)
     told_after P = subst (λ t. P (d.told t)) (sym disk)
 
     ends_box : (end : End) (items : List Item)
         → Takes 0 rest (s.left before.input) (s.left mid.input) items end
-        → DrivesBox b new origin outputs items → Sends → EndsBox s o l d boxes rest before after end
+        → DrivesBox b new origin outputs items → Sends → EndsBox s o l d link boxes rest before after end
     ends_box end items takes at finish =
         let is = b.floor_is new.line_box new.journal origin.setup (ticks_in items) at.steps in
         record {
@@ -199,18 +211,19 @@ module _ {B N S O L D : Type 0} (b : LineBox B N) (s : Source S) (o : Sink O) (l
           takes = takes_after items end takes;
           replays = record {
             sent = finish (ticks_in items) at.sends;
-            images = subst (KeepsFloor d _ before.disk) (sym disk) (keeps _ is);
-            uptime = subst (LeavesUptime d _ before.disk) (sym disk)
-                (uptime_to (ticks_in items) is);
+            images = subst (KeepsFloor d link _ before.disk) (sym disk) (keeps _ at.link_is is);
+            uptime = subst (LeavesUptime d link _ before.disk) (sym disk)
+                (uptime_to (ticks_in items) at.link_is is);
           };
-          floor_told = told_after (ToldFloor _)
-              (subst (λ n. ToldFloor n (d.told mid.disk)) is at.floor_told);
+          from_load = since_load_after;
+          floor_told = told_after (ToldFloor link _)
+              (subst (λ n. ToldFloor link n (d.told mid.disk)) is at.floor_told);
         }
 
     fails_at_number : (items : List Item) (n : ℕ)
         → Takes 0 rest (s.left before.input) (s.left mid.input) items (Stopped stops.JournalFault)
         → StopsAtNumber b new origin outputs (take n items) → Sends
-        → FailsAtNumber s o l d boxes rest before after
+        → FailsAtNumber s o l d link boxes rest before after
     fails_at_number items n takes at finish = record {
       floor = floor;
       items = items;
@@ -223,11 +236,12 @@ module _ {B N S O L D : Type 0} (b : LineBox B N) (s : Source S) (o : Sink O) (l
           (ap ticks_in at.is ∙ ticks_in-append at.front (tick at.last ∷ []));
       replays = record {
         sent = finish (ticks_in at.front) at.sends;
-        images = subst (KeepsFloor d _ before.disk) (sym disk) (keeps _ at.floor);
-        uptime = subst (LeavesUptime d _ before.disk) (sym disk)
-            (uptime_to (ticks_in at.front) at.floor);
+        images = subst (KeepsFloor d link _ before.disk) (sym disk) (keeps _ at.link_is at.floor);
+        uptime = subst (LeavesUptime d link _ before.disk) (sym disk)
+            (uptime_to (ticks_in at.front) at.link_is at.floor);
       };
-      fails = told_after (FailsBox box (ticks_in at.front) at.last) at.fails;
+      from_load = since_load_after;
+      fails = told_after (FailsBox link box (ticks_in at.front) at.last) at.fails;
     }
 
     -- fronts of what the box makes of the first of the ticks
@@ -235,11 +249,11 @@ module _ {B N S O L D : Type 0} (b : LineBox B N) (s : Source S) (o : Sink O) (l
         → Takes 0 rest (s.left before.input) (s.left mid.input) items end
         → ticks_in items ≡ line ++ more
         → HasSentFronts box (texts_of o l before) (texts_of o l after) line
-        → journal_floor new.journal ≡ box.number line
-        → IfSome (d.told mid.disk) (IsEitherFloor (box.number line)
+        → journal_link new.journal ≡ link → journal_floor new.journal ≡ box.number line
+        → IfSome (d.told mid.disk) (IsEitherFloor link (box.number line)
         (box.number (take (length line + 1) (ticks_in items))))
-        → WritesFronts s o l d boxes rest before after
-    writes_fronts end items line more takes all sent is told =
+        → WritesFronts s o l d link boxes rest before after
+    writes_fronts end items line more takes all sent served is told =
         let taken : List Tick = ticks_in items in
         let front : line ≡ take (length line) taken =
         sym (ap (take (length line)) all ∙ take-append_seam line more) in
@@ -257,16 +271,17 @@ module _ {B N S O L D : Type 0} (b : LineBox B N) (s : Source S) (o : Sink O) (l
           floor_before = floor_before;
           takes = takes_after items end takes;
           sent = fronts;
-          images = subst (KeepsFloor d _ before.disk) (sym disk) (keeps _ at);
-          uptime = subst (LeavesUptime d _ before.disk) (sym disk)
-              (uptime_to (take (length line) taken) at);
-          lines = subst (KeepsFloor d _ before.disk) (sym disk)
-              (λ one c left. floor_from_less _ _ less c (keeps _ at one c left));
+          images = subst (KeepsFloor d link _ before.disk) (sym disk) (keeps _ served at);
+          uptime = subst (LeavesUptime d link _ before.disk) (sym disk)
+              (uptime_to (take (length line) taken) served at);
+          from_load = since_load_after;
+          lines = subst (KeepsFloor d link _ before.disk) (sym disk)
+              (λ one c left. floor_from_less link _ _ less c (keeps _ served at one c left));
           floor_told = told_after (λ t. IfSome t
-              (IsEitherFloor (box.number (take (length line) taken))
+              (IsEitherFloor link (box.number (take (length line) taken))
               (box.number (take (length line + 1) taken))))
               (subst (λ l. IfSome (d.told mid.disk)
-              (IsEitherFloor (box.number l) (box.number (take (length line + 1) taken)))) front
+              (IsEitherFloor link (box.number l) (box.number (take (length line + 1) taken)))) front
               told);
         }
 
@@ -274,18 +289,18 @@ module _ {B N S O L D : Type 0} (b : LineBox B N) (s : Source S) (o : Sink O) (l
     fronts_of_taken : (end : End) (items : List Item)
         → Takes 0 rest (s.left before.input) (s.left mid.input) items end
         → DrivesBox b new origin outputs items → SendsPart
-        → WritesFronts s o l d boxes rest before after
+        → WritesFronts s o l d link boxes rest before after
     fronts_of_taken end items takes at finish =
         let is = b.floor_is new.line_box new.journal origin.setup (ticks_in items) at.steps in
         writes_fronts end items (ticks_in items) [] takes (sym (append-nil (ticks_in items)))
-        (finish (ticks_in items) at.sends) is
-        (either_of _ _ (d.told mid.disk)
-        (subst (λ n. ToldFloor n (d.told mid.disk)) is at.floor_told))
+        (finish (ticks_in items) at.sends) at.link_is is
+        (either_of link _ _ (d.told mid.disk)
+        (subst (λ n. ToldFloor link n (d.told mid.disk)) is at.floor_told))
 
     fronts_of_failed : (items : List Item) (n : ℕ)
         → Takes 0 rest (s.left before.input) (s.left mid.input) items (Stopped stops.JournalFault)
         → StopsAtNumber b new origin outputs (take n items) → SendsPart
-        → WritesFronts s o l d boxes rest before after
+        → WritesFronts s o l d link boxes rest before after
     fronts_of_failed items n takes at finish =
         let line : List Tick = ticks_in at.front in
         let more : List Tick = ticks_in (drop n items) in
@@ -295,21 +310,21 @@ module _ {B N S O L D : Type 0} (b : LineBox B N) (s : Source S) (o : Sink O) (l
         let next : take (length line + 1) (ticks_in items) ≡ line ++ at.last ∷ [] =
         ap (take (length line + 1)) all ∙ take-append-add line (at.last ∷ more) 1 in
         writes_fronts (Stopped stops.JournalFault) items line (at.last ∷ more) takes all
-        (finish line at.sends) at.floor
-        (subst (λ l. IfSome (d.told mid.disk) (IsEitherFloor (box.number line) (box.number l)))
+        (finish line at.sends) at.link_is at.floor
+        (subst (λ l. IfSome (d.told mid.disk) (IsEitherFloor link (box.number line) (box.number l)))
         (sym next) at.fails.floor_told)
 
     fronts_of_stopped : (items : List Item) (n : ℕ)
         → Takes 0 rest (s.left before.input) (s.left mid.input) items (Stopped stops.WriteFault)
         → StopsAtWrite b new origin outputs (take n items)
-        → texts_of o l after ≡ texts_of o l mid → WritesFronts s o l d boxes rest before after
+        → texts_of o l after ≡ texts_of o l mid → WritesFronts s o l d link boxes rest before after
     fronts_of_stopped items n takes at still =
         writes_fronts (Stopped stops.WriteFault) items (ticks_in (take n items))
         (ticks_in (drop n items)) takes (ticks_in-cut items n)
         (subst (λ texts. HasSentFronts box (texts_of o l before) texts (ticks_in (take n items)))
-        (sym still) at.sent) at.floor
-        (either_of _ _ (d.told mid.disk)
-        (subst (λ n. ToldFloor n (d.told mid.disk)) at.floor at.floor_told))
+        (sym still) at.sent) at.link_is at.floor
+        (either_of link _ _ (d.told mid.disk)
+        (subst (λ n. ToldFloor link n (d.told mid.disk)) at.floor at.floor_told))
 
     abbrev HasDriven : End → Type 0
     HasDriven end = Drives (driving b d) o l d 0 rest (s.left before.input) (s.left mid.input)
@@ -317,7 +332,7 @@ module _ {B N S O L D : Type 0} (b : LineBox B N) (s : Source S) (o : Sink O) (l
 
     -- a write failed in a step
     pub write_stops : (end : End) → is_write_fault (answer_of end) ≡ true → HasDriven end
-        → texts_of o l after ≡ texts_of o l mid → WritesFronts s o l d boxes rest before after
+        → texts_of o l after ≡ texts_of o l mid → WritesFronts s o l d link boxes rest before after
     write_stops Whole write driven still = cc
     write_stops (Refused bad) write driven still = cc
     write_stops (TooLong what count) write driven still = cc
@@ -332,7 +347,7 @@ module _ {B N S O L D : Type 0} (b : LineBox B N) (s : Source S) (o : Sink O) (l
     -- what waited was written in part
     pub finish_fails : (end : End) → is_write_fault (answer_of end) ≡ false → HasDriven end
         → SendsPart
-        → WritesFronts s o l d boxes rest before after
+        → WritesFronts s o l d link boxes rest before after
     finish_fails Whole other driven finish =
         fronts_of_taken Whole driven.items driven.takes
         (driven.gives.moved origin [] (begun origin.texts)) finish
@@ -356,7 +371,7 @@ module _ {B N S O L D : Type 0} (b : LineBox B N) (s : Source S) (o : Sink O) (l
     -- it was written, and the input was no whole one
     pub refusal_runs : (end : End) → is_write_fault (answer_of end) ≡ false → (end ≡ Whole → ⊥)
         → HasDriven end → Sends
-        → RunsBox s o l d boxes rest before after (status_of end)
+        → RunsBox s o l d link boxes rest before after (status_of end)
     refusal_runs Whole other partial driven finish = absurd (partial refl)
     refusal_runs (Refused bad) other partial driven finish =
         ends_box (Refused bad) driven.items driven.takes
@@ -378,13 +393,13 @@ module _ {B N S O L D : Type 0} (b : LineBox B N) (s : Source S) (o : Sink O) (l
     -- it was written, and the sinks flushed or not
     pub whole_runs : (status : Status) → (status ≡ Done) ⊎ (status ≡ WriteFault) → HasDriven Whole
         → Sends
-        → RunsBox s o l d boxes rest before after status
+        → RunsBox s o l d link boxes rest before after status
     whole_runs status (inl done) driven finish =
-        subst (RunsBox s o l d boxes rest before after) (sym done)
+        subst (RunsBox s o l d link boxes rest before after) (sym done)
         (ends_box Whole driven.items driven.takes
         (driven.gives.moved origin [] (begun origin.texts)) finish)
     whole_runs status (inr fault) driven finish =
-        subst (RunsBox s o l d boxes rest before after) (sym fault)
+        subst (RunsBox s o l d link boxes rest before after) (sym fault)
         (fronts_of_taken Whole driven.items driven.takes
         (driven.gives.moved origin [] (begun origin.texts))
         (λ line sends. fronts_of_all box (texts_of o l before) (texts_of o l after) line

@@ -13,6 +13,7 @@ use Rattle.burst_walk.specs.Answers.{told_notes, note_in, AnswersTick}
 use Rattle.burst_walk.specs.Longer.{Begins}
 use Rattle.burst_walk.proofs.Longer.{length-line_of}
 use Rattle.link_format.specs.NumberedFrame.{NumberedFrame, numbers_of, last_number}
+use Rattle.sequence_journal.specs.declared.link.LinkId.{LinkId}
 use Rattle.sequence_journal.specs.Journal.{IsEitherFloor}
 use Rattle.sequence_journal.specs.Uptimes.{RiseFrom, last_from}
 use Rattle.box_replay.specs.Boxes.{Boxed, IsBoxed, AnswersBox, FailsBox, line_of_note}
@@ -97,14 +98,14 @@ module _ {S N A : Type 0} (w : Walker S N) (note_of : N → A) (note_line : A �
   -- The numbers of its frames rise from the floor.
   module _ (rising : (line : List Tick) → RiseFrom floor (numbers_of (frames_of line))) where
     -- A step failed in which a frame is noted: the slots have the number before it, or its own.
-    pub walk-fails : (line : List Tick) (t : Tick) (n : Noted N) (f : NumberedFrame) (last : ℕ)
-        (slots : Option Slots)
+    pub walk-fails : (link : LinkId) (line : List Tick) (t : Tick) (n : Noted N)
+        (f : NumberedFrame) (last : ℕ) (slots : Option Slots)
         → notes_of w begun (line ++ t ∷ []) ≡ notes_of w begun line ++ n ∷ []
         → frames_in (n ∷ []) ≡ f ∷ []
         → last ≡ last_number floor (frames_of line)
-        → IfSome slots (IsEitherFloor last f.number)
-        → FailsBox walk_boxed line t slots
-    walk-fails line t n f last slots more tells before either =
+        → IfSome slots (IsEitherFloor link last f.number)
+        → FailsBox link walk_boxed line t slots
+    walk-fails link line t n f last slots more tells before either =
         let next : frames_of (line ++ t ∷ []) ≡ frames_of line ++ f ∷ [] =
         ap frames_in more
         ∙ (filter_map-append (λ n. frame_in n.note) (notes_of w begun line) (n ∷ [])
@@ -115,8 +116,8 @@ module _ {S N A : Type 0} (w : Walker S N) (note_of : N → A) (note_line : A �
         let above : last_number floor (frames_of line) < f.number =
         last-next floor (frames_of line) f (subst P next (rising (line ++ t ∷ []))) in
         let Q : ℕ → Type 0 = λ a. IfSome slots
-        (IsEitherFloor a (last_number floor (frames_of (line ++ t ∷ [])))) in
-        let R : ℕ → Type 0 = λ b. IfSome slots (IsEitherFloor last b) in
+        (IsEitherFloor link a (last_number floor (frames_of (line ++ t ∷ [])))) in
+        let R : ℕ → Type 0 = λ b. IfSome slots (IsEitherFloor link last b) in
         record {
           uses = omega (arith, number, above);
           floor_told = subst Q before (subst R (sym number) either);

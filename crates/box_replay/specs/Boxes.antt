@@ -3,6 +3,7 @@ use Rattle.std.specs.Prelude.{◌≡◌, ℕ, ◌<◌, ◌≤◌, List, [], ◌�
 use Rattle.std.specs.Prelude.{IfSome}
 use Rattle.yasir_ticks.specs.declared.tick.Tick.{Tick}
 use Rattle.yasir_io.specs.Disks.{Slots}
+use Rattle.sequence_journal.specs.declared.link.LinkId.{LinkId}
 use Rattle.sequence_journal.specs.Journal.{IsEitherFloor}
 use Rattle.sequence_journal.specs.Uptimes.{RiseFrom, last_from}
 
@@ -39,10 +40,12 @@ pub record AnswersBox (box : Boxed) (line : List Tick) (t tick : Tick) (note : L
   pub note_is : box.note_lines (line ++ t ∷ []) ≡ box.note_lines line ++ note
 
 -- A step that uses a number failed: the slots have the number before it, or that one, as their
--- floor.
-pub record FailsBox (box : Boxed) (line : List Tick) (t : Tick) (told : Option Slots) : Type 0 where
+-- floor for a link.
+pub record FailsBox (link : LinkId) (box : Boxed) (line : List Tick) (t : Tick)
+    (told : Option Slots) : Type 0 where
   pub uses : box.number line < box.number (line ++ t ∷ [])
-  pub floor_told : IfSome told (IsEitherFloor (box.number line) (box.number (line ++ t ∷ [])))
+  pub floor_told : IfSome told
+      (IsEitherFloor link (box.number line) (box.number (line ++ t ∷ [])))
 
 -- A box answers a run of ticks of a line with these ticks of the other one, notes nothing and uses
 -- no number.

@@ -7,7 +7,8 @@ ghost use Rattle.yasir_ticks.specs.Writer.{has_room_for};
 ghost use Rattle.yasir_ticks.specs.declared.tick.Tick.{Tick};
 ghost use Rattle.link_format.specs.Setup.{setup_of};
 ghost use Rattle.sequence_journal.specs.declared.journal.Journal.{Journal};
-ghost use Rattle.sequence_journal.specs.Journal.{journal_floor};
+ghost use Rattle.sequence_journal.specs.declared.link.LinkId.{LinkId};
+ghost use Rattle.sequence_journal.specs.Journal.{journal_link, journal_floor};
 ghost use Rattle.box_replay.specs.Boxes.{Boxed, line_of_note};
 ghost use Rattle.box_replay.specs.Sending.{SinkTexts, sink_texts, waiting, SendsBoxed, HasSent};
 ghost use Rattle.box_replay.specs.Sending.{HasSentFronts, HaveCause, PushesTexts, PushesStep};
@@ -187,9 +188,14 @@ impl<B: LineBox> BoxLines<B> {
         requires { B.widths_fit }
         ensures taken { B.taken result.line_box ≡ 0 }
         ensures journal { result.journal ≡ journal }
-        ensures drives { (texts : SinkTexts) (told : Option Slots) → Fits journal told
+        ensures drives { (link : LinkId) (texts : SinkTexts) (told : Option Slots)
+            → journal_link journal ≡ link → Fits journal told
             → DrivesBox B.LineBox result
-            (record { setup = setup_of key.now dir (journal_floor journal); texts = texts })
+            (record {
+              link = link;
+              setup = setup_of key.now dir (journal_floor journal);
+              texts = texts;
+            })
             (record { out = texts.out; log = texts.log; slots = told }) [] }
     {
         BoxLines {

@@ -7,7 +7,8 @@ ghost use Rattle.yasir_ticks.specs.declared.tick.Tick.{Tick};
 ghost use Rattle.yasir_ticks.specs.declared.tick.Tick.TheVariants.{Byte};
 ghost use Rattle.link_format.specs.Setup.{Setup, setup_of};
 ghost use Rattle.sequence_journal.specs.declared.journal.Journal.{Journal};
-ghost use Rattle.sequence_journal.specs.Journal.{journal_floor, Fits, IsCrashSafe, HasFloorAtLeast};
+ghost use Rattle.sequence_journal.specs.Journal.{journal_link, journal_floor, Fits, IsCrashSafe};
+ghost use Rattle.sequence_journal.specs.Journal.{HasFloorFrom};
 ghost use Rattle.burst_walk.specs.Answered.{answered};
 ghost use Rattle.box_replay.specs.Boxes.{line_of_note};
 ghost use Rattle.box_replay.specs.Boxes.{Boxed, IsBoxed, AnswersBox, FailsBox, Forwards};
@@ -87,17 +88,17 @@ pub trait LineBox: Drop {
         ensures answer { IfOk result (λ step. (setup : Setup) (line : List Tick)
             → stands self.old journal.old setup line
             → AnswersBox (boxed setup) line t step.tick (line_of_note line_of step.note)) }
+        ensures link { journal_link journal.new ≡ journal_link journal.old }
         ensures fits { OnOk result (Fits journal.new (D.told disk.new)) }
         ensures err { OnErr result ((setup : Setup) (line : List Tick)
             → stands self.old journal.old setup line
-            → FailsBox (boxed setup) line t (D.told disk.new)) }
+            → FailsBox (journal_link journal.old) (boxed setup) line t (D.told disk.new)) }
         ensures err_floor { OnErr result (journal_floor journal.new ≡ journal_floor journal.old) }
         ensures rises { journal_floor journal.old ≤ journal_floor journal.new }
         ensures crash_safe { IsCrashSafe journal.old (D.told disk.old) (D.may_leave disk.old)
             → IsCrashSafe journal.new (D.told disk.new) (D.may_leave disk.new) }
         ensures any_moment { IsCrashSafe journal.old (D.told disk.old) (D.may_leave disk.old)
-            → LeavesOnly D.moment D.left_since disk.old disk.new
-            (HasFloorAtLeast (journal_floor journal.old)) }
+            → LeavesOnly D.moment D.left_since disk.old disk.new (HasFloorFrom journal.old) }
         ensures cause { HasCause (D.faults disk.old) (D.faults disk.new) result };
 
     /// Takes the first of these bytes, one a tick, as far as the box answers each with itself,

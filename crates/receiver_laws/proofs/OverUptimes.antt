@@ -1,6 +1,6 @@
 -- What passed in all uptimes of a receiver is accounted for by what was sealed in all uptimes of a
 -- transmitter, and so it is of one uptime of each.
-use Rattle.std.proofs.Common.{◌≡◌, ℕ, ◌≤◌, List, [], ◌∷◌, ◌++◌, Some, IsSomeAnd}
+use Rattle.std.proofs.Common.{◌≡◌, ◌∙◌, ℕ, ◌≤◌, List, [], ◌∷◌, ◌++◌, Some, IfSome}
 use Rattle.std.proofs.Common.{refl, sym, subst, arith}
 use Rattle.std.proofs.lemmas.List.{map-append, append-nil}
 use Rattle.yasir_io.specs.Disks.{Slots}
@@ -9,8 +9,9 @@ use Rattle.line_rules.specs.Rules.{Rules}
 use Rattle.line_rules.specs.RulesLaws.{IsLawful}
 use Rattle.sequence_journal.specs.Slots.{floor_of}
 use Rattle.sequence_journal.specs.Journal.{HasFloorAtLeast}
-use Rattle.sequence_journal.specs.Uptimes.{RiseFrom, last_from}
-use Rattle.sequence_journal.proofs.UptimeLaws.{rise-lower, rise-append}
+use Rattle.sequence_journal.specs.declared.link.LinkId.{LinkId}
+use Rattle.sequence_journal.specs.Uptimes.{RiseFrom, last_from, HasNoFloorBelow}
+use Rattle.sequence_journal.proofs.UptimeLaws.{rise-lower, rise-append, some_weaker}
 use Rattle.link_format.specs.NumberedFrame.{NumberedFrame, numbers_of, last_number}
 use Rattle.link_format.specs.Profile.{Profile}
 use Rattle.seal_transmitter.specs.Sealing.{sealed}
@@ -44,29 +45,25 @@ module _ (frames : ℕ → List Tick → List NumberedFrame) where
       (rise-append uptime.floor (numbers_of first) (numbers_of later)
       (each uptime.floor uptime.line) rest))
 
-  -- uptimes that share a disk go on from each number that the floor of its slots isn't below
-  share-above : (n : ℕ) (begins : Slots) (uptimes : List BoxUptime) → HasFloorAtLeast n begins
-      → ShareDisk frames begins uptimes → GoOnFrom frames n uptimes
-  share-above n begins [] least share = tt
-  share-above n begins (uptime ∷ uptimes) least share =
+  -- uptimes that share a disk go on from each number that their slots have no floor below
+  pub share-go_on : (link : LinkId) (begins : Slots) (n : ℕ) (uptimes : List BoxUptime)
+      → HasNoFloorBelow link n begins → ShareDisk frames link begins uptimes
+      → GoOnFrom frames n uptimes
+  share-go_on link begins n [] below share = tt
+  share-go_on link begins n (uptime ∷ uptimes) below (found, idle, loads, is, share) =
       let first : List NumberedFrame = frames uptime.floor uptime.line in
-      let loaded : share.1.floor ≡ uptime.floor = cc in
-      let leaves : HasFloorAtLeast (last_from uptime.floor (numbers_of first)) uptime.image =
-      subst (λ m. HasFloorAtLeast (last_from m (numbers_of first)) uptime.image) loaded
-      share.1.leaves in (
-        subst (λ o. IsSomeAnd o (λ floor. n ≤ floor)) share.0 least,
-        share-above (last_number uptime.floor first) uptime.image uptimes
-            (subst (λ m. HasFloorAtLeast m uptime.image) (last-is uptime.floor first) leaves)
-            share.2,
+      let same : Some is.floor ≡ Some uptime.floor = sym is.loads ∙ loads in
+      let loaded : is.floor ≡ uptime.floor = cc in
+      let leaves : HasFloorAtLeast link (last_from uptime.floor (numbers_of first)) uptime.image =
+      subst (λ m. HasFloorAtLeast link (last_from m (numbers_of first)) uptime.image) loaded
+      is.leaves in
+      let last = last_number uptime.floor first in
+      let from : HasFloorAtLeast link last uptime.image =
+      subst (λ m. HasFloorAtLeast link m uptime.image) (last-is uptime.floor first) leaves in (
+        subst (λ o. IfSome o (λ floor. n ≤ floor)) loads (idle.leaves n below),
+        share-go_on link uptime.image last uptimes
+            (some_weaker (floor_of link uptime.image) last from) share,
       )
-
-  pub share-go_on : (begins : Slots) (floor : ℕ) (uptimes : List BoxUptime)
-      → floor_of begins ≡ Some floor → ShareDisk frames begins uptimes
-      → GoOnFrom frames floor uptimes
-  share-go_on begins floor uptimes is share =
-      let same : floor ≤ floor = omega arith in
-      share-above floor begins uptimes
-      (subst (λ o. IsSomeAnd o (λ n. floor ≤ n)) (sym is) same) share
 
 -- ---- the law over uptimes, and of one uptime on each side
 
@@ -75,7 +72,7 @@ abbrev pub alone : ℕ → List Tick → List BoxUptime
 alone floor line = record {
   floor = floor;
   line = line;
-  image = record { a = []; b = [] };
+  image = record { a = []; b = []; old = record { a = []; b = [] } };
 } ∷ []
 
 pub alone-is : (frames : ℕ → List Tick → List NumberedFrame) (floor : ℕ) (line : List Tick)

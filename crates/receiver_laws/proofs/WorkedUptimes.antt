@@ -1,12 +1,13 @@
 -- Frames of two uptimes of a transmitter, on one link to a receiver, with a tag that stands in for
 -- HMAC.
 use Rattle.std.proofs.Common.{◌≡◌, ℕ, ◌<◌, ◌≤◌, List, [], ◌∷◌, ◌++◌, Some, IsSomeAnd, take}
-use Rattle.std.proofs.Common.{refl, sym, subst, arith}
+use Rattle.std.proofs.Common.{◌∙◌, None, refl, sym, ap, subst, arith}
 use Rattle.std.specs.Prelude.{max}
 use Rattle.yasir_ticks.specs.Ticks.{silent}
 use Rattle.yasir_ticks.specs.Bursts.{bursts_from, with_byte}
 use Rattle.yasir_ticks.specs.declared.tick.Tick.{Tick}
 use Rattle.yasir_io.specs.Disks.{Slots}
+use Rattle.yasir_io.specs.Steady.{blank_old}
 use Rattle.line_rules.specs.Crc.{crc, byte_step, bit_steps, bit_step}
 use Rattle.line_rules.specs.Endings.{ends_in_check}
 use Rattle.rtu_frame.specs.Frame.{is_frame, has_right_ending}
@@ -16,8 +17,11 @@ use Rattle.device_model.specs.RtuReads.{has_silence, rtu_reads}
 use Rattle.burst_walk.specs.Laid.{tick_at}
 use Rattle.link_format.specs.NumberedFrame.{NumberedFrame, numbers_of, last_number}
 use Rattle.sequence_journal.specs.declared.numbers.TheConstants.{LIMIT}
-use Rattle.sequence_journal.specs.Slots.{floor_of, slot_bytes}
-use Rattle.sequence_journal.specs.Uptimes.{IsUptime}
+use Rattle.sequence_journal.specs.declared.link.LinkId.{LinkId}
+use Rattle.sequence_journal.specs.Slots.{slot_bytes, old_slot_bytes, old_number_held, greater}
+use Rattle.sequence_journal.specs.Slots.{own_floor, old_floor, floor_of}
+use Rattle.sequence_journal.specs.Uptimes.{IsUptime, IsIdle}
+use Rattle.sequence_journal.proofs.FloorLaws.{floor_beside}
 use Rattle.sequence_journal.proofs.SlotLemmas.{held}
 use Rattle.seal_transmitter.specs.Sealing.{judged, link_line, sealed}
 use Rattle.link_verdicts.specs.Shapes.{kept}
@@ -36,9 +40,12 @@ request = on_line READ_TEN_REGISTERS ++ silent 28
 abbrev numbered_at : ℕ → ℕ → NumberedFrame
 numbered_at number start = record { number = number; start = start; frame = READ_TEN_REGISTERS }
 
--- slots that hold these numbers
+-- the link, and slots that hold these numbers for it
+abbrev rtu_link : LinkId
+rtu_link = record { label = 1; dir = 0; profile = 18 }
+
 abbrev holding : ℕ → ℕ → Slots
-holding a b = record { a = slot_bytes a; b = slot_bytes b }
+holding a b = record { a = slot_bytes a rtu_link; b = slot_bytes b rtu_link; old = blank_old }
 
 abbrev uptime_of : ℕ → List Tick → Slots → BoxUptime
 uptime_of floor line image = record { floor = floor; line = line; image = image }
@@ -111,16 +118,28 @@ anew-read = refl
 
 -- ---- These are uptimes on one disk, which begins with the number 0 in both slots.
 
-floor-is : (a b : ℕ) → a ≤ LIMIT → b ≤ LIMIT → floor_of (holding a b) ≡ Some (max a b)
-floor-is a b a_within b_within = rw (held a a_within) (rw (held b b_within) refl)
+no-old-number : old_floor (holding 0 0) ≡ None
+unfolding old_number_held old_slot_bytes
+no-old-number = refl
+
+floor-is : (a b : ℕ) → a ≤ LIMIT → b ≤ LIMIT → floor_of rtu_link (holding a b) ≡ Some (max a b)
+floor-is a b a_within b_within =
+    let own : own_floor rtu_link (holding a b) ≡ Some (max a b) =
+    rw (held a rtu_link a_within, held b rtu_link b_within) refl in
+    floor_beside rtu_link (holding a b) (max a b) own
+    ∙ ap (λ o. greater (Some (max a b)) o) no-old-number
+
+-- with no run in between
+no-run : (slots : Slots) → IsIdle rtu_link slots [] slots
+no-run slots = record { answers_none = refl; leaves = λ n below. below }
 
 -- the uptime of one frame with the number
 one-frame : (floor number : ℕ) (begins image : Slots) (frames : List NumberedFrame)
-    → floor < number → floor_of begins ≡ Some floor → floor_of image ≡ Some number
-    → frames ≡ numbered_at number 0 ∷ [] → IsUptime begins (numbers_of frames) image
+    → floor < number → floor_of rtu_link begins ≡ Some floor → floor_of rtu_link image ≡ Some number
+    → frames ≡ numbered_at number 0 ∷ [] → IsUptime rtu_link begins (numbers_of frames) image
 one-frame floor number begins image frames above begins_is image_is is =
     let reached : number ≤ number = omega arith in
-    subst (λ l. IsUptime begins (numbers_of l) image) (sym is) (record {
+    subst (λ l. IsUptime rtu_link begins (numbers_of l) image) (sym is) (record {
       floor = floor;
       loads = begins_is;
       rise = (above, tt);
@@ -137,16 +156,20 @@ unfolding bursts_from with_byte before_pause up_to_byte tick_at judged crc byte_
     bit_step is_frame has_right_ending ends_in_check
 second-sealed = refl
 
-shared : ShareDisk (sealed profile rtu_rules) (holding 0 0) (first_seal ∷ second_seal ∷ [])
+shared : ShareDisk (sealed profile rtu_rules) rtu_link (holding 0 0) (first_seal ∷ second_seal ∷ [])
 shared =
-    let at_first : floor_of (holding 0 0) ≡ Some 0 =
+    let at_first : floor_of rtu_link (holding 0 0) ≡ Some 0 =
     floor-is 0 0 (omega arith) (omega arith) in
-    let between : floor_of (holding 0 1) ≡ Some 1 = floor-is 0 1 (omega arith) (omega arith) in
-    let at_last : floor_of (holding 2 1) ≡ Some 2 = floor-is 2 1 (omega arith) (omega arith) in (
+    let between : floor_of rtu_link (holding 0 1) ≡ Some 1 = floor-is 0 1 (omega arith) (omega arith) in
+    let at_last : floor_of rtu_link (holding 2 1) ≡ Some 2 = floor-is 2 1 (omega arith) (omega arith) in (
+      holding 0 0,
+      no-run (holding 0 0),
       at_first,
       one-frame 0 1 (holding 0 0) (holding 0 1) (sealed profile rtu_rules 0 request)
           (omega arith) at_first between first-sealed,
       (
+        holding 0 1,
+        no-run (holding 0 1),
         between,
         one-frame 1 2 (holding 0 1) (holding 2 1) (sealed profile rtu_rules 1 request)
             (omega arith) between at_last second-sealed,

@@ -5,8 +5,9 @@ use Rattle.yasir_io.specs.Disks.{Slots}
 use Rattle.yasir_ticks.specs.declared.tick.Tick.{Tick}
 use Rattle.line_rules.specs.Rules.{Rules}
 use Rattle.device_model.specs.Frames.{FrameRead}
+use Rattle.sequence_journal.specs.declared.link.LinkId.{LinkId}
 use Rattle.sequence_journal.specs.Slots.{floor_of}
-use Rattle.sequence_journal.specs.Uptimes.{IsUptime}
+use Rattle.sequence_journal.specs.Uptimes.{IsUptime, IsIdle}
 use Rattle.link_format.specs.NumberedFrame.{NumberedFrame, numbers_of, last_number}
 use Rattle.link_format.specs.Profile.{Profile}
 use Rattle.seal_transmitter.specs.Sealing.{sealed}
@@ -37,14 +38,17 @@ module _ (frames : ℕ → List Tick → List NumberedFrame) where
       (floor ≤ uptime.floor)
       × GoOnFrom (last_number uptime.floor (frames uptime.floor uptime.line)) uptimes
 
-  -- The uptimes share a disk: each has loaded the floor of the slots that it began on, and has been
-  -- an uptime with the numbers of its frames, and the next one began on the image that it left.
-  abbrev pub ShareDisk : Slots → List BoxUptime → Type 0
-  ShareDisk begins [] = Unit {0}
-  ShareDisk begins (uptime ∷ uptimes) =
-      (floor_of begins ≡ Some uptime.floor)
-      × IsUptime begins (numbers_of (frames uptime.floor uptime.line)) uptime.image
-      × ShareDisk uptime.image uptimes
+  -- The uptimes share a disk, for one link: each has loaded the floor of the slots that it found,
+  -- and has been an uptime with the numbers of its frames. It found the image that the one before
+  -- it left, or what runs between them left that ended before they had loaded a floor; these are
+  -- together one that is idle.
+  abbrev pub ShareDisk : LinkId → Slots → List BoxUptime → Type 0
+  ShareDisk link begins [] = Unit {0}
+  ShareDisk link begins (uptime ∷ uptimes) =
+      (found : Slots) × IsIdle link begins [] found
+      × (floor_of link found ≡ Some uptime.floor)
+      × IsUptime link found (numbers_of (frames uptime.floor uptime.line)) uptime.image
+      × ShareDisk link uptime.image uptimes
 
 -- the bytes of all frames that a device reads in these uptimes of the receiver, where it begins
 -- each of them at rest

@@ -1,4 +1,4 @@
-ghost use Rattle.std.specs.Prelude.{◌≡◌, ◌≤◌, ◌⊎◌, ℕ, List, Some};
+ghost use Rattle.std.specs.Prelude.{◌≡◌, ◌≤◌, ◌⊎◌, ℕ, List};
 ghost use Rattle.yasir_ticks.specs.declared.TheConstants.{T3_5_TICKS};
 ghost use Rattle.yasir_ticks.specs.declared.tick.Tick.{Tick};
 ghost use Rattle.yasir_io.specs.Disks.{Slots};
@@ -8,8 +8,8 @@ ghost use Rattle.device_model.specs.DnpReads.{dnp_reads};
 ghost use Rattle.device_model.specs.HuntFamily.{dnp_family_reads};
 ghost use Rattle.device_model.specs.RtuFamily.{rtu_family_reads};
 ghost use Rattle.device_model.specs.RtuReads.{rtu_reads};
-ghost use Rattle.sequence_journal.specs.Slots.{floor_of};
-ghost use Rattle.sequence_journal.specs.Uptimes.{RiseFrom};
+ghost use Rattle.sequence_journal.specs.declared.link.LinkId.{LinkId};
+ghost use Rattle.sequence_journal.specs.Uptimes.{RiseFrom, HasNoFloorBelow};
 ghost use Rattle.link_format.specs.NumberedFrame.{NumberedFrame, numbers_of};
 ghost use Rattle.link_format.specs.Profile.{Profile, delay};
 ghost use Rattle.receiver_laws.specs.Accounted.{IsAccountedFor};
@@ -27,16 +27,18 @@ use line_rules::LineRules;
 /// uptime.
 ///
 /// Uptimes over one disk do load so, each on the image that the one before left, if they are
-/// uptimes with the numbers of their frames. All that the law asks of the numbers is that they rise
+/// uptimes with the numbers of their frames, also where runs end in between before they have loaded
+/// a floor. All that the law asks of the numbers is that they rise
 /// on each side.
 pub fn uptimes_are_accounted_for<R: LineRules>()
     ensures over { (profile : Profile) (seal_floor check_floor : ℕ) (seals checks : List BoxUptime)
         → BothGoOn profile R.rules seal_floor check_floor seals checks
         → IsAccountedFor seal_floor check_floor (sealed_over profile R.rules seals)
         (passed_over profile R.rules checks) }
-    ensures on_a_disk { (frames : ℕ → List Tick → List NumberedFrame) (begins : Slots) (floor : ℕ)
-        (uptimes : List BoxUptime) → floor_of begins ≡ Some floor
-        → ShareDisk frames begins uptimes → GoOnFrom frames floor uptimes }
+    ensures on_a_disk { (frames : ℕ → List Tick → List NumberedFrame) (link : LinkId)
+        (begins : Slots) (floor : ℕ) (uptimes : List BoxUptime)
+        → HasNoFloorBelow link floor begins
+        → ShareDisk frames link begins uptimes → GoOnFrom frames floor uptimes }
     ensures rising { (seal_floor check_floor : ℕ) (sealed_ones passed_ones : List NumberedFrame)
         → RiseFrom seal_floor (numbers_of sealed_ones)
         → RiseFrom check_floor (numbers_of passed_ones)

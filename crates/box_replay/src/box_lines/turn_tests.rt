@@ -8,7 +8,7 @@ ghost use Rattle.yasir_ticks.specs.declared.TheConstants.{MAX_TICKS};
 use super::BoxLines;
 use crate::line_box::{BoxStep, LineBox, NoteLine, RunBytes};
 use hmac_tag::Dir;
-use sequence_journal::{Journal, JournalFault, slot_of};
+use sequence_journal::{Journal, JournalFault, LinkId, slot_of};
 use std::alloc::Global;
 use std::test::Fail;
 use tick_drive::{End, drive};
@@ -139,8 +139,9 @@ const TEXT: &[u8] = b"+000102030405060708090a0b0c0d0e0f101112131415161718191a1b1
 
 // The calls of a wire as the text is driven into it.
 fn calls_of(alloc: Global, forwards: bool) -> Result<Calls, Fail> {
-    let mut disk = SteadySlots::new(slot_of(0), [0; 16]);
-    let journal = Journal::load(&mut disk)?;
+    let served = LinkId::of_no_file();
+    let mut disk = SteadySlots::new(slot_of(0, &served), [0; 24]);
+    let journal = Journal::load(&mut disk, &served)?;
     let mut lines: BoxLines<Wire> = BoxLines::new(&[0; 16], Dir::Ab, journal);
     lines.line_box.forwards = forwards;
     let mut input = SteadySource::new(TEXT);

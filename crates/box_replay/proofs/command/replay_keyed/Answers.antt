@@ -7,31 +7,34 @@ use Rattle.tick_drive.specs.Drive.{answer_of}
 use Rattle.replay_status.proofs.EndCauses.{input_cause, sink_cause_of_end}
 use Rattle.replay_status.proofs.FlushLaws.{flushes_of_whole, flushes_of_end}
 use Rattle.box_replay.specs.ReplaysBox.{around}
-use Rattle.box_replay.proofs.Floors.{told_before, keeps_floor, keeps_throughout, disk_cause_of_end}
+use Rattle.box_replay.proofs.Floors.{told_before, keeps_floor, keeps_from_load, keeps_throughout}
+use Rattle.box_replay.proofs.Floors.{disk_cause_of_end}
 use Rattle.box_replay.proofs.Outcomes.{write_stops, finish_fails, refusal_runs, whole_runs}
 use Rattle.box_replay.proofs.command.replay_keyed.Goals as goal
 
 pub returns-then-is_write_stop-clause-runs : goal.returns-then-is_write_stop-clause-runs
 returns-then-is_write_stop-clause-runs g c =
     let write : is_write_fault (answer_of c.drive_to_rest-end.result) ≡ true = cc in
-    write_stops g.B.LineBox g.S.Source g.O.Sink g.L.Sink g.D.SlotDisk c.args.key.now c.args.dir
+    write_stops g.B.LineBox g.S.Source g.O.Sink g.L.Sink g.D.SlotDisk c.args.link.now c.args.key.now c.args.dir
     (journal_floor c.in-Ok.journal) c.args.rest
     (around c.args.input.now c.args.out.now c.args.log.now c.args.disk.now)
     (around c.drive_to_rest-end.new.input c.drive_to_rest-end.new.out c.drive_to_rest-end.new.log
     c.drive_to_rest-end.new.disk)
     c.load.new.disk c.new-lines.result c.drive_to_rest-end.new.consumer
-    (g.B.LineBox.is_boxed c.requires (setup_of c.args.key.now c.args.dir
+    (g.B.LineBox.is_boxed c.requires.widths (setup_of c.args.key.now c.args.dir
     (journal_floor c.in-Ok.journal)))
-    (λ texts. c.new-lines.ensures.drives texts (g.D.SlotDisk.told c.load.new.disk)
-    c.in-Ok.ensures.fits)
-    (told_before g.D.SlotDisk c.in-Ok.journal c.args.disk.now c.load.new.disk c.in-Ok.ensures.told
-    c.in-Ok.ensures.images
-    c.in-Ok.ensures.fits)
-    (keeps_floor g.D.SlotDisk c.in-Ok.journal c.args.disk.now c.load.new.disk c.in-Ok.ensures.told
-    c.in-Ok.ensures.images
-    c.in-Ok.ensures.fits c.new-lines.result.journal c.drive_to_rest-end.new.consumer.journal
-    c.drive_to_rest-end.new.disk
+    (λ texts. c.new-lines.ensures.drives c.args.link.now texts (g.D.SlotDisk.told c.load.new.disk)
+    c.in-Ok.ensures.loaded.link_is c.in-Ok.ensures.fits)
+    (told_before g.D.SlotDisk c.args.link.now c.in-Ok.journal c.args.disk.now c.load.new.disk
+    c.in-Ok.ensures.loaded c.in-Ok.ensures.crash_safe)
+    (keeps_floor g.D.SlotDisk c.args.link.now c.in-Ok.journal c.args.disk.now c.load.new.disk
+    c.in-Ok.ensures.loaded c.in-Ok.ensures.crash_safe c.new-lines.result.journal
+    c.drive_to_rest-end.new.consumer.journal c.drive_to_rest-end.new.disk
     c.new-lines.ensures.journal c.drive_to_rest-end.ensures.driven.gives.images.is_kept)
+    (keeps_from_load g.D.SlotDisk c.args.link.now c.in-Ok.journal c.args.disk.now c.load.new.disk
+    c.in-Ok.ensures.loaded c.in-Ok.ensures.crash_safe c.new-lines.result.journal
+    c.drive_to_rest-end.new.disk
+    c.new-lines.ensures.journal c.drive_to_rest-end.ensures.driven.gives.images.any_moment)
     (around c.drive_to_rest-end.new.input c.drive_to_rest-end.new.out c.drive_to_rest-end.new.log
     c.drive_to_rest-end.new.disk) refl refl
     c.drive_to_rest-end.result write c.drive_to_rest-end.ensures.driven refl
@@ -39,24 +42,26 @@ returns-then-is_write_stop-clause-runs g c =
 pub returns-in-Err-clause-runs : goal.returns-in-Err-clause-runs
 returns-in-Err-clause-runs g c =
     let other : is_write_fault (answer_of c.drive_to_rest-end.result) ≡ false = cc in
-    finish_fails g.B.LineBox g.S.Source g.O.Sink g.L.Sink g.D.SlotDisk c.args.key.now c.args.dir
+    finish_fails g.B.LineBox g.S.Source g.O.Sink g.L.Sink g.D.SlotDisk c.args.link.now c.args.key.now c.args.dir
     (journal_floor c.in-Ok.journal) c.args.rest
     (around c.args.input.now c.args.out.now c.args.log.now c.args.disk.now)
     (around c.drive_to_rest-end.new.input c.drive_to_rest-end.new.out c.drive_to_rest-end.new.log
     c.drive_to_rest-end.new.disk)
     c.load.new.disk c.new-lines.result c.drive_to_rest-end.new.consumer
-    (g.B.LineBox.is_boxed c.requires (setup_of c.args.key.now c.args.dir
+    (g.B.LineBox.is_boxed c.requires.widths (setup_of c.args.key.now c.args.dir
     (journal_floor c.in-Ok.journal)))
-    (λ texts. c.new-lines.ensures.drives texts (g.D.SlotDisk.told c.load.new.disk)
-    c.in-Ok.ensures.fits)
-    (told_before g.D.SlotDisk c.in-Ok.journal c.args.disk.now c.load.new.disk c.in-Ok.ensures.told
-    c.in-Ok.ensures.images
-    c.in-Ok.ensures.fits)
-    (keeps_floor g.D.SlotDisk c.in-Ok.journal c.args.disk.now c.load.new.disk c.in-Ok.ensures.told
-    c.in-Ok.ensures.images
-    c.in-Ok.ensures.fits c.new-lines.result.journal c.drive_to_rest-end.new.consumer.journal
-    c.drive_to_rest-end.new.disk
+    (λ texts. c.new-lines.ensures.drives c.args.link.now texts (g.D.SlotDisk.told c.load.new.disk)
+    c.in-Ok.ensures.loaded.link_is c.in-Ok.ensures.fits)
+    (told_before g.D.SlotDisk c.args.link.now c.in-Ok.journal c.args.disk.now c.load.new.disk
+    c.in-Ok.ensures.loaded c.in-Ok.ensures.crash_safe)
+    (keeps_floor g.D.SlotDisk c.args.link.now c.in-Ok.journal c.args.disk.now c.load.new.disk
+    c.in-Ok.ensures.loaded c.in-Ok.ensures.crash_safe c.new-lines.result.journal
+    c.drive_to_rest-end.new.consumer.journal c.drive_to_rest-end.new.disk
     c.new-lines.ensures.journal c.drive_to_rest-end.ensures.driven.gives.images.is_kept)
+    (keeps_from_load g.D.SlotDisk c.args.link.now c.in-Ok.journal c.args.disk.now c.load.new.disk
+    c.in-Ok.ensures.loaded c.in-Ok.ensures.crash_safe c.new-lines.result.journal
+    c.drive_to_rest-end.new.disk
+    c.new-lines.ensures.journal c.drive_to_rest-end.ensures.driven.gives.images.any_moment)
     (around c.drive_to_rest-end.new.input c.finish.new.out c.finish.new.log
     c.drive_to_rest-end.new.disk) refl refl
     c.drive_to_rest-end.result other c.drive_to_rest-end.ensures.driven
@@ -64,24 +69,26 @@ returns-in-Err-clause-runs g c =
 
 pub returns-in-Whole-clause-runs : goal.returns-in-Whole-clause-runs
 returns-in-Whole-clause-runs g c =
-    whole_runs g.B.LineBox g.S.Source g.O.Sink g.L.Sink g.D.SlotDisk c.args.key.now c.args.dir
+    whole_runs g.B.LineBox g.S.Source g.O.Sink g.L.Sink g.D.SlotDisk c.args.link.now c.args.key.now c.args.dir
     (journal_floor c.in-Ok.journal) c.args.rest
     (around c.args.input.now c.args.out.now c.args.log.now c.args.disk.now)
     (around c.drive_to_rest-end.new.input c.drive_to_rest-end.new.out c.drive_to_rest-end.new.log
     c.drive_to_rest-end.new.disk)
     c.load.new.disk c.new-lines.result c.drive_to_rest-end.new.consumer
-    (g.B.LineBox.is_boxed c.requires (setup_of c.args.key.now c.args.dir
+    (g.B.LineBox.is_boxed c.requires.widths (setup_of c.args.key.now c.args.dir
     (journal_floor c.in-Ok.journal)))
-    (λ texts. c.new-lines.ensures.drives texts (g.D.SlotDisk.told c.load.new.disk)
-    c.in-Ok.ensures.fits)
-    (told_before g.D.SlotDisk c.in-Ok.journal c.args.disk.now c.load.new.disk c.in-Ok.ensures.told
-    c.in-Ok.ensures.images
-    c.in-Ok.ensures.fits)
-    (keeps_floor g.D.SlotDisk c.in-Ok.journal c.args.disk.now c.load.new.disk c.in-Ok.ensures.told
-    c.in-Ok.ensures.images
-    c.in-Ok.ensures.fits c.new-lines.result.journal c.drive_to_rest-end.new.consumer.journal
-    c.drive_to_rest-end.new.disk
+    (λ texts. c.new-lines.ensures.drives c.args.link.now texts (g.D.SlotDisk.told c.load.new.disk)
+    c.in-Ok.ensures.loaded.link_is c.in-Ok.ensures.fits)
+    (told_before g.D.SlotDisk c.args.link.now c.in-Ok.journal c.args.disk.now c.load.new.disk
+    c.in-Ok.ensures.loaded c.in-Ok.ensures.crash_safe)
+    (keeps_floor g.D.SlotDisk c.args.link.now c.in-Ok.journal c.args.disk.now c.load.new.disk
+    c.in-Ok.ensures.loaded c.in-Ok.ensures.crash_safe c.new-lines.result.journal
+    c.drive_to_rest-end.new.consumer.journal c.drive_to_rest-end.new.disk
     c.new-lines.ensures.journal c.drive_to_rest-end.ensures.driven.gives.images.is_kept)
+    (keeps_from_load g.D.SlotDisk c.args.link.now c.in-Ok.journal c.args.disk.now c.load.new.disk
+    c.in-Ok.ensures.loaded c.in-Ok.ensures.crash_safe c.new-lines.result.journal
+    c.drive_to_rest-end.new.disk
+    c.new-lines.ensures.journal c.drive_to_rest-end.ensures.driven.gives.images.any_moment)
     (around c.drive_to_rest-end.new.input c.flush_both.new.out c.flush_both.new.log
     c.drive_to_rest-end.new.disk) refl refl
     c.flush_both.result c.flush_both.ensures.status
@@ -93,34 +100,35 @@ pub returns-in_default : goal.returns-in_default
 returns-in_default g c =
     let other : is_write_fault (answer_of c.drive_to_rest-end.result) ≡ false = cc in
     let gives = c.drive_to_rest-end.ensures.driven.gives in rw c.status_of.ensures (record {
-      runs = refusal_runs g.B.LineBox g.S.Source g.O.Sink g.L.Sink g.D.SlotDisk c.args.key.now
+      runs = refusal_runs g.B.LineBox g.S.Source g.O.Sink g.L.Sink g.D.SlotDisk c.args.link.now c.args.key.now
           c.args.dir
           (journal_floor c.in-Ok.journal) c.args.rest
           (around c.args.input.now c.args.out.now c.args.log.now c.args.disk.now)
           (around c.drive_to_rest-end.new.input c.drive_to_rest-end.new.out
           c.drive_to_rest-end.new.log c.drive_to_rest-end.new.disk)
           c.load.new.disk c.new-lines.result c.drive_to_rest-end.new.consumer
-          (g.B.LineBox.is_boxed c.requires (setup_of c.args.key.now c.args.dir
+          (g.B.LineBox.is_boxed c.requires.widths (setup_of c.args.key.now c.args.dir
           (journal_floor c.in-Ok.journal)))
-          (λ texts. c.new-lines.ensures.drives texts (g.D.SlotDisk.told c.load.new.disk)
-          c.in-Ok.ensures.fits)
-          (told_before g.D.SlotDisk c.in-Ok.journal c.args.disk.now c.load.new.disk
-          c.in-Ok.ensures.told c.in-Ok.ensures.images
-          c.in-Ok.ensures.fits)
-          (keeps_floor g.D.SlotDisk c.in-Ok.journal c.args.disk.now c.load.new.disk
-          c.in-Ok.ensures.told c.in-Ok.ensures.images
-          c.in-Ok.ensures.fits c.new-lines.result.journal c.drive_to_rest-end.new.consumer.journal
-          c.drive_to_rest-end.new.disk
-          c.new-lines.ensures.journal c.drive_to_rest-end.ensures.driven.gives.images.is_kept)
+          (λ texts. c.new-lines.ensures.drives c.args.link.now texts (g.D.SlotDisk.told c.load.new.disk)
+          c.in-Ok.ensures.loaded.link_is c.in-Ok.ensures.fits)
+          (told_before g.D.SlotDisk c.args.link.now c.in-Ok.journal c.args.disk.now c.load.new.disk
+    c.in-Ok.ensures.loaded c.in-Ok.ensures.crash_safe)
+          (keeps_floor g.D.SlotDisk c.args.link.now c.in-Ok.journal c.args.disk.now c.load.new.disk
+    c.in-Ok.ensures.loaded c.in-Ok.ensures.crash_safe c.new-lines.result.journal
+    c.drive_to_rest-end.new.consumer.journal c.drive_to_rest-end.new.disk
+    c.new-lines.ensures.journal c.drive_to_rest-end.ensures.driven.gives.images.is_kept)
+    (keeps_from_load g.D.SlotDisk c.args.link.now c.in-Ok.journal c.args.disk.now c.load.new.disk
+    c.in-Ok.ensures.loaded c.in-Ok.ensures.crash_safe c.new-lines.result.journal
+    c.drive_to_rest-end.new.disk
+    c.new-lines.ensures.journal c.drive_to_rest-end.ensures.driven.gives.images.any_moment)
           (around c.drive_to_rest-end.new.input c.finish.new.out c.finish.new.log
           c.drive_to_rest-end.new.disk) refl refl
           c.drive_to_rest-end.result other c.in_default.not-Whole c.drive_to_rest-end.ensures.driven
           (λ line sends. c.in-Ok-finish.ensures.ok _ _ line sends);
-      any_moment = keeps_throughout g.D.SlotDisk c.in-Ok.journal c.args.disk.now c.load.new.disk
-          c.in-Ok.ensures.told
-          c.in-Ok.ensures.images c.in-Ok.ensures.fits c.new-lines.result.journal
-          c.drive_to_rest-end.new.disk
-          c.new-lines.ensures.journal c.in-Ok.ensures.any_moment gives.images.any_moment;
+      any_moment = keeps_throughout g.D.SlotDisk c.args.link.now c.in-Ok.journal c.args.disk.now
+          c.load.new.disk c.in-Ok.ensures.loaded c.in-Ok.ensures.crash_safe
+          c.new-lines.result.journal c.drive_to_rest-end.new.disk
+          c.new-lines.ensures.journal c.in-Ok.ensures.crash gives.images.any_moment;
       input = input_cause _ _ c.drive_to_rest-end.result c.drive_to_rest-end.ensures.read;
       disk = rw (← c.in-Ok.ensures.same)
           (disk_cause_of_end _ _ c.drive_to_rest-end.result gives.disk);
@@ -148,3 +156,24 @@ returns-in-Whole-clause-flushes g c =
     (none_flushed_then g.O.Sink g.L.Sink _ _ _ _ _ _ gives.flushes c.in-Ok-finish.ensures.flushes)
     (c.in-Ok-finish.ensures.cause.log_same ∙ gives.sinks.log_same other)
     c.flush_both.result c.flush_both.ensures.flushes
+
+pub returns-then-is_write_stop-clause-any_moment : goal.returns-then-is_write_stop-clause-any_moment
+returns-then-is_write_stop-clause-any_moment g c =
+    keeps_throughout g.D.SlotDisk c.args.link.now c.in-Ok.journal c.args.disk.now c.load.new.disk
+    c.in-Ok.ensures.loaded c.in-Ok.ensures.crash_safe c.new-lines.result.journal
+    c.drive_to_rest-end.new.disk c.new-lines.ensures.journal c.in-Ok.ensures.crash
+    c.drive_to_rest-end.ensures.driven.gives.images.any_moment
+
+pub returns-in-Err-clause-any_moment : goal.returns-in-Err-clause-any_moment
+returns-in-Err-clause-any_moment g c =
+    keeps_throughout g.D.SlotDisk c.args.link.now c.in-Ok.journal c.args.disk.now c.load.new.disk
+    c.in-Ok.ensures.loaded c.in-Ok.ensures.crash_safe c.new-lines.result.journal
+    c.drive_to_rest-end.new.disk c.new-lines.ensures.journal c.in-Ok.ensures.crash
+    c.drive_to_rest-end.ensures.driven.gives.images.any_moment
+
+pub returns-in-Whole-clause-any_moment : goal.returns-in-Whole-clause-any_moment
+returns-in-Whole-clause-any_moment g c =
+    keeps_throughout g.D.SlotDisk c.args.link.now c.in-Ok.journal c.args.disk.now c.load.new.disk
+    c.in-Ok.ensures.loaded c.in-Ok.ensures.crash_safe c.new-lines.result.journal
+    c.drive_to_rest-end.new.disk c.new-lines.ensures.journal c.in-Ok.ensures.crash
+    c.drive_to_rest-end.ensures.driven.gives.images.any_moment

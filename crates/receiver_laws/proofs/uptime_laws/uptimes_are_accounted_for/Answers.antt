@@ -8,8 +8,8 @@ returns-clause-over g c = λ profile seal_floor check_floor seals checks go_on.
     checks go_on
 
 pub returns-clause-on_a_disk : goal.returns-clause-on_a_disk
-returns-clause-on_a_disk g c = λ frames begins floor uptimes is share.
-    share-go_on frames begins floor uptimes is share
+returns-clause-on_a_disk g c = λ frames link begins floor uptimes below share.
+    share-go_on frames link begins floor uptimes below share
 
 pub returns-clause-rising : goal.returns-clause-rising
 returns-clause-rising g c = λ seal_floor check_floor sealed_ones passed_ones sealing passing.

@@ -1,11 +1,12 @@
 use Rattle.std.proofs.Common.{rules, refl, sym, subst, ◌∙◌, ◌∷◌, [], ◌++◌}
 use Rattle.yasir_ticks.specs.Ticks.{ticks_in}
 use Rattle.yasir_ticks.specs.Ticks.Item.{tick}
-use Rattle.box_replay.specs.Boxes.{line_of_note}
-use Rattle.box_replay.specs.BoxLines.{waiting_in, texts_in}
+use Rattle.sequence_journal.specs.Journal.{journal_floor}
+use Rattle.box_replay.specs.Boxes.{line_of_note, FailsBox}
+use Rattle.box_replay.specs.BoxLines.{ToldFloor, waiting_in, texts_in}
 use Rattle.box_replay.specs.Sending.{SendsBoxed, HasSentFronts}
 use Rattle.box_replay.proofs.Sending.{step_noted, sends_more, sent_in_part}
-use Rattle.box_replay.proofs.Begun.{one_more, floor_from_less}
+use Rattle.box_replay.proofs.Begun.{one_more, floor_from_later}
 use Rattle.box_replay.proofs.box_lines.BoxLinesConsumer.take_tick.Goals as goal
 
 pub returns-in-Err : goal.returns-in-Err
@@ -19,7 +20,10 @@ returns-in-Err g c = record {
       last = c.args.tick;
       is = refl;
       sends = before.sends;
-      fails = c.in-Err.ensures.err origin.setup (ticks_in items) before.steps;
+      link_is = c.step.ensures.link ∙ before.link_is;
+      fails = subst (λ link. FailsBox link (g.B.LineBox.boxed origin.setup) (ticks_in items)
+          c.args.tick (g.D.SlotDisk.told c.step.new.disk)) before.link_is
+          (c.in-Err.ensures.err origin.setup (ticks_in items) before.steps);
       floor = c.in-Err.ensures.err_floor
           ∙ g.B.LineBox.floor_is _ _ origin.setup (ticks_in items) before.steps;
     };
@@ -29,7 +33,8 @@ returns-in-Err g c = record {
   images = record {
     is_kept = c.step.ensures.crash_safe;
     any_moment = c.step.ensures.any_moment;
-    safer = floor_from_less _ _ c.step.ensures.rises;
+    safer = floor_from_later c.args.self.now.journal c.step.new.journal c.step.ensures.link
+        c.step.ensures.rises;
   };
   disk = search rules;
   sinks = search rules;
@@ -50,7 +55,10 @@ returns-in-Ok-push_step g c = record {
             (c.in-Ok.ensures.answer origin.setup (ticks_in items) before.steps)) _ _ origin.texts
             _ _ before.sends
             c.in-Ok-push_step.field-0 c.in-Ok-push_step.ensures.pushes);
-        floor_told = c.in-Ok.ensures.fits.floor;
+        link_is = c.step.ensures.link ∙ before.link_is;
+        floor_told = subst (λ link. ToldFloor link (journal_floor c.step.new.journal)
+            (g.D.SlotDisk.told c.step.new.disk)) (c.step.ensures.link ∙ before.link_is)
+            c.in-Ok.ensures.fits.floor;
       };
   stopped = tt;
   counted = c.in-Ok.ensures.taken;
@@ -58,7 +66,8 @@ returns-in-Ok-push_step g c = record {
   images = record {
     is_kept = c.step.ensures.crash_safe;
     any_moment = c.step.ensures.any_moment;
-    safer = floor_from_less _ _ c.step.ensures.rises;
+    safer = floor_from_later c.args.self.now.journal c.step.new.journal c.step.ensures.link
+        c.step.ensures.rises;
   };
   disk = search rules;
   sinks = search rules;
@@ -81,10 +90,13 @@ returns-in-Err-push_step g c = record {
               (c.in-Ok.ensures.answer origin.setup (ticks_in items) before.steps)) _ _ origin.texts
               _ _ before.sends
               c.in-Err-push_step.field-0 c.in-Err-push_step.ensures.pushes);
+          link_is = c.step.ensures.link ∙ before.link_is;
           floor = g.B.LineBox.floor_is _ _ origin.setup (ticks_in (items ++ tick c.args.tick ∷ []))
               (subst (g.B.LineBox.stands c.step.new.self c.step.new.journal origin.setup) more
               (c.in-Ok.ensures.stands origin.setup (ticks_in items) before.steps));
-          floor_told = c.in-Ok.ensures.fits.floor;
+          floor_told = subst (λ link. ToldFloor link (journal_floor c.step.new.journal)
+              (g.D.SlotDisk.told c.step.new.disk)) (c.step.ensures.link ∙ before.link_is)
+              c.in-Ok.ensures.fits.floor;
         };
   };
   counted = tt;
@@ -92,7 +104,8 @@ returns-in-Err-push_step g c = record {
   images = record {
     is_kept = c.step.ensures.crash_safe;
     any_moment = c.step.ensures.any_moment;
-    safer = floor_from_less _ _ c.step.ensures.rises;
+    safer = floor_from_later c.args.self.now.journal c.step.new.journal c.step.ensures.link
+        c.step.ensures.rises;
   };
   disk = search rules;
   sinks = search rules;
