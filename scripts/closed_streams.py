@@ -12,8 +12,10 @@ a file gets is the system's choice.
 """
 import itertools, os, subprocess, sys, tempfile
 
+from killed import slot_of
+
 KEY = b"000102030405060708090a0b0c0d0e0f\n"
-NEW = bytes(8) + b"\xff" * 8 + bytes(16)
+NEW = bytes(32) + slot_of(0) + bytes(24)
 REQUEST = b"+01030000000ac5cd\n-40\n"
 FAULTS = {5: b"fault: read\n", 11: b"fault: journal stands at 0\n"}
 
@@ -21,8 +23,8 @@ FAULTS = {5: b"fault: read\n", 11: b"fault: journal stands at 0\n"}
 COMMANDS = [
     ("seal rtu ab KEY JOURNAL", NEW, (0, 1, 2)),
     ("check rtu ab KEY JOURNAL", NEW, (0, 1, 2)),
-    ("init JOURNAL", None, ()),
-    ("init JOURNAL", NEW, ()),
+    ("init rtu ab JOURNAL", None, ()),
+    ("init rtu ab JOURNAL", NEW, ()),
     ("read rtu", NEW, (0, 1)),
     ("replay rtu ab KEY", NEW, (0, 1)),
     ("vectors", NEW, (1,)),

@@ -93,14 +93,14 @@ def without_comments(path):
 
 
 def show_journal(journal):
-    slots = open(journal, "rb").read(32).ljust(32, b"\0")
-    show("the journal's two slots, in hex", "%s\n%s\n" % (slots[:16].hex(), slots[16:].hex()))
+    slots = open(journal, "rb").read(80).ljust(80, b"\0")
+    show("the journal's two slots, in hex", "%s\n%s\n" % (slots[32:56].hex(), slots[56:].hex()))
 
 
 def show_received(name, protocol, direction, reader, link, folder):
     """Shows the receiver, with a new journal, over a link: the line that it sends on, its notes, what is read, and the journal."""
     journal = os.path.join(folder, name + ".received.journal")
-    run(["init", journal])
+    run(["init", protocol, direction, journal])
     line, notes = run(["check", protocol, direction, os.path.join(EXAMPLES, "key.txt"), journal], link)
     same = show("check %s %s: the line that the receiver sends on" % (protocol, direction), line, name + ".received.ticks")
     same &= show("its notes, on standard error", notes, name + ".verdicts.txt")
@@ -121,7 +121,7 @@ def show_side(side, protocol, direction, what, reader, folder):
     show("the line, without its comments", without_comments(line))
     same = show("read %s: the frames that the %s would read from it without the boxes" % (protocol, reader),
                 run(["read", protocol], line)[0], side + ".read.txt")
-    run(["init", journal])
+    run(["init", protocol, direction, journal])
     link, notes = run(["seal", protocol, direction, os.path.join(EXAMPLES, "key.txt"), journal], line)
     same &= show("seal %s %s: the line of the link" % (protocol, direction), link, side + ".link.ticks")
     same &= show("the transmitter's notes, on standard error", notes, side + ".notes.txt")

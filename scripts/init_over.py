@@ -3,32 +3,35 @@
 
     python3 scripts/init_over.py [PROGRAM]
 
-Over a key, over a journal that was damaged, and over any other file whose first 32 bytes aren't 00, nothing may be written:
+Over a key, over a journal that was damaged, and over any other file whose first 80 bytes aren't 00, nothing may be written:
 from a new floor of 0 the numbers of an old key would come twice. It ends with 1 where a run leaves anything else. It is no
 part of the gate.
 """
 import os, subprocess, sys, tempfile
 
-from killed import KEY
+from killed import KEY, old_slot_of, slot_of
 
-ZERO = bytes(8) + b"\xff" * 8
-SEVEN = (7).to_bytes(8, "big") + (2 ** 64 - 8).to_bytes(8, "big")
-TORN = b"\x11" * 16
+OLD = bytes(32)
+ZERO, SEVEN, OTHER = slot_of(0), slot_of(7), slot_of(9, ("dnp24", "ba"))
+OLD_SEVEN, OLD_TORN, TORN = old_slot_of(7), b"\x11" * 16, b"\x11" * 24
 STANDS = "fault: journal stands at %d\n"
 
 # what the file is, its bytes (none: it is missing), the status, the log, and its bytes behind the run (none: as before)
 CASES = [
-    ("missing", None, 0, "", ZERO),
-    ("empty", b"", 0, "", ZERO),
-    ("zeros of one slot", bytes(16), 0, "", ZERO),
-    ("zeros of both slots", bytes(32), 0, "", ZERO + bytes(16)),
-    ("zeros, and more behind the slots", bytes(32) + b"more", 0, "", ZERO + bytes(16) + b"more"),
-    ("a new journal", ZERO + bytes(16), 11, STANDS % 0, None),
-    ("a journal, one slot torn", TORN + SEVEN, 11, STANDS % 7, None),
-    ("a journal, the other slot torn", SEVEN + TORN, 11, STANDS % 7, None),
-    ("a journal, both slots torn", TORN + TORN, 7, "fault: journal\n", None),
-    ("a journal cut off in slot A", ZERO[:15], 7, "fault: journal\n", None),
-    ("one byte that isn't 00 at the end of slot B", bytes(31) + b"\x01", 7, "fault: journal\n", None),
+    ("missing", None, 0, "", OLD + ZERO),
+    ("empty", b"", 0, "", OLD + ZERO),
+    ("zeros of both old slots", OLD, 0, "", OLD + ZERO),
+    ("zeros of all slots", bytes(80), 0, "", OLD + ZERO + bytes(24)),
+    ("zeros, and more behind the slots", bytes(80) + b"more", 0, "", OLD + ZERO + bytes(24) + b"more"),
+    ("a new journal", OLD + ZERO + bytes(24), 11, STANDS % 0, None),
+    ("a journal, one slot torn", OLD + TORN + SEVEN, 11, STANDS % 7, None),
+    ("a journal, the other slot torn", OLD + SEVEN + TORN, 11, STANDS % 7, None),
+    ("a journal, both slots torn", OLD + TORN + TORN, 7, "fault: journal\n", None),
+    ("a journal of another link", OLD + SEVEN + OTHER, 11, STANDS % 9, None),
+    ("an old journal", OLD_SEVEN + bytes(16), 11, STANDS % 7, None),
+    ("an old journal, both slots torn", OLD_TORN + OLD_TORN, 7, "fault: journal\n", None),
+    ("a journal cut off in slot A", OLD + ZERO[:15], 7, "fault: journal\n", None),
+    ("one byte that isn't 00 at the end of slot B", bytes(79) + b"\x01", 7, "fault: journal\n", None),
     ("a key", KEY.encode(), 7, "fault: journal\n", None),
     ("a recording", b"+01030000000ac5cd\n-40\n", 7, "fault: journal\n", None),
     ("one byte", b"\n", 7, "fault: journal\n", None),
@@ -45,7 +48,7 @@ def main():
                 os.remove(path)
             if before is not None:
                 open(path, "wb").write(before)
-            run = subprocess.run([program, "init", path], stdin=subprocess.DEVNULL, stdout=subprocess.PIPE, stderr=subprocess.PIPE)
+            run = subprocess.run([program, "init", "rtu", "ab", path], stdin=subprocess.DEVNULL, stdout=subprocess.PIPE, stderr=subprocess.PIPE)
             after = open(path, "rb").read() if os.path.exists(path) else None
             right = (run.returncode, run.stdout, run.stderr.decode(), after) == (status, b"", log, before if behind is None else behind)
             wrong += not right

@@ -4,14 +4,39 @@ import os, random, re, signal, subprocess, tempfile, time
 KEY = "000102030405060708090a0b0c0d0e0f\n"
 
 
-def number_in(slot):
-    number, complement = int.from_bytes(slot[:8], "big"), int.from_bytes(slot[8:], "big")
-    return number if number ^ complement == (1 << 64) - 1 and number < 1 << 48 else None
+LIMIT = (1 << 48) - 1
+PROTOCOLS = {"rtu": (1, 18), "dnp3": (2, 18), "rtu24": (1, 24), "dnp24": (2, 24)}
+LINKS = [(protocol, direction) for protocol in PROTOCOLS for direction in ("ab", "ba")]
 
 
-def floor_of(path):
-    data = open(path, "rb").read().ljust(32, b"\0")
-    return max(n for n in (number_in(data[:16]), number_in(data[16:32])) if n is not None)
+def completed(half):
+    return half + bytes(255 - byte for byte in half)
+
+
+def old_slot_of(number):
+    return completed(number.to_bytes(8, "big"))
+
+
+def slot_of(number, link=("rtu", "ab")):
+    """The slot of a number for a link, which is given by its words."""
+    label, profile = PROTOCOLS[link[0]]
+    return completed(number.to_bytes(8, "big") + bytes([label, ("ab", "ba").index(link[1]), profile, 2]))
+
+
+def held(slots, made):
+    """The numbers of the slots that are made so."""
+    numbers = [(int.from_bytes(slot[:8], "big"), slot) for slot in slots]
+    return [number for number, slot in numbers if number <= LIMIT and slot == made(number)]
+
+
+def floor_of(path, link=("rtu", "ab")):
+    """The number that a run of this link loads from the file; none where it loads none."""
+    data = open(path, "rb").read().ljust(80, b"\0")
+    new, old = (data[32:56], data[56:80]), held((data[:16], data[16:32]), old_slot_of)
+    own = held(new, lambda number: slot_of(number, link))
+    if not own and any(held(new, lambda number: slot_of(number, other)) for other in LINKS):
+        return None
+    return max(own + old, default=None)
 
 
 class Killed:
@@ -32,7 +57,7 @@ class Killed:
         return open(self.path(name)).read()
 
     def init(self, journal):
-        subprocess.run([self.program, "init", self.path(journal)], check=True, stdin=subprocess.DEVNULL)
+        subprocess.run([self.program, "init", "rtu", "ab", self.path(journal)], check=True, stdin=subprocess.DEVNULL)
 
     def words(self, command, journal):
         return [self.program, command, "rtu", "ab", self.path("key"), self.path(journal)]

@@ -10,11 +10,11 @@ and ends with 1 where one isn't as it should be. It is no part of the gate: all 
 """
 import os, subprocess, sys, tempfile
 
+from killed import slot_of
 from model import PAUSE, Dnp3, Rtu, Y18, trailer
 
 TICKS, BYTES = 16_777_216, 268_435_456
 KEY = b"000102030405060708090a0b0c0d0e0f"
-JOURNAL = bytes(8) + b"\xff" * 8 + bytes(16)
 FRAMES = {"rtu": b"01030000000ac5cd", "dnp3": b"056405c001000004e921"}
 MANY, SILENCE = 70_000, 40
 FULL_LINE, COMMENT = b"+" + b"5a" * 32 + b"\n", b"#" + b"x" * 120 + b"\n"
@@ -56,7 +56,8 @@ def many_frames(proto):
 def run(program, words, parts, folder):
     """The status, the CPU time in seconds and the last line of the log."""
     places = {name: os.path.join(folder, name) for name in ("KEY", "JOURNAL", "NEW", "out", "log")}
-    for name, content in (("KEY", KEY), ("JOURNAL", JOURNAL), ("NEW", b"")):
+    link = (words.split()[1], "ab") if "JOURNAL" in words else ("rtu", "ab")
+    for name, content in (("KEY", KEY), ("JOURNAL", bytes(32) + slot_of(0, link) + bytes(24)), ("NEW", b"")):
         with open(places[name], "wb") as file:
             file.write(content)
     with open(places["out"], "wb") as out, open(places["log"], "wb") as log:
@@ -75,7 +76,7 @@ def run(program, words, parts, folder):
 
 def main():
     program = sys.argv[1] if len(sys.argv) > 1 else "crates/link_replay/out/link_replay"
-    commands = ["init NEW", "vectors", "trial rtu 7 10000", "trial dnp3 7 10000", "read rtu", "read dnp3"]
+    commands = ["init rtu ab NEW", "vectors", "trial rtu 7 10000", "trial dnp3 7 10000", "read rtu", "read dnp3"]
     for box in ("seal %s ab KEY JOURNAL", "check %s ab KEY JOURNAL", "replay %s ab KEY"):
         commands += [box % proto for proto in ("rtu", "dnp3")]
     wrong = 0

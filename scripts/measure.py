@@ -13,7 +13,8 @@ import argparse, filecmp, os, random, statistics, subprocess, sys, tempfile
 import model
 from killed import KEY
 from model import Y18, Y24, Dnp3, Rtu
-from random_lines import slot_of, some_frame
+from killed import slot_of
+from random_lines import some_frame
 
 PROGRAM = "crates/link_replay/out/link_replay"
 
@@ -129,7 +130,7 @@ def most_memory(child):
 def run(program, words, source, written, journal, memory=False):
     """Seconds of processor time and the status; where it is asked for, the most memory in place of the seconds."""
     with open(journal, "wb") as file:
-        file.write(slot_of(0) + bytes(16))
+        file.write(bytes(32) + slot_of(0, tuple(words[1:3]) if words[0] in ("seal", "check") else ("rtu", "ab")) + bytes(24))
     with open(source) as given, open(written[0], "w") as out, open(written[1], "w") as log:
         child = subprocess.Popen([program] + words, stdin=given, stdout=out, stderr=log)
         if memory:

@@ -11,7 +11,7 @@ It is no part of the gate.
 import os, random, subprocess, sys, tempfile
 
 import model
-from killed import KEY, floor_of
+from killed import KEY, floor_of, slot_of
 from model import LIMIT, PAUSE, Y18, Y24, Dnp3, Rtu
 
 # The words of notes and printed frames by which runs are counted.
@@ -70,10 +70,6 @@ def some_line(proto, key, direction, floor, packets, chance, profile=Y18):
     return line
 
 
-def slot_of(number):
-    return number.to_bytes(8, "big") + (number ^ (1 << 64) - 1).to_bytes(8, "big")
-
-
 def some_link(proto, key, direction, line, chance, profile):
     """What stands on the link behind the transmitter of this line: parts of what it sent, some altered, or a link of its own."""
     link, parts = model.seal(proto, key, direction, 0, line, profile)[0], []
@@ -89,10 +85,11 @@ def some_link(proto, key, direction, line, chance, profile):
 
 def run(program, words, text, journal, floor):
     """What the program writes, and the journal's floor after it, from a journal at this floor on."""
+    link = tuple(words[1:3]) if words[0] != "read" else ("rtu", "ab")
     with open(journal, "wb") as file:
-        file.write(slot_of(floor) + bytes(16))
+        file.write(bytes(32) + slot_of(floor, link) + bytes(24))
     ran = subprocess.run([program] + words, input=text, capture_output=True, text=True)
-    return ran.returncode, ran.stdout, ran.stderr.splitlines(), floor_of(journal)
+    return ran.returncode, ran.stdout, ran.stderr.splitlines(), floor_of(journal, link)
 
 
 def expected(proto, profile, command, key, direction, lines, floor):

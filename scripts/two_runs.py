@@ -35,10 +35,10 @@ class Journal:
         self.folder, self.wrong = folder, []
         self.key, self.path = os.path.join(folder, "key"), os.path.join(folder, name)
         open(self.key, "w").write(KEY)
-        subprocess.run([PROGRAM, "init", self.path], check=True, stdin=subprocess.DEVNULL)
+        subprocess.run([PROGRAM, "init", "rtu", "ab", self.path], check=True, stdin=subprocess.DEVNULL)
 
     def words(self, command):
-        return [PROGRAM, "init", self.path] if command == "init" else [PROGRAM, command, "rtu", "ab", self.key, self.path]
+        return [PROGRAM, "init", "rtu", "ab", self.path] if command == "init" else [PROGRAM, command, "rtu", "ab", self.key, self.path]
 
     def bytes(self):
         return open(self.path, "rb").read()
