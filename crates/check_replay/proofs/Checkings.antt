@@ -9,6 +9,7 @@ use Rattle.line_rules.specs.RulesLaws.{IsLawful}
 use Rattle.link_format.specs.NumberedFrame.{last_number}
 use Rattle.link_format.specs.Profile.{Profile}
 use Rattle.sequence_journal.specs.declared.journal.Journal.{Journal}
+use Rattle.sequence_journal.specs.declared.link.LinkId.{LinkId}
 use Rattle.sequence_journal.specs.Journal.{IsEitherFloor, journal_floor}
 use Rattle.link_verdicts.specs.Checking.{checker, at_floor, brief_note, passed_in, passed}
 use Rattle.link_verdicts.specs.Checking.FullNote.{passed_note}
@@ -29,14 +30,14 @@ module _ (profile : Profile) (rules : Rules) (floor : ℕ) (link : List Tick) (t
   checking-answers step answers = walk-answers (checker profile rules) brief_note check_line
       passed_in (at_floor floor) floor link t step.tick step.note answers
 
-  pub checking-fails : IsLawful rules → (last number : ℕ) (told : Option Slots)
+  pub checking-fails : IsLawful rules → (served : LinkId) (last number : ℕ) (told : Option Slots)
       → last ≡ last_number floor (passed profile rules floor link)
       → PassesWith profile rules floor link t number
-      → IfSome told (IsEitherFloor last number)
-      → FailsBox (checking profile rules floor) link t told
-  checking-fails lawful last number told is passes either =
+      → IfSome told (IsEitherFloor served last number)
+      → FailsBox served (checking profile rules floor) link t told
+  checking-fails lawful served last number told is passes either =
       walk-fails (checker profile rules) brief_note check_line passed_in (at_floor floor) floor
-      (passed-rise profile rules lawful floor) link t
+      (passed-rise profile rules lawful floor) served link t
       (record { tick = length link; note = passed_note number passes.start passes.frame })
       (record { number = number; start = passes.start; frame = passes.frame })
       last told passes.note refl is either

@@ -9,6 +9,7 @@ use Rattle.link_format.specs.NumberedFrame.{last_number}
 use Rattle.link_format.specs.Profile.{Profile}
 use Rattle.yasir_io.specs.declared.disk.SlotDisk.{Ghosts as SlotDisk}
 use Rattle.sequence_journal.specs.declared.journal.Journal.{Journal}
+use Rattle.sequence_journal.specs.declared.link.LinkId.{LinkId}
 use Rattle.sequence_journal.specs.Journal.{IsEitherFloor, journal_floor}
 use Rattle.seal_transmitter.specs.Sealing.{sealer, at_floor, sealed_in, sealed}
 use Rattle.seal_transmitter.specs.Sealing.FullNote.{sealed_note}
@@ -28,14 +29,14 @@ module _ (profile : Profile) (rules : Rules) (floor : ℕ) (line : List Tick) (t
   sealing-answers step answers = walk-answers (sealer profile rules) brief_note seal_line sealed_in
       (at_floor floor) floor line t step.tick step.note answers
 
-  pub sealing-fails : IsLawful rules → (last : ℕ) (told : Option Slots)
+  pub sealing-fails : IsLawful rules → (link : LinkId) (last : ℕ) (told : Option Slots)
       → last ≡ last_number floor (sealed profile rules floor line)
       → SealsWith profile rules floor line t (last + 1)
-      → IfSome told (IsEitherFloor last (last + 1))
-      → FailsBox (sealing profile rules floor) line t told
-  sealing-fails lawful last told is seals either =
+      → IfSome told (IsEitherFloor link last (last + 1))
+      → FailsBox link (sealing profile rules floor) line t told
+  sealing-fails lawful link last told is seals either =
       walk-fails (sealer profile rules) brief_note seal_line sealed_in (at_floor floor) floor
-      (sealed-rise profile rules lawful floor) line t
+      (sealed-rise profile rules lawful floor) link line t
       (record { tick = length line; note = sealed_note (last + 1) seals.start seals.frame })
       (record { number = last + 1; start = seals.start; frame = seals.frame })
       last told seals.note refl is either

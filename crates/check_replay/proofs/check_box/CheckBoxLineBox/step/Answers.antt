@@ -1,7 +1,7 @@
 use Rattle.std.proofs.Common.{arith}
 use Rattle.link_format.specs.Profile.{profile_of}
 use Rattle.sequence_journal.specs.declared.numbers.TheConstants.{LIMIT}
-use Rattle.sequence_journal.specs.Journal.{journal_floor}
+use Rattle.sequence_journal.specs.Journal.{journal_link, journal_floor}
 use Rattle.check_replay.specs.CheckBoxedLaws.{checks-floor}
 use Rattle.check_replay.proofs.Checkings.{checking-answers, checking-fails, commits-rise}
 use Rattle.check_replay.proofs.check_box.CheckBoxLineBox.step.Goals as goal
@@ -25,7 +25,7 @@ returns-in-Err-clause-err g c = λ setup link stands.
     let passes = c.in-Err.ensures.err_passes in
     checking-fails (profile_of g.R.LineRules g.M.Mac g.row.B LIMIT setup) g.R.LineRules.rules
     setup.floor link c.args.t g.R.LineRules.lawful
-    (journal_floor c.args.journal.now) passes.0 (g.S.SlotDisk.told c.step.new.disk)
+    (journal_link c.args.journal.now) (journal_floor c.args.journal.now) passes.0 (g.S.SlotDisk.told c.step.new.disk)
     (checks-floor g.R.LineRules g.M.Mac c.args.self.now.checker c.args.journal.now setup link
     stands)
     (passes.2 setup link stands) passes.1.floor_told
