@@ -92,7 +92,7 @@ module _ {S O L D : Type 0} (s : Source S) (o : Sink O) (l : Sink L) (d : SlotDi
                   (while_loading link begins old.0 (d.told before.disk) (d.may_leave before.disk)
                   right told one floor image (inr torn));
             })
-        )
+            )
       ]
 
   run-is : (status : Status) → RunsBox s o l d link box rest before after status

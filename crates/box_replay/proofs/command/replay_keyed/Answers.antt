@@ -112,15 +112,15 @@ returns-in_default g c =
           (λ texts. c.new-lines.ensures.drives c.args.link.now texts (g.D.SlotDisk.told c.load.new.disk)
           c.in-Ok.ensures.loaded.link_is c.in-Ok.ensures.fits)
           (told_before g.D.SlotDisk c.args.link.now c.in-Ok.journal c.args.disk.now c.load.new.disk
-    c.in-Ok.ensures.loaded c.in-Ok.ensures.crash_safe)
+          c.in-Ok.ensures.loaded c.in-Ok.ensures.crash_safe)
           (keeps_floor g.D.SlotDisk c.args.link.now c.in-Ok.journal c.args.disk.now c.load.new.disk
-    c.in-Ok.ensures.loaded c.in-Ok.ensures.crash_safe c.new-lines.result.journal
-    c.drive_to_rest-end.new.consumer.journal c.drive_to_rest-end.new.disk
-    c.new-lines.ensures.journal c.drive_to_rest-end.ensures.driven.gives.images.is_kept)
-    (keeps_from_load g.D.SlotDisk c.args.link.now c.in-Ok.journal c.args.disk.now c.load.new.disk
-    c.in-Ok.ensures.loaded c.in-Ok.ensures.crash_safe c.new-lines.result.journal
-    c.drive_to_rest-end.new.disk
-    c.new-lines.ensures.journal c.drive_to_rest-end.ensures.driven.gives.images.any_moment)
+          c.in-Ok.ensures.loaded c.in-Ok.ensures.crash_safe c.new-lines.result.journal
+          c.drive_to_rest-end.new.consumer.journal c.drive_to_rest-end.new.disk
+          c.new-lines.ensures.journal c.drive_to_rest-end.ensures.driven.gives.images.is_kept)
+          (keeps_from_load g.D.SlotDisk c.args.link.now c.in-Ok.journal c.args.disk.now c.load.new.disk
+          c.in-Ok.ensures.loaded c.in-Ok.ensures.crash_safe c.new-lines.result.journal
+          c.drive_to_rest-end.new.disk
+          c.new-lines.ensures.journal c.drive_to_rest-end.ensures.driven.gives.images.any_moment)
           (around c.drive_to_rest-end.new.input c.finish.new.out c.finish.new.log
           c.drive_to_rest-end.new.disk) refl refl
           c.drive_to_rest-end.result other c.in_default.not-Whole c.drive_to_rest-end.ensures.driven
