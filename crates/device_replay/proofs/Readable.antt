@@ -8,7 +8,7 @@ use Rattle.replay_status.specs.declared.status.Status.{Status}
 use Rattle.replay_status.specs.declared.status.Status.TheVariants.{Done, Usage, BadTicks, ReadFault}
 use Rattle.replay_status.specs.declared.status.Status.TheVariants.{WriteFault, JournalFault}
 use Rattle.replay_status.specs.declared.status.Status.TheVariants.{TooLong, HasJournal, BadKey}
-use Rattle.replay_status.specs.declared.status.Status.TheVariants.{BadJournal, NoMemory}
+use Rattle.replay_status.specs.declared.status.Status.TheVariants.{BadJournal, WrongLink, NoMemory}
 use Rattle.replay_status.proofs.Readable.{not_refused, not_too_long}
 use Rattle.device_replay.specs.PrintsFrames.{PrintsFrames, read_rest}
 
@@ -32,3 +32,4 @@ module _ (reads : List Tick → List FrameRead) (before now out_before out_now :
   readable_done (HasJournal floor) h input sinks = absurd h
   readable_done (BadKey place) h input sinks = absurd h
   readable_done (BadJournal a b) h input sinks = absurd h
+  readable_done (WrongLink slot) h input sinks = absurd h

@@ -36,7 +36,7 @@ fn drive_frames<V: Device + Drop, S: Source, O: Sink, L: Sink>(
         (L.faults log.old) (L.faults log.new) (is_write_fault (answer_of result)) }
     ensures flushes { NoneFlushed O.Sink L.Sink out.old out.new log.old log.new }
 {
-    let mut no_disk = SteadySlots::new([0; 16], [0; 16]);
+    let mut no_disk = SteadySlots::new([0; 24], [0; 24]);
     drive_to_rest(0, REST, input, printer, out, log, &mut no_disk)
 }
 

@@ -79,7 +79,7 @@ fn calls_of(alloc: Global) -> Result<Calls, Fail> {
     let mut input = SteadySource::new(TEXT);
     let mut out = MemSink::with_room(alloc, 0, 512, Plan::new())?;
     let mut log = MemSink::with_room(alloc, 0, 512, Plan::new())?;
-    let mut no_disk = SteadySlots::new([0; 16], [0; 16]);
+    let mut no_disk = SteadySlots::new([0; 24], [0; 24]);
     match drive(
         0,
         &mut input,
