@@ -34,7 +34,7 @@ pub fn list_recordings<S: FrameBox, C: FrameBox, V: Device + Drop, I: Source, O:
     ensures log_faults { L.faults log.new ≡ L.faults log.old }
     ensures flushes { NoneFlushed O.Sink L.Sink out.old out.new log.old log.new }
 {
-    let mut no_disk = SteadySlots::new([0; 16], [0; 16]);
+    let mut no_disk = SteadySlots::new([0; 24], [0; 24]);
     match drive_to_rest(1, LINK_REST, input, lists, out, log, &mut no_disk) {
         End::Whole => {}
         end => return end,
