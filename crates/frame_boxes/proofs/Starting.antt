@@ -1,12 +1,11 @@
 -- Boxes that have taken nothing, over new journals on disks that never fail.
-use Rattle.std.proofs.Common.{◌≡◌, ℕ, [], None, refl, Result, Ok, Err, arith, replicate}
+use Rattle.std.proofs.Common.{◌≡◌, ℕ, [], refl, Result, Ok, Err, arith}
 use Rattle.std.specs.Prelude.{OnErr, IfOk, IsOk}
 use Rattle.yasir_io.specs.Causes.{Rose}
 use Rattle.yasir_ticks.specs.Bursts.{bursts_from}
 use Rattle.burst_walk.specs.Walk.{Walker, notes_of, line_of}
 use Rattle.sequence_journal.specs.declared.journal.Journal.{Journal}
 use Rattle.sequence_journal.specs.Journal.{journal_floor}
-use Rattle.sequence_journal.specs.Slots.{floor_of, number_held, slot_bytes}
 
 -- a call on a disk that never fails
 pub never-fails : {T E : Type 0} (before now : ℕ) (result : Result T E) → now ≡ 0
@@ -22,10 +21,6 @@ no-note w s = refl
 pub no-tick : {S N : Type 0} (w : Walker S N) (s : S) → line_of w s [] ≡ []
 unfolding bursts_from
 no-tick w s = refl
-
-pub blank-floor : floor_of (record { a = replicate 16 0; b = replicate 16 0 }) ≡ None
-unfolding number_held slot_bytes
-blank-floor = refl
 
 pub floor-of : {E : Type 0} (result : Result Journal E) (journal : Journal) → result ≡ Ok journal
     → IfOk result (λ journal. journal_floor journal ≡ 0) → journal_floor journal ≡ 0

@@ -7,7 +7,7 @@ use crate::steady_disk::SteadyDisk;
 use hmac_tag::Dir;
 use line_rules::LineRules;
 use replay_lists::{FrameBox, FrameStep, RunBytes};
-use sequence_journal::Journal;
+use sequence_journal::{Journal, LinkId};
 use std::marker::PhantomData;
 use yasir_ticks::Tick;
 
@@ -39,7 +39,7 @@ impl<R: LineRules, X: NotingBox<R>, K: SteadyDisk> FrameBox for ShownFrames<X, R
 
     fn new(key: &[u8], dir: Dir) -> Self {
         let mut disk = K::blank();
-        let journal = Journal::init(&mut disk).unwrap();
+        let journal = Journal::init(&mut disk, &LinkId::of_no_file()).unwrap();
         ShownFrames {
             noting: X::new(key, dir),
             burst: BurstBytes::new(),
