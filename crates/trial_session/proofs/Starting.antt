@@ -1,6 +1,5 @@
 -- Boxes that have taken nothing, over new journals on disks that never fail.
 use Rattle.std.proofs.Common.{◌≡◌, [], Option, Some, None, refl, sym, ◌∙◌, Result, Ok, Err, arith}
-use Rattle.std.proofs.Common.{replicate}
 use Rattle.std.specs.Prelude.{OnErr, IfOk, IfErr, IsOk}
 use Rattle.yasir_io.specs.Disks.{Slots}
 use Rattle.yasir_io.specs.Causes.{Rose}
@@ -10,7 +9,8 @@ use Rattle.sequence_journal.specs.declared.journal.Journal.{Journal}
 use Rattle.sequence_journal.specs.Journal.{journal_floor, RefusesInit}
 use Rattle.sequence_journal.specs.declared.journal.InitError.{InitError}
 use Rattle.sequence_journal.specs.declared.journal.InitError.TheVariants.{Fault, Stands}
-use Rattle.sequence_journal.specs.Slots.{floor_of, number_held, slot_bytes}
+use Rattle.sequence_journal.specs.declared.link.LinkId.{LinkId}
+use Rattle.sequence_journal.specs.Slots.{greatest}
 
 -- a call on a disk that never fails
 pub never-fails : {T E : Type 0} (result : Result T E) → OnErr result (Rose 0 0) → IsOk result
@@ -26,17 +26,12 @@ pub no-tick : {S N : Type 0} (w : Walker S N) (s : S) → line_of w s [] ≡ []
 unfolding bursts_from
 no-tick w s = refl
 
--- two blank slots hold no number
-pub blank-floor : floor_of (record { a = replicate 16 0; b = replicate 16 0 }) ≡ None
-unfolding number_held slot_bytes
-blank-floor = refl
-
 -- a new journal is made where no call fails and no slot holds a number
-pub is-made : (slots : Slots) (told : Option Slots) (result : Result Journal InitError)
-    → floor_of slots ≡ None → IfErr result (RefusesInit (Some slots) told 0 0) → IsOk result
-is-made slots told (Ok journal) none refused = search
-is-made slots told (Err Fault) none refused = absurd (omega (arith, refused.0))
-is-made slots told (Err (Stands floor)) none refused =
+pub is-made : (link : LinkId) (slots : Slots) (told : Option Slots) (result : Result Journal InitError)
+    → greatest slots ≡ None → IfErr result (RefusesInit link (Some slots) told 0 0) → IsOk result
+is-made link slots told (Ok journal) none refused = search
+is-made link slots told (Err Fault) none refused = absurd (omega (arith, refused.0))
+is-made link slots told (Err (Stands floor)) none refused =
     let both : None ≡ Some floor = sym none ∙ refused.0 in
     cc
 

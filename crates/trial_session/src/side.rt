@@ -2,7 +2,7 @@ use crate::counting_box::{CountingBox, Fate};
 use crate::link::Link;
 use crate::runs::put_tick;
 use check_receiver::RunBytes;
-use sequence_journal::Journal;
+use sequence_journal::{Journal, LinkId};
 use yasir_io::SteadySlots;
 use yasir_ticks::{MAX_TICKS, Tick};
 
@@ -48,8 +48,8 @@ impl<X: CountingBox> Side<X> {
         ensures taken { HasTaken X.CountingBox result [] }
         ensures nothing { CountsNothing X.counting }
     {
-        let mut disk = SteadySlots::new([0; 16], [0; 16]);
-        let journal = Journal::init(&mut disk).unwrap();
+        let mut disk = SteadySlots::new([0; 24], [0; 24]);
+        let journal = Journal::init(&mut disk, &LinkId::of_no_file()).unwrap();
         Side {
             line_box: X::new(),
             journal,

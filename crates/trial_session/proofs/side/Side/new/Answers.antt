@@ -1,11 +1,13 @@
 use Rattle.std.proofs.Common.{ap, sym, ◌∙◌}
-use Rattle.sequence_journal.specs.Slots.{floor_of}
-use Rattle.trial_session.proofs.Starting.{is-made, blank-floor, floor-of}
+use Rattle.sequence_journal.specs.Slots.{greatest}
+use Rattle.sequence_journal.proofs.LoadLemmas.{blank_holds_none}
+use Rattle.trial_session.proofs.Starting.{is-made, floor-of}
 use Rattle.trial_session.proofs.side.Side.new.Goals as goal
 
 pub unwrap-journal-requires : goal.unwrap-journal-requires
 unwrap-journal-requires g c =
-    is-made _ _ c.init.result (ap floor_of c.new-disk.ensures ∙ blank-floor) c.init.ensures.refused
+    is-made _ _ _ c.init.result (ap greatest c.new-disk.ensures ∙ blank_holds_none)
+    c.init.ensures.refused
 
 pub returns-clause-taken : goal.returns-clause-taken
 returns-clause-taken g c =
