@@ -37,7 +37,8 @@ dir_by word = cond (is_word (codes "ab") word) Ab Ba
 -- the command whose first word this is, with the three words behind it
 abbrev command_by : List ℕ → List ℕ → List ℕ → List ℕ → Command
 command_by verb first second third =
-    cond (is_word (codes "init") verb) Init
+    cond (is_word (codes "init") verb)
+    (Init (proto_by first) (profile_by first) (dir_by second))
     (cond (is_word (codes "read") verb) (Read (proto_by first))
     (cond (is_word (codes "vectors") verb) Vectors
     (cond (is_word (codes "seal") verb)
@@ -86,7 +87,7 @@ box-by asks proto profile dir =
 
 command-in : (words : List (List ℕ)) (command : Command) → IsCommand words command
     → command_in words ≡ command
-command-in words Init h = ap command_in h.2
+command-in words (Init proto profile dir) h = ap command_in h.2 ∙ box-by Init proto profile dir
 command-in words (Read Rtu) h = ap command_in h
 command-in words (Read Dnp3) h = ap command_in h
 command-in words Vectors h = ap command_in h

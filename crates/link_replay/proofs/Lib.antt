@@ -2,6 +2,7 @@ pub mod Asking
 pub mod Outcomes
 pub mod Flushing
 pub mod Headlines
+pub mod Links
 pub mod Listable
 pub mod Trials
 pub mod Numbers

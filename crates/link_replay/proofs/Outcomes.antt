@@ -7,7 +7,8 @@ use Rattle.yasir_io.specs.declared.disk.SlotDisk.{Ghosts as SlotDisk}
 use Rattle.yasir_io.specs.Causes.{Rose}
 use Rattle.yasir_io.specs.Disks.{Slots}
 use Rattle.yasir_io.specs.Flushed.{IsNotFlushed}
-use Rattle.sequence_journal.specs.Slots.{floor_of}
+use Rattle.sequence_journal.specs.declared.link.LinkId.{LinkId}
+use Rattle.sequence_journal.specs.Slots.{greatest}
 use Rattle.replay_status.specs.Outside.{Outside}
 use Rattle.replay_status.specs.Causes.{SinkCause, DiskCause, NoneRose}
 use Rattle.replay_status.specs.Statuses.{fault_line}
@@ -29,24 +30,26 @@ use Rattle.replay_status.proofs.Logging.{sinks_after}
 use Rattle.replay_status.proofs.FlushLaws.{flushes_after}
 use Rattle.device_replay.proofs.Readable.{readable_done}
 use Rattle.box_replay.proofs.Replayable.{replayable_done}
+use Rattle.link_replay.specs.Protocols.{link_of}
+use Rattle.link_replay.proofs.Links.{link-right}
 use Rattle.link_replay.proofs.Listable.{listable_done}
 
 module _ (key0 key1 in0 in1 out0 out1 log0 log1 disk0 disk1 : ℕ)
     (calm : NoneRose key0 key1 in0 in1 out0 out1 log0 log1 disk0 disk1) where
-  journal_done : (old new : Option Slots) (images_old images_new : Slots → Type 0) (status : Status)
-      → IsBlank old → MakesJournal old new images_old images_new status
+  journal_done : (link : LinkId) (old new : Option Slots) (images_old images_new : Slots → Type 0)
+      (status : Status) → IsBlank old → MakesJournal link old new images_old images_new status
       → SinkCause out0 out1 log0 log1 status → DiskCause disk0 disk1 status → status ≡ Done
-  journal_done old new images_old images_new Done blank h sinks disk = refl
-  journal_done old new images_old images_new WriteFault blank h sinks disk =
+  journal_done link old new images_old images_new Done blank h sinks disk = refl
+  journal_done link old new images_old images_new WriteFault blank h sinks disk =
       elim sinks [ inl out ↦ absurd (calm.out out) | inr log ↦ absurd (calm.log log) ]
-  journal_done old new images_old images_new JournalFault blank h sinks disk =
+  journal_done link old new images_old images_new JournalFault blank h sinks disk =
       absurd (calm.disk disk)
-  journal_done old new images_old images_new (HasJournal floor) blank h sinks disk =
-      let stands : floor_of blank.0 ≡ Some floor =
-      subst (λ told. IfSome told (λ slots. floor_of slots ≡ Some floor)) blank.1 h.stands in
+  journal_done link old new images_old images_new (HasJournal floor) blank h sinks disk =
+      let stands : greatest blank.0 ≡ Some floor =
+      subst (λ told. IfSome told (λ slots. greatest slots ≡ Some floor)) blank.1 h.stands in
       let both : None ≡ Some floor = sym blank.2 ∙ stands in
       cc
-  journal_done old new images_old images_new status blank h sinks disk = absurd h
+  journal_done link old new images_old images_new status blank h sinks disk = absurd h
 
   tables_done : (out_before out_now : Option (List ℕ)) (status : Status)
       → PrintsTables out_before out_now status → SinkCause out0 out1 log0 log1 status
@@ -78,7 +81,7 @@ module _ {K S O L D : Type 0} (k : Source K) (s : Source S) (o : Sink O) (l : Si
   own-after (Some (Replay proto profile dir)) before after noted status h = h
   own-after (Some (Trial proto profile seed count)) before after noted status h = h
   own-after None before after noted status h = h
-  own-after (Some Init) before after noted status h = h
+  own-after (Some (Init proto profile dir)) before after noted status h = h
   own-after (Some (Read proto)) before after noted status h = h
   own-after (Some Vectors) before after noted status h = h
 
@@ -116,8 +119,8 @@ module _ {K S O L D : Type 0} (k : Source K) (s : Source S) (o : Sink O) (l : Si
       → Does k s o l d asked before after status → HasCauses k s o l d asked before after status
       → EndsWell asked status
   asked_done None before after status may calm does causes = absurd may
-  asked_done (Some Init) before after status may calm does causes =
-      journal_done _ _ _ _ _ _ _ _ _ _ calm _ _ _ _ status may does.journal causes.sinks
+  asked_done (Some (Init proto profile dir)) before after status may calm does causes =
+      journal_done _ _ _ _ _ _ _ _ _ _ calm _ _ _ _ _ status may does.journal causes.sinks
       causes.own.1
   asked_done (Some (Read proto)) before after status may calm does causes =
       readable_done (device_reads proto) _ _ _ _ _ _ _ _ _ _ _ _ _ _ may calm status
@@ -125,12 +128,11 @@ module _ {K S O L D : Type 0} (k : Source K) (s : Source S) (o : Sink O) (l : Si
   asked_done (Some Vectors) before after status may calm does causes =
       tables_done _ _ _ _ _ _ _ _ _ _ calm _ _ status does.tables causes.sinks
   asked_done (Some (Seal proto profile dir)) before after status may calm does causes =
-      replayable_done k s o l d (seal_boxed proto profile) dir (seal_rest profile) before after may
-      calm
-      status does causes.reads causes.own causes.sinks
+      replayable_done k s o l d (seal_boxed proto profile) (link_of proto profile dir)
+      (link-right proto profile dir) dir (seal_rest profile) before after may calm status does causes.reads causes.own causes.sinks
   asked_done (Some (Check proto profile dir)) before after status may calm does causes =
-      replayable_done k s o l d (check_boxed proto profile) dir check_rest before after may calm
-      status
+      replayable_done k s o l d (check_boxed proto profile) (link_of proto profile dir)
+      (link-right proto profile dir) dir check_rest before after may calm status
       does causes.reads causes.own causes.sinks
   asked_done (Some (Trial proto profile seed count)) before after status may calm does causes =
       line_done _ _ _ _ _ _ _ _ _ _ calm _ _ _ status does.line causes.sinks

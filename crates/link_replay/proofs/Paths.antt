@@ -4,7 +4,7 @@ use Rattle.yasir_io.specs.declared.files.SlotFile.TheVariants.{Standing, New}
 use Rattle.link_replay.specs.declared.words.Command.{Command}
 use Rattle.link_replay.specs.declared.words.Command.TheVariants.{Init, Read, Vectors, Seal, Check}
 use Rattle.link_replay.specs.declared.words.Command.TheVariants.{Replay, Trial}
-use Rattle.link_replay.specs.Words.{IsCommand, Asks, word_in}
+use Rattle.link_replay.specs.Words.{IsCommand, AskForJournal, Asks, word_in}
 use Rattle.link_replay.specs.OverFiles.{path_in, journal_kind}
 use Rattle.link_replay.proofs.Asking.{asks-one}
 
@@ -18,16 +18,18 @@ word_in-path place words (Some command) found right none asks =
     ap (word_in words) (right command asks)
 
 -- `init` alone makes a file
-pub kind-made : (words : List (List ℕ)) (asked : Option Command) → IsCommand words Init
+pub kind-made : (words : List (List ℕ)) (asked : Option Command) → AskForJournal words
     → Asks words asked → New ≡ journal_kind asked
 kind-made words asked makes asks =
-    sym (ap journal_kind (asks-one words asked (Some Init) asks makes))
+    sym (ap journal_kind
+    (asks-one words asked (Some (Init makes.0 makes.1 makes.2)) asks makes.3))
 
 -- and no other command does
-pub kind-kept : (words : List (List ℕ)) (asked : Option Command) → (IsCommand words Init → ⊥)
+pub kind-kept : (words : List (List ℕ)) (asked : Option Command) → (AskForJournal words → ⊥)
     → Asks words asked → Standing ≡ journal_kind asked
 kind-kept words None other asks = refl
-kind-kept words (Some Init) other asks = absurd (other asks)
+kind-kept words (Some (Init proto profile dir)) other asks =
+    absurd (other (proto, profile, dir, asks))
 kind-kept words (Some (Read proto)) other asks = refl
 kind-kept words (Some Vectors) other asks = refl
 kind-kept words (Some (Seal proto profile dir)) other asks = refl

@@ -13,7 +13,7 @@ use Rattle.box_replay.specs.ReplaysBox.{ReplaysBox}
 use Rattle.check_replay.specs.CheckBoxed.{checking}
 use Rattle.link_replay.specs.declared.words.Profile.{Profile}
 use Rattle.link_replay.specs.declared.words.Proto.{Proto}
-use Rattle.link_replay.specs.Protocols.{rules_of, format_of}
+use Rattle.link_replay.specs.Protocols.{rules_of, format_of, link_of}
 
 -- How many silent ticks stand behind a whole input: the last verdict falls in them, and all that is
 -- held back leaves.
@@ -29,4 +29,5 @@ check_boxed proto profile setup =
 abbrev pub Checks : {K S O L D : Type 0} → Source K → Source S → Sink O → Sink L → SlotDisk D
     → Proto → Profile → Dir → Outside K S O L D → Outside K S O L D → Status → Type 0
 Checks k s o l d proto profile dir before after status =
-    ReplaysBox k s o l d (check_boxed proto profile) dir check_rest before after status
+    ReplaysBox k s o l d (check_boxed proto profile) (link_of proto profile dir) dir check_rest
+    before after status

@@ -3,9 +3,9 @@ use Rattle.std.specs.Prelude.{◌≡◌, ◌⊎◌, Option, Some, None}
 use Rattle.yasir_io.specs.declared.source.Source.{Ghosts as Source}
 use Rattle.yasir_io.specs.declared.sink.Sink.{Ghosts as Sink}
 use Rattle.yasir_io.specs.declared.disk.SlotDisk.{Ghosts as SlotDisk}
-use Rattle.yasir_io.specs.declared.disk.Slot.TheVariants.{B}
+use Rattle.yasir_io.specs.declared.disk.Slot.TheVariants.{A}
 use Rattle.yasir_io.specs.Disks.{LeavesOnly}
-use Rattle.sequence_journal.specs.Journal.{IsBeside}
+use Rattle.sequence_journal.specs.Journal.{IsBut}
 use Rattle.replay_status.specs.Outside.{Outside}
 use Rattle.replay_status.specs.Causes.{InputCause, ReadsCause, SinkCause, DiskCause, LogsFault}
 use Rattle.replay_status.specs.Causes.{NoneRose}
@@ -15,6 +15,7 @@ use Rattle.replay_status.specs.Readable.{IsReadable}
 use Rattle.link_replay.specs.ReadCommand.{Reads}
 use Rattle.link_replay.specs.VectorsCommand.{Tabulates}
 use Rattle.box_replay.specs.ReplaysBox.{BoxDiskCause, IsReplayable, KeepsFloorThroughout}
+use Rattle.link_replay.specs.Protocols.{link_of}
 use Rattle.link_replay.specs.SealCommand.{Seals}
 use Rattle.link_replay.specs.CheckCommand.{Checks}
 use Rattle.link_replay.specs.ReplayCommand.{Replays, IsListable}
@@ -33,10 +34,12 @@ EndsWell asked status = status ≡ Done
 
 -- What a crash may leave of the disk, at any moment of the run or at its end.
 abbrev pub KeepsDisk : {D : Type 0} → SlotDisk D → Option Command → D → D → Type 0
-KeepsDisk d (Some Init) old new =
-    LeavesOnly d.moment d.left_since old new (IsBeside B (d.may_leave old))
-KeepsDisk d (Some (Seal proto profile dir)) old new = KeepsFloorThroughout d old new
-KeepsDisk d (Some (Check proto profile dir)) old new = KeepsFloorThroughout d old new
+KeepsDisk d (Some (Init proto profile dir)) old new =
+    LeavesOnly d.moment d.left_since old new (IsBut A (d.may_leave old))
+KeepsDisk d (Some (Seal proto profile dir)) old new =
+    KeepsFloorThroughout d (link_of proto profile dir) old new
+KeepsDisk d (Some (Check proto profile dir)) old new =
+    KeepsFloorThroughout d (link_of proto profile dir) old new
 KeepsDisk d asked old new = new ≡ old
 
 module _ {K S O L D : Type 0} (k : Source K) (s : Source S) (o : Sink O) (l : Sink L)
@@ -44,7 +47,8 @@ module _ {K S O L D : Type 0} (k : Source K) (s : Source S) (o : Sink O) (l : Si
   -- What is done before the fault line: nothing at all where the words ask for no command.
   abbrev pub Does : Option Command → Outside K S O L D → Outside K S O L D → Status → Type 0
   Does None before after status = (status ≡ Usage) × (after ≡ before)
-  Does (Some Init) before after status = Inits o l d before after status
+  Does (Some (Init proto profile dir)) before after status =
+      Inits o l d (link_of proto profile dir) before after status
   Does (Some (Read proto)) before after status = Reads s o l proto before after status
   Does (Some Vectors) before after status = Tabulates o l before after status
   Does (Some (Seal proto profile dir)) before after status =
@@ -69,13 +73,15 @@ module _ {K S O L D : Type 0} (k : Source K) (s : Source S) (o : Sink O) (l : Si
   -- All that the command is given is right.
   abbrev pub MayDo : Option Command → Outside K S O L D → Type 0
   MayDo None before = ⊥
-  MayDo (Some Init) before = IsBlank (d.told before.disk)
+  MayDo (Some (Init proto profile dir)) before = IsBlank (d.told before.disk)
   MayDo (Some (Read proto)) before = IsReadable (s.left before.input)
   MayDo (Some Vectors) before = Unit {0}
   MayDo (Some (Seal proto profile dir)) before =
-      IsReplayable (k.left before.key) (d.told before.disk) (s.left before.input)
+      IsReplayable (link_of proto profile dir) (k.left before.key) (d.told before.disk)
+      (s.left before.input)
   MayDo (Some (Check proto profile dir)) before =
-      IsReplayable (k.left before.key) (d.told before.disk) (s.left before.input)
+      IsReplayable (link_of proto profile dir) (k.left before.key) (d.told before.disk)
+      (s.left before.input)
   MayDo (Some (Trial proto profile seed count)) before = Unit {0}
   MayDo (Some (Replay proto profile dir)) before = IsListable (k.left before.key)
       (s.left before.input)

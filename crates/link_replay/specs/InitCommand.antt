@@ -4,41 +4,47 @@ use Rattle.yasir_io.specs.declared.sink.Sink.{Ghosts as Sink}
 use Rattle.yasir_io.specs.declared.disk.SlotDisk.{Ghosts as SlotDisk}
 use Rattle.yasir_io.specs.declared.disk.Slot.TheVariants.{A}
 use Rattle.yasir_io.specs.Disks.{Slots, NoMore, OneImage}
-use Rattle.sequence_journal.specs.Slots.{slot_bytes, floor_of}
+use Rattle.sequence_journal.specs.declared.link.LinkId.{LinkId}
+use Rattle.sequence_journal.specs.Slots.{slot_bytes, greatest}
 use Rattle.sequence_journal.specs.Journal.{told_with, MaySet}
 use Rattle.replay_status.specs.Outside.{Outside}
 use Rattle.replay_status.specs.declared.status.Status.{Status}
 use Rattle.replay_status.specs.declared.status.Status.TheVariants.{Done, WriteFault, JournalFault}
 use Rattle.replay_status.specs.declared.status.Status.TheVariants.{HasJournal}
 
--- Neither slot held a number; slot A holds number 0, slot B is as it was, and a crash leaves just
--- this.
-pub record IsNewJournal (old new : Option Slots) (may_leave : Slots → Type 0) : Type 0 where
-  pub none : IfSome old (λ slots. floor_of slots ≡ None)
-  pub set : new ≡ told_with old A (slot_bytes 0)
+-- No slot held a number; slot A holds number 0 for this link, all others are as they were, and a
+-- crash leaves just this.
+pub record IsNewJournal (link : LinkId) (old new : Option Slots) (may_leave : Slots → Type 0) :
+    Type 0 where
+  pub none : IfSome old (λ slots. greatest slots ≡ None)
+  pub set : new ≡ told_with old A (slot_bytes 0 link)
   pub synced : OneImage new may_leave
 
--- A slot holds a number, the greater one is the floor, and nothing is written.
+-- A slot, old or new, holds a number, for whatever link; this is the greatest, and nothing is
+-- written.
 pub record IsOldJournal (old new : Option Slots) (may_leave_old may_leave_new : Slots → Type 0)
     (floor : ℕ) : Type 0 where
-  pub stands : IfSome old (λ slots. floor_of slots ≡ Some floor)
+  pub stands : IfSome old (λ slots. greatest slots ≡ Some floor)
   pub same : new ≡ old
   pub images : NoMore may_leave_old may_leave_new
   pub images_back : NoMore may_leave_new may_leave_old
 
 -- What each status says of the disk.
-abbrev pub MakesJournal : Option Slots → Option Slots → (Slots → Type 0) → (Slots → Type 0)
-    → Status → Type 0
-MakesJournal old new may_leave_old may_leave_new Done = IsNewJournal old new may_leave_new
-MakesJournal old new may_leave_old may_leave_new WriteFault = IsNewJournal old new may_leave_new
-MakesJournal old new may_leave_old may_leave_new (HasJournal floor) =
+abbrev pub MakesJournal : LinkId → Option Slots → Option Slots → (Slots → Type 0)
+    → (Slots → Type 0) → Status → Type 0
+MakesJournal link old new may_leave_old may_leave_new Done =
+    IsNewJournal link old new may_leave_new
+MakesJournal link old new may_leave_old may_leave_new WriteFault =
+    IsNewJournal link old new may_leave_new
+MakesJournal link old new may_leave_old may_leave_new (HasJournal floor) =
     IsOldJournal old new may_leave_old may_leave_new floor
-MakesJournal old new may_leave_old may_leave_new JournalFault = MaySet old A (slot_bytes 0) new
-MakesJournal old new may_leave_old may_leave_new status = ⊥
+MakesJournal link old new may_leave_old may_leave_new JournalFault =
+    MaySet old A (slot_bytes 0 link) new
+MakesJournal link old new may_leave_old may_leave_new status = ⊥
 
--- The disk tells two slots that hold no number.
+-- The disk tells slots that hold no number.
 abbrev pub IsBlank : Option Slots → Type 0
-IsBlank told = (slots : Slots) × (told ≡ Some slots) × (floor_of slots ≡ None)
+IsBlank told = (slots : Slots) × (told ≡ Some slots) × (greatest slots ≡ None)
 
 -- A journal that is made flushes the sinks, and a refusal leaves them as they were.
 abbrev pub LeavesSinks : {O L : Type 0} → Sink O → Sink L → O → O → L → L → Status → Type 0
@@ -50,9 +56,9 @@ LeavesSinks o l out_before out_now log_before log_now status =
     (out_now ≡ out_before) × (log_now ≡ log_before)
 
 -- What `init` does: the sinks get nothing but a flush, and neither the key nor the input is read.
-pub record Inits {K S O L D : Type 0} (o : Sink O) (l : Sink L) (d : SlotDisk D)
+pub record Inits {K S O L D : Type 0} (o : Sink O) (l : Sink L) (d : SlotDisk D) (link : LinkId)
     (before after : Outside K S O L D) (status : Status) : Type 0 where
-  pub journal : MakesJournal (d.told before.disk) (d.told after.disk)
+  pub journal : MakesJournal link (d.told before.disk) (d.told after.disk)
       (d.may_leave before.disk) (d.may_leave after.disk) status
   pub sinks : LeavesSinks o l before.out after.out before.log after.log status
   pub key : after.key ≡ before.key

@@ -36,7 +36,7 @@ path_in place words (Some command) = word_in words (place command)
 
 -- what is expected of the journal's file: `init` alone makes one
 abbrev pub journal_kind : Option Command → SlotFile
-journal_kind (Some Init) = New
+journal_kind (Some (Init proto profile dir)) = New
 journal_kind asked = Standing
 
 -- The file at the path, for reading, and no call on it was made.

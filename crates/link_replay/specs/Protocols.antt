@@ -7,6 +7,9 @@ use Rattle.link_format.specs.Profile.{Profile as LinkProfile}
 use Rattle.link_format.specs.Setup.{Setup}
 use Rattle.link_format.specs.Y18.{y18}
 use Rattle.link_format.specs.Y24.{y24}
+use Rattle.hmac_tag.specs.declared.dir.Dir.{Dir}
+use Rattle.hmac_tag.specs.Tag.{direction_number}
+use Rattle.sequence_journal.specs.declared.link.LinkId.{LinkId}
 use Rattle.link_replay.specs.declared.words.Profile.{Profile}
 use Rattle.link_replay.specs.declared.words.Profile.TheVariants.{Y18, Y24}
 use Rattle.link_replay.specs.declared.words.Proto.{Proto}
@@ -26,3 +29,12 @@ format_of Y24 = y24
 abbrev pub delay_of : Profile → ℕ
 delay_of Y18 = 18
 delay_of Y24 = 24
+
+-- a link as its journals name it: the label of its protocol, the number of its direction, and the
+-- delay of its profile
+abbrev pub link_of : Proto → Profile → Dir → LinkId
+link_of proto profile dir = record {
+  label = (rules_of proto).label;
+  dir = direction_number dir;
+  profile = delay_of profile;
+}

@@ -13,7 +13,7 @@ use Rattle.box_replay.specs.ReplaysBox.{ReplaysBox}
 use Rattle.seal_replay.specs.SealBoxed.{sealing}
 use Rattle.link_replay.specs.declared.words.Profile.{Profile}
 use Rattle.link_replay.specs.declared.words.Proto.{Proto}
-use Rattle.link_replay.specs.Protocols.{rules_of, format_of, delay_of}
+use Rattle.link_replay.specs.Protocols.{rules_of, format_of, delay_of, link_of}
 
 -- How many silent ticks stand behind a whole input: they close its last burst and carry the
 -- trailer.
@@ -29,4 +29,5 @@ seal_boxed proto profile setup =
 abbrev pub Seals : {K S O L D : Type 0} → Source K → Source S → Sink O → Sink L → SlotDisk D
     → Proto → Profile → Dir → Outside K S O L D → Outside K S O L D → Status → Type 0
 Seals k s o l d proto profile dir before after status =
-    ReplaysBox k s o l d (seal_boxed proto profile) dir (seal_rest profile) before after status
+    ReplaysBox k s o l d (seal_boxed proto profile) (link_of proto profile dir) dir
+    (seal_rest profile) before after status

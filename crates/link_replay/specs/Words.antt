@@ -34,7 +34,8 @@ AskForBox name proto profile dir words =
 
 -- These words ask for the command.
 abbrev pub IsCommand : List (List ℕ) → Command → Type 0
-IsCommand words Init = (path : List ℕ) × (path ≢ []) × (words ≡ codes "init" ∷ path ∷ [])
+IsCommand words (Init proto profile dir) = (path : List ℕ) × (path ≢ [])
+    × (words ≡ codes "init" ∷ link_word proto profile ∷ dir_word dir ∷ path ∷ [])
 IsCommand words (Read proto) = words ≡ codes "read" ∷ proto_word proto ∷ []
 IsCommand words Vectors = words ≡ codes "vectors" ∷ []
 IsCommand words (Seal proto profile dir) = AskForBox (codes "seal") proto profile dir words
@@ -44,6 +45,11 @@ IsCommand words (Replay proto profile dir) = (key : List ℕ) × (key ≢ [])
 IsCommand words (Trial proto profile seed count) = (seed < 2 ^ 32) × (1 ≤ count) × (count ≤ 10000)
     × (words ≡ codes "trial" ∷ link_word proto profile ∷ decimal seed ∷ decimal count ∷ [])
 
+-- the words ask for a new journal, of whatever link
+abbrev pub AskForJournal : List (List ℕ) → Type 0
+AskForJournal words = (proto : Proto) × (profile : Profile) × (dir : Dir)
+    × IsCommand words (Init proto profile dir)
+
 -- what the words ask for: a command, or none where they fit no command
 abbrev pub Asks : List (List ℕ) → Option Command → Type 0
 Asks words None = (command : Command) → IsCommand words command → ⊥
@@ -51,7 +57,7 @@ Asks words (Some command) = IsCommand words command
 
 -- the place of the word that is the key file's path
 abbrev pub key_place : Command → Option ℕ
-key_place Init = None
+key_place (Init proto profile dir) = None
 key_place (Read proto) = None
 key_place Vectors = None
 key_place (Seal proto profile dir) = Some 3
@@ -61,7 +67,7 @@ key_place (Trial proto profile seed count) = None
 
 -- the place of the word that is the journal's path
 abbrev pub journal_place : Command → Option ℕ
-journal_place Init = Some 1
+journal_place (Init proto profile dir) = Some 3
 journal_place (Read proto) = None
 journal_place Vectors = None
 journal_place (Seal proto profile dir) = Some 4

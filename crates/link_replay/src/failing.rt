@@ -1,12 +1,12 @@
 //! Each call outside fails in turn over a short run of each command, in pieces of ten bytes: what
 //! stands then is a cut of what stands after a whole run.
 use crate::running::{Ends, KEY, ended, has_slots, plan, run_words};
-use crate::tests::{CHECK, INIT, READ, Row, SEAL, VECTORS};
+use crate::tests::{CHECK, INIT, READ, Row, SEAL, VECTORS, disk_of, slots_at};
 use replay_status::Status;
 use std::alloc::{AllocError, Global};
 use std::process::Abort;
 use std::test::Fail;
-use yasir_io::{MemSink, MemSlots, MemSource, Plan};
+use yasir_io::{MemSink, MemSource, Plan};
 
 /// How many bytes a call moves at most.
 const PIECE: usize = 10;
@@ -95,12 +95,13 @@ fn log_of(alloc: Global, ending: &Ending) -> Result<Vec<u8>, AllocError> {
 }
 
 // The slots at the end.
-fn slots_of(row: &Row, ending: &Ending) -> ([u8; 16], [u8; 16]) {
-    if ending.left.committed {
+fn slots_of(row: &Row, ending: &Ending) -> ([u8; 24], [u8; 24]) {
+    let numbers = if ending.left.committed {
         row.slots_now
     } else {
         row.slots
-    }
+    };
+    slots_at(numbers, &row.link)
 }
 
 // A run in which this call of one object fails ends so.
@@ -113,8 +114,7 @@ fn compare(
     ending: &Ending,
 ) -> Result<(), Fail> {
     let log = log_of(alloc, ending)?;
-    let (a, b) = row.slots;
-    let mut disk = MemSlots::with_room(alloc, a, b, 16, plan_of(Object::Disk, failing, call))?;
+    let mut disk = disk_of(alloc, row, plan_of(Object::Disk, failing, call))?;
     let ends = ends_of(alloc, row.text, failing, call)?;
     let ran = run_words(alloc, row.words, ends, &mut disk)?;
     ended(rt, &ran, ending.status, ending.left.out, log.as_slice());
@@ -318,12 +318,12 @@ const WRITTEN: Left = Left {
     ..NOTHING
 };
 
-// Both slots are read, one is written, and synced.
+// All slots are read, one is written, and synced.
 const INIT_CASE: Case = Case {
     row: INIT,
     keyed: false,
     reads: &[],
-    disk_calls: &[NOTHING, NOTHING, NOTHING, WRITTEN],
+    disk_calls: &[NOTHING, NOTHING, NOTHING, NOTHING, NOTHING, WRITTEN],
 };
 
 // The first line has eight ticks, the second one four, and the note falls into the last of these,
@@ -350,6 +350,8 @@ const SEAL_CASE: Case = Case {
         ),
     ],
     disk_calls: &[
+        NOTHING,
+        NOTHING,
         NOTHING,
         NOTHING,
         Left {
@@ -402,6 +404,8 @@ const CHECK_CASE: Case = Case {
         ),
     ],
     disk_calls: &[
+        NOTHING,
+        NOTHING,
         NOTHING,
         NOTHING,
         Left {

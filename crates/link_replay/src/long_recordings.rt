@@ -2,7 +2,7 @@
 use crate::run;
 use crate::running::{KEY, Ran, plan, words_of};
 use replay_status::Status;
-use sequence_journal::slot_of;
+use sequence_journal::{LinkId, slot_of};
 use std::alloc::Global;
 use std::test::Fail;
 use yasir_io::{MemSink, SteadySlots, SteadySource};
@@ -31,7 +31,8 @@ fn run_over(alloc: Global, words: &str, text: &[u8]) -> Result<Ran, Fail> {
     let mut input = SteadySource::new(text);
     let mut out = MemSink::with_room(alloc, 1_000_000, 512, plan(0))?;
     let mut log = MemSink::with_room(alloc, 1_000_000, 512, plan(0))?;
-    let mut disk = SteadySlots::new(slot_of(0), [0; 16]);
+    let served = LinkId::of_no_file();
+    let mut disk = SteadySlots::new(slot_of(0, &served), [0; 24]);
     let status = run(
         alloc,
         words.as_slice(),

@@ -4,6 +4,7 @@
 mod commands;
 #[cfg(test)]
 mod failing;
+mod link;
 #[cfg(test)]
 mod long_recordings;
 mod over_files;

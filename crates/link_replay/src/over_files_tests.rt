@@ -14,7 +14,7 @@ use std::rt::Files;
 use std::test::Fail;
 use yasir_io::{Lock, MemSink, MemSource, Plan};
 
-const ROOM: usize = 32;
+const ROOM: usize = 80;
 
 /// How many handles of the root stand open while a run opens its files.
 const PLACES: u32 = 3;
@@ -253,19 +253,21 @@ struct Row {
 
 const REQUEST: &[u8] = b"+01030000000ac5cd\n-4\n";
 
-/// A journal whose slot A holds number 0.
+/// A journal of `rtu ab` whose slot A holds number 0. Its first 32 bytes are blank old slots.
 const NEW_JOURNAL: &[u8] = &[
-    0, 0, 0, 0, 0, 0, 0, 0, 255, 255, 255, 255, 255, 255, 255, 255,
+    0, 0, 0, 0, 0, 0, 0, 0, 0, 0, 0, 0, 0, 0, 0, 0, 0, 0, 0, 0, 0, 0, 0, 0, 0, 0, 0, 0, 0, 0, 0, 0,
+    0, 0, 0, 0, 0, 0, 0, 0, 1, 0, 18, 2, 255, 255, 255, 255, 255, 255, 255, 255, 254, 255, 237, 253,
 ];
 
 /// The same, with number 1 in slot B.
 const USED_JOURNAL: &[u8] = &[
-    0, 0, 0, 0, 0, 0, 0, 0, 255, 255, 255, 255, 255, 255, 255, 255, 0, 0, 0, 0, 0, 0, 0, 1, 255,
-    255, 255, 255, 255, 255, 255, 254,
+    0, 0, 0, 0, 0, 0, 0, 0, 0, 0, 0, 0, 0, 0, 0, 0, 0, 0, 0, 0, 0, 0, 0, 0, 0, 0, 0, 0, 0, 0, 0, 0,
+    0, 0, 0, 0, 0, 0, 0, 0, 1, 0, 18, 2, 255, 255, 255, 255, 255, 255, 255, 255, 254, 255, 237, 253,
+    0, 0, 0, 0, 0, 0, 0, 1, 1, 0, 18, 2, 255, 255, 255, 255, 255, 255, 255, 254, 254, 255, 237, 253,
 ];
 
 const INIT: Row = Row {
-    args: "link_replay init journals/ab",
+    args: "link_replay init rtu ab journals/ab",
     key: None,
     journal: None,
     code: 0,
@@ -334,7 +336,7 @@ const ROWS: [Row; 11] = [
     },
     NO_COMMAND,
     Row {
-        args: "link_replay init journals/ab ",
+        args: "link_replay init rtu ab journals/ab ",
         journal: None,
         journal_now: None,
         ..NO_COMMAND

@@ -38,7 +38,7 @@ fn perform<K: Source, S: Source, O: Sink, L: Sink, D: SlotDisk>(
         (outside key.new input.new out.new log.new disk.new) result }
 {
     match command {
-        Command::Init => make_journal(out, log, disk),
+        Command::Init(proto, profile, dir) => make_journal(proto, profile, dir, out, log, disk),
         Command::Read(proto) => read_line(proto, input, out, log),
         Command::Vectors => print_tables(out, log),
         Command::Seal(proto, profile, dir) => {

@@ -200,7 +200,7 @@ const ROWS_Y24: [Row; 3] = [
 ];
 
 fn compare(rt: &impl Abort, alloc: Global, row: &Row) -> Result<(), Fail> {
-    let mut disk = SteadySlots::new([0; 16], [0; 16]);
+    let mut disk = SteadySlots::new([0; 24], [0; 24]);
     let ran = run_over(alloc, row.words, KEY, row.text, 0, &mut disk)?;
     ended(rt, &ran, row.status, row.out, row.log);
     Ok(())
@@ -291,7 +291,7 @@ fn ends_of(alloc: Global, row: &Faulty, text: &'static [u8]) -> Result<Ends<'sta
 fn compare_faulty(rt: &impl Abort, alloc: Global, row: &Faulty) -> Result<(), Fail> {
     let polls = &POLLS;
     let ends = ends_of(alloc, row, polls.text)?;
-    let mut disk = SteadySlots::new([0; 16], [0; 16]);
+    let mut disk = SteadySlots::new([0; 24], [0; 24]);
     let ran = run_words(alloc, "replay rtu ab key", ends, &mut disk)?;
     assert!(rt; row.got <= polls.out.len());
     ended(rt, &ran, row.status, &polls.out[..row.got], row.log);

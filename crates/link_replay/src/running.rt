@@ -82,7 +82,7 @@ pub fn ended(rt: &impl Abort, ran: &Ran, status: Status, out: &[u8], log: &[u8])
 }
 
 /// A disk has these slots.
-pub fn has_slots(rt: &impl Abort, disk: &MemSlots, slots: ([u8; 16], [u8; 16])) {
+pub fn has_slots(rt: &impl Abort, disk: &MemSlots, slots: ([u8; 24], [u8; 24])) {
     assert_eq!(rt; disk.slot(Slot::A), slots.0);
     assert_eq!(rt; disk.slot(Slot::B), slots.1);
 }

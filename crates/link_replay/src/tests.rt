@@ -3,6 +3,7 @@ use crate::{
     Command, Dir, Profile, Proto, Usage, journal_word, key_word, makes_journal, read_words,
 };
 use replay_status::Status;
+use sequence_journal::{LIMIT, LinkId, slot_of};
 use std::alloc::Global;
 use std::process::Abort;
 use std::test::Fail;
@@ -17,16 +18,45 @@ const REQUEST: &[u8] = b"+01030000000ac5cd\n-4\n";
 
 const REQUEST_LINE: &[u8] = b"read at 0 01030000000ac5cd\n";
 
-/// A slot that holds number 0, one that holds number 1, and one that holds none.
-const NUMBER_0: [u8; 16] = [
-    0, 0, 0, 0, 0, 0, 0, 0, 255, 255, 255, 255, 255, 255, 255, 255,
+/// A slot that holds number 0 for `rtu ab`, and one that holds none.
+const NUMBER_0: [u8; 24] = [
+    0, 0, 0, 0, 0, 0, 0, 0, 1, 0, 18, 2, 255, 255, 255, 255, 255, 255, 255, 255, 254, 255, 237, 253,
 ];
 
-const NUMBER_1: [u8; 16] = [
-    0, 0, 0, 0, 0, 0, 0, 1, 255, 255, 255, 255, 255, 255, 255, 254,
+const NO_NUMBER: [u8; 24] = [0x11; 24];
+
+/// An old slot that holds number 5, and one that holds none.
+const OLD_5: [u8; 16] = [
+    0, 0, 0, 0, 0, 0, 0, 5, 255, 255, 255, 255, 255, 255, 255, 250,
 ];
 
-const NO_NUMBER: [u8; 16] = [0x11; 16];
+const OLD_NONE: [u8; 16] = [0x11; 16];
+
+const RTU_AB: LinkId = LinkId {
+    label: 1,
+    dir: 0,
+    profile: 18,
+};
+
+/// A slot that holds this number for a link, or none.
+pub fn slot_at(number: Option<u64>, link: &LinkId) -> [u8; 24] {
+    match number {
+        Some(n) if n <= LIMIT && link.is_known() => slot_of(n, link),
+        _ => NO_NUMBER,
+    }
+}
+
+/// Both slots of a row.
+pub fn slots_at(numbers: (Option<u64>, Option<u64>), link: &LinkId) -> ([u8; 24], [u8; 24]) {
+    (slot_at(numbers.0, link), slot_at(numbers.1, link))
+}
+
+/// A disk with the slots of a row, of which these calls fail.
+pub fn disk_of(alloc: Global, row: &Row, fail: Plan) -> Result<MemSlots, Fail> {
+    let old = if row.is_old { OLD_5 } else { OLD_NONE };
+    let (a, b) = slots_at(row.slots, &row.link);
+    Ok(MemSlots::with_room(alloc, old, OLD_NONE, a, b, 16, fail)?)
+}
 
 /// A run with this key and this input, in which these calls of the output fail.
 pub fn run_over<D: SlotDisk>(
@@ -41,7 +71,7 @@ pub fn run_over<D: SlotDisk>(
         key: MemSource::new(key, 512, Plan::new()),
         input: MemSource::new(text, 512, Plan::new()),
         out: MemSink::with_room(alloc, 800, 512, plan(fail))?,
-        log: MemSink::with_room(alloc, 100, 512, Plan::new())?,
+        log: MemSink::with_room(alloc, 200, 512, Plan::new())?,
     };
     run_words(alloc, words, ends, disk)
 }
@@ -68,7 +98,7 @@ fn find(
 // These words fit no command, and nothing is done but that the fault line is written.
 fn refuse(rt: &impl Abort, alloc: Global, words: &str) -> Result<(), Fail> {
     find(rt, alloc, words, Err(Usage), None, None, false)?;
-    let mut disk = SteadySlots::new([0; 16], [0; 16]);
+    let mut disk = SteadySlots::new([0; 24], [0; 24]);
     let mut ran = run_over(alloc, words, KEY, REQUEST, 1, &mut disk)?;
     ended(rt, &ran, Status::Usage, b"", b"fault: usage\n");
     assert_eq!(rt; ran.status.code(), 2);
@@ -77,7 +107,7 @@ fn refuse(rt: &impl Abort, alloc: Global, words: &str) -> Result<(), Fail> {
     Ok(())
 }
 
-const WORDS_OF_NO_COMMAND: [&str; 29] = [
+const WORDS_OF_NO_COMMAND: [&str; 33] = [
     "",
     "read",
     "read dnp",
@@ -106,6 +136,10 @@ const WORDS_OF_NO_COMMAND: [&str; 29] = [
     "replay rtu ab key journal",
     "init",
     "init ",
+    "init journal",
+    "init rtu ab ",
+    "init dnp ab journal",
+    "init rtu AB journal",
     "vectors x",
 ];
 
@@ -118,8 +152,10 @@ fn refuses_words_of_no_command(rt: HostRuntime) -> Result<(), Fail> {
 }
 
 /// Words, command, place of the journal's path, whether the journal is made.
-const KEYLESS: [(&str, Command, Option<usize>, bool); 4] = [
-    ("init journal", Command::Init, Some(1), true),
+const KEYLESS: [(&str, Command, Option<usize>, bool); 6] = [
+    ("init rtu ab j", Command::Init(RTU, Y18, Dir::Ab), Some(3), true),
+    ("init rtu24 ba j", Command::Init(RTU, Y24, Dir::Ba), Some(3), true),
+    ("init dnp24 ab j", Command::Init(DNP, Y24, Dir::Ab), Some(3), true),
     ("read rtu", Command::Read(Proto::Rtu), None, false),
     ("read dnp3", Command::Read(Proto::Dnp3), None, false),
     ("vectors", Command::Vectors, None, false),
@@ -175,33 +211,38 @@ fn finds_the_paths_among_the_words(rt: HostRuntime) -> Result<(), Fail> {
     Ok(())
 }
 
-/// Words, the slots before, and what comes of them over the key and the input below, where calls of
+/// Words, the link and the numbers of the slots before, whether the old slots hold 5 and no number or
+/// none, and what comes of them over the key and the input below, where calls of
 /// the output and the disk fail.
 #[derive(Clone, Copy, Drop)]
 pub struct Row {
     pub words: &'static str,
     pub text: &'static [u8],
-    pub slots: ([u8; 16], [u8; 16]),
+    pub link: LinkId,
+    pub is_old: bool,
+    pub slots: (Option<u64>, Option<u64>),
     pub out_fails: u32,
     pub disk_fails: u32,
     pub status: Status,
     pub code: u8,
     pub out: &'static [u8],
     pub log: &'static [u8],
-    pub slots_now: ([u8; 16], [u8; 16]),
+    pub slots_now: (Option<u64>, Option<u64>),
 }
 
 pub const READ: Row = Row {
     words: "read rtu",
     text: REQUEST,
-    slots: (NO_NUMBER, NO_NUMBER),
+    link: RTU_AB,
+    is_old: false,
+    slots: (None, None),
     out_fails: 0,
     disk_fails: 0,
     status: Status::Done,
     code: 0,
     out: REQUEST_LINE,
     log: b"",
-    slots_now: (NO_NUMBER, NO_NUMBER),
+    slots_now: (None, None),
 };
 
 pub const VECTORS: Row = Row {
@@ -211,9 +252,9 @@ pub const VECTORS: Row = Row {
 };
 
 pub const INIT: Row = Row {
-    words: "init journal",
+    words: "init rtu ab journal",
     out: b"",
-    slots_now: (NUMBER_0, NO_NUMBER),
+    slots_now: (Some(0), None),
     ..READ
 };
 
@@ -228,7 +269,7 @@ const DISK_FAULT: Row = Row {
     status: Status::JournalFault,
     code: 7,
     log: b"fault: journal\n",
-    slots_now: (NO_NUMBER, NO_NUMBER),
+    slots_now: (None, None),
     ..INIT
 };
 
@@ -240,7 +281,7 @@ const READ_DNP3: Row = Row {
     ..READ
 };
 
-const ROWS: [Row; 14] = [
+const ROWS: [Row; 16] = [
     READ_DNP3,
     READ,
     Row {
@@ -276,13 +317,27 @@ const ROWS: [Row; 14] = [
     },
     INIT,
     Row {
-        slots: (NUMBER_0, [0; 16]),
-        slots_now: (NUMBER_0, [0; 16]),
+        slots: (Some(0), None),
+        slots_now: (Some(0), None),
+        ..STANDS
+    },
+    // A number for another link, and an old one.
+    Row {
+        link: DNP_AB,
+        slots: (Some(0), None),
+        slots_now: (Some(0), None),
         ..STANDS
     },
     Row {
-        slots: (NO_NUMBER, NUMBER_0),
-        slots_now: (NO_NUMBER, NUMBER_0),
+        is_old: true,
+        status: Status::HasJournal { floor: 5 },
+        log: b"fault: journal stands at 5\n",
+        slots_now: (None, None),
+        ..STANDS
+    },
+    Row {
+        slots: (None, Some(0)),
+        slots_now: (None, Some(0)),
         ..STANDS
     },
     Row {
@@ -294,13 +349,13 @@ const ROWS: [Row; 14] = [
         ..DISK_FAULT
     },
     Row {
-        disk_fails: 3,
+        disk_fails: 5,
         ..DISK_FAULT
     },
     // The last call is the one that makes the slot outlive a crash.
     Row {
-        disk_fails: 4,
-        slots_now: (NUMBER_0, NO_NUMBER),
+        disk_fails: 6,
+        slots_now: (Some(0), None),
         ..DISK_FAULT
     },
 ];
@@ -310,10 +365,10 @@ const SEALED_REQUEST: &[u8] = b"+01030000000ac5cd\n-3\n+0001014c5b8d33c6d29a3470
 
 pub const SEAL: Row = Row {
     words: "seal rtu ab key journal",
-    slots: (NUMBER_0, NO_NUMBER),
+    slots: (Some(0), None),
     out: SEALED_REQUEST,
     log: b"sealed 1 at 0 len 8\n",
-    slots_now: (NUMBER_0, NUMBER_1),
+    slots_now: (Some(0), Some(1)),
     ..READ
 };
 
@@ -332,7 +387,14 @@ pub const CHECK: Row = Row {
 //     | cut -c1-24
 const SEALED_RESET: &[u8] = b"+056405c001000004e921\n-3\n+0001793484b9bdf858bbd82b559e\n-11\n";
 
+const DNP_AB: LinkId = LinkId {
+    label: 2,
+    dir: 0,
+    profile: 18,
+};
+
 const SEAL_DNP3: Row = Row {
+    link: DNP_AB,
     words: "seal dnp3 ab key journal",
     text: b"+056405c001000004e921\n-4\n",
     out: SEALED_RESET,
@@ -341,6 +403,7 @@ const SEAL_DNP3: Row = Row {
 };
 
 const CHECK_DNP3: Row = Row {
+    link: DNP_AB,
     words: "check dnp3 ab key journal",
     text: SEALED_RESET,
     out: b"-18\n+056405c001000004e921\n-330\n",
@@ -349,13 +412,33 @@ const CHECK_DNP3: Row = Row {
 };
 
 // By the profile y24; the tags as those of its rows in `replay_tests`.
+const RTU24_AB: LinkId = LinkId {
+    label: 1,
+    dir: 0,
+    profile: 24,
+};
+
+const DNP24_AB: LinkId = LinkId {
+    label: 2,
+    dir: 0,
+    profile: 24,
+};
+
+const RTU_BA: LinkId = LinkId {
+    label: 1,
+    dir: 1,
+    profile: 18,
+};
+
 const SEAL_RTU24: Row = Row {
+    link: RTU24_AB,
     words: "seal rtu24 ab key journal",
     out: b"+01030000000ac5cd\n-3\n+0000000165d245ba109509aa6c32ac3cfa228fd6\n-11\n",
     ..SEAL
 };
 
 const CHECK_RTU24: Row = Row {
+    link: RTU24_AB,
     words: "check rtu24 ab key journal",
     text: b"+01030000000ac5cd\n-3\n+0000000165d245ba109509aa6c32ac3cfa228fd6\n-11\n",
     out: b"-24\n+01030000000ac5cd\n-330\n",
@@ -363,19 +446,56 @@ const CHECK_RTU24: Row = Row {
 };
 
 const SEAL_DNP24: Row = Row {
+    link: DNP24_AB,
     words: "seal dnp24 ab key journal",
     out: b"+056405c001000004e921\n-3\n+00000001cd525d6a6c119047d45db5ba9f9e4290\n-11\n",
     ..SEAL_DNP3
 };
 
 const CHECK_DNP24: Row = Row {
+    link: DNP24_AB,
     words: "check dnp24 ab key journal",
     text: b"+056405c001000004e921\n-3\n+00000001cd525d6a6c119047d45db5ba9f9e4290\n-11\n",
     out: b"-24\n+056405c001000004e921\n-330\n",
     ..CHECK_DNP3
 };
 
-const BOXES: [Row; 12] = [
+// The tag by openssl:
+//   printf 010001030000000ac5cd0000000000000006 | xxd -r -p
+//     | openssl dgst -sha1 -mac HMAC -macopt hexkey:000102030405060708090a0b0c0d0e0f
+//     | cut -c1-24
+const SEALED_AT_6: &[u8] = b"+01030000000ac5cd\n-3\n+0006bffa8bcd3f6ad232de11820a\n-11\n";
+
+// Old slots are taken over: their number 5 goes into slot A, and the frame gets 6.
+const SEAL_OLD: Row = Row {
+    is_old: true,
+    slots: (None, None),
+    out: SEALED_AT_6,
+    log: b"sealed 6 at 0 len 8\n",
+    slots_now: (Some(5), Some(6)),
+    ..SEAL
+};
+
+// The slots that it leaves are another link's for `rtu ba`.
+const WRONG_LINK: Row = Row {
+    words: "seal rtu ba key journal",
+    is_old: true,
+    slots: (Some(5), Some(6)),
+    status: Status::WrongLink { slot: NUMBER_6 },
+    code: 12,
+    out: b"",
+    log: b"fault: wrong link 000000000000000601001202fffffffffffffff9feffedfd\n",
+    slots_now: (Some(5), Some(6)),
+    ..SEAL
+};
+
+const NUMBER_6: [u8; 24] = [
+    0, 0, 0, 0, 0, 0, 0, 6, 1, 0, 18, 2, 255, 255, 255, 255, 255, 255, 255, 249, 254, 255, 237, 253,
+];
+
+const BOXES: [Row; 14] = [
+    SEAL_OLD,
+    WRONG_LINK,
     SEAL_RTU24,
     CHECK_RTU24,
     SEAL_DNP24,
@@ -385,37 +505,38 @@ const BOXES: [Row; 12] = [
         text: SEALED_REQUEST,
         out: b"-24\n+01030000000ac5cc\n-324\n",
         log: b"refused at 0 trailer\n",
-        slots_now: (NUMBER_0, NO_NUMBER),
+        slots_now: (Some(0), None),
         ..CHECK_RTU24
     },
     SEAL_DNP3,
     CHECK_DNP3,
     SEAL,
     Row {
-        slots: (NO_NUMBER, NO_NUMBER),
+        slots: (None, None),
         status: Status::BadJournal {
             a: NO_NUMBER,
             b: NO_NUMBER,
         },
         code: 8,
         out: b"",
-        log: b"fault: bad journal 11111111111111111111111111111111 111111111111111111111111\
-            11111111\n",
-        slots_now: (NO_NUMBER, NO_NUMBER),
+        log: b"fault: bad journal 111111111111111111111111111111111111111111111111 11111111111111\
+            1111111111111111111111111111111111\n",
+        slots_now: (None, None),
         ..SEAL
     },
     CHECK,
     // It was sealed for the other direction.
     Row {
         words: "check rtu ba key journal",
+        link: RTU_BA,
         out: b"-18\n+01030000000ac5cc\n-330\n",
         log: b"refused at 0 tag\n",
-        slots_now: (NUMBER_0, NO_NUMBER),
+        slots_now: (Some(0), None),
         ..CHECK
     },
     // The number isn't committed, so the frame doesn't pass.
     Row {
-        disk_fails: 4,
+        disk_fails: 6,
         status: Status::JournalFault,
         code: 7,
         out: b"-18\n+01030000000a\n",
@@ -426,12 +547,11 @@ const BOXES: [Row; 12] = [
 
 // A row comes out as it says.
 fn compare(rt: &impl Abort, alloc: Global, row: &Row) -> Result<(), Fail> {
-    let (a, b) = row.slots;
-    let mut disk = MemSlots::with_room(alloc, a, b, 16, plan(row.disk_fails))?;
+    let mut disk = disk_of(alloc, row, plan(row.disk_fails))?;
     let ran = run_over(alloc, row.words, KEY, row.text, row.out_fails, &mut disk)?;
     ended(rt, &ran, row.status, row.out, row.log);
     assert_eq!(rt; ran.status.code(), row.code);
-    has_slots(rt, &disk, row.slots_now);
+    has_slots(rt, &disk, slots_at(row.slots_now, &row.link));
     Ok(())
 }
 
@@ -469,7 +589,7 @@ fn make_at(
     fault: &[u8],
 ) -> Result<(), Fail> {
     let mut disk = FileSlots::new(host, path, SlotFile::New);
-    let ran = run_over(host.alloc(), "init journal", KEY, b"", 0, &mut disk)?;
+    let ran = run_over(host.alloc(), "init rtu ab journal", KEY, b"", 0, &mut disk)?;
     ended(rt, &ran, status, b"", fault);
     Ok(())
 }
@@ -479,7 +599,7 @@ fn has_journal(rt: &impl Abort, host: &HostRuntime, path: &str) -> Result<(), Fa
     let path = Some(String::from_str(host.alloc(), path)?);
     let mut disk = FileSlots::new(host, path, SlotFile::Standing);
     assert_eq!(rt; disk.read_slot(Slot::A), Ok(NUMBER_0));
-    assert_eq!(rt; disk.read_slot(Slot::B), Ok([0; 16]));
+    assert_eq!(rt; disk.read_slot(Slot::B), Ok([0; 24]));
     Ok(())
 }
 

@@ -9,7 +9,7 @@ use yasir_io::SteadySlots;
 
 // A trial by these words prints this line.
 fn try_link(rt: &impl Abort, alloc: Global, words: &str, line: &[u8]) -> Result<(), Fail> {
-    let mut disk = SteadySlots::new([0; 16], [0; 16]);
+    let mut disk = SteadySlots::new([0; 24], [0; 24]);
     let ran = run_over(alloc, words, b"", b"", 0, &mut disk)?;
     ended(rt, &ran, Status::Done, line, b"");
     Ok(())

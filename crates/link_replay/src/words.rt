@@ -6,7 +6,7 @@ ghost use Rattle.link_replay.specs.declared.words.Profile.{Profile};
 ghost use Rattle.link_replay.specs.declared.words.Proto.{Proto};
 ghost use Rattle.link_replay.specs.declared.words.Command.{Command};
 ghost use Rattle.link_replay.specs.Words.{IsCommand, Asks, proto_word, link_word, dir_word};
-ghost use Rattle.link_replay.specs.Words.{key_place, journal_place};
+ghost use Rattle.link_replay.specs.Words.{key_place, journal_place, AskForJournal};
 
 use hmac_tag::Dir;
 
@@ -34,8 +34,8 @@ pub enum Profile {
 /// What the program is asked to do.
 #[derive(Clone, Copy, Debug, PartialEq, Eq)]
 pub enum Command {
-    /// Makes a new journal.
-    Init,
+    /// Makes a new journal of a link.
+    Init(Proto, Profile, Dir),
     /// Prints the frames that a device reads from a line.
     Read(Proto),
     /// Tries the tables of known answers.
@@ -112,9 +112,6 @@ fn read_two(first: &str, second: &str) -> Result<Command, Usage>
     ensures usage { OnErr result ((command : Command)
         → IsCommand (first.now ∷ second.now ∷ []) command → ⊥) }
 {
-    if first == "init" {
-        return read_init(first, second);
-    }
     if first != "read" {
         return Err(Usage);
     }
@@ -124,18 +121,20 @@ fn read_two(first: &str, second: &str) -> Result<Command, Usage>
     }
 }
 
-// The command `init` and its journal's path, which isn't empty.
-fn read_init(first: &str, path: &str) -> Result<Command, Usage>
+// The command `init`: a link, and its journal's path, which isn't empty.
+fn read_init(first: &str, second: &str, third: &str, path: &str) -> Result<Command, Usage>
     requires { first.now ≡ codes "init" }
-    ensures ok { IfOk result (λ command. IsCommand (first.now ∷ path.now ∷ []) command) }
+    ensures ok { IfOk result (λ command.
+        IsCommand (first.now ∷ second.now ∷ third.now ∷ path.now ∷ []) command) }
     ensures usage { OnErr result ((command : Command)
-        → IsCommand (first.now ∷ path.now ∷ []) command → ⊥) }
+        → IsCommand (first.now ∷ second.now ∷ third.now ∷ path.now ∷ []) command → ⊥) }
 {
     if path.is_empty() {
-        Err(Usage)
-    } else {
-        Ok(Command::Init)
+        return Err(Usage);
     }
+    let (proto, profile) = read_link(second)?;
+    let dir = read_dir(third)?;
+    Ok(Command::Init(proto, profile, dir))
 }
 
 // The number that a word spells, in decimal digits without a leading zero.
@@ -200,6 +199,7 @@ fn read_four(first: &str, second: &str, third: &str, fourth: &str) -> Result<Com
         → IsCommand (first.now ∷ second.now ∷ third.now ∷ fourth.now ∷ []) command → ⊥) }
 {
     match first {
+        "init" => read_init(first, second, third, fourth),
         "replay" => read_replay(first, second, third, fourth),
         "trial" => read_trial(first, second, third, fourth),
         _ => Err(Usage),
@@ -268,7 +268,8 @@ pub fn key_word(words: &[String]) -> Option<usize>
     ensures none { Asks (map string_bytes words.now) None → result ≡ None }
 {
     match read_words(words) {
-        Ok(Command::Init | Command::Read(_) | Command::Vectors | Command::Trial(..)) => None,
+        Ok(Command::Init(..) | Command::Read(_) | Command::Vectors) => None,
+        Ok(Command::Trial(..)) => None,
         Ok(Command::Seal(..) | Command::Check(..) | Command::Replay(..)) => Some(3),
         Err(Usage) => None,
     }
@@ -282,7 +283,7 @@ pub fn journal_word(words: &[String]) -> Option<usize>
     ensures none { Asks (map string_bytes words.now) None → result ≡ None }
 {
     match read_words(words) {
-        Ok(Command::Init) => Some(1),
+        Ok(Command::Init(..)) => Some(3),
         Ok(Command::Seal(..) | Command::Check(..)) => Some(4),
         Ok(Command::Read(_) | Command::Vectors) => None,
         Ok(Command::Replay(..) | Command::Trial(..)) => None,
@@ -293,10 +294,10 @@ pub fn journal_word(words: &[String]) -> Option<usize>
 /// Whether a journal's file that is missing is made: by the command that makes a journal, and by no
 /// other.
 pub fn makes_journal(words: &[String]) -> bool
-    ensures { IsTrue result ↔ IsCommand (map string_bytes words.now) Command.Init }
+    ensures { IsTrue result ↔ AskForJournal (map string_bytes words.now) }
 {
     match read_words(words) {
-        Ok(Command::Init) => true,
+        Ok(Command::Init(..)) => true,
         Ok(Command::Read(_) | Command::Vectors | Command::Trial(..)) => false,
         Ok(Command::Seal(..) | Command::Check(..) | Command::Replay(..)) => false,
         Err(Usage) => false,
