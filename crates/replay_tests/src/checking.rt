@@ -1,6 +1,6 @@
 use crate::outside::{Failing, STEADY};
 use crate::over_boxes::{
-    AT_0, AT_1, AT_2, AT_LIMIT, BoxKind, DiskFault, FRESH, KEY, NO_NUMBER, NOTHING, Reading, Row,
+    AT_0, AT_1, AT_2, AT_LIMIT, BoxKind, DiskFault, FRESH, Held, KEY, NO_NUMBER, NOTHING, Reading, Row,
     compare_all, fail_each_call, has_passed,
 };
 use device_model::RtuDevice;
@@ -10,11 +10,11 @@ use std::test::Fail;
 use yasir_ticks::{BadTicks, TickFault};
 
 /// Slots that hold these numbers.
-const AT_3: u128 = 0x0000000000000003_fffffffffffffffc;
+const AT_3: Held = Held::Number(3);
 
-const AT_65536: u128 = 0x0000000000010000_fffffffffffeffff;
+const AT_65536: Held = Held::Number(65_536);
 
-const AT_BEFORE_LIMIT: u128 = 0x0000fffffffffffe_ffff000000000001;
+const AT_BEFORE_LIMIT: Held = Held::Number(281_474_976_710_654);
 
 /// The packet of number 1, which the transmitter makes of a request, and the ticks that it passes
 /// as.
@@ -355,16 +355,18 @@ const BEFORE_THREE: &[u8] = b"-18\n+01030000000ac5cd\n-21\n+010300000001840a\n-2
 const THREE_PASSED: &[u8] =
     b"-18\n+01030000000ac5cd\n-21\n+010300000001840a\n-21\n+1103006b00037687\n-326\n";
 
-const DISK_FAULTS: [DiskFault; 9] = [
+const DISK_FAULTS: [DiskFault; 11] = [
     (1, b"", 0, 0),
     (2, b"", 0, 0),
-    (3, BEFORE_ONE, 0, 0),
-    (4, BEFORE_ONE, 0, 1),
-    (5, BEFORE_TWO, 1, 1),
-    (6, BEFORE_TWO, 1, 2),
-    (7, BEFORE_THREE, 2, 2),
-    (8, BEFORE_THREE, 2, 3),
-    (9, THREE_PASSED, 3, 3),
+    (3, b"", 0, 0),
+    (4, b"", 0, 0),
+    (5, BEFORE_ONE, 0, 0),
+    (6, BEFORE_ONE, 0, 1),
+    (7, BEFORE_TWO, 1, 1),
+    (8, BEFORE_TWO, 1, 2),
+    (9, BEFORE_THREE, 2, 2),
+    (10, BEFORE_THREE, 2, 3),
+    (11, THREE_PASSED, 3, 3),
 ];
 
 #[test]
@@ -416,12 +418,12 @@ const NOT_DONE: [Row; 7] = [
     Row {
         slots: (NO_NUMBER, NO_NUMBER),
         status: Status::BadJournal {
-            a: [0x11; 16],
-            b: [0x11; 16],
+            a: [0x11; 24],
+            b: [0x11; 24],
         },
         code: 8,
-        log: b"fault: bad journal 11111111111111111111111111111111 111111111111111111111111\
-            11111111\n",
+        log: b"fault: bad journal 111111111111111111111111111111111111111111111111 11111111111111\
+            1111111111111111111111111111111111\n",
         slots_now: (NO_NUMBER, NO_NUMBER),
         ..UNTOUCHED
     },

@@ -17,7 +17,7 @@ use replay_lists::FrameBox;
 use replay_status::Status;
 use rtu_frame::Rtu;
 use seal_replay::SealBox;
-use sequence_journal::{Journal, slot_of};
+use sequence_journal::{Journal, LinkId, slot_of};
 use std::alloc::Global;
 use std::process::Abort;
 use std::test::Fail;
@@ -67,8 +67,9 @@ impl<B: LineBox> Journaled<B> {
         ensures fits { IfOk result
             (λ value. Fits value.journal (Some (steady_slots value.disk))) }
     {
-        let mut disk = SteadySlots::new(slot_of(0), [0; 16]);
-        let journal = Journal::load(&mut disk)?;
+        let served = LinkId::of_no_file();
+        let mut disk = SteadySlots::new(slot_of(0, &served), [0; 24]);
+        let journal = Journal::load(&mut disk, &served)?;
         Ok(Journaled {
             line_box: B::new(&packets::KEY.to_be_bytes(), Dir::Ab),
             journal,
@@ -467,7 +468,8 @@ fn text_goes_out_by_full_buffers(rt: HostRuntime) -> Result<(), Fail> {
     let mut input = SteadySource::new(text.as_slice());
     let mut out = NO_WRITES;
     let mut log = NO_WRITES;
-    let mut disk = SteadySlots::new(slot_of(0), [0; 16]);
+    let served = LinkId::of_no_file();
+    let mut disk = SteadySlots::new(slot_of(0, &served), [0; 24]);
     let status = replay_box::<
         SealBox<Rtu, HmacSha1, 2>,
         SteadySource,
@@ -476,6 +478,7 @@ fn text_goes_out_by_full_buffers(rt: HostRuntime) -> Result<(), Fail> {
         CountedSink,
         SteadySlots,
     >(
+        &served,
         Dir::Ab,
         24,
         &mut key,

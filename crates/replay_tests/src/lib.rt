@@ -30,3 +30,5 @@ mod runs;
 mod sealing;
 #[cfg(test)]
 mod second_profile;
+#[cfg(test)]
+mod taking_over;

@@ -1,4 +1,5 @@
 ghost use Rattle.std.specs.Prelude.{◌≡◌};
+ghost use Rattle.sequence_journal.specs.Links.{IsLink};
 
 use crate::outside::{Failing, STEADY, plan};
 use crate::reading::has_read;
@@ -10,7 +11,7 @@ use hmac_tag::{Dir, HmacSha1, HmacSha256};
 use replay_status::{Status, write_fault};
 use rtu_frame::Rtu;
 use seal_replay::SealBox;
-use sequence_journal::Journal;
+use sequence_journal::{Journal, LIMIT, LinkId, slot_of};
 use std::alloc::Global;
 use std::process::Abort;
 use std::test::Fail;
@@ -18,21 +19,31 @@ use yasir_io::{MemSink, MemSlots, MemSource, Slot, SteadySlots};
 
 pub const KEY: &[u8] = b"000102030405060708090a0b0c0d0e0f";
 
-/// Slots that hold these numbers.
-pub const AT_0: u128 = 0x0000000000000000_ffffffffffffffff;
+/// What a slot holds: a number for the link of its row, nothing that was ever written, or other
+/// bytes.
+#[derive(Clone, Copy, Debug, PartialEq, Eq)]
+pub enum Held {
+    Number(u64),
+    Zeros,
+    Ones,
+}
 
-pub const AT_1: u128 = 0x0000000000000001_fffffffffffffffe;
+pub const AT_0: Held = Held::Number(0);
 
-pub const AT_2: u128 = 0x0000000000000002_fffffffffffffffd;
+pub const AT_1: Held = Held::Number(1);
 
-pub const AT_LIMIT: u128 = 0x0000ffffffffffff_ffff000000000000;
+pub const AT_2: Held = Held::Number(2);
 
-/// Slots that hold none.
-pub const NOTHING: u128 = 0;
+pub const AT_LIMIT: Held = Held::Number(281_474_976_710_655);
 
-pub const NO_NUMBER: u128 = 0x11111111111111111111111111111111;
+pub const NOTHING: Held = Held::Zeros;
 
-pub const FRESH: (u128, u128) = (AT_0, NOTHING);
+pub const NO_NUMBER: Held = Held::Ones;
+
+/// What slots A and B hold.
+pub type Numbers = (Held, Held);
+
+pub const FRESH: Numbers = (AT_0, NOTHING);
 
 /// A box of the program: what its words ask for.
 #[derive(Clone, Copy, Drop)]
@@ -45,6 +56,49 @@ pub enum BoxKind {
     CheckDnp,
     CheckRtu24,
     CheckDnp24,
+}
+
+// The link of a box in a direction.
+fn link_of(kind: BoxKind, dir: Dir) -> LinkId
+    ensures { IsLink result }
+{
+    let (label, profile) = match kind {
+        BoxKind::SealRtu | BoxKind::CheckRtu => (1, 18),
+        BoxKind::SealDnp | BoxKind::CheckDnp => (2, 18),
+        BoxKind::SealRtu24 | BoxKind::CheckRtu24 => (1, 24),
+        BoxKind::SealDnp24 | BoxKind::CheckDnp24 => (2, 24),
+    };
+    let dir = match dir {
+        Dir::Ab => 0,
+        Dir::Ba => 1,
+    };
+    LinkId {
+        label,
+        dir,
+        profile,
+    }
+}
+
+/// A slot that holds this for a link.
+pub fn slot_at(held: Held, link: &LinkId) -> [u8; 24]
+    requires { IsLink link.now }
+{
+    match held {
+        Held::Number(n) => slot_of(n.min(LIMIT), link),
+        Held::Zeros => [0; 24],
+        Held::Ones => [0x11; 24],
+    }
+}
+
+const BLANK: [u8; 16] = [0; 16];
+
+// A disk whose slots hold this for a link, the old ones being blank.
+fn disk_of(alloc: Global, slots: Numbers, link: &LinkId, fail: u32) -> Result<MemSlots, Fail>
+    requires { IsLink link.now }
+{
+    let (a, b) = slots;
+    let (a, b) = (slot_at(a, link), slot_at(b, link));
+    Ok(MemSlots::with_room(alloc, BLANK, BLANK, a, b, 2000, plan(fail))?)
 }
 
 /// How a run ended, what its sinks hold, and its disk.
@@ -61,42 +115,37 @@ pub struct Ran {
 pub struct Row {
     pub dir: Dir,
     pub key: &'static [u8],
-    pub slots: (u128, u128),
+    pub slots: Numbers,
     pub text: &'static [u8],
     pub failing: Failing,
     pub status: Status,
     pub code: u8,
     pub out: &'static [u8],
     pub log: &'static [u8],
-    pub slots_now: (u128, u128),
+    pub slots_now: Numbers,
 }
 
 // The line of this text through a box with this key, with the fault line behind its notes.
 fn replay_by<B: LineBox>(
     alloc: Global,
     rest: u32,
+    link: &LinkId,
     dir: Dir,
     key: &[u8],
-    slots: (u128, u128),
+    disk: MemSlots,
     text: &[u8],
     failing: &Failing,
 ) -> Result<Ran, Fail>
-    requires { B.widths_fit }
+    requires widths { B.widths_fit }
+    requires link { IsLink link.now }
 {
-    let (a, b) = slots;
+    let mut disk = disk;
     let mut key = MemSource::new(key, 512, plan(failing.key));
     let mut input = MemSource::new(text, 512, plan(failing.input));
     let mut out = MemSink::with_room(alloc, 8000, 512, plan(failing.out))?;
     let mut log = MemSink::with_room(alloc, 40000, 512, plan(failing.log))?;
-    let mut disk = MemSlots::with_room(
-        alloc,
-        a.to_be_bytes(),
-        b.to_be_bytes(),
-        2000,
-        plan(failing.disk),
-    )?;
     let status = replay_box::<B, MemSource, MemSource, MemSink, MemSink, MemSlots>(
-        dir, rest, &mut key, &mut input, &mut out, &mut log, &mut disk,
+        link, dir, rest, &mut key, &mut input, &mut out, &mut log, &mut disk,
     );
     write_fault(&mut log, &status);
     Ok(Ran {
@@ -114,47 +163,62 @@ pub fn replay(
     kind: BoxKind,
     dir: Dir,
     key: &[u8],
-    slots: (u128, u128),
+    slots: Numbers,
     text: &[u8],
     failing: &Failing,
 ) -> Result<Ran, Fail> {
+    let disk = disk_of(alloc, slots, &link_of(kind, dir), failing.disk)?;
+    replay_on(alloc, kind, dir, key, disk, text, failing)
+}
+
+/// The same over this disk.
+pub fn replay_on(
+    alloc: Global,
+    kind: BoxKind,
+    dir: Dir,
+    key: &[u8],
+    disk: MemSlots,
+    text: &[u8],
+    failing: &Failing,
+) -> Result<Ran, Fail> {
+    let link = link_of(kind, dir);
     match kind {
         BoxKind::SealRtu => {
-            replay_by::<SealBox<Rtu, HmacSha1, 2>>(alloc, 24, dir, key, slots, text, failing)
+            replay_by::<SealBox<Rtu, HmacSha1, 2>>(alloc, 24, &link, dir, key, disk, text, failing)
         }
         BoxKind::SealDnp => {
-            replay_by::<SealBox<Dnp, HmacSha1, 2>>(alloc, 24, dir, key, slots, text, failing)
+            replay_by::<SealBox<Dnp, HmacSha1, 2>>(alloc, 24, &link, dir, key, disk, text, failing)
         }
         BoxKind::SealRtu24 => {
-            replay_by::<SealBox<Rtu, HmacSha256, 4>>(alloc, 30, dir, key, slots, text, failing)
+            replay_by::<SealBox<Rtu, HmacSha256, 4>>(alloc, 30, &link, dir, key, disk, text, failing)
         }
         BoxKind::SealDnp24 => {
-            replay_by::<SealBox<Dnp, HmacSha256, 4>>(alloc, 30, dir, key, slots, text, failing)
+            replay_by::<SealBox<Dnp, HmacSha256, 4>>(alloc, 30, &link, dir, key, disk, text, failing)
         }
         BoxKind::CheckRtu => {
-            replay_by::<CheckBox<Rtu, HmacSha1, 2, 18>>(alloc, 320, dir, key, slots, text, failing)
+            replay_by::<CheckBox<Rtu, HmacSha1, 2, 18>>(alloc, 320, &link, dir, key, disk, text, failing)
         }
         BoxKind::CheckDnp => {
-            replay_by::<CheckBox<Dnp, HmacSha1, 2, 18>>(alloc, 320, dir, key, slots, text, failing)
+            replay_by::<CheckBox<Dnp, HmacSha1, 2, 18>>(alloc, 320, &link, dir, key, disk, text, failing)
         }
         BoxKind::CheckRtu24 => {
             replay_by::<CheckBox<Rtu, HmacSha256, 4, 24>>(
-                alloc, 320, dir, key, slots, text, failing,
+                alloc, 320, &link, dir, key, disk, text, failing,
             )
         }
         BoxKind::CheckDnp24 => {
             replay_by::<CheckBox<Dnp, HmacSha256, 4, 24>>(
-                alloc, 320, dir, key, slots, text, failing,
+                alloc, 320, &link, dir, key, disk, text, failing,
             )
         }
     }
 }
 
-fn slots_of(disk: &MemSlots) -> (u128, u128) {
-    (
-        u128::from_be_bytes(disk.slot(Slot::A)),
-        u128::from_be_bytes(disk.slot(Slot::B)),
-    )
+// A disk's slots hold this for the link of a box.
+fn has_slots(rt: &impl Abort, disk: &MemSlots, slots: Numbers, kind: BoxKind, dir: Dir) {
+    let link = link_of(kind, dir);
+    assert!(rt; disk.slot(Slot::A) == slot_at(slots.0, &link));
+    assert!(rt; disk.slot(Slot::B) == slot_at(slots.1, &link));
 }
 
 /// The sink holds these bytes.
@@ -177,7 +241,7 @@ pub fn compare(rt: &impl Abort, alloc: Global, kind: BoxKind, row: &Row) -> Resu
     assert!(rt; ran.status.code() == row.code);
     holds(rt, &ran.out, row.out);
     holds(rt, &ran.log, row.log);
-    assert!(rt; slots_of(&ran.disk) == row.slots_now);
+    has_slots(rt, &ran.disk, row.slots_now, kind, row.dir);
     Ok(())
 }
 
@@ -212,10 +276,11 @@ pub fn has_passed<D: Device + Drop>(
 }
 
 // The floor that a later run loads from these slots.
-fn floor_of(slots: (u128, u128)) -> Option<u64> {
-    let (a, b) = slots;
-    let mut disk = SteadySlots::new(a.to_be_bytes(), b.to_be_bytes());
-    match Journal::load(&mut disk) {
+fn floor_of(a: [u8; 24], b: [u8; 24], link: &LinkId) -> Option<u64>
+    requires { IsLink link.now }
+{
+    let mut disk = SteadySlots::new(a, b);
+    match Journal::load(&mut disk, link) {
         Ok(journal) => Some(journal.floor()),
         Err(_) => None,
     }
@@ -235,12 +300,15 @@ fn log_of(alloc: Global, notes: &[u8], has_failed: bool) -> Result<Vec<u8>, Fail
 }
 
 // A later run loads this floor. Where a sync failed, the slot that was written may be torn.
-fn loads(rt: &impl Abort, slots: (u128, u128), call: u32, floor: u64) {
-    let (a, b) = slots;
-    assert!(rt; floor_of((a, b)) == Some(floor));
+fn loads(rt: &impl Abort, disk: &MemSlots, link: &LinkId, call: u32, floor: u64)
+    requires { IsLink link.now }
+{
+    let (a, b) = (disk.slot(Slot::A), disk.slot(Slot::B));
+    let torn = [0x11; 24];
+    assert!(rt; floor_of(a, b, link) == Some(floor));
     match call {
-        4 => assert!(rt; floor_of((a, NO_NUMBER)) == Some(0)),
-        6 => assert!(rt; floor_of((NO_NUMBER, b)) == Some(1)),
+        6 => assert!(rt; floor_of(a, torn, link) == Some(0)),
+        8 => assert!(rt; floor_of(torn, b, link) == Some(1)),
         _ => {}
     }
 }
@@ -267,12 +335,12 @@ fn fail_call(
     }
     holds(rt, &ran.out, out);
     holds(rt, &ran.log, log_of(alloc, notes, noted < 3)?.as_slice());
-    loads(rt, slots_of(&ran.disk), call, floor);
+    loads(rt, &ran.disk, &link_of(kind, Dir::Ab), call, floor);
     Ok(())
 }
 
 /// A line of three frames, from a fresh journal on, in whose run each call of the disk fails in
-/// turn: a journal is loaded with two calls, and each number costs a write and a sync. `notes` are
+/// turn: a journal is loaded with four calls, and each number costs a write and a sync. `notes` are
 /// those of none of the frames, of one, of two and of all.
 pub fn fail_each_call(
     rt: &impl Abort,
@@ -280,7 +348,7 @@ pub fn fail_each_call(
     kind: BoxKind,
     text: &[u8],
     notes: &[&[u8]; 4],
-    faults: &[DiskFault; 9],
+    faults: &[DiskFault; 11],
 ) -> Result<(), Fail> {
     for fault in faults {
         let noted = fault.2;

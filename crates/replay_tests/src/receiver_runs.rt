@@ -11,7 +11,7 @@ use dnp_link_frame::Dnp;
 use hmac_tag::{Dir, HmacSha1, HmacSha256, Mac};
 use line_rules::LineRules;
 use rtu_frame::Rtu;
-use sequence_journal::{Journal, slot_of};
+use sequence_journal::{Journal, LinkId, slot_of};
 use std::alloc::{AllocError, Global};
 use std::process::Abort;
 use std::test::Fail;
@@ -156,8 +156,9 @@ fn rtu_steps(alloc: Global, link: &[u8]) -> Result<Vec<CheckStep>, Fail>
     requires short { length link.now < 1000 }
 {
     let mut checker: RtuChecker = Checker::new(&KEY.to_be_bytes(), Dir::Ab);
-    let mut disk = SteadySlots::new(slot_of(0), [0; 16]);
-    let mut journal = Journal::load(&mut disk)?;
+    let served = LinkId::of_no_file();
+    let mut disk = SteadySlots::new(slot_of(0, &served), [0; 24]);
+    let mut journal = Journal::load(&mut disk, &served)?;
     steps(alloc, &mut checker, &mut journal, &mut disk, link)
 }
 
@@ -171,8 +172,9 @@ fn follow_rtu(
     requires short { length link.now < 1000 }
 {
     let mut checker: RtuChecker = Checker::new(&KEY.to_be_bytes(), Dir::Ab);
-    let mut disk = SteadySlots::new(slot_of(0), [0; 16]);
-    let mut journal = Journal::load(&mut disk)?;
+    let served = LinkId::of_no_file();
+    let mut disk = SteadySlots::new(slot_of(0, &served), [0; 24]);
+    let mut journal = Journal::load(&mut disk, &served)?;
     follow(
         rt,
         &mut checker,
@@ -189,8 +191,9 @@ fn dnp_steps(alloc: Global, link: &[u8]) -> Result<Vec<CheckStep>, Fail>
     requires short { length link.now < 1000 }
 {
     let mut checker: DnpChecker = Checker::new(&KEY.to_be_bytes(), Dir::Ab);
-    let mut disk = SteadySlots::new(slot_of(0), [0; 16]);
-    let mut journal = Journal::load(&mut disk)?;
+    let served = LinkId::of_no_file();
+    let mut disk = SteadySlots::new(slot_of(0, &served), [0; 24]);
+    let mut journal = Journal::load(&mut disk, &served)?;
     steps(alloc, &mut checker, &mut journal, &mut disk, link)
 }
 
@@ -204,8 +207,9 @@ fn follow_dnp(
     requires short { length link.now < 1000 }
 {
     let mut checker: DnpChecker = Checker::new(&KEY.to_be_bytes(), Dir::Ab);
-    let mut disk = SteadySlots::new(slot_of(0), [0; 16]);
-    let mut journal = Journal::load(&mut disk)?;
+    let served = LinkId::of_no_file();
+    let mut disk = SteadySlots::new(slot_of(0, &served), [0; 24]);
+    let mut journal = Journal::load(&mut disk, &served)?;
     follow(
         rt,
         &mut checker,
@@ -222,8 +226,9 @@ fn wide_rtu_steps(alloc: Global, link: &[u8]) -> Result<Vec<CheckStep>, Fail>
     requires short { length link.now < 1000 }
 {
     let mut checker: WideRtuChecker = Checker::new(&KEY.to_be_bytes(), Dir::Ab);
-    let mut disk = SteadySlots::new(slot_of(0), [0; 16]);
-    let mut journal = Journal::load(&mut disk)?;
+    let served = LinkId::of_no_file();
+    let mut disk = SteadySlots::new(slot_of(0, &served), [0; 24]);
+    let mut journal = Journal::load(&mut disk, &served)?;
     steps(alloc, &mut checker, &mut journal, &mut disk, link)
 }
 
@@ -237,8 +242,9 @@ fn follow_wide_rtu(
     requires short { length link.now < 1000 }
 {
     let mut checker: WideRtuChecker = Checker::new(&KEY.to_be_bytes(), Dir::Ab);
-    let mut disk = SteadySlots::new(slot_of(0), [0; 16]);
-    let mut journal = Journal::load(&mut disk)?;
+    let served = LinkId::of_no_file();
+    let mut disk = SteadySlots::new(slot_of(0, &served), [0; 24]);
+    let mut journal = Journal::load(&mut disk, &served)?;
     follow(
         rt,
         &mut checker,

@@ -7,7 +7,7 @@ use check_receiver::{CheckNote, CheckStep, Checker, DroppedWhy, RefusedWhy};
 use hmac_tag::{Dir, HmacSha1, Mac};
 use line_rules::LineRules;
 use rtu_frame::Rtu;
-use sequence_journal::{Journal, slot_of};
+use sequence_journal::{Journal, LinkId, slot_of};
 use std::alloc::Global;
 use std::process::Abort;
 use std::test::Fail;
@@ -53,8 +53,9 @@ fn compare(
 {
     let key: [u8; 16] = 0x000102030405060708090a0b0c0d0e0f_u128.to_be_bytes();
     let mut checker: Checker<Rtu, HmacSha1, 2, 18> = Checker::new(&key, Dir::Ab);
-    let mut disk = SteadySlots::new(slot_of(0), [0; 16]);
-    let mut journal = Journal::load(&mut disk)?;
+    let served = LinkId::of_no_file();
+    let mut disk = SteadySlots::new(slot_of(0, &served), [0; 24]);
+    let mut journal = Journal::load(&mut disk, &served)?;
     let steps = steps(alloc, &mut checker, &mut journal, &mut disk, link)?;
     assert_eq!(rt; steps.len(), line.len());
     for (i, (step, letter)) in steps.iter().zip(line).enumerate() {

@@ -1,6 +1,6 @@
 use crate::outside::{Failing, STEADY};
 use crate::over_boxes::{
-    AT_0, AT_1, AT_2, AT_LIMIT, BoxKind, DiskFault, FRESH, KEY, NO_NUMBER, NOTHING, Row,
+    AT_0, AT_1, AT_2, AT_LIMIT, BoxKind, DiskFault, FRESH, Held, KEY, NO_NUMBER, NOTHING, Row,
     compare_all, fail_each_call, holds, replay,
 };
 use hmac_tag::Dir;
@@ -10,9 +10,9 @@ use std::test::Fail;
 use yasir_ticks::{BadTicks, TickFault};
 
 /// Slots that hold these numbers.
-const AT_5: u128 = 0x0000000000000005_fffffffffffffffa;
+const AT_5: Held = Held::Number(5);
 
-const AT_6: u128 = 0x0000000000000006_fffffffffffffff9;
+const AT_6: Held = Held::Number(6);
 
 const SEALED_WHOLE: &[u8] = b"+01030000000ac5cd\n-3\n+0001014c5b8d33c6d29a347013b0\n-47\n";
 
@@ -167,16 +167,18 @@ const THREE_SEALED: &[u8] =
         +0002ee5b1d1d6fc159af2411aeb5\n-4\n+1103006b00037687\n-3\n+00037f89dbbfa5b4b19474035c96\n\
         -7\n";
 
-const DISK_FAULTS: [DiskFault; 9] = [
+const DISK_FAULTS: [DiskFault; 11] = [
     (1, b"", 0, 0),
     (2, b"", 0, 0),
-    (3, ONE_CLOSED, 0, 0),
-    (4, ONE_CLOSED, 0, 1),
-    (5, TWO_CLOSED, 1, 1),
-    (6, TWO_CLOSED, 1, 2),
-    (7, THREE_CLOSED, 2, 2),
-    (8, THREE_CLOSED, 2, 3),
-    (9, THREE_SEALED, 3, 3),
+    (3, b"", 0, 0),
+    (4, b"", 0, 0),
+    (5, ONE_CLOSED, 0, 0),
+    (6, ONE_CLOSED, 0, 1),
+    (7, TWO_CLOSED, 1, 1),
+    (8, TWO_CLOSED, 1, 2),
+    (9, THREE_CLOSED, 2, 2),
+    (10, THREE_CLOSED, 2, 3),
+    (11, THREE_SEALED, 3, 3),
 ];
 
 #[test]
@@ -240,12 +242,12 @@ const NOT_DONE: [Row; 9] = [
     Row {
         slots: (NO_NUMBER, NO_NUMBER),
         status: Status::BadJournal {
-            a: [0x11; 16],
-            b: [0x11; 16],
+            a: [0x11; 24],
+            b: [0x11; 24],
         },
         code: 8,
-        log: b"fault: bad journal 11111111111111111111111111111111 111111111111111111111111\
-            11111111\n",
+        log: b"fault: bad journal 111111111111111111111111111111111111111111111111 11111111111111\
+            1111111111111111111111111111111111\n",
         slots_now: (NO_NUMBER, NO_NUMBER),
         ..REFUSED
     },

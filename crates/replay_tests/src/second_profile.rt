@@ -2,7 +2,7 @@
 
 use crate::outside::STEADY;
 use crate::over_boxes::{
-    AT_0, AT_1, AT_2, AT_LIMIT, BoxKind, FRESH, KEY, NOTHING, Reading, Row, compare, compare_all,
+    AT_0, AT_1, AT_2, AT_LIMIT, BoxKind, FRESH, Held, KEY, NOTHING, Reading, Row, compare, compare_all,
     has_passed,
 };
 use crate::reading::has_read;
@@ -12,11 +12,11 @@ use replay_status::Status;
 use std::test::Fail;
 
 /// Slots that hold these numbers.
-const AT_65535: u128 = 0x000000000000ffff_ffffffffffff0000;
+const AT_65535: Held = Held::Number(65_535);
 
-const AT_65536: u128 = 0x0000000000010000_fffffffffffeffff;
+const AT_65536: Held = Held::Number(65_536);
 
-const AT_65538: u128 = 0x0000000000010002_fffffffffffefffd;
+const AT_65538: Held = Held::Number(65_538);
 
 /// A request with the trailer of number 1.
 const PACKET: &[u8] = b"+01030000000ac5cd\n-3\n+0000000165d245ba109509aa6c32ac3cfa228fd6\n-47\n";
