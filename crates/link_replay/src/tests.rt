@@ -153,9 +153,24 @@ fn refuses_words_of_no_command(rt: HostRuntime) -> Result<(), Fail> {
 
 /// Words, command, place of the journal's path, whether the journal is made.
 const KEYLESS: [(&str, Command, Option<usize>, bool); 6] = [
-    ("init rtu ab j", Command::Init(RTU, Y18, Dir::Ab), Some(3), true),
-    ("init rtu24 ba j", Command::Init(RTU, Y24, Dir::Ba), Some(3), true),
-    ("init dnp24 ab j", Command::Init(DNP, Y24, Dir::Ab), Some(3), true),
+    (
+        "init rtu ab j",
+        Command::Init(RTU, Y18, Dir::Ab),
+        Some(3),
+        true,
+    ),
+    (
+        "init rtu24 ba j",
+        Command::Init(RTU, Y24, Dir::Ba),
+        Some(3),
+        true,
+    ),
+    (
+        "init dnp24 ab j",
+        Command::Init(DNP, Y24, Dir::Ab),
+        Some(3),
+        true,
+    ),
     ("read rtu", Command::Read(Proto::Rtu), None, false),
     ("read dnp3", Command::Read(Proto::Dnp3), None, false),
     ("vectors", Command::Vectors, None, false),

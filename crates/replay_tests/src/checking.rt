@@ -1,7 +1,7 @@
 use crate::outside::{Failing, STEADY};
 use crate::over_boxes::{
-    AT_0, AT_1, AT_2, AT_LIMIT, BoxKind, DiskFault, FRESH, Held, KEY, NO_NUMBER, NOTHING, Reading, Row,
-    compare_all, fail_each_call, has_passed,
+    AT_0, AT_1, AT_2, AT_LIMIT, BoxKind, DiskFault, FRESH, Held, KEY, NO_NUMBER, NOTHING, Reading,
+    Row, compare_all, fail_each_call, has_passed,
 };
 use device_model::RtuDevice;
 use hmac_tag::Dir;

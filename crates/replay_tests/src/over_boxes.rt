@@ -190,16 +190,24 @@ pub fn replay_on(
             replay_by::<SealBox<Dnp, HmacSha1, 2>>(alloc, 24, &link, dir, key, disk, text, failing)
         }
         BoxKind::SealRtu24 => {
-            replay_by::<SealBox<Rtu, HmacSha256, 4>>(alloc, 30, &link, dir, key, disk, text, failing)
+            replay_by::<SealBox<Rtu, HmacSha256, 4>>(
+                alloc, 30, &link, dir, key, disk, text, failing,
+            )
         }
         BoxKind::SealDnp24 => {
-            replay_by::<SealBox<Dnp, HmacSha256, 4>>(alloc, 30, &link, dir, key, disk, text, failing)
+            replay_by::<SealBox<Dnp, HmacSha256, 4>>(
+                alloc, 30, &link, dir, key, disk, text, failing,
+            )
         }
         BoxKind::CheckRtu => {
-            replay_by::<CheckBox<Rtu, HmacSha1, 2, 18>>(alloc, 320, &link, dir, key, disk, text, failing)
+            replay_by::<CheckBox<Rtu, HmacSha1, 2, 18>>(
+                alloc, 320, &link, dir, key, disk, text, failing,
+            )
         }
         BoxKind::CheckDnp => {
-            replay_by::<CheckBox<Dnp, HmacSha1, 2, 18>>(alloc, 320, &link, dir, key, disk, text, failing)
+            replay_by::<CheckBox<Dnp, HmacSha1, 2, 18>>(
+                alloc, 320, &link, dir, key, disk, text, failing,
+            )
         }
         BoxKind::CheckRtu24 => {
             replay_by::<CheckBox<Rtu, HmacSha256, 4, 24>>(

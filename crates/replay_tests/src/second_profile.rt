@@ -2,8 +2,8 @@
 
 use crate::outside::STEADY;
 use crate::over_boxes::{
-    AT_0, AT_1, AT_2, AT_LIMIT, BoxKind, FRESH, Held, KEY, NOTHING, Reading, Row, compare, compare_all,
-    has_passed,
+    AT_0, AT_1, AT_2, AT_LIMIT, BoxKind, FRESH, Held, KEY, NOTHING, Reading, Row, compare,
+    compare_all, has_passed,
 };
 use crate::reading::has_read;
 use device_model::{DnpDevice, RtuDevice};
