@@ -201,7 +201,8 @@ module _ {B N S O L D : Type 0} (b : LineBox B N) (s : Source S) (o : Sink O) (l
 
     ends_box : (end : End) (items : List Item)
         → Takes 0 rest (s.left before.input) (s.left mid.input) items end
-        → DrivesBox b new origin outputs items → Sends → EndsBox s o l d link boxes rest before after end
+        → DrivesBox b new origin outputs items → Sends
+        → EndsBox s o l d link boxes rest before after end
     ends_box end items takes at finish =
         let is = b.floor_is new.line_box new.journal origin.setup (ticks_in items) at.steps in
         record {

@@ -74,9 +74,9 @@ pub fn replay_keyed<B: LineBox, S: Source, O: Sink, L: Sink, D: SlotDisk>(
     }
 }
 
-/// Reads a key, loads the journal of this link that the disk holds, and replays the input through a box: its
-/// other line goes to `out`, and a line for each note to the log. Behind a whole input follow
-/// `rest` silent ticks.
+/// Reads a key, loads the journal of this link that the disk holds, and replays the input through a
+/// box: its other line goes to `out`, and a line for each note to the log. Behind a whole input
+/// follow `rest` silent ticks.
 pub fn replay_box<B: LineBox, K: Source, S: Source, O: Sink, L: Sink, D: SlotDisk>(
     link: &LinkId,
     dir: Dir,

@@ -12,14 +12,16 @@ use yasir_io::SlotDisk;
 /// crash at any moment inside it leaves no floor below the one before. The next step goes on from
 /// the last number answered. The calls that take runs have no disk.
 pub fn steps_are_of_an_uptime<D: SlotDisk>()
-    ensures is_step { (old new : Journal) (before after : D) (result : Result CheckStep JournalFault)
+    ensures is_step { (old new : Journal) (before after : D)
+        (result : Result CheckStep JournalFault)
         → KeepsJournal D.SlotDisk old new before after result
         → IsCrashSafe old (D.told before) (D.may_leave before)
         → IsStepOf D.SlotDisk old before (record {
           numbers = numbers_answered (λ step. numbers_noted step.note) result;
           after = after;
         }) }
-    ensures goes_on { (old new : Journal) (before after : D) (result : Result CheckStep JournalFault)
+    ensures goes_on { (old new : Journal) (before after : D)
+        (result : Result CheckStep JournalFault)
         → KeepsJournal D.SlotDisk old new before after result
         → last_from (journal_floor old) (numbers_answered (λ step. numbers_noted step.note) result)
         ≡ journal_floor new }

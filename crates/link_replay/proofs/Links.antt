@@ -9,7 +9,8 @@ use Rattle.link_replay.specs.declared.words.Proto.{Proto}
 use Rattle.link_replay.specs.declared.words.Proto.TheVariants.{Rtu, Dnp3}
 use Rattle.link_replay.specs.Protocols.{link_of}
 
-pub link-right : (proto : Proto) (profile : Profile) (dir : Dir) → IsLink (link_of proto profile dir)
+pub link-right : (proto : Proto) (profile : Profile) (dir : Dir)
+    → IsLink (link_of proto profile dir)
 link-right Rtu Y18 Ab = refl
 link-right Rtu Y18 Ba = refl
 link-right Rtu Y24 Ab = refl

@@ -129,7 +129,8 @@ module _ {K S O L D : Type 0} (k : Source K) (s : Source S) (o : Sink O) (l : Si
       tables_done _ _ _ _ _ _ _ _ _ _ calm _ _ status does.tables causes.sinks
   asked_done (Some (Seal proto profile dir)) before after status may calm does causes =
       replayable_done k s o l d (seal_boxed proto profile) (link_of proto profile dir)
-      (link-right proto profile dir) dir (seal_rest profile) before after may calm status does causes.reads causes.own causes.sinks
+      (link-right proto profile dir) dir (seal_rest profile) before after may calm status does
+      causes.reads causes.own causes.sinks
   asked_done (Some (Check proto profile dir)) before after status may calm does causes =
       replayable_done k s o l d (check_boxed proto profile) (link_of proto profile dir)
       (link-right proto profile dir) dir check_rest before after may calm status

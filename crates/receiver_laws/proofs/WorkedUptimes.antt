@@ -160,8 +160,10 @@ shared : ShareDisk (sealed profile rtu_rules) rtu_link (holding 0 0) (first_seal
 shared =
     let at_first : floor_of rtu_link (holding 0 0) ≡ Some 0 =
     floor-is 0 0 (omega arith) (omega arith) in
-    let between : floor_of rtu_link (holding 0 1) ≡ Some 1 = floor-is 0 1 (omega arith) (omega arith) in
-    let at_last : floor_of rtu_link (holding 2 1) ≡ Some 2 = floor-is 2 1 (omega arith) (omega arith) in (
+    let between : floor_of rtu_link (holding 0 1) ≡ Some 1 =
+    floor-is 0 1 (omega arith) (omega arith) in
+    let at_last : floor_of rtu_link (holding 2 1) ≡ Some 2 =
+    floor-is 2 1 (omega arith) (omega arith) in (
       holding 0 0,
       no-run (holding 0 0),
       at_first,

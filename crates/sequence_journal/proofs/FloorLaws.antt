@@ -36,13 +36,19 @@ greater_is_there (Some a) (Some b) slot is =
     × (chosen (Some a) (Some b) slot ≡ Some m)) [
       | inl lt ↦ (
           let second : (if nat_lt a b then B else A) ≡ B = rw (lt-ltb a b lt) refl in
-          let most : max a b ≡ b = omega arith in
-          (b, ap Some most, subst (λ s. chosen (Some a) (Some b) s ≡ Some b) (sym second ∙ there) refl)
+          let most : max a b ≡ b = omega arith in (
+            b,
+            ap Some most,
+            subst (λ s. chosen (Some a) (Some b) s ≡ Some b) (sym second ∙ there) refl,
+          )
           )
       | inr ge ↦ (
           let first : (if nat_lt a b then B else A) ≡ A = rw (le-ltb a b ge) refl in
-          let most : max a b ≡ a = omega arith in
-          (a, ap Some most, subst (λ s. chosen (Some a) (Some b) s ≡ Some a) (sym first ∙ there) refl)
+          let most : max a b ≡ a = omega arith in (
+            a,
+            ap Some most,
+            subst (λ s. chosen (Some a) (Some b) s ≡ Some a) (sym first ∙ there) refl,
+          )
           )
     ]
 

@@ -31,7 +31,8 @@ pub number_of_slot : (slot : List ℕ) (n : ℕ) (link : LinkId) → n ≤ LIMIT
     → big_number 8 slot ≡ n
 unfolding slot_bytes
 number_of_slot slot n link within is = ap (big_number 8) is
-    ∙ number_first n (link_bytes link ++ map (λ b. 255 - b) (big_bytes 8 n ++ link_bytes link)) within
+    ∙ number_first n (link_bytes link ++ map (λ b. 255 - b) (big_bytes 8 n ++ link_bytes link))
+    within
 
 pub number_of_old_slot : (slot : List ℕ) (n : ℕ) → n ≤ LIMIT → slot ≡ old_slot_bytes n
     → big_number 8 slot ≡ n

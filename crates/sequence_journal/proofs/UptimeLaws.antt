@@ -99,6 +99,17 @@ ends-loading link begins floor image is (inr others) = record {
       );
 }
 
+-- an uptime that leaves the slots as they were
+pub idle-same : (link : LinkId) (slots : Slots) → IsIdle link slots [] slots
+idle-same link slots = record { answers_none = refl; leaves = λ n below. below }
+
+pub idle-joined : (link : LinkId) (begins between image : Slots) → IsIdle link begins [] between
+    → IsIdle link between [] image → IsIdle link begins [] image
+idle-joined link begins between image first second = record {
+  answers_none = refl;
+  leaves = λ n below. second.leaves n (first.leaves n below);
+}
+
 module _ {D : Type 0} (disk : SlotDisk D) (link : LinkId) where
   -- the steps that are done, and the one in which the uptime ends
   steps-part : (floor : ℕ) (before : D) (done : List (Step D)) (last : Step D)

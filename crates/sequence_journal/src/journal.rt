@@ -210,8 +210,8 @@ impl Journal {
         ensures fits { OnOk result (Fits self.new (D.told disk.new)) }
         ensures committed { OnOk result (HasCommitted self.old self.new
             (D.told disk.old) (D.told disk.new) (D.may_leave disk.new) n) }
-        ensures image { OnOk result ((c : Slots) → D.may_leave disk.new c → floor_of (journal_link self.old) c
-            ≡ Some n) }
+        ensures image { OnOk result ((c : Slots) → D.may_leave disk.new c
+            → floor_of (journal_link self.old) c ≡ Some n) }
 
         // After a fault the journal isn't to be used again.
         ensures failed { OnErr result

@@ -36,6 +36,14 @@ pub fn uptime_ends_at_any_moment<D: SlotDisk>()
         → IsIdle link begins [] image }
 {}
 
+/// Idle uptimes, one after the other, are together an idle one, and so is none of them.
+pub fn idle_uptimes_are_one()
+    ensures none { (link : LinkId) (slots : Slots) → IsIdle link slots [] slots }
+    ensures joined { (link : LinkId) (begins between image : Slots)
+        → IsIdle link begins [] between → IsIdle link between [] image
+        → IsIdle link begins [] image }
+{}
+
 /// Calls of a disk that fail take no image away. So what a crash at a moment of a run may leave, the
 /// end of a run may leave whose disk fails from that moment on: what is proved of the images at the
 /// end of each run, with any disk, holds of a crash at any moment inside.

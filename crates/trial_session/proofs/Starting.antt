@@ -27,7 +27,8 @@ unfolding bursts_from
 no-tick w s = refl
 
 -- a new journal is made where no call fails and no slot holds a number
-pub is-made : (link : LinkId) (slots : Slots) (told : Option Slots) (result : Result Journal InitError)
+pub is-made : (link : LinkId) (slots : Slots) (told : Option Slots)
+    (result : Result Journal InitError)
     → greatest slots ≡ None → IfErr result (RefusesInit link (Some slots) told 0 0) → IsOk result
 is-made link slots told (Ok journal) none refused = search
 is-made link slots told (Err Fault) none refused = absurd (omega (arith, refused.0))

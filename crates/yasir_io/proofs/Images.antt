@@ -166,7 +166,8 @@ pub only_image : (moment : Moment) → ((slot : Slot) → is_written moment slot
     → IsImage moment c → Some (slots_at moment) ≡ Some c
 only_image moment settled c image =
     ap (λ a. Some (record (slots_at moment) { a = a })) (sym (image.synced A (settled A)))
-    ∙ ap (λ b. Some (record (slots_at moment) { a = c.a; b = b })) (sym (image.synced B (settled B)))
+    ∙ ap (λ b. Some (record (slots_at moment) { a = c.a; b = b }))
+    (sym (image.synced B (settled B)))
     ∙ ap (λ old. Some (record c { old = old })) (sym image.old)
 
 untouched : (slot : Slot) (slots : Slots) (bytes : List ℕ)

@@ -10,7 +10,8 @@ ghost use Rattle.yasir_io.specs.Edge.{slots_file, slots_path, slots_kind, slots_
 ghost use Rattle.yasir_io.specs.Edge.{slots_faults};
 ghost use Rattle.yasir_io.specs.SlotFiles.{for_reading, for_slots, is_made, old_place, slot_place};
 ghost use Rattle.yasir_io.specs.SlotFiles.{OnOpen, slots_end};
-ghost use Rattle.yasir_io.specs.SlotFiles.{AnyStart, MovesTo, ReadsNext, ReadsAt, ReadsOld, ReadsSlot};
+ghost use Rattle.yasir_io.specs.SlotFiles.{AnyStart, MovesTo, ReadsNext, ReadsAt, ReadsOld};
+ghost use Rattle.yasir_io.specs.SlotFiles.{ReadsSlot};
 ghost use Rattle.yasir_io.specs.SlotFiles.{WritesSlot, WritesFirst, WritesIn};
 
 use crate::faults::Faults;
@@ -318,8 +319,8 @@ impl<'a, R: Files> Source for FileSource<'a, R> {
 }
 
 /// A file as a disk: old slot A in bytes 0 to 15 and old slot B in bytes 16 to 31, slot A in bytes
-/// 32 to 55 and slot B in bytes 56 to 79. Bytes past the end of the file read as 0. No path, a file that can't be opened or that another has locked, and a write cut
-/// short are faults.
+/// 32 to 55 and slot B in bytes 56 to 79. Bytes past the end of the file read as 0. No path, a file
+/// that can't be opened or that another has locked, and a write cut short are faults.
 ///
 /// The file is locked from the first call on that opens it until the disk is dropped.
 #[derive(Drop)]

@@ -23,8 +23,8 @@ pub fn make_journal<O: Sink, L: Sink, D: SlotDisk>(
     log: &mut L,
     disk: &mut D,
 ) -> Status
-    ensures journal { MakesJournal (link_of proto profile dir) (D.told disk.old) (D.told disk.new) (D.may_leave disk.old)
-        (D.may_leave disk.new) result }
+    ensures journal { MakesJournal (link_of proto profile dir) (D.told disk.old) (D.told disk.new)
+        (D.may_leave disk.old) (D.may_leave disk.new) result }
     ensures any_moment { LeavesOnly D.moment D.left_since disk.old disk.new
         (IsBut A (D.may_leave disk.old)) }
     ensures untouched { LeavesSinks O.Sink L.Sink out.old out.new log.old log.new result }

@@ -15,7 +15,8 @@ use Rattle.box_replay.proofs.command.replay_keyed.Goals as goal
 pub returns-then-is_write_stop-clause-runs : goal.returns-then-is_write_stop-clause-runs
 returns-then-is_write_stop-clause-runs g c =
     let write : is_write_fault (answer_of c.drive_to_rest-end.result) ≡ true = cc in
-    write_stops g.B.LineBox g.S.Source g.O.Sink g.L.Sink g.D.SlotDisk c.args.link.now c.args.key.now c.args.dir
+    write_stops g.B.LineBox g.S.Source g.O.Sink g.L.Sink g.D.SlotDisk c.args.link.now
+    c.args.key.now c.args.dir
     (journal_floor c.in-Ok.journal) c.args.rest
     (around c.args.input.now c.args.out.now c.args.log.now c.args.disk.now)
     (around c.drive_to_rest-end.new.input c.drive_to_rest-end.new.out c.drive_to_rest-end.new.log
@@ -42,7 +43,8 @@ returns-then-is_write_stop-clause-runs g c =
 pub returns-in-Err-clause-runs : goal.returns-in-Err-clause-runs
 returns-in-Err-clause-runs g c =
     let other : is_write_fault (answer_of c.drive_to_rest-end.result) ≡ false = cc in
-    finish_fails g.B.LineBox g.S.Source g.O.Sink g.L.Sink g.D.SlotDisk c.args.link.now c.args.key.now c.args.dir
+    finish_fails g.B.LineBox g.S.Source g.O.Sink g.L.Sink g.D.SlotDisk c.args.link.now
+    c.args.key.now c.args.dir
     (journal_floor c.in-Ok.journal) c.args.rest
     (around c.args.input.now c.args.out.now c.args.log.now c.args.disk.now)
     (around c.drive_to_rest-end.new.input c.drive_to_rest-end.new.out c.drive_to_rest-end.new.log
@@ -69,7 +71,8 @@ returns-in-Err-clause-runs g c =
 
 pub returns-in-Whole-clause-runs : goal.returns-in-Whole-clause-runs
 returns-in-Whole-clause-runs g c =
-    whole_runs g.B.LineBox g.S.Source g.O.Sink g.L.Sink g.D.SlotDisk c.args.link.now c.args.key.now c.args.dir
+    whole_runs g.B.LineBox g.S.Source g.O.Sink g.L.Sink g.D.SlotDisk c.args.link.now c.args.key.now
+    c.args.dir
     (journal_floor c.in-Ok.journal) c.args.rest
     (around c.args.input.now c.args.out.now c.args.log.now c.args.disk.now)
     (around c.drive_to_rest-end.new.input c.drive_to_rest-end.new.out c.drive_to_rest-end.new.log
@@ -100,7 +103,8 @@ pub returns-in_default : goal.returns-in_default
 returns-in_default g c =
     let other : is_write_fault (answer_of c.drive_to_rest-end.result) ≡ false = cc in
     let gives = c.drive_to_rest-end.ensures.driven.gives in rw c.status_of.ensures (record {
-      runs = refusal_runs g.B.LineBox g.S.Source g.O.Sink g.L.Sink g.D.SlotDisk c.args.link.now c.args.key.now
+      runs = refusal_runs g.B.LineBox g.S.Source g.O.Sink g.L.Sink g.D.SlotDisk c.args.link.now
+          c.args.key.now
           c.args.dir
           (journal_floor c.in-Ok.journal) c.args.rest
           (around c.args.input.now c.args.out.now c.args.log.now c.args.disk.now)
@@ -109,7 +113,8 @@ returns-in_default g c =
           c.load.new.disk c.new-lines.result c.drive_to_rest-end.new.consumer
           (g.B.LineBox.is_boxed c.requires.widths (setup_of c.args.key.now c.args.dir
           (journal_floor c.in-Ok.journal)))
-          (λ texts. c.new-lines.ensures.drives c.args.link.now texts (g.D.SlotDisk.told c.load.new.disk)
+          (λ texts. c.new-lines.ensures.drives c.args.link.now texts (g.D.SlotDisk.told
+          c.load.new.disk)
           c.in-Ok.ensures.loaded.link_is c.in-Ok.ensures.fits)
           (told_before g.D.SlotDisk c.args.link.now c.in-Ok.journal c.args.disk.now c.load.new.disk
           c.in-Ok.ensures.loaded c.in-Ok.ensures.crash_safe)
@@ -117,7 +122,8 @@ returns-in_default g c =
           c.in-Ok.ensures.loaded c.in-Ok.ensures.crash_safe c.new-lines.result.journal
           c.drive_to_rest-end.new.consumer.journal c.drive_to_rest-end.new.disk
           c.new-lines.ensures.journal c.drive_to_rest-end.ensures.driven.gives.images.is_kept)
-          (keeps_from_load g.D.SlotDisk c.args.link.now c.in-Ok.journal c.args.disk.now c.load.new.disk
+          (keeps_from_load g.D.SlotDisk c.args.link.now c.in-Ok.journal c.args.disk.now
+          c.load.new.disk
           c.in-Ok.ensures.loaded c.in-Ok.ensures.crash_safe c.new-lines.result.journal
           c.drive_to_rest-end.new.disk
           c.new-lines.ensures.journal c.drive_to_rest-end.ensures.driven.gives.images.any_moment)

@@ -28,7 +28,8 @@ returns-clause-ends g c begins floor told is synced =
     let P : ℕ → Type 0 = λ m. IsStep d link m loaded (record { numbers = n ∷ []; after = middle }) in
     let Q : ℕ → Type 0 = λ m. IsStep d link m middle second in
     let first_is = subst P same
-    (subst (λ l. IsStep d l (journal_floor journal) loaded (record { numbers = n ∷ []; after = middle }))
+    (subst (λ l. IsStep d l (journal_floor journal) loaded
+    (record { numbers = n ∷ []; after = middle }))
     load.link_is (c.in-Ok-commit.ensures.is_step safe.kept)) in
     let link_kept = c.in-Ok-commit.ensures.committed.link ∙ load.link_is in
     let second_is = subst Q c.in-Ok-commit.ensures.committed.floor

@@ -25,7 +25,8 @@ returns-in-Err-clause-err g c = λ setup link stands.
     let passes = c.in-Err.ensures.err_passes in
     checking-fails (profile_of g.R.LineRules g.M.Mac g.row.B LIMIT setup) g.R.LineRules.rules
     setup.floor link c.args.t g.R.LineRules.lawful
-    (journal_link c.args.journal.now) (journal_floor c.args.journal.now) passes.0 (g.S.SlotDisk.told c.step.new.disk)
+    (journal_link c.args.journal.now) (journal_floor c.args.journal.now) passes.0
+    (g.S.SlotDisk.told c.step.new.disk)
     (checks-floor g.R.LineRules g.M.Mac c.args.self.now.checker c.args.journal.now setup link
     stands)
     (passes.2 setup link stands) passes.1.floor_told

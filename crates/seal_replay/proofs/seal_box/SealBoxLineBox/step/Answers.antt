@@ -23,6 +23,7 @@ pub returns-in-Err-clause-err : goal.returns-in-Err-clause-err
 returns-in-Err-clause-err g c = λ setup line stands.
     sealing-fails (profile_of g.R.LineRules g.M.Mac g.row.B LIMIT setup) g.R.LineRules.rules
     setup.floor line c.args.t g.R.LineRules.lawful
-    (journal_link c.args.journal.now) (journal_floor c.args.journal.now) (g.D.SlotDisk.told c.step.new.disk)
+    (journal_link c.args.journal.now) (journal_floor c.args.journal.now)
+    (g.D.SlotDisk.told c.step.new.disk)
     (seals-floor g.R.LineRules g.M.Mac c.args.self.now.sealer c.args.journal.now setup line stands)
     (c.in-Err.ensures.err_seals setup line stands) c.in-Err.ensures.journal.failed.floor_told
