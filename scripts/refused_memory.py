@@ -10,9 +10,11 @@ other commands take no memory once their words are read. It ends with 1 where a 
 """
 import os, subprocess, sys, tempfile
 
+from killed import slot_of
+
 ROOT = os.path.dirname(os.path.dirname(os.path.abspath(__file__)))
 EXAMPLES = os.path.join(ROOT, "examples")
-JOURNAL = bytes(8) + b"\xff" * 8 + bytes(16)
+JOURNAL = bytes(32) + slot_of(0) + bytes(24)
 NO_MEMORY, NO_WORDS = 9, 13
 
 LIBRARY = r"""

@@ -30,7 +30,7 @@ def instructions(program, profile, flips, folder):
         file.write(KEY.hex())
     if os.path.exists(journal):
         os.remove(journal)
-    subprocess.run([program, "init", journal], check=True)
+    subprocess.run([program, "init", profile, "ab", journal], check=True)
     words = ["valgrind", "--tool=callgrind", "--callgrind-out-file=" + counts, program, "check", profile, "ab", key, journal]
     ran = subprocess.run(words, input=packet(profile, flips) * 50, capture_output=True, text=True, check=True)
     notes = [line for line in ran.stderr.splitlines() if not line.startswith("==")]
