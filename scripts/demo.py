@@ -9,6 +9,7 @@ What the prover says goes into out/demo.log. The exit status is 0 where everythi
 import concurrent.futures, difflib, os, subprocess, sys, tempfile, threading, time
 
 import timeline
+from killed import old_slot_of
 
 ROOT = os.path.dirname(os.path.dirname(os.path.abspath(__file__)))
 LOG = os.path.join(ROOT, "out", "demo.log")
@@ -65,11 +66,11 @@ def prove_all(jobs):
     print("\nProved in %.0f s.\n" % (time.monotonic() - began), flush=True)
 
 
-def run(words, stdin=None):
-    """Runs the program; answers its standard output and standard error."""
+def run(words, stdin=None, status=0):
+    """Runs the program, which is to end with this status; returns its standard output and standard error."""
     with open(stdin or os.devnull) as given:
         ran = subprocess.run([PROGRAM] + words, stdin=given, capture_output=True, text=True, timeout=120)
-    if ran.returncode != 0:
+    if ran.returncode != status:
         raise RuntimeError("`%s` ended with status %d: %s" % (" ".join(words), ran.returncode, ran.stderr.strip()))
     return ran.stdout, ran.stderr
 
@@ -92,9 +93,14 @@ def without_comments(path):
     return "".join(line for line in open(path) if line.strip() and not line.startswith("#"))
 
 
-def show_journal(journal):
+def slots_of(journal):
+    """The journal's slots in hex: the two old ones, and slots A and B."""
     slots = open(journal, "rb").read(80).ljust(80, b"\0")
-    show("the journal's two slots, in hex", "%s\n%s\n" % (slots[32:56].hex(), slots[56:].hex()))
+    return [slots[at:end].hex() + "\n" for at, end in ((0, 16), (16, 32), (32, 56), (56, 80))]
+
+
+def show_journal(journal):
+    show("the journal's slots A and B, in hex", "".join(slots_of(journal)[2:]))
 
 
 def show_received(name, protocol, direction, reader, link, folder):
@@ -150,6 +156,31 @@ def show_session(name, protocol, line, link, what, folder):
     return show("replay %s ab" % protocol, lists, name + ".lists.txt")
 
 
+def show_wrong_link(folder):
+    """Shows that the transmitter of one direction is refused over the journal of the other one, and writes nothing."""
+    print("== The wrong journal: that of the requests, for the transmitter of the replies\n")
+    journal = os.path.join(folder, "requests.journal")
+    before = slots_of(journal)
+    words = ["seal", "rtu", "ba", os.path.join(EXAMPLES, "key.txt"), journal]
+    line, log = run(words, os.path.join(EXAMPLES, "replies.ticks"), status=12)
+    if line or slots_of(journal) != before:
+        raise RuntimeError("the transmitter was refused, and yet wrote the line or the journal")
+    return show("seal rtu ba: it ends with status 12, and says so on standard error", log, "wrong_link.txt")
+
+
+def show_taken_over(folder):
+    """Shows how the journal of an older program, whose slots name no link, is taken over."""
+    print("== The journal of an older program, which stands at number 5\n")
+    journal = os.path.join(folder, "old.journal")
+    with open(journal, "wb") as file:
+        file.write(old_slot_of(5) + bytes(16))
+    words = ["seal", "rtu", "ab", os.path.join(EXAMPLES, "key.txt"), journal]
+    link, notes = run(words, os.path.join(EXAMPLES, "requests.ticks"))
+    same = show("seal rtu ab: the line of the link, whose numbers go on from there", link, "taken_over.link.ticks")
+    same &= show("the transmitter's notes, on standard error", notes, "taken_over.notes.txt")
+    return same & show("the old slots, which stay, and slots A and B, in hex", "".join(slots_of(journal)), "taken_over.journal.txt")
+
+
 def show_sessions(folder):
     """Shows the headline: sealed, passed, read and forged frames of a line and of a link that an attacker has altered, side by side."""
     requests, altered, outstation, outstation_altered = [
@@ -190,6 +221,8 @@ def main():
         same &= show_altered("altered", "rtu", "The first of these links again", "device", folder)
         same &= show_side("outstation", "dnp3", "ab", "From the control centre to a DNP3 outstation", "outstation", folder)
         same &= show_altered("outstation_altered", "dnp3", "This link again", "outstation", folder)
+        same &= show_wrong_link(folder)
+        same &= show_taken_over(folder)
         same &= show_sessions(folder)
     if same:
         show_picture()
