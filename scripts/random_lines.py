@@ -5,13 +5,14 @@
 
 A line has frames, packets (altered, cut, repeated or whole), noise and silence, with the lengths at which rules change.
 Compared are `read`, `seal`, `check` and `replay` with both profiles: standard output, the notes, and the floor of the journal
-after the run. A link that `replay` gets is that of its device's line, altered here and there, or one of its own.
+after the run. A journal is one of the link, or an old one that is taken over. A link that `replay` gets is that of its device's
+line, altered here and there, or one of its own.
 It is no part of the gate.
 """
 import os, random, subprocess, sys, tempfile
 
 import model
-from killed import KEY, floor_of, slot_of
+from killed import KEY, floor_of, old_slot_of, slot_of
 from model import LIMIT, PAUSE, Y18, Y24, Dnp3, Rtu
 
 # The words of notes and printed frames by which runs are counted.
@@ -83,11 +84,11 @@ def some_link(proto, key, direction, line, chance, profile):
     return parts if chance.random() < 0.7 else some_line(proto, key, direction, 0, True, chance, profile)
 
 
-def run(program, words, text, journal, floor):
-    """What the program writes, and the journal's floor after it, from a journal at this floor on."""
+def run(program, words, text, journal, floor, old):
+    """What the program writes, and the journal's floor after it, from a journal at this floor on, which may be an old one."""
     link = tuple(words[1:3]) if words[0] != "read" else ("rtu", "ab")
     with open(journal, "wb") as file:
-        file.write(bytes(32) + slot_of(floor, link) + bytes(24))
+        file.write(old_slot_of(floor) if old else bytes(32) + slot_of(floor, link))
     ran = subprocess.run([program] + words, input=text, capture_output=True, text=True)
     return ran.returncode, ran.stdout, ran.stderr.splitlines(), floor_of(journal, link)
 
@@ -119,11 +120,12 @@ def main():
             proto, direction, profile = chance.choice([Rtu, Dnp3]), chance.randrange(2), chance.choice([Y18, Y18, Y24])
             command = chance.choice(["read", "seal", "check", "check", "replay"])
             floor = 0 if command == "replay" else chance.choice([0, 0, 5, 65530, 70000, LIMIT - 3, LIMIT])
+            old = chance.random() < 0.25
             given = [some_line(proto, key, direction, floor, command == "check", chance, profile)]
             if command == "replay":
                 given.append(some_link(proto, key, direction, given[0], chance, profile))
             words, text = words_of(proto, profile, command, direction, key_file, journal), "%\n".join(map(model.canonical, given))
-            wrote = run(program, words, text, journal, floor)
+            wrote = run(program, words, text, journal, floor, old)
             wanted = expected(proto, profile, command, key, direction, given, floor)
             if wrote != wanted:
                 sys.exit("`%s` from floor %d writes\n%s\nand the model\n%s\nof\n%s" % (" ".join(words), floor, wrote, wanted, text))
