@@ -2,8 +2,6 @@
 import os, random, re, signal, subprocess, tempfile, time
 
 KEY = "000102030405060708090a0b0c0d0e0f\n"
-
-
 LIMIT = (1 << 48) - 1
 PROTOCOLS = {"rtu": (1, 18), "dnp3": (2, 18), "rtu24": (1, 24), "dnp24": (2, 24)}
 LINKS = [(protocol, direction) for protocol in PROTOCOLS for direction in ("ab", "ba")]
@@ -62,9 +60,14 @@ class Killed:
     def words(self, command, journal):
         return [self.program, command, "rtu", "ab", self.path("key"), self.path(journal)]
 
+    def floor(self):
+        floor = floor_of(self.path("journal"))
+        assert floor is not None, "the journal has no floor for this link"
+        return floor
+
     def run(self):
-        """One run; answers the journal's floor before it."""
-        before = floor_of(self.path("journal"))
+        """One run; returns the journal's floor before it."""
+        before = self.floor()
         with open(self.path("line")) as line, open(self.path("out"), "w") as out, open(self.path("log"), "w") as log:
             run = subprocess.Popen(self.words(self.command, "journal"), stdin=line, stdout=out, stderr=log)
             time.sleep(random.uniform(0, self.seconds))
@@ -80,7 +83,7 @@ class Killed:
         """Numbers that a run used, in the order in which they were seen: each above all before it, and none above the journal's floor."""
         assert numbers == sorted(set(numbers)), "a number came twice in one run"
         assert not numbers or numbers[0] > self.last, "number %d came again" % numbers[0]
-        assert not numbers or numbers[-1] <= floor_of(self.path("journal")), "number %d is above the journal's floor" % numbers[-1]
+        assert not numbers or numbers[-1] <= self.floor(), "number %d is above the journal's floor" % numbers[-1]
 
     def keep(self, numbers):
         self.used.update(numbers)
@@ -95,4 +98,4 @@ class Killed:
 
     def summary(self, runs):
         return "%d runs, %d killed, %d numbers seen, the last one %d, floor %d: none came twice" % (
-            runs, self.killed, self.seen + len(self.used), self.last, floor_of(self.path("journal")))
+            runs, self.killed, self.seen + len(self.used), self.last, self.floor())

@@ -3,10 +3,10 @@
 
     python3 scripts/measure.py [PROGRAM] [--beside OTHER] [--rounds N] [--ticks N] [--only WORD] [--work FOLDER]
 
-With OTHER, another build or another program of the same commands, the two run in turn over the same inputs; what they write
-is compared, and the ratio of their times is printed: the median of the rounds' own ratios, and the ratio of the least times.
+With OTHER, another build or another program of the same commands that knows journals of this form (0.7.0 or later), the two
+run in turn over the same inputs; what they write is compared, and the ratio of their times is printed: the median of the rounds' own ratios, and the ratio of the least times.
 FOLDER should be in memory (/dev/shm), since each committed number is synced. The lines are the same at each run.
-It is no part of the gate.
+It ends with 1 where a run doesn't end well, or where the two write different things. It is no part of the gate.
 """
 import argparse, filecmp, os, random, statistics, subprocess, sys, tempfile
 
@@ -153,7 +153,7 @@ def measure(programs, case, rounds, folder):
     memory, _ = run(*given(0), memory=True)
     size = os.path.getsize(source) / 1e6 if source != os.devnull else 0
     line = "%-22s %7.3f s %8s MB/s %6.1f MB" % (name, min(times[0]), "%.0f" % (size / min(times[0])) if size else "", memory)
-    same = len(statuses) == 1
+    same = statuses == {0}
     if len(programs) > 1:
         ratios = [mine / other for mine, other in zip(*times)]
         same = same and all(filecmp.cmp(a, b, shallow=False) for a, b in zip(*files))

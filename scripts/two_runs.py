@@ -96,7 +96,7 @@ def one_at_a_time(folder):
     first.kill()
     first.communicate()
     journal.see_seal("once that was killed", 4)
-    journal.see(floor_of(journal.path) == 4, "the journal's floor is %d" % floor_of(journal.path))
+    journal.see(floor_of(journal.path) == 4, "the journal's floor is %s" % floor_of(journal.path))
     return journal.wrong
 
 
@@ -121,7 +121,7 @@ def race(folder):
     journal.see(whole and len(whole) < len(ends), "some runs were let through, and some met another")
     journal.see(len(set(used)) == len(used), "%d numbers were used, %d different ones" % (len(used), len(set(used))))
     journal.see(sorted(used) == list(range(1, len(used) + 1)) and floor_of(journal.path) == len(used),
-                "they are those from 1 to the journal's floor, %d" % floor_of(journal.path))
+                "they are those from 1 to the journal's floor, %s" % floor_of(journal.path))
     return journal.wrong
 
 
