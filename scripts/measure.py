@@ -4,7 +4,8 @@
     python3 scripts/measure.py [PROGRAM] [--beside OTHER] [--rounds N] [--ticks N] [--only WORD] [--work FOLDER]
 
 With OTHER, another build or another program of the same commands that knows journals of this form (0.7.0 or later), the two
-run in turn over the same inputs; what they write is compared, and the ratio of their times is printed: the median of the rounds' own ratios, and the ratio of the least times.
+run in turn over the same inputs; what they write is compared, and the ratio of their times is printed: the median of the
+rounds' own ratios, and the ratio of the least times.
 FOLDER should be in memory (/dev/shm), since each committed number is synced. The lines are the same at each run.
 It ends with 1 where a run doesn't end well, or where the two write different things. It is no part of the gate.
 """
