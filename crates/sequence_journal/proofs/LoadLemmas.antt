@@ -1,10 +1,10 @@
 -- Lemmas on loading a journal, and on what a crash leaves while one is taken over.
-use Rattle.std.proofs.Common.{◌≡◌, ◌∙◌, ℕ, ◌≤◌, ◌⊎◌, List, max, Option, Some, None, IfSome}
+use Rattle.std.proofs.Common.{◌≡◌, ◌∙◌, ℕ, ◌≤◌, List, max, Option, Some, None, IfSome}
 use Rattle.std.proofs.Common.{IsSomeAnd, inl, inr, refl, sym, ap, subst, arith, unwrap_or, replicate}
 use Rattle.yasir_io.specs.declared.disk.Slot.{Slot}
-use Rattle.yasir_io.specs.declared.disk.Slot.TheVariants.{A, B}
+use Rattle.yasir_io.specs.declared.disk.Slot.TheVariants.{A}
 use Rattle.yasir_io.specs.declared.disk.TheConstants.{SLOT_LEN}
-use Rattle.yasir_io.specs.Disks.{Slots, slot_in, with_slot, Torn, OneImage}
+use Rattle.yasir_io.specs.Disks.{Slots, with_slot, OneImage}
 use Rattle.yasir_io.specs.Steady.{blank_old}
 use Rattle.sequence_journal.specs.declared.link.LinkId.{LinkId}
 use Rattle.sequence_journal.specs.Links.{IsLink}
@@ -13,9 +13,12 @@ use Rattle.sequence_journal.specs.Slots.{link_held, old_number_held, old_slot_by
 use Rattle.sequence_journal.specs.Slots.{own_floor, any_floor, old_floor, greatest, floor_by}
 use Rattle.sequence_journal.specs.Slots.{floor_of, wrong_by, wrong_slot}
 use Rattle.sequence_journal.specs.declared.journal.Journal.{Journal}
-use Rattle.sequence_journal.specs.Journal.{journal_floor, AreSameBut, IsBut, HasFloorAtLeast}
+use Rattle.sequence_journal.specs.Journal.{journal_floor, HasFloorAtLeast}
 use Rattle.sequence_journal.specs.Loading.{AreRead, IsOld, MayBegin, MayLeaveLoading, KeepsLoadable}
-use Rattle.sequence_journal.specs.Loading.{LeavesLoaded, IsLoaded, MayTakeOver}
+use Rattle.sequence_journal.specs.Loading.{LeavesLoaded, IsLoaded, MayTakeOver, RefusesLoad}
+use Rattle.sequence_journal.specs.declared.journal.LoadError.{LoadError}
+use Rattle.sequence_journal.specs.declared.journal.LoadError.TheVariants as Load
+use Rattle.yasir_io.specs.Causes.{Rose}
 use Rattle.sequence_journal.proofs.SlotLemmas.{neither, no_own_floor, none_of_own, at_some}
 use Rattle.sequence_journal.proofs.SlotLemmas.{if_some_weaker}
 
@@ -147,3 +150,42 @@ found_loaded link told_old told_new images_old images_new journal load =
           )
       | Some own ↦ λ is leaves. inl leaves.0
     ] refl load.leaves
+
+-- where slots have numbers for other links alone, they have no floor for this one
+none_of_others : (own any old : Option ℕ) (a b : Option ℕ) (place : Slot)
+    → wrong_by own (place_of_greater a b) ≡ Some place
+    → any ≡ greater a b → floor_by own any old ≡ None
+none_of_others (Some m) any old a b place wrong is = absurd cc
+none_of_others None any old None None place wrong is = absurd cc
+none_of_others None any old None (Some b) place wrong is = rw is refl
+none_of_others None any old (Some a) None place wrong is = rw is refl
+none_of_others None any old (Some a) (Some b) place wrong is = rw is refl
+
+pub no_floor_of_others : (link : LinkId) (slots : Slots) (place : Slot)
+    → wrong_slot link slots ≡ Some place → floor_of link slots ≡ None
+no_floor_of_others link slots place wrong =
+    none_of_others (own_floor link slots) (any_floor slots) (old_floor slots)
+    (any_number_held slots.a) (any_number_held slots.b) place wrong refl
+
+-- where no slot holds a number, there is no floor
+no_floor_of_none : (link : LinkId) (slots : Slots) → IsLink link → any_floor slots ≡ None
+    → old_floor slots ≡ None → floor_of link slots ≡ None
+no_floor_of_none link slots right none none_old =
+    ap (λ o. floor_by o (any_floor slots) (old_floor slots)) (no_own_floor link slots right none)
+    ∙ ap (λ o. floor_by None o (old_floor slots)) none ∙ none_old
+
+-- slots that have a floor are refused for a fault alone
+pub refused_for_a_fault : (link : LinkId) (slots : Slots) (n : ℕ) (new : Option Slots)
+    (before now : ℕ) (error : LoadError) → IsLink link → HasFloorAtLeast link n slots
+    → RefusesLoad link (Some slots) new before now error → Rose before now
+refused_for_a_fault link slots n new before now Load.Fault right from refuses = refuses.0
+refused_for_a_fault link slots n new before now (Load.Bad a b) right from refuses =
+    let found = refuses.0 in
+    let there = subst (HasFloorAtLeast link n) found.are_read from in
+    let none = no_floor_of_none link found.read right found.none found.none_old in
+    absurd (subst (λ o. IsSomeAnd o (λ floor. n ≤ floor)) none there)
+refused_for_a_fault link slots n new before now (Load.WrongLink slot) right from refuses =
+    let found = refuses.0 in
+    let there = subst (HasFloorAtLeast link n) found.are_read from in
+    let none = no_floor_of_others link found.read found.place found.wrong in
+    absurd (subst (λ o. IsSomeAnd o (λ floor. n ≤ floor)) none there)

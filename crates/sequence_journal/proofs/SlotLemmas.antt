@@ -1,6 +1,6 @@
 -- Lemmas on numbers in slots.
 use Rattle.std.proofs.Common.{◌≡◌, ◌∙◌, ℕ, ◌≤◌, ◌<◌, List, ◌++◌, map, ◌-◌, max, Bool, true}
-use Rattle.std.proofs.Common.{false, nat_eq, Option, Some, None, IfSome, inl, inr, refl, sym, ap}
+use Rattle.std.proofs.Common.{false, nat_eq, Option, Some, None, IfSome, inl, inr, refl, ap}
 use Rattle.std.proofs.Common.{arith, option_map, unwrap_or}
 use Rattle.std.specs.Prelude.{nat_le, ◌&&◌, if◌then◌else◌}
 use Rattle.std.specs.Str.{bytes_eq}
@@ -15,10 +15,10 @@ use Rattle.yasir_io.specs.Disks.{Slots, slot_in, other_slot, with_slot}
 use Rattle.sequence_journal.specs.declared.numbers.TheConstants.{LIMIT}
 use Rattle.sequence_journal.specs.declared.link.LinkId.{LinkId}
 use Rattle.sequence_journal.specs.Links.{is_link, IsLink, link_bytes}
-use Rattle.sequence_journal.specs.Slots.{with_complement, slot_bytes, old_slot_bytes, held_by}
-use Rattle.sequence_journal.specs.Slots.{number_held, old_number_held, link_named, link_held}
+use Rattle.sequence_journal.specs.Slots.{slot_bytes, old_slot_bytes, held_by}
+use Rattle.sequence_journal.specs.Slots.{number_held, link_named, link_held}
 use Rattle.sequence_journal.specs.Slots.{any_number_held, greater, own_floor, any_floor, old_floor}
-use Rattle.sequence_journal.specs.Slots.{greatest, floor_of, floor_slot}
+use Rattle.sequence_journal.specs.Slots.{floor_of, floor_slot}
 use Rattle.sequence_journal.specs.Journal.{IsEitherFloor, MaySet, told_with}
 use Rattle.sequence_journal.specs.Loading.{MayBegin}
 use Rattle.sequence_journal.proofs.FloorLaws.{floor_is_held, floor_beside}

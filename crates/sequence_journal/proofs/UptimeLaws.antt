@@ -1,16 +1,14 @@
 -- The numbers of uptimes over one disk rise, whatever moments they end at.
-use Rattle.std.proofs.Common.{◌≡◌, ℕ, ◌<◌, ◌≤◌, ◌∙◌, List, [], ◌∷◌, ◌++◌, Option, Some, None}
-use Rattle.std.proofs.Common.{IsSomeAnd, IfSome, inl, inr, refl, sym, ap, subst, arith, unwrap_or}
-use Rattle.yasir_io.specs.declared.disk.Slot.{Slot}
+use Rattle.std.proofs.Common.{◌≡◌, ℕ, ◌<◌, ◌≤◌, List, [], ◌∷◌, ◌++◌, Option, Some, None}
+use Rattle.std.proofs.Common.{IsSomeAnd, IfSome, inl, inr, refl, sym, subst, arith}
 use Rattle.yasir_io.specs.declared.disk.Slot.TheVariants.{A}
 use Rattle.yasir_io.specs.Disks.{Slots}
 use Rattle.yasir_io.specs.declared.disk.SlotDisk.{Ghosts as SlotDisk}
 use Rattle.sequence_journal.specs.declared.link.LinkId.{LinkId}
-use Rattle.sequence_journal.specs.Slots.{own_floor, any_floor, old_floor, any_number_held, floor_by}
-use Rattle.sequence_journal.specs.Slots.{floor_of, greater, place_of_greater, wrong_by}
-use Rattle.sequence_journal.specs.Slots.{wrong_slot}
+use Rattle.sequence_journal.specs.Slots.{floor_of}
 use Rattle.sequence_journal.specs.Journal.{HasFloorAtLeast}
 use Rattle.sequence_journal.specs.Loading.{KeepsLoadable}
+use Rattle.sequence_journal.proofs.LoadLemmas.{no_floor_of_others}
 use Rattle.sequence_journal.specs.Uptimes.{RiseFrom, last_from, IsUptime, IsIdle, HasNoFloorBelow}
 use Rattle.sequence_journal.specs.Uptimes.{Uptime, AreUptimes, all_numbers}
 use Rattle.sequence_journal.specs.Uptimes.{Step, answered, disk_after, IsStep, AreSteps, EndsInside}
@@ -68,16 +66,6 @@ uptimes-rise link begins floor (uptime ∷ uptimes) from (inr idle, are) =
     subst (λ numbers. RiseFrom floor (numbers ++ all_numbers uptimes)) (sym idle.answers_none)
     (uptimes-rise link uptime.image floor uptimes (idle.leaves floor from) are)
 
--- where the slots are another link's, they have no floor for this one
-no_floor_of_others : (own any old : Option ℕ) (a b : Option ℕ)
-    → wrong_by own (place_of_greater a b) ≡ Some A
-    → any ≡ greater a b → floor_by own any old ≡ None
-no_floor_of_others (Some m) any old a b wrong is = absurd cc
-no_floor_of_others None any old None None wrong is = absurd cc
-no_floor_of_others None any old None (Some b) wrong is = rw is refl
-no_floor_of_others None any old (Some a) None wrong is = rw is refl
-no_floor_of_others None any old (Some a) (Some b) wrong is = rw is refl
-
 -- an uptime that ends while its journal is loaded
 pub ends-loading : (link : LinkId) (begins : Slots) (floor : ℕ) (image : Slots)
     → floor_of link begins ≡ Some floor → KeepsLoadable link begins floor image
@@ -93,8 +81,7 @@ ends-loading link begins floor image is (inr others) = record {
   answers_none = refl;
   leaves = λ n below. (
       let none : floor_of link image ≡ None =
-      no_floor_of_others (own_floor link image) (any_floor image) (old_floor image)
-      (any_number_held image.a) (any_number_held image.b) others.1 refl in
+      no_floor_of_others link image A others.1 in
       subst (λ o. IfSome o (λ floor. n ≤ floor)) (sym none) tt
       );
 }

@@ -1,4 +1,4 @@
-ghost use Rattle.std.specs.Prelude.{◌≡◌, ℕ, [], List, Some, length};
+ghost use Rattle.std.specs.Prelude.{◌≡◌, ℕ, [], List, Option, Some, length};
 ghost use Rattle.yasir_io.specs.declared.disk.Slot.{Slot};
 ghost use Rattle.yasir_io.specs.declared.disk.TheConstants.{SLOT_LEN};
 ghost use Rattle.yasir_io.specs.Disks.{Slots, slot_in, Torn, Reaches, NoMore};
@@ -6,7 +6,10 @@ ghost use Rattle.sequence_journal.specs.declared.link.LinkId.{LinkId};
 ghost use Rattle.sequence_journal.specs.Slots.{floor_of};
 ghost use Rattle.sequence_journal.specs.FailedCalls.{AreWhole, HaveFailedCalls, last_disk};
 ghost use Rattle.sequence_journal.specs.Journal.{HasFloorAtLeast};
-ghost use Rattle.sequence_journal.specs.Loading.{KeepsLoadable};
+ghost use Rattle.sequence_journal.specs.Loading.{KeepsLoadable, RefusesLoad};
+ghost use Rattle.sequence_journal.specs.Links.{IsLink};
+ghost use Rattle.sequence_journal.specs.declared.journal.LoadError.{LoadError};
+ghost use Rattle.yasir_io.specs.Causes.{Rose};
 ghost use Rattle.sequence_journal.specs.Uptimes.{RiseFrom, IsUptime, IsIdle, HasNoFloorBelow};
 ghost use Rattle.sequence_journal.specs.Uptimes.{Uptime, AreUptimes, all_numbers};
 ghost use Rattle.sequence_journal.specs.Uptimes.{Step, answered, IsStep, EndsInside};
@@ -42,6 +45,14 @@ pub fn idle_uptimes_are_one()
     ensures joined { (link : LinkId) (begins between image : Slots)
         → IsIdle link begins [] between → IsIdle link between [] image
         → IsIdle link begins [] image }
+{}
+
+/// Slots that have a floor for a link are refused to it for a fault alone: no load gives `Bad` or
+/// `WrongLink` over them. So, once a journal was loaded, none does over what is left of it.
+pub fn floor_is_refused_for_a_fault_alone()
+    ensures { (link : LinkId) (slots : Slots) (n : ℕ) (after : Option Slots) (before now : ℕ)
+        (error : LoadError) → IsLink link → HasFloorAtLeast link n slots
+        → RefusesLoad link (Some slots) after before now error → Rose before now }
 {}
 
 /// Calls of a disk that fail take no image away. So what a crash at a moment of a run may leave, the

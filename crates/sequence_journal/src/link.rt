@@ -1,3 +1,4 @@
+//! The link that a journal serves.
 ghost use Rattle.std.specs.Prelude.{◌≡◌};
 ghost use Rattle.sequence_journal.specs.Links.{is_link, IsLink};
 

@@ -1,5 +1,4 @@
-use Rattle.std.proofs.Common.{◌≡◌, ◌∙◌, ℕ, Option, None, Some, rules}
-use Rattle.sequence_journal.specs.declared.link.LinkId.{LinkId}
+use Rattle.std.proofs.Common.{◌≡◌, ◌∙◌, None, Some, rules}
 use Rattle.sequence_journal.specs.Slots.{link_held}
 use Rattle.sequence_journal.proofs.SlotLemmas.{link_holds}
 use Rattle.sequence_journal.proofs.numbers.link_in.Goals as goal
