@@ -3,7 +3,7 @@ use Rattle.std.proofs.Common.{◌≡◌, ◌∙◌, ℕ, ◌≤◌, List, [], �
 use Rattle.std.proofs.Common.{ap, subst, arith}
 use Rattle.std.specs.Prelude.{IsSomeAnd}
 use Rattle.yasir_io.specs.Disks.{Slots}
-use Rattle.yasir_ticks.specs.Ticks.{Item, ticks_in, AreTicks}
+use Rattle.yasir_ticks.specs.Ticks.{Item, ticks_in}
 use Rattle.yasir_ticks.specs.Ticks.Item.{tick, mark}
 use Rattle.yasir_ticks.specs.CanonicalText.{canonical_text}
 use Rattle.yasir_ticks.specs.Writer.{HasWritten}
@@ -18,7 +18,7 @@ use Rattle.tick_drive.specs.Consumers.{Outputs}
 use Rattle.tick_drive.proofs.ItemLaws.{ticks_in-append, ticks_in-mark}
 use Rattle.replay_status.proofs.Printing.{append_known-nil}
 use Rattle.box_replay.specs.Boxes.{Boxed, IsBoxed}
-use Rattle.box_replay.specs.Sending.{SinkTexts, Waiting, waiting, SendsBoxed}
+use Rattle.box_replay.specs.Sending.{SinkTexts, waiting, SendsBoxed}
 use Rattle.box_replay.specs.BoxLines.{BoxOrigin, DrivesBox}
 use Rattle.box_replay.specs.declared.line_box.LineBox.{Ghosts as LineBox}
 use Rattle.box_replay.specs.declared.box_lines.BoxLines.{BoxLines}

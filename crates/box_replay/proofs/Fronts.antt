@@ -1,14 +1,13 @@
 -- A box and its writer have taken a run, of which nothing is noted: what that does to the consumer.
 use Rattle.std.proofs.Common.{◌≡◌, ◌∙◌, ℕ, ◌+◌, ◌-◌, ◌<◌, ◌≤◌, List, [], ◌∷◌, ◌++◌, length, take}
 use Rattle.std.proofs.Common.{map}
-use Rattle.std.proofs.Common.{replicate, zero, suc, drop, Result, Ok, Err, refl, sym, ap, subst}
+use Rattle.std.proofs.Common.{zero, suc, drop, Result, Ok, Err, refl, sym, ap, subst}
 use Rattle.std.proofs.Common.{arith, append-nil}
 use Rattle.std.proofs.Math.Seq.{take-add}
 use Rattle.std.proofs.lemmas.List.{take_all, map-append, take-append-drop}
 use Rattle.std.proofs.lemmas.List.{replicate-append-replicate}
 use Rattle.yasir_io.specs.Disks.{Slots}
 use Rattle.yasir_io.specs.Flushed.{NoneFlushed}
-use Rattle.yasir_io.specs.TextBuffer.{waiting_bytes}
 use Rattle.yasir_io.specs.declared.disk.SlotDisk.{Ghosts as SlotDisk}
 use Rattle.yasir_io.specs.declared.sink.Sink.{Ghosts as Sink}
 use Rattle.yasir_io.specs.declared.text_buffer.TextBuffer.{TextBuffer}
@@ -18,7 +17,7 @@ use Rattle.yasir_ticks.specs.declared.tick.Tick.{Tick}
 use Rattle.yasir_ticks.specs.declared.tick.Tick.TheVariants.{Silent, Byte}
 use Rattle.yasir_ticks.specs.declared.writer.TickWriter.{TickWriter}
 use Rattle.sequence_journal.specs.declared.journal.Journal.{Journal}
-use Rattle.sequence_journal.specs.Journal.{journal_floor, Fits}
+use Rattle.sequence_journal.specs.Journal.{Fits}
 use Rattle.link_format.specs.Setup.{Setup}
 use Rattle.tick_drive.specs.Consumers.{Consuming, State, state_of, Gives, KeepsImages}
 use Rattle.tick_drive.specs.Items.{byte_items, silent_items}
@@ -28,8 +27,8 @@ use Rattle.tick_drive.proofs.ItemLaws.{ticks_in-append}
 use Rattle.tick_drive.proofs.Moving.{leaves_now, gives_items, gives_front, gives_then}
 use Rattle.box_replay.specs.Boxes.{Boxed, AnswersBoxRun}
 use Rattle.box_replay.specs.Fronts.{GivesFront}
-use Rattle.box_replay.specs.BoxLines.{BoxOrigin, DrivesBox, driving, waiting_in}
-use Rattle.box_replay.specs.Sending.{SinkTexts, sink_texts, Waiting, waiting, SendsBoxed}
+use Rattle.box_replay.specs.BoxLines.{driving, waiting_in}
+use Rattle.box_replay.specs.Sending.{SinkTexts, sink_texts, SendsBoxed}
 use Rattle.box_replay.specs.Sending.{HasSentFronts, PushesTicks, HaveCause}
 use Rattle.box_replay.specs.declared.line_box.LineBox.{Ghosts as LineBox}
 use Rattle.box_replay.specs.declared.box_lines.BoxLines.{BoxLines}

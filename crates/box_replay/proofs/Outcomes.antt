@@ -3,10 +3,8 @@ use Rattle.std.proofs.Common.{◌≡◌, ◌∙◌, ℕ, ◌+◌, ◌≤◌, ◌
 use Rattle.std.proofs.Common.{◌++◌, length, length-append, map, take, drop, Option, Some, None}
 use Rattle.std.proofs.Common.{refl, sym, ap, subst, append_assoc, append-nil, arith}
 use Rattle.std.specs.Prelude.{IfSome}
-use Rattle.std.proofs.Math.Seq.{take-append_seam, take-append-add, take-length}
+use Rattle.std.proofs.Math.Seq.{take-append_seam, take-append-add}
 use Rattle.std.proofs.lemmas.List.{take-append-drop, take-append-le}
-use Rattle.std.specs.Io.KnownBytes.{append_known}
-use Rattle.yasir_io.specs.Output.{GotPrefix}
 use Rattle.yasir_io.specs.Disks.{Slots}
 use Rattle.yasir_io.specs.declared.source.Source.{Ghosts as Source}
 use Rattle.yasir_io.specs.declared.sink.Sink.{Ghosts as Sink}
@@ -19,7 +17,7 @@ use Rattle.yasir_ticks.specs.declared.tick.Tick.{Tick}
 use Rattle.yasir_ticks.proofs.CanonicalLaws.{canonical_text-stands}
 use Rattle.yasir_ticks.proofs.TextLaws.{ended_items-begin}
 use Rattle.hmac_tag.specs.declared.dir.Dir.{Dir}
-use Rattle.link_format.specs.Setup.{Setup, setup_of}
+use Rattle.link_format.specs.Setup.{setup_of}
 use Rattle.sequence_journal.specs.declared.link.LinkId.{LinkId}
 use Rattle.sequence_journal.specs.Journal.{journal_link, journal_floor, HasFloorAtLeast}
 use Rattle.sequence_journal.specs.Journal.{IsEitherFloor}

@@ -1,5 +1,5 @@
 -- How what a box makes of its line goes on to the two sinks, by one tick, and how it ends.
-use Rattle.std.proofs.Common.{◌≡◌, ◌∙◌, ℕ, ◌⊎◌, inl, inr, List, [], ◌∷◌, ◌++◌, Option, Some, None}
+use Rattle.std.proofs.Common.{◌≡◌, ◌∙◌, ℕ, inl, inr, List, [], ◌∷◌, ◌++◌, Option}
 use Rattle.std.proofs.Common.{Result, Ok, Err, true, false, refl, sym}
 use Rattle.std.proofs.Common.{ap, subst, append_assoc, append-nil}
 use Rattle.std.specs.Io.KnownBytes.{append_known}
@@ -17,8 +17,8 @@ use Rattle.yasir_ticks.specs.declared.tick.Tick.{Tick}
 use Rattle.yasir_ticks.specs.declared.writer.TickWriter.{TickWriter}
 use Rattle.yasir_ticks.proofs.Writers.{finished_bytes, finished_silence, finished_nothing}
 use Rattle.replay_status.proofs.Printing.{append_known-nil, printed}
-use Rattle.box_replay.specs.Boxes.{Boxed, IsBoxed, AnswersBox, AnswersBoxRun}
-use Rattle.box_replay.specs.Sending.{SinkTexts, sink_texts, Waiting, WritesTicks, NotesFirst}
+use Rattle.box_replay.specs.Boxes.{Boxed, AnswersBox, AnswersBoxRun}
+use Rattle.box_replay.specs.Sending.{SinkTexts, sink_texts, Waiting, NotesFirst}
 use Rattle.box_replay.specs.Sending.{SendsBoxed, HasSent, HasSentFronts, PushesTexts, PushesTicks}
 
 -- ---- texts on their way

@@ -1,6 +1,6 @@
 -- A box that is defined by a walk over the bursts of a line, as transmitter and receiver are: what
 -- it makes of a line, and what its steps answer.
-use Rattle.std.proofs.Common.{◌≡◌, ◌∙◌, ℕ, ◌<◌, ◌≤◌, List, [], ◌∷◌, ◌++◌, length, map, Option, Some}
+use Rattle.std.proofs.Common.{◌≡◌, ◌∙◌, ℕ, ◌<◌, ◌≤◌, List, [], ◌∷◌, ◌++◌, length, Option, Some}
 use Rattle.std.proofs.Common.{None, IfSome, refl, ap, subst, sym, arith, append-nil}
 use Rattle.std.specs.List.{flat_map, filter_map}
 use Rattle.std.proofs.lemmas.Grind.{flat_map-append}

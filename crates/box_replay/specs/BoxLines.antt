@@ -6,7 +6,6 @@ use Rattle.yasir_io.specs.declared.disk.SlotDisk.{Ghosts as SlotDisk}
 use Rattle.yasir_ticks.specs.Ticks.{Item, ticks_in}
 use Rattle.yasir_ticks.specs.Ticks.Item.{tick}
 use Rattle.yasir_ticks.specs.declared.tick.Tick.{Tick}
-use Rattle.sequence_journal.specs.declared.journal.Journal.{Journal}
 use Rattle.sequence_journal.specs.declared.link.LinkId.{LinkId}
 use Rattle.sequence_journal.specs.Journal.{journal_link, journal_floor, Fits, IsCrashSafe}
 use Rattle.sequence_journal.specs.Journal.{HasFloorFrom}
@@ -16,7 +15,7 @@ use Rattle.tick_drive.specs.Consumers.{Consuming, Outputs}
 use Rattle.tick_drive.specs.declared.consumer.Stop.{Stop}
 use Rattle.tick_drive.specs.declared.consumer.Stop.TheVariants.{WriteFault, JournalFault}
 use Rattle.tick_drive.specs.declared.consumer.Stop.TheVariants.{NoMemory}
-use Rattle.box_replay.specs.Boxes.{Boxed, FailsBox}
+use Rattle.box_replay.specs.Boxes.{FailsBox}
 use Rattle.box_replay.specs.Sending.{SinkTexts, sink_texts, Waiting, waiting, SendsBoxed}
 use Rattle.box_replay.specs.Sending.{HasSentFronts}
 use Rattle.box_replay.specs.declared.line_box.LineBox.{Ghosts as LineBox}

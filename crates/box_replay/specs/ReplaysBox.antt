@@ -1,7 +1,7 @@
 -- A command that replays its input through a box: what each status says of the key, the input, the
 -- two sinks and the journal's disk.
 use Rattle.std.specs.Prelude.{◌≡◌, ℕ, ◌+◌, ◌≤◌, ◌⊎◌, List, [], ◌∷◌, ◌++◌, length, take, Option}
-use Rattle.std.specs.Prelude.{Some, None, IfSome}
+use Rattle.std.specs.Prelude.{Some, IfSome}
 use Rattle.yasir_io.specs.Causes.{Rose}
 use Rattle.yasir_io.specs.Disks.{Slots, NoMore, OneImage, LeavesOnly}
 use Rattle.yasir_io.specs.declared.source.Source.{Ghosts as Source}

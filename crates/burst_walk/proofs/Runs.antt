@@ -1,7 +1,6 @@
 -- Runs of ticks, joined from single ticks and from shorter runs.
-use Rattle.std.proofs.Common.{◌≡◌, ◌∙◌, List, [], ◌∷◌, ◌++◌, sym, ap, append-nil, append_assoc}
+use Rattle.std.proofs.Common.{◌∙◌, List, [], ◌∷◌, ◌++◌, sym, ap, append-nil, append_assoc}
 use Rattle.std.proofs.Common.{None}
-use Rattle.std.proofs.Common.{subst}
 use Rattle.yasir_ticks.specs.declared.tick.Tick.{Tick}
 use Rattle.burst_walk.specs.Walk.{Walker, notes_of, line_of}
 use Rattle.burst_walk.specs.Answers.{AnswersTick, told_notes}

@@ -1,8 +1,8 @@
 -- A device that hunts over a run of bytes: those where no header begins, and those of a frame whose
 -- header is good, before its last byte.
-use Rattle.std.proofs.Common.{◌≡◌, ◌∙◌, ℕ, zero, suc, ◌+◌, ◌-◌, ◌<◌, ◌≤◌, true, false, List, []}
+use Rattle.std.proofs.Common.{◌≡◌, ◌∙◌, ℕ, suc, ◌+◌, ◌-◌, ◌<◌, ◌≤◌, true, false, List, []}
 use Rattle.std.proofs.Common.{◌∷◌, ◌++◌, length, take, map, get_or, refl, sym, ap, subst, arith}
-use Rattle.std.proofs.Common.{length-append, append_assoc, ⊎_elim, min, drop, Bool, not}
+use Rattle.std.proofs.Common.{length-append, append_assoc, ⊎_elim, drop, Bool, not}
 use Rattle.std.proofs.lemmas.Bool.{cases_lt, eqb-true, lt-ltb, cond-true}
 use Rattle.std.proofs.lemmas.List.{append-nil, length-map, map-append, length-take, take_all}
 use Rattle.std.proofs.lemmas.List.{length-drop}

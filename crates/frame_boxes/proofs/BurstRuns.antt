@@ -1,7 +1,7 @@
 -- The bytes of a line's last burst, by one tick more, and by a run.
 use Rattle.std.proofs.Common.{◌≡◌, ◌∙◌, ℕ, zero, suc, ◌+◌, ◌-◌, ◌<◌, ◌≤◌, List, [], ◌∷◌, ◌++◌}
 use Rattle.std.proofs.Common.{length}
-use Rattle.std.proofs.Common.{refl, ap, sym, subst, arith, ⊎_elim, Option, Some, None, IfSome, map}
+use Rattle.std.proofs.Common.{refl, ap, sym, arith, ⊎_elim, Option, Some, None, IfSome, map}
 use Rattle.std.proofs.Common.{take, min, length-append, append-nil, append_assoc}
 use Rattle.std.proofs.lemmas.Bool.{cases_lt, lt-ltb, le-ltb, cond-true, cond-false}
 use Rattle.std.proofs.lemmas.List.{length-replicate, take_all}

@@ -1,6 +1,6 @@
 -- A run of ticks without a note is one without a frame.
-use Rattle.std.proofs.Common.{◌≡◌, ◌∙◌, ℕ, List, [], ◌++◌, length, Option, ap, arith, append-nil}
-use Rattle.std.proofs.Common.{length-append, sym}
+use Rattle.std.proofs.Common.{◌≡◌, ◌∙◌, List, [], ◌++◌, length, Option, ap, arith, append-nil}
+use Rattle.std.proofs.Common.{length-append}
 use Rattle.std.proofs.lemmas.List.{length-map, nil_from_length}
 use Rattle.yasir_ticks.specs.declared.tick.Tick.{Tick}
 use Rattle.burst_walk.specs.Walk.{Walker, Noted, notes_of, line_of}
@@ -10,7 +10,7 @@ use Rattle.burst_walk.specs.Longer.{Begins}
 use Rattle.burst_walk.specs.Runs.{AnswersRun}
 use Rattle.burst_walk.proofs.Longer.{extends, length-line_of}
 use Rattle.link_format.specs.NumberedFrame.{NumberedFrame}
-use Rattle.replay_lists.specs.FrameBox.{Numbering, AnswersFrameRun}
+use Rattle.replay_lists.specs.FrameBox.{AnswersFrameRun}
 use Rattle.frame_boxes.specs.FramesOf.{frames_among}
 
 module _ {S N A : Type 0} (w : Walker S N) (causal : IsCausal w) (brief : N → A) (begun : S)

@@ -1,5 +1,5 @@
 -- A box over a journal of its own, which shows the bytes of its frames.
-use Rattle.std.specs.Prelude.{ℕ, ◌≤◌, List, Option}
+use Rattle.std.specs.Prelude.{◌≤◌, List, Option}
 use Rattle.yasir_io.specs.Disks.{Slots}
 use Rattle.yasir_ticks.specs.declared.tick.Tick.{Tick}
 use Rattle.line_rules.specs.declared.line_rules.LineRules.{Ghosts as LineRules}

@@ -8,7 +8,6 @@ use Rattle.yasir_ticks.specs.Ticks.{silent}
 use Rattle.yasir_ticks.specs.Bursts.{with_byte, bursts_from}
 use Rattle.yasir_ticks.specs.declared.tick.Tick.{Tick}
 use Rattle.yasir_ticks.specs.declared.tick.Tick.TheVariants.{Silent, Byte}
-use Rattle.frame_ending.specs.declared.cut.Cut.{Cut}
 use Rattle.frame_ending.specs.declared.cut.Cut.TheVariants.{Start, Live, Extra, Pause, Closed}
 use Rattle.frame_ending.specs.declared.cut.Cut.TheVariants.{Quiet}
 use Rattle.frame_ending.specs.LiveBytes.{before_pause, has_pause, up_to_byte}

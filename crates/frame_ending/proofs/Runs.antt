@@ -18,7 +18,6 @@ use Rattle.yasir_ticks.proofs.BurstLaws.{alone}
 use Rattle.yasir_ticks.specs.declared.tick.Tick.{Tick}
 use Rattle.yasir_ticks.specs.declared.tick.Tick.TheVariants.{Silent, Byte}
 use Rattle.frame_ending.specs.declared.burst_cut.BurstCut.{BurstCut}
-use Rattle.frame_ending.specs.declared.cut.Cut.{Cut}
 use Rattle.frame_ending.specs.declared.cut.Cut.TheVariants.{Start, Live, Extra, Quiet}
 use Rattle.frame_ending.specs.SoFar.{last_burst, start_in, start_so_far, live_bytes_so_far}
 use Rattle.frame_ending.specs.Cuts.{cut_of, byte_cut, cuts_after}

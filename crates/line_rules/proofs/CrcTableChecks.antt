@@ -1,6 +1,6 @@
 -- Tables that are the right ones, by computing each entry.
 use Rattle.std.proofs.Common.{◌≡◌, ℕ, zero, suc, ◌*◌, ◌<◌, ◌&&◌, Bool, true, List, [], get_or}
-use Rattle.std.proofs.Common.{arith, sym, ◌∙◌, ap, subst, ⊎_elim}
+use Rattle.std.proofs.Common.{arith, sym, subst, ⊎_elim}
 use Rattle.std.proofs.lemmas.Bool.{cases_eq, and_parts}
 use Rattle.line_rules.specs.Crc.{bit_steps}
 use Rattle.line_rules.specs.CrcTables.{AreCrcTables}

@@ -1,5 +1,5 @@
 -- The command `trial`: the line of a session that is made from a number.
-use Rattle.std.specs.Prelude.{◌≡◌, ℕ, ◌^◌, ◌<◌, ◌≤◌, List}
+use Rattle.std.specs.Prelude.{◌≡◌, ℕ}
 use Rattle.yasir_io.specs.declared.sink.Sink.{Ghosts as Sink}
 use Rattle.link_format.specs.Profile.{Profile as FormatProfile}
 use Rattle.sequence_journal.specs.declared.numbers.TheConstants.{LIMIT}

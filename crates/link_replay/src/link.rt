@@ -1,3 +1,4 @@
+//! The link of the words of a command.
 ghost use Rattle.std.specs.Prelude.{◌≡◌};
 ghost use Rattle.sequence_journal.specs.Links.{IsLink};
 ghost use Rattle.link_replay.specs.Protocols.{link_of};

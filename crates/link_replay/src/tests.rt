@@ -226,9 +226,8 @@ fn finds_the_paths_among_the_words(rt: HostRuntime) -> Result<(), Fail> {
     Ok(())
 }
 
-/// Words, the link and the numbers of the slots before, whether the old slots hold 5 and no number or
-/// none, and what comes of them over the key and the input below, where calls of
-/// the output and the disk fail.
+/// Words, the link and the numbers of the slots before, whether old slot A holds 5, and what comes
+/// of them over the key and the input below, where calls of the output and the disk fail.
 #[derive(Clone, Copy, Drop)]
 pub struct Row {
     pub words: &'static str,

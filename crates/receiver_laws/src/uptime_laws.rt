@@ -28,8 +28,7 @@ use line_rules::LineRules;
 ///
 /// Uptimes over one disk do load so, each on the image that the one before left, if they are
 /// uptimes with the numbers of their frames, also where runs end in between before they have loaded
-/// a floor. All that the law asks of the numbers is that they rise
-/// on each side.
+/// a floor. All that the law asks of the numbers is that they rise on each side.
 pub fn uptimes_are_accounted_for<R: LineRules>()
     ensures over { (profile : Profile) (seal_floor check_floor : ℕ) (seals checks : List BoxUptime)
         → BothGoOn profile R.rules seal_floor check_floor seals checks

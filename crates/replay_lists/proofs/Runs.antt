@@ -1,9 +1,9 @@
 -- What a run of ticks changes: of bytes in their order, of items, and of what two recordings keep.
-use Rattle.std.proofs.Common.{◌≡◌, ◌∙◌, ℕ, zero, suc, ◌+◌, ◌-◌, ◌<◌, ◌≤◌, true, false, List, []}
+use Rattle.std.proofs.Common.{◌≡◌, ◌∙◌, ℕ, zero, suc, ◌+◌, ◌-◌, ◌<◌, true, false, List, []}
 use Rattle.std.proofs.Common.{◌∷◌}
-use Rattle.std.proofs.Common.{◌++◌, length, map, take, drop, replicate, Result, Ok, Err, refl, ap}
+use Rattle.std.proofs.Common.{◌++◌, length, map, take, drop, Err, refl, ap}
 use Rattle.std.proofs.Common.{sym}
-use Rattle.std.proofs.Common.{subst, arith, append_assoc, append-nil, length-append, length-drop}
+use Rattle.std.proofs.Common.{subst, arith, append_assoc, length-drop}
 use Rattle.std.proofs.Math.Seq.{take-add}
 use Rattle.std.proofs.lemmas.List.{map-append, take_all, take-append-drop}
 use Rattle.std.proofs.lemmas.List.{replicate-append-replicate}
@@ -15,15 +15,15 @@ use Rattle.yasir_ticks.specs.declared.tick.Tick.{Tick}
 use Rattle.yasir_ticks.specs.declared.tick.Tick.TheVariants.{Silent, Byte}
 use Rattle.link_format.specs.Setup.{Setup}
 use Rattle.device_model.specs.declared.device.Device.{Ghosts as Device}
-use Rattle.tick_drive.specs.Consumers.{Gives, Outputs, state_of}
+use Rattle.tick_drive.specs.Consumers.{Gives, state_of}
 use Rattle.tick_drive.specs.Items.{byte_items, silent_items}
 use Rattle.tick_drive.specs.declared.consumer.Stop.TheVariants.{NoMemory}
 use Rattle.tick_drive.proofs.Moving.{leaves_now}
 use Rattle.replay_lists.specs.FrameBox.{AnswersFrameRun, kept_frames}
 use Rattle.replay_lists.specs.FrameList.{Holds}
 use Rattle.replay_lists.specs.Recordings.{has_mark, before_mark, behind_mark}
-use Rattle.replay_lists.specs.ReplayLists.{KeepsFrames, Checks, HasListed, ListsItems, GoesOnBy}
-use Rattle.replay_lists.specs.ReplayLists.{IsReady, ReplayOrigin, lists_taken, listing}
+use Rattle.replay_lists.specs.ReplayLists.{KeepsFrames, Checks, GoesOnBy}
+use Rattle.replay_lists.specs.ReplayLists.{IsReady, listing}
 use Rattle.replay_lists.specs.declared.frame_box.FrameBox.{Ghosts as FrameBox}
 use Rattle.replay_lists.specs.declared.frame_box.Numbered.{Numbered}
 use Rattle.replay_lists.specs.declared.frame_list.FrameList.{FrameList}

@@ -1,13 +1,10 @@
 -- One period more of a session.
-use Rattle.std.proofs.Common.{◌≡◌, ◌∙◌, ℕ, zero, suc, ◌+◌, ◌-◌, ◌*◌, ◌%◌, ◌≤◌, List, [], ◌++◌}
+use Rattle.std.proofs.Common.{◌≡◌, ◌∙◌, ℕ, zero, suc, ◌+◌, ◌*◌, ◌%◌, ◌≤◌, List, [], ◌++◌}
 use Rattle.std.proofs.Common.{length, take, drop, refl, ap, sym, subst, arith, length-drop}
-use Rattle.std.proofs.Common.{length-append, map}
-use Rattle.std.proofs.lemmas.List.{take-append-le, drop-append-le, take_all, length-map}
-use Rattle.std.proofs.lemmas.List.{length-replicate}
+use Rattle.std.proofs.Common.{length-append}
+use Rattle.std.proofs.lemmas.List.{take-append-le, drop-append-le, take_all}
 use Rattle.std.proofs.Math.Seq.{drop-append_seam}
-use Rattle.yasir_ticks.specs.Ticks.{silent}
 use Rattle.yasir_ticks.specs.declared.tick.Tick.{Tick}
-use Rattle.yasir_ticks.specs.declared.tick.Tick.TheVariants.{Silent, Byte}
 use Rattle.device_model.specs.declared.device.Device.{Ghosts as Device}
 use Rattle.trial_session.specs.Alterations.{alteration_of, altered}
 use Rattle.trial_session.specs.Draws.{draw_state, state_after, nth_drawn}

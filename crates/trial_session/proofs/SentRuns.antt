@@ -1,11 +1,10 @@
 -- Runs that are sent.
 use Rattle.std.proofs.Common.{◌≡◌, ◌∙◌, ℕ, zero, suc, ◌+◌, ◌-◌, ◌<◌, ◌≤◌, List, [], ◌∷◌, ◌++◌}
 use Rattle.std.proofs.Common.{length, take, drop, map, ap, sym, subst, append_assoc, append-nil}
-use Rattle.std.proofs.Common.{refl, arith, length-append}
+use Rattle.std.proofs.Common.{refl, arith}
 use Rattle.std.specs.Prelude.{slice_index_or}
-use Rattle.std.proofs.lemmas.List.{take_all, take_at, take_rest, map-append, length-map}
+use Rattle.std.proofs.lemmas.List.{take_all, take_rest, map-append, length-map}
 use Rattle.std.proofs.lemmas.List.{length-take-le, length-replicate, replicate-append-replicate}
-use borrow.Rule.Slice.PartMut.{put_mid, post_of}
 use Rattle.yasir_ticks.specs.Ticks.{silent}
 use Rattle.yasir_ticks.specs.declared.tick.Tick.{Tick}
 use Rattle.yasir_ticks.specs.declared.tick.Tick.TheVariants.{Silent, Byte}

@@ -1,4 +1,5 @@
-//! Where bytes come from and go to, and a disk of two slots: each tells its own faults.
+//! Where bytes come from and go to, and a disk of two slots beside two old ones that are only read:
+//! each tells its own faults.
 #![tactic(auto)]
 
 mod calls;

@@ -1,15 +1,14 @@
-use Rattle.std.proofs.Common.{◌≡◌, ◌∙◌, ◌+◌, ◌-◌, [], length, map, take, drop, Ok, Err, ap, subst}
+use Rattle.std.proofs.Common.{[], length, map, take, drop, Ok, Err, ap, subst}
 use Rattle.std.proofs.Common.{arith}
 use Rattle.std.proofs.Common.{ℕ, length-drop}
 use Rattle.yasir_io.specs.declared.Failed.{Failed}
 use Rattle.yasir_io.specs.TextBuffer.{waiting_bytes}
 use Rattle.yasir_io.proofs.FlushLaws.{none_flushed, none_flushed_then}
-use Rattle.yasir_ticks.specs.Ticks.{silent}
 use Rattle.yasir_ticks.specs.declared.tick.Tick.TheVariants.{Byte}
 use Rattle.box_replay.specs.Sending.{Waiting, SinkTexts, sink_texts, waiting, PushesTicks}
 use Rattle.box_replay.proofs.PushedRuns.{pushes_none, pushes_as, pushes_failed, pushes_then}
 use Rattle.box_replay.proofs.PushedRuns.{cause_none, cause_as, cause_then, bytes_on, bytes_whole}
-use Rattle.box_replay.proofs.PushedRuns.{slice_rest, silent_on}
+use Rattle.box_replay.proofs.PushedRuns.{slice_rest}
 use Rattle.box_replay.proofs.runs.push_bytes.Goals as goal
 
 pub loop-done-init : goal.loop-done-init

@@ -1,14 +1,12 @@
-use Rattle.std.proofs.Common.{◌≡◌, ◌∙◌, ◌≤◌, ◌<◌, ◌+◌, ◌-◌, List, ℕ, [], ◌∷◌, ◌++◌, length, map}
+use Rattle.std.proofs.Common.{◌+◌, [], ◌++◌, map}
 use Rattle.std.proofs.Common.{take, drop, get_or}
-use Rattle.std.proofs.Common.{Ok, Err, ap, subst, arith}
+use Rattle.std.proofs.Common.{Ok, Err, subst, arith}
 use Rattle.yasir_io.specs.TextBuffer.{waiting_bytes}
-use Rattle.yasir_ticks.specs.Ticks.{silent}
-use Rattle.yasir_ticks.specs.declared.tick.Tick.TheVariants.{Silent, Byte}
+use Rattle.yasir_ticks.specs.declared.tick.Tick.TheVariants.{Byte}
 use Rattle.box_replay.specs.Runs.{TakesRun}
 use Rattle.box_replay.specs.Sending.{Waiting, SinkTexts, sink_texts, waiting, PushesTexts}
 use Rattle.box_replay.proofs.PushedRuns.{pushes_none, pushes_extend, line_pushed, line_failed}
 use Rattle.box_replay.proofs.PushedRuns.{completed, bytes_more, bytes_whole, slice_rest}
-use Rattle.box_replay.proofs.PushedRuns.{silent_more, silent_on}
 use Rattle.box_replay.proofs.runs.push_some_bytes.Goals as goal
 
 pub returns-then-joined-bytes-clause-ok : goal.returns-then-joined-bytes-clause-ok

@@ -1,5 +1,4 @@
 use Rattle.std.proofs.Common.{◌+◌, ◌*◌, arith}
-use Rattle.sha1.specs.Sha1.{rounds}
 use Rattle.hmac_tag.proofs.Sha1Blocks.{five_rounds, rounds_at}
 use Rattle.hmac_tag.proofs.sha1_block.last_rounds.Goals as goal
 

@@ -1,4 +1,4 @@
-use Rattle.std.proofs.Common.{◌/◌, ◌%◌, ◌∷◌, [], sym, ◌∙◌, ap, arith}
+use Rattle.std.proofs.Common.{◌/◌, [], sym, ◌∙◌, ap, arith}
 use Rattle.std.specs.Prelude.{bit_xor}
 use Rattle.line_rules.proofs.CrcLaws.{crc-nil, crc-cons}
 use Rattle.line_rules.proofs.CrcLinear.{byte_step-split}

@@ -1,4 +1,4 @@
-use Rattle.std.proofs.Common.{◌≡◌, ◌∙◌, ap, option_map}
+use Rattle.std.proofs.Common.{◌∙◌, ap, option_map}
 use Rattle.std.specs.String.{string_bytes}
 use Rattle.yasir_io.specs.SlotFiles.{for_slots}
 use Rattle.link_replay.specs.Words.{journal_place}

@@ -1,6 +1,6 @@
 use Rattle.std.proofs.Common.{refl, subst}
 use Rattle.link_format.specs.Setup.{setup_of}
-use Rattle.replay_status.proofs.FlushLaws.{flushes_of_whole, flushes_of_end}
+use Rattle.replay_status.proofs.FlushLaws.{flushes_of_whole}
 use Rattle.replay_status.proofs.EndCauses.{input_cause_of_whole}
 use Rattle.recordings_replay.specs.Listing.{listing_with, listing_text}
 use Rattle.recordings_replay.specs.Printing.{PrintsText}

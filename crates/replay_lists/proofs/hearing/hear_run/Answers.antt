@@ -1,4 +1,4 @@
-use Rattle.std.proofs.Common.{◌≡◌, ◌+◌, ◌≤◌, ◌++◌, ap, subst, arith, length, map, take, min}
+use Rattle.std.proofs.Common.{◌≤◌, ◌++◌, subst, arith, length, map, take}
 use Rattle.std.proofs.lemmas.List.{length-take-le}
 use Rattle.std.proofs.lemmas.Result.{on_ok_weaker}
 use Rattle.yasir_ticks.specs.declared.tick.Tick.TheVariants.{Byte}

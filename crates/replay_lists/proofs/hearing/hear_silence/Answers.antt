@@ -1,10 +1,8 @@
-use Rattle.std.proofs.Common.{◌≡◌, ◌+◌, ◌++◌, ap, subst, arith, length, length-drop, map, take}
-use Rattle.std.proofs.lemmas.List.{take_all}
+use Rattle.std.proofs.Common.{◌≡◌, ◌++◌, subst, arith}
 use Rattle.yasir_ticks.specs.Ticks.{silent}
-use Rattle.yasir_ticks.specs.declared.tick.Tick.TheVariants.{Byte}
 use Rattle.replay_lists.specs.ReplayLists.{Listens}
 use Rattle.replay_lists.proofs.HeardRuns.{hears-nothing}
-use Rattle.replay_lists.proofs.Runs.{slice_rest, bytes_on, silent_on}
+use Rattle.replay_lists.proofs.Runs.{silent_on}
 use Rattle.replay_lists.proofs.hearing.hear_silence.Goals as goal
 
 pub loop-done-init : goal.loop-done-init

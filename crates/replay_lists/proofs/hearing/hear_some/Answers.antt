@@ -1,5 +1,4 @@
 use Rattle.std.proofs.Common.{map, take}
-use Rattle.yasir_ticks.specs.Ticks.{silent}
 use Rattle.yasir_ticks.specs.declared.tick.Tick.TheVariants.{Byte}
 use Rattle.replay_lists.proofs.HeardRuns.{hears-none, hears-one}
 use Rattle.replay_lists.proofs.hearing.hear_some.Goals as goal

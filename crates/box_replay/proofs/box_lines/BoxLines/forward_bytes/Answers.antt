@@ -1,21 +1,19 @@
-use Rattle.std.proofs.Common.{◌≡◌, ◌∙◌, ◌+◌, ◌-◌, ◌<◌, ℕ, List, [], ◌++◌, length, map, take, drop}
+use Rattle.std.proofs.Common.{◌≡◌, ◌∙◌, ◌+◌, ◌<◌, List, [], length, map, take, drop}
 use Rattle.std.proofs.Common.{Ok}
 use Rattle.std.proofs.Common.{sym, ap, subst, arith}
 use Rattle.std.proofs.lemmas.List.{length-map, length-take-le, map-append, take-append-drop}
-use Rattle.std.proofs.lemmas.List.{length-replicate, replicate-append-replicate}
 use Rattle.yasir_io.proofs.FlushLaws.{none_flushed}
-use Rattle.yasir_ticks.specs.Ticks.{silent}
 use Rattle.yasir_ticks.specs.Ticks.Item.{tick}
 use Rattle.yasir_ticks.specs.declared.tick.Tick.{Tick}
-use Rattle.yasir_ticks.specs.declared.tick.Tick.TheVariants.{Silent, Byte}
+use Rattle.yasir_ticks.specs.declared.tick.Tick.TheVariants.{Byte}
 use Rattle.sequence_journal.specs.declared.journal.Journal.{Journal}
 use Rattle.link_format.specs.Setup.{Setup}
-use Rattle.tick_drive.specs.Items.{byte_items, silent_items}
-use Rattle.tick_drive.proofs.ItemLaws.{length-ticks_in-bytes, length-ticks_in-silence}
+use Rattle.tick_drive.specs.Items.{byte_items}
+use Rattle.tick_drive.proofs.ItemLaws.{length-ticks_in-bytes}
 use Rattle.box_replay.specs.Boxes.{AnswersBoxRun}
 use Rattle.box_replay.specs.BoxLines.{waiting_in}
 use Rattle.box_replay.specs.Sending.{SinkTexts, sink_texts, Waiting, PushesTicks}
-use Rattle.box_replay.proofs.Fronts.{run_given, front_stopped, ticks_in-bytes, ticks_in-silence}
+use Rattle.box_replay.proofs.Fronts.{run_given, front_stopped, ticks_in-bytes}
 use Rattle.box_replay.proofs.PushedRuns.{pushes_none, cause_none}
 use Rattle.box_replay.proofs.box_lines.BoxLines.forward_bytes.Goals as goal
 

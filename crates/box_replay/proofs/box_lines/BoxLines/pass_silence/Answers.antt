@@ -1,33 +1,26 @@
-use Rattle.std.proofs.Common.{◌≡◌, ◌∙◌, ◌≤◌, ◌+◌, ◌-◌, ◌<◌, ℕ, List, [], ◌++◌, length, map, take}
-use Rattle.std.proofs.Common.{drop, Ok}
-use Rattle.std.proofs.Common.{Err, sym, ap, subst, arith, refl, length-drop, append-nil}
-use Rattle.std.proofs.lemmas.List.{length-map, length-take, length-take-le, take-take, take_all}
-use Rattle.std.proofs.lemmas.List.{map-append, take-append-drop, length-replicate}
+use Rattle.std.proofs.Common.{◌≡◌, ◌∙◌, ◌+◌, ◌-◌, ◌<◌, List, [], length}
+use Rattle.std.proofs.Common.{Ok}
+use Rattle.std.proofs.Common.{Err, ap, subst, arith}
+use Rattle.std.proofs.lemmas.List.{length-replicate}
 use Rattle.yasir_io.specs.TextBuffer.{waiting_bytes}
 use Rattle.yasir_io.specs.declared.Failed.{Failed}
 use Rattle.yasir_io.proofs.FlushLaws.{none_flushed}
 use Rattle.yasir_ticks.specs.Ticks.{silent}
 use Rattle.yasir_ticks.specs.Ticks.Item.{tick}
 use Rattle.yasir_ticks.specs.declared.tick.Tick.{Tick}
-use Rattle.yasir_ticks.specs.declared.tick.Tick.TheVariants.{Silent, Byte}
+use Rattle.yasir_ticks.specs.declared.tick.Tick.TheVariants.{Silent}
 use Rattle.sequence_journal.specs.declared.journal.Journal.{Journal}
 use Rattle.link_format.specs.Setup.{Setup}
 use Rattle.burst_walk.specs.Answered.{answered}
-use Rattle.tick_drive.specs.Consumers.{State, state_of, Gives}
-use Rattle.tick_drive.specs.Items.{byte_items, silent_items}
-use Rattle.tick_drive.proofs.ItemLaws.{length-ticks_in-bytes, length-ticks_in-silence}
-use Rattle.tick_drive.proofs.ItemLaws.{length-ticks_in-take, byte_items-at, byte_items-more}
-use Rattle.tick_drive.proofs.ItemLaws.{silent_items-more, silent_items-at}
-use Rattle.tick_drive.proofs.Moving.{gives_none, gives_more, gives_stop, gives_then}
+use Rattle.tick_drive.specs.Items.{silent_items}
+use Rattle.tick_drive.proofs.ItemLaws.{length-ticks_in-silence}
 use Rattle.box_replay.specs.Boxes.{AnswersBoxRun}
-use Rattle.box_replay.specs.BoxLines.{driving, waiting_in}
-use Rattle.box_replay.specs.Fronts.{front_bytes}
+use Rattle.box_replay.specs.BoxLines.{waiting_in}
 use Rattle.box_replay.specs.Sending.{SinkTexts, sink_texts, Waiting, PushesTicks}
-use Rattle.box_replay.proofs.Fronts.{answers_none, run_given, front_stopped, ticks_in-bytes}
+use Rattle.box_replay.proofs.Fronts.{answers_none, run_given, front_stopped}
 use Rattle.box_replay.proofs.Fronts.{ticks_in-silence}
-use Rattle.box_replay.proofs.Fronts.{nothing_given, front_then, byte_items-on, byte_items-whole}
 use Rattle.box_replay.proofs.Fronts.{silent_items-on}
-use Rattle.box_replay.proofs.PushedRuns.{pushes_none, cause_none, slice_rest}
+use Rattle.box_replay.proofs.PushedRuns.{pushes_none, cause_none}
 use Rattle.box_replay.proofs.box_lines.BoxLines.pass_silence.Goals as goal
 
 pub pass_silence-count-requires : goal.pass_silence-count-requires

@@ -1,6 +1,6 @@
-use Rattle.std.proofs.Common.{◌≤◌, ◌-◌, Ok, take, length}
+use Rattle.std.proofs.Common.{◌≤◌, ◌-◌, Ok}
 use Rattle.tick_drive.specs.Consumers.{Gives, state_of}
-use Rattle.tick_drive.specs.Items.{byte_items, silent_items}
+use Rattle.tick_drive.specs.Items.{silent_items}
 use Rattle.box_replay.specs.BoxLines.{driving}
 use Rattle.box_replay.proofs.box_lines.BoxLinesConsumer.take_silence.Given as goal
 

@@ -3,7 +3,7 @@ use Rattle.yasir_ticks.specs.Ticks.{ticks_in}
 use Rattle.yasir_ticks.specs.Ticks.Item.{tick}
 use Rattle.sequence_journal.specs.Journal.{journal_floor}
 use Rattle.box_replay.specs.Boxes.{line_of_note, FailsBox}
-use Rattle.box_replay.specs.BoxLines.{ToldFloor, waiting_in, texts_in}
+use Rattle.box_replay.specs.BoxLines.{ToldFloor}
 use Rattle.box_replay.specs.Sending.{SendsBoxed, HasSentFronts}
 use Rattle.box_replay.proofs.Sending.{step_noted, sends_more, sent_in_part}
 use Rattle.box_replay.proofs.Begun.{one_more, floor_from_later}

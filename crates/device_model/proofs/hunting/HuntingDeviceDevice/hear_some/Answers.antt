@@ -1,7 +1,7 @@
-use Rattle.std.proofs.Common.{◌≡◌, ◌∙◌, ◌+◌, ◌-◌, ◌≤◌, ◌<◌, [], ◌∷◌, ◌++◌, refl, take, drop, length}
-use Rattle.std.proofs.Common.{ap, sym, subst, arith, List, get_or}
-use Rattle.std.proofs.lemmas.List.{take_all, length-drop, length-take, append-nil}
-use Rattle.device_model.specs.Frames.{frames_of, FrameRead}
+use Rattle.std.proofs.Common.{◌≡◌, ◌∙◌, ◌+◌, ◌-◌, [], ◌++◌, refl, take, drop, length}
+use Rattle.std.proofs.Common.{ap, subst, arith}
+use Rattle.std.proofs.lemmas.List.{take_all, length-drop, length-take}
+use Rattle.device_model.specs.Frames.{frames_of}
 use Rattle.device_model.specs.Hunt.{hunt_line}
 use Rattle.device_model.specs.HuntingDevice.{TakesRun}
 use Rattle.device_model.proofs.HuntRuns.{no-run, part-joined, part-ended, not-true, not-false}

@@ -1,4 +1,4 @@
-use Rattle.std.proofs.Common.{◌≡◌, ◌≤◌, ◌-◌, [], length, take}
+use Rattle.std.proofs.Common.{◌≤◌, ◌-◌, [], length, take}
 use Rattle.device_model.specs.HuntingDevice.{TakesRun}
 use Rattle.device_model.proofs.hunting.HuntingDeviceDevice.hear_some.Given as goal
 

@@ -1,4 +1,4 @@
-use Rattle.std.proofs.Common.{◌≡◌, Bool, true, false, sym, ap, ◌∙◌, ◌∷◌, []}
+use Rattle.std.proofs.Common.{sym, ap, ◌∙◌, ◌∷◌, []}
 use Rattle.rtu_frame.specs.Frame.{is_frame}
 use Rattle.rtu_frame.proofs.FrameLaws.{is_frame_lem}
 use Rattle.device_model.specs.Frames.{FrameRead}

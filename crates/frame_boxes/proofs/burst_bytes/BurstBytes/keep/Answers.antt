@@ -1,4 +1,4 @@
-use Rattle.std.proofs.Common.{◌≡◌, ◌∙◌, ◌+◌, ◌-◌, ◌≤◌, ◌++◌, ap, arith, length, min, take}
+use Rattle.std.proofs.Common.{◌≡◌, ◌∙◌, ◌-◌, ◌≤◌, ◌++◌, ap, arith, length, min, take}
 use Rattle.std.proofs.lemmas.List.{length-take}
 use Rattle.frame_boxes.proofs.BurstRuns.{take-room}
 use Rattle.frame_boxes.proofs.burst_bytes.BurstBytes.keep.Goals as goal

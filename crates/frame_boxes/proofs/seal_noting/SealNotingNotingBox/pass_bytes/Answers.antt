@@ -1,10 +1,8 @@
-use Rattle.std.proofs.Common.{◌≡◌, ◌∙◌, ◌≤◌, ◌++◌, ℕ, List, [], ap, append-nil, arith, length}
-use Rattle.std.proofs.Common.{length-append, map, subst, sym, take, refl}
+use Rattle.std.proofs.Common.{◌≡◌, ◌∙◌, ◌≤◌, List, ap, arith, length}
+use Rattle.std.proofs.Common.{map, subst, sym, take}
 use Rattle.std.proofs.lemmas.List.{length-take, length-take-le, take-take}
-use Rattle.yasir_ticks.specs.Ticks.{silent}
 use Rattle.yasir_ticks.specs.declared.tick.Tick.{Tick}
 use Rattle.yasir_ticks.specs.declared.tick.Tick.TheVariants.{Byte}
-use Rattle.burst_walk.specs.Answered.{answered}
 use Rattle.link_format.specs.Profile.{profile_of}
 use Rattle.sequence_journal.specs.declared.numbers.TheConstants.{LIMIT}
 use Rattle.sequence_journal.specs.Journal.{journal_floor}
@@ -12,7 +10,7 @@ use Rattle.seal_transmitter.specs.Answers.{brief_note}
 use Rattle.seal_transmitter.specs.Runs.{HasTakenRun}
 use Rattle.seal_transmitter.specs.Sealing.{sealer, sealed_in, at_floor}
 use Rattle.seal_transmitter.proofs.Causality.{sealer-causal}
-use Rattle.seal_transmitter.proofs.RunSteps.{answered-all, answered-none, run-behind}
+use Rattle.seal_transmitter.proofs.RunSteps.{answered-all, run-behind}
 use Rattle.replay_lists.specs.FrameBox.{AnswersFrameRun}
 use Rattle.frame_boxes.specs.SealNoting.{sealing}
 use Rattle.frame_boxes.proofs.RunNotes.{frames-run}

@@ -1,4 +1,4 @@
-use Rattle.std.proofs.Common.{◌∙◌, sym, arith}
+use Rattle.std.proofs.Common.{arith}
 use Rattle.std.proofs.lemmas.Bool.{or_left, or_right}
 use Rattle.frame_ending.proofs.Runs.{stands-bytes, cuts-bytes, quiet-not_live, over-not_live}
 use Rattle.frame_ending.proofs.burst_cut.BurstCut.go_on_some.Goals as goal

@@ -1,8 +1,7 @@
-use Rattle.std.proofs.Common.{◌≡◌, ◌∙◌, ◌+◌, ◌<◌, ◌++◌, sym, ap, subst, arith, length, map, take}
-use Rattle.std.proofs.Common.{List, ℕ, ⊎_elim, refl, true, false, ◌||◌}
-use Rattle.std.proofs.lemmas.Bool.{cases_Bool, or_parts}
+use Rattle.std.proofs.Common.{◌≡◌, ◌∙◌, ◌+◌, ◌<◌, ◌++◌, sym, subst, arith, length, map}
+use Rattle.std.proofs.Common.{List, ℕ, refl, false, ◌||◌}
+use Rattle.std.proofs.lemmas.Bool.{or_parts}
 use Rattle.std.proofs.lemmas.List.{take_all}
-use Rattle.yasir_ticks.specs.declared.tick.Tick.{Tick}
 use Rattle.yasir_ticks.specs.declared.tick.Tick.TheVariants.{Byte}
 use Rattle.frame_ending.specs.declared.cut.Cut.TheVariants.{Extra}
 use Rattle.frame_ending.specs.Stands.{StandsFor}

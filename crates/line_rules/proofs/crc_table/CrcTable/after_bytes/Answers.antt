@@ -1,4 +1,4 @@
-use Rattle.std.proofs.Common.{◌≡◌, ◌*◌, ◌∙◌, sym, ap, arith, ⊎_elim, slice_index}
+use Rattle.std.proofs.Common.{◌*◌, ◌∙◌, sym, ap, arith, ⊎_elim, slice_index}
 use Rattle.std.specs.Prelude.{slice_set}
 use Rattle.std.proofs.Math.ListN.{length-set}
 use Rattle.std.proofs.lemmas.Bool.{cases_eq}

@@ -1,9 +1,4 @@
-use Rattle.std.proofs.Common.{sym, subst, ◌∙◌}
-use Rattle.trial_session.specs.TrialLine.{trial_line, PrintsLine}
-use Rattle.link_replay.specs.TrialCommand.{trial_counts}
-use Rattle.link_replay.specs.Words.{link_word}
-use Rattle.link_replay.specs.declared.words.Profile.TheVariants.{Y18, Y24}
-use Rattle.link_replay.specs.declared.words.Proto.TheVariants.{Rtu, Dnp3}
+use Rattle.std.proofs.Common.{sym}
 use Rattle.link_replay.proofs.Trials.{counts-tell}
 use Rattle.link_replay.proofs.commands.trial.try_link.Goals as goal
 

@@ -1,7 +1,6 @@
-use Rattle.std.proofs.Common.{◌≡◌, ◌∙◌, ◌++◌, ℕ, List, ap, sym, subst, arith, length, map, take}
-use Rattle.std.proofs.lemmas.List.{length-map, length-take-le, length-replicate}
-use Rattle.yasir_ticks.specs.Ticks.{silent}
-use Rattle.yasir_ticks.specs.declared.tick.Tick.TheVariants.{Silent, Byte}
+use Rattle.std.proofs.Common.{◌≡◌, ◌∙◌, ◌++◌, ap, sym, subst, arith, length, map, take}
+use Rattle.std.proofs.lemmas.List.{length-map, length-take-le}
+use Rattle.yasir_ticks.specs.declared.tick.Tick.TheVariants.{Byte}
 use Rattle.burst_walk.specs.Answered.{answered}
 use Rattle.replay_lists.specs.ReplayLists.{Listens}
 use Rattle.replay_lists.proofs.Runs.{keeps-run}

@@ -1,10 +1,9 @@
-use Rattle.std.proofs.Common.{◌≡◌, ◌∙◌, ◌+◌, ℕ, arith, length, map, take}
-use Rattle.std.proofs.lemmas.List.{length-map, length-take-le, length-replicate}
-use Rattle.yasir_ticks.specs.Ticks.{silent}
-use Rattle.yasir_ticks.specs.declared.tick.Tick.TheVariants.{Silent, Byte}
-use Rattle.tick_drive.specs.Items.{byte_items, silent_items}
-use Rattle.replay_lists.proofs.Runs.{seals-on, checks-on, no_mark-bytes, no_mark-silent}
-use Rattle.replay_lists.proofs.Runs.{ticks_in-bytes, ticks_in-silent}
+use Rattle.std.proofs.Common.{◌≡◌, ◌∙◌, ◌+◌, arith, length, map, take}
+use Rattle.std.proofs.lemmas.List.{length-map, length-take-le}
+use Rattle.yasir_ticks.specs.declared.tick.Tick.TheVariants.{Byte}
+use Rattle.tick_drive.specs.Items.{byte_items}
+use Rattle.replay_lists.proofs.Runs.{seals-on, checks-on, no_mark-bytes}
+use Rattle.replay_lists.proofs.Runs.{ticks_in-bytes}
 use Rattle.replay_lists.proofs.replay_lists.ReplayLists.run_bytes.Goals as goal
 
 pub returns-then-not-self-clause-goes : goal.returns-then-not-self-clause-goes

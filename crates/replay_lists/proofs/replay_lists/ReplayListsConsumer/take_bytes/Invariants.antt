@@ -1,6 +1,6 @@
 use Rattle.std.proofs.Common.{◌≤◌, ◌-◌, Ok, take, length}
 use Rattle.tick_drive.specs.Consumers.{Gives, state_of}
-use Rattle.tick_drive.specs.Items.{byte_items, silent_items}
+use Rattle.tick_drive.specs.Items.{byte_items}
 use Rattle.replay_lists.specs.ReplayLists.{listing}
 use Rattle.replay_lists.proofs.replay_lists.ReplayListsConsumer.take_bytes.Given as goal
 

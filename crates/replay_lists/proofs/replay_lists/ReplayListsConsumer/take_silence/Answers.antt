@@ -1,18 +1,16 @@
-use Rattle.std.proofs.Common.{◌≡◌, ◌∙◌, ◌+◌, ◌-◌, ◌<◌, ℕ, List, [], ◌∷◌, ◌++◌, length, map, take}
-use Rattle.std.proofs.Common.{drop}
-use Rattle.std.proofs.Common.{Ok, Err, sym, ap, subst, arith, get_or, length-drop, append-nil}
-use Rattle.std.proofs.lemmas.List.{take_all, length-map, length-replicate}
+use Rattle.std.proofs.Common.{◌≡◌, ◌∙◌, ◌+◌, ◌-◌, ◌<◌, [], ◌∷◌, ◌++◌, length}
+use Rattle.std.proofs.Common.{Ok, sym, ap, subst, arith, append-nil}
+use Rattle.std.proofs.lemmas.List.{length-replicate}
 use Rattle.yasir_ticks.specs.Ticks.Item.{tick}
-use Rattle.yasir_ticks.specs.declared.tick.Tick.TheVariants.{Silent, Byte}
+use Rattle.yasir_ticks.specs.declared.tick.Tick.TheVariants.{Silent}
 use Rattle.tick_drive.specs.Consumers.{State, state_of, Gives}
-use Rattle.tick_drive.specs.Items.{byte_items, silent_items}
-use Rattle.tick_drive.proofs.ItemLaws.{length-ticks_in-bytes, length-ticks_in-silence}
-use Rattle.tick_drive.proofs.ItemLaws.{length-ticks_in-take, byte_items-at, byte_items-more}
+use Rattle.tick_drive.specs.Items.{silent_items}
+use Rattle.tick_drive.proofs.ItemLaws.{length-ticks_in-silence}
 use Rattle.tick_drive.proofs.ItemLaws.{silent_items-more, silent_items-at}
 use Rattle.tick_drive.proofs.Moving.{gives_none, gives_more, gives_stop}
 use Rattle.replay_lists.specs.ReplayLists.{GoesOnBy, listing}
 use Rattle.replay_lists.proofs.Listing.{gives-item}
-use Rattle.replay_lists.proofs.Runs.{gives-no_memory, slice_rest, byte_items-on, byte_items-whole}
+use Rattle.replay_lists.proofs.Runs.{gives-no_memory}
 use Rattle.replay_lists.proofs.Runs.{silent_items-on}
 use Rattle.replay_lists.proofs.replay_lists.ReplayListsConsumer.take_silence.Goals as goal
 
