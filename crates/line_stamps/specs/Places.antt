@@ -1,0 +1,94 @@
+-- Where the bytes of one way of a capture stand on a line.
+use Rattle.std.specs.Prelude.{ℕ, suc, ◌+◌, ◌-◌, ◌*◌, nat_lt, if◌then◌else◌, max, Bool, true, false}
+use Rattle.std.specs.Prelude.{List, [], ◌∷◌, ◌++◌, Option, Some, None}
+use Rattle.yasir_ticks.specs.Ticks.{silent}
+use Rattle.yasir_ticks.specs.declared.TheConstants.{T3_5_TICKS}
+use Rattle.yasir_ticks.specs.declared.tick.Tick.{Tick}
+use Rattle.yasir_ticks.specs.declared.tick.Tick.TheVariants.{Byte}
+use Rattle.line_stamps.specs.declared.TheConstants.{DRIFT_SILENCE}
+use Rattle.line_stamps.specs.declared.capture.CaptureByte.{CaptureByte}
+use Rattle.line_stamps.specs.declared.timing.Spacing.{Spacing}
+use Rattle.line_stamps.specs.declared.timing.Spacing.TheVariants.{ByTime, ByRecord}
+use Rattle.line_stamps.specs.declared.timing.Timing.{Timing}
+use Rattle.line_stamps.specs.Parts.{character, rounded, ticks_apart}
+
+-- where a byte stands: the start of it, in parts since the origin, and its tick
+pub record Spot : Type 0 where
+  pub time : ℕ
+  pub tick : ℕ
+
+-- a time stamp, in parts since the origin
+abbrev pub stamp : Timing → CaptureByte → ℕ
+stamp t c = (c.start - t.origin) * t.rate.baud
+
+-- The start of a byte, in parts since the origin. A time stamp is that of the first byte of a
+-- record, and each further byte starts a character after the one before.
+abbrev pub start_of : Timing → Option Spot → CaptureByte → ℕ
+start_of t None c = stamp t c
+start_of t (Some before) c =
+    if c.first then stamp t c else before.time + character t.rate
+
+-- From the byte before to one with so much time between, so many ticks, if there is no drift. A
+-- record that is taken for a frame has four silent ticks before it.
+abbrev pub steps_apart : Spacing → Bool → ℕ → ℕ → ℕ
+steps_apart ByTime first gap length_of_one = ticks_apart gap length_of_one
+steps_apart ByRecord true gap length_of_one = max (ticks_apart gap length_of_one) (suc T3_5_TICKS)
+steps_apart ByRecord false gap length_of_one = ticks_apart gap length_of_one
+
+-- The tick of a byte that starts at this time. Drift is taken up in silences above 320 ticks: there
+-- the byte stands in the tick that is nearest to its time, but leaves 320 silent ticks.
+abbrev pub tick_at : ℕ → ℕ → ℕ → ℕ → ℕ
+tick_at n before time length_of_one =
+    if nat_lt (suc DRIFT_SILENCE) n
+    then max (rounded time length_of_one) (before + suc DRIFT_SILENCE)
+    else before + n
+
+abbrev pub tick_after : Timing → Option Spot → Bool → ℕ → ℕ
+tick_after t None first time = rounded time (character t.rate)
+tick_after t (Some before) first time =
+    tick_at (steps_apart t.spacing first (time - before.time) (character t.rate)) before.tick time
+    (character t.rate)
+
+-- where a byte stands, of where the byte before it stands, if there is one
+abbrev pub spot_of : Timing → Option Spot → CaptureByte → Spot
+spot_of t last c = record {
+  time = start_of t last c;
+  tick = tick_after t last c.first (start_of t last c);
+}
+
+-- the tick behind a byte that stands there, or the first tick of all
+abbrev pub next_tick : Option Spot → ℕ
+next_tick None = 0
+next_tick (Some spot) = suc spot.tick
+
+-- a byte, and where it stands
+pub record PlacedByte : Type 0 where
+  pub spot : Spot
+  pub byte : ℕ
+
+-- where bytes stand that come after one that stands there, if there is one
+abbrev pub placed_from : Timing → Option Spot → List CaptureByte → List PlacedByte
+placed_from t last [] = []
+placed_from t last (c ∷ cs) =
+    record { spot = spot_of t last c; byte = c.byte } ∷ placed_from t (Some (spot_of t last c)) cs
+
+-- where the bytes of one way of a capture stand
+abbrev pub placed : Timing → List CaptureByte → List PlacedByte
+placed t cs = placed_from t None cs
+
+-- the ticks of bytes, from tick n on
+abbrev pub ticks_from : ℕ → List PlacedByte → List Tick
+ticks_from n [] = []
+ticks_from n (x ∷ xs) = silent (x.spot.tick - n) ++ (Byte x.byte ∷ ticks_from (suc x.spot.tick) xs)
+
+-- the line that one way of a capture stands for, up to its last byte
+abbrev pub line_of : Timing → List CaptureByte → List Tick
+line_of t cs = ticks_from 0 (placed t cs)
+
+-- where the last of these bytes stands, if there is one
+abbrev pub last_spot_from : Timing → Option Spot → List CaptureByte → Option Spot
+last_spot_from t last [] = last
+last_spot_from t last (c ∷ cs) = last_spot_from t (Some (spot_of t last c)) cs
+
+abbrev pub last_spot : Timing → List CaptureByte → Option Spot
+last_spot t cs = last_spot_from t None cs

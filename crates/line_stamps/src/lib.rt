@@ -1,0 +1,25 @@
+//! Times of a capture, and the ticks of a line that they stand for.
+//!
+//! Times are exact: a nanosecond has as many parts as the rate has baud, so that a character of
+//! 11 bits has 11,000,000,000 parts at each rate.
+#![tactic(auto)]
+
+mod capture;
+mod placer;
+mod rate;
+mod rounding;
+mod timing;
+
+pub use capture::{CaptureByte, Way};
+pub use placer::{Placer, Unplaced};
+pub use rate::Rate;
+pub use rounding::{nearest, ticks_between};
+pub use timing::{Spacing, Timing};
+
+/// Drift between ticks and times is taken up in silences of more ticks than these alone, and none
+/// of them becomes shorter than these.
+pub const DRIFT_SILENCE: u64 = 320;
+
+/// Each byte of a capture starts before this time, in parts, and before this tick: 2^62. At 115,200
+/// baud and 11 bits that is 11 hours, and 419,430,400 characters at each rate.
+pub const TIME_LIMIT: u64 = 4_611_686_018_427_387_904;

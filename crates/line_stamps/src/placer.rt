@@ -1,0 +1,207 @@
+//! The bytes of one way of a capture, placed on a line one after the other.
+
+ghost use Rattle.std.specs.Prelude.{◌≡◌, ◌+◌, ◌^◌, ◌<◌};
+ghost use Rattle.line_stamps.specs.Places.{steps_apart, tick_at};
+
+use crate::capture::CaptureByte;
+use crate::rounding::{nearest, ticks_between};
+use crate::timing::{Spacing, Timing};
+use crate::{DRIFT_SILENCE, TIME_LIMIT};
+use yasir_ticks::T3_5_TICKS;
+
+/// Why a byte isn't placed.
+#[derive(Clone, Copy, Debug, PartialEq, Eq)]
+pub enum Unplaced {
+    /// Its record has a time before the origin.
+    Early,
+    /// It starts less than half a character after the byte before it, so that the two overlap.
+    Overlap,
+    /// It starts later than a capture may last (`TIME_LIMIT`).
+    Late,
+}
+
+// Where the byte stands that was taken last: the time of its start, in parts since the origin, and
+// its tick.
+#[derive(Clone, Copy, Debug, PartialEq, Eq)]
+struct Last {
+    time: u64,
+    tick: u64,
+    ghost timed: { time < 2 ^ 62 },
+    ghost ticked: { tick < 2 ^ 62 },
+}
+
+/// Places the bytes of one way of a capture on a line, one after the other. It takes no memory.
+#[derive(Clone, Copy, Debug, PartialEq, Eq)]
+pub struct Placer {
+    timing: Timing,
+    last: Option<Last>,
+}
+
+// How many ticks it is from the byte before to one with so much time between.
+fn steps(spacing: Spacing, first: bool, gap: u64, character: u64) -> u64
+    requires some { 0 < character }
+    requires small { character < 2 ^ 60 }
+    requires near { gap < 2 ^ 62 }
+    ensures ticks { result ≡ steps_apart spacing first gap character }
+    ensures some { 0 < result }
+    ensures bound { result < 2 ^ 63 }
+{
+    let by_time = ticks_between(gap, character);
+    match spacing {
+        Spacing::ByTime => by_time,
+        Spacing::ByRecord => {
+            if first {
+                by_time.max(u64::from(T3_5_TICKS) + 1)
+            } else {
+                by_time
+            }
+        }
+    }
+}
+
+// The tick of a byte so many ticks behind the one before, drift taken up where it may be.
+fn settled(steps: u64, before: u64, time: u64, character: u64) -> u64
+    requires some { 0 < character }
+    requires small { character < 2 ^ 60 }
+    requires near { time < 2 ^ 62 }
+    requires some_steps { 0 < steps }
+    requires bound { before + steps < 2 ^ 64 }
+    ensures tick { result ≡ tick_at steps before time character }
+    ensures later { before < result }
+{
+    if DRIFT_SILENCE + 1 < steps {
+        nearest(time, character).max(before + DRIFT_SILENCE + 1)
+    } else {
+        before + steps
+    }
+}
+
+impl Placer {
+    ghost use Rattle.std.specs.Prelude.{◌≡◌, ◌+◌, ◌*◌, ◌^◌, ◌<◌, ◌≤◌, true, false, IfOk, IfSome};
+    ghost use Rattle.std.specs.Prelude.{IfNone, MatchOption, List, [], ◌∷◌, ◌++◌};
+    ghost use Rattle.yasir_ticks.specs.Ticks.{silent};
+    ghost use Rattle.yasir_ticks.specs.declared.tick.Tick.TheVariants.{Byte};
+    ghost use Rattle.line_stamps.specs.declared.capture.CaptureByte.{CaptureByte};
+    ghost use Rattle.line_stamps.specs.Parts.{character};
+    ghost use Rattle.line_stamps.specs.Places.{stamp, start_of, tick_after, next_tick};
+    ghost use Rattle.line_stamps.specs.Places.{last_spot, line_of};
+    ghost use Rattle.line_stamps.specs.Placing.{is_early, overlaps, answer_at, spot_if, HasTaken};
+    ghost use Rattle.line_stamps.specs.Placing.{timing_of, Leaves};
+
+    /// A placer that has taken no byte yet.
+    pub fn new(timing: Timing) -> Placer
+        ensures timing { timing_of result ≡ timing }
+        ensures start { HasTaken result [] }
+    {
+        Placer { timing, last: None }
+    }
+
+    // Whether the time stamp of a byte is before the origin.
+    fn is_early(&self, byte: &CaptureByte) -> bool
+        ensures { result ≡ is_early self.now.timing (spot_if self.now.last) byte.now }
+    {
+        (self.last.is_none() || byte.first) && byte.start < self.timing.origin
+    }
+
+    // The time stamp of a byte, in parts since the origin; none where it is too late.
+    fn stamp(&self, byte: &CaptureByte) -> Option<u64>
+        requires { self.now.timing.origin ≤ byte.now.start }
+        ensures late { IfNone result (2 ^ 62 ≤ stamp self.now.timing byte.now) }
+        ensures time { IfSome result (λ time. time ≡ stamp self.now.timing byte.now) }
+        ensures soon { IfSome result (λ time. time < 2 ^ 62) }
+    {
+        let elapsed = byte.start - self.timing.origin;
+        let time = elapsed.checked_mul(u64::from(self.timing.rate.baud))?;
+        if time < TIME_LIMIT { Some(time) } else { None }
+    }
+
+    // The start of a byte, in parts since the origin; none where it is too late.
+    fn start_of(&self, byte: &CaptureByte) -> Option<u64>
+        requires { is_early self.now.timing (spot_if self.now.last) byte.now ≡ false }
+        ensures late { IfNone result
+            (2 ^ 62 ≤ start_of self.now.timing (spot_if self.now.last) byte.now) }
+        ensures time { IfSome result
+            (λ time. time ≡ start_of self.now.timing (spot_if self.now.last) byte.now) }
+        ensures soon { IfSome result (λ time. time < 2 ^ 62) }
+    {
+        let Some(last) = self.last else {
+            return self.stamp(byte);
+        };
+        if byte.first {
+            return self.stamp(byte);
+        }
+        let time = last.time + self.timing.rate.character();
+        if time < TIME_LIMIT { Some(time) } else { None }
+    }
+
+    // The tick of a byte that starts at this time.
+    fn tick_of(&self, first: bool, time: u64) -> u64
+        requires { time < 2 ^ 62 }
+        ensures tick { result ≡ tick_after self.now.timing (spot_if self.now.last) first time }
+        ensures later { next_tick (spot_if self.now.last) ≤ result }
+    {
+        let character = self.timing.rate.character();
+        match self.last {
+            None => nearest(time, character),
+            Some(last) => {
+                let gap = time.saturating_sub(last.time);
+                let steps = steps(self.timing.spacing, first, gap, character);
+                settled(steps, last.tick, time, character)
+            }
+        }
+    }
+
+    // Whether a byte that starts at this time overlaps the one before it.
+    fn overlaps(&self, time: u64) -> bool
+        requires { time < 2 ^ 62 }
+        ensures { result ≡ overlaps self.now.timing.spacing (spot_if self.now.last) time
+            (character self.now.timing.rate) }
+    {
+        match (self.timing.spacing, self.last) {
+            (Spacing::ByTime, Some(last)) => {
+                2 * time.saturating_sub(last.time) < self.timing.rate.character()
+            }
+            _ => false,
+        }
+    }
+
+    /// Places the next byte: the silent ticks that stand before it, behind the byte before it or
+    /// from tick 0 on. A byte that overlaps the one before is taken nevertheless, in the next tick,
+    /// so that all that overlap can be counted; one that is early or late isn't taken.
+    pub fn place(&mut self, byte: CaptureByte) -> Result<u64, Unplaced>
+        ensures answer { (cs : List CaptureByte) → HasTaken self.old cs
+            → result ≡ answer_at (timing_of self.old) (last_spot (timing_of self.old) cs) byte }
+        ensures line { IfOk result (λ silence. (cs : List CaptureByte) → HasTaken self.old cs
+            → line_of (timing_of self.old) (cs ++ byte ∷ [])
+            ≡ line_of (timing_of self.old) cs ++ (silent silence ++ Byte byte.byte ∷ [])) }
+        ensures leaves { Leaves self.old self.new byte result }
+    {
+        if self.is_early(&byte) {
+            return Err(Unplaced::Early);
+        }
+        let Some(time) = self.start_of(&byte) else {
+            return Err(Unplaced::Late);
+        };
+        let tick = self.tick_of(byte.first, time);
+        if TIME_LIMIT <= tick {
+            return Err(Unplaced::Late);
+        }
+        let silence = tick - self.next_tick();
+        let overlaps = self.overlaps(time);
+        self.last = Some(Last { time, tick });
+        if overlaps {
+            return Err(Unplaced::Overlap);
+        }
+        Ok(silence)
+    }
+
+    // The tick behind the byte that was taken last.
+    fn next_tick(&self) -> u64
+        ensures { result ≡ next_tick (spot_if self.now.last) }
+    {
+        match self.last {
+            None => 0,
+            Some(last) => last.tick + 1,
+        }
+    }
+}

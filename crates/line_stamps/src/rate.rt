@@ -1,0 +1,27 @@
+//! The rate of a line: its baud, and the bits of a character.
+
+ghost use Rattle.std.specs.Prelude.{◌≤◌};
+
+/// The rate of a line: 300 to 115,200 baud, and a character of 10 or 11 bits with its start and
+/// stop bits.
+#[derive(Clone, Copy, Debug, PartialEq, Eq)]
+pub struct Rate {
+    pub baud: u32,
+    pub bits: u8,
+    ghost slowest: { 300 ≤ baud },
+    ghost fastest: { baud ≤ 115200 },
+    ghost fewest_bits: { 10 ≤ bits },
+    ghost most_bits: { bits ≤ 11 },
+}
+
+impl Rate {
+    ghost use Rattle.std.specs.Prelude.{◌≡◌};
+    ghost use Rattle.line_stamps.specs.Parts.{character};
+
+    /// The length of a character, in parts: a nanosecond has `baud` of them.
+    pub fn character(&self) -> u64
+        ensures { result ≡ character self.now }
+    {
+        u64::from(self.bits) * 1_000_000_000
+    }
+}

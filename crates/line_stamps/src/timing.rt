@@ -1,0 +1,23 @@
+//! How the bytes of a capture are placed on a line.
+
+use crate::rate::Rate;
+
+/// How silence between the records of a capture is told.
+#[derive(Clone, Copy, Debug, PartialEq, Eq)]
+pub enum Spacing {
+    /// By their times alone.
+    ByTime,
+    /// Each record is taken for a frame: four silent ticks or more stand before it, whatever its
+    /// time says. For captures with the times of an operating system, whose records may begin
+    /// before the one before could have ended.
+    ByRecord,
+}
+
+/// How the bytes of one way of a capture are placed on a line.
+#[derive(Clone, Copy, Debug, PartialEq, Eq)]
+pub struct Timing {
+    pub rate: Rate,
+    pub spacing: Spacing,
+    /// The time at which tick 0 begins, in nanoseconds since the epoch of the capture.
+    pub origin: u64,
+}
