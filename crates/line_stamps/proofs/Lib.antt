@@ -1,2 +1,4 @@
 mod Worked
 mod Taking
+mod Numbers
+mod Words

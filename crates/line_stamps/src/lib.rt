@@ -7,6 +7,7 @@
 mod capture;
 mod placer;
 mod rate;
+mod rate_word;
 mod rounding;
 mod timing;
 

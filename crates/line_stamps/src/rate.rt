@@ -2,6 +2,12 @@
 
 ghost use Rattle.std.specs.Prelude.{◌≤◌};
 
+/// The slowest rate, in baud.
+pub const SLOWEST: u32 = 300;
+
+/// The fastest rate, in baud.
+pub const FASTEST: u32 = 115_200;
+
 /// The rate of a line: 300 to 115,200 baud, and a character of 10 or 11 bits with its start and
 /// stop bits.
 #[derive(Clone, Copy, Debug, PartialEq, Eq)]
