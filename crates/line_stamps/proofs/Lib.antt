@@ -2,3 +2,4 @@ mod Worked
 mod Taking
 mod Numbers
 mod Words
+mod RoundingLaws

@@ -2,3 +2,4 @@ pub mod Parts
 pub mod Places
 pub mod Placing
 pub mod RateWords
+pub mod Giving

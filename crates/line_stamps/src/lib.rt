@@ -5,6 +5,7 @@
 #![tactic(auto)]
 
 mod capture;
+mod giving;
 mod placer;
 mod rate;
 mod rate_word;
@@ -12,6 +13,7 @@ mod rounding;
 mod timing;
 
 pub use capture::{CaptureByte, Way};
+pub use giving::tick_start;
 pub use placer::{Placer, Unplaced};
 pub use rate::Rate;
 pub use rounding::{nearest, ticks_between};

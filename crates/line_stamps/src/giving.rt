@@ -1,0 +1,18 @@
+//! The ticks of a line as times of a capture.
+
+ghost use Rattle.std.specs.Prelude.{◌≡◌, ◌^◌, ◌<◌, ◌≤◌};
+ghost use Rattle.line_stamps.specs.Giving.{tick_start};
+
+use crate::rate::Rate;
+use crate::rounding::nearest;
+
+/// When a tick starts, in nanoseconds since tick 0, for a capture that counts time in units of so
+/// many nanoseconds: the nearest whole number of units, a half up.
+pub fn tick_start(rate: Rate, unit: u64, tick: u64) -> u64
+    requires some { 0 < unit }
+    requires short { unit ≤ 1000000000 }
+    requires early { tick ≤ 2 ^ 28 }
+    ensures { result ≡ tick_start rate unit tick }
+{
+    unit * nearest(tick * rate.character(), u64::from(rate.baud) * unit)
+}
