@@ -3,3 +3,5 @@ mod Taking
 mod Numbers
 mod Words
 mod RoundingLaws
+mod Clocks
+mod GivenTicks

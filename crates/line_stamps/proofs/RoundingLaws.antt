@@ -65,14 +65,15 @@ module _ (length_of_one : ℕ) (some : 0 < length_of_one) (gap : ℕ) where
   apart-inside =
       ⊎_elim
       (λ same. (λ h. omega arith, λ h. let e = on-the-edge same in omega arith))
-      (λ other. let e = off-the-edge other in
-      (λ h. let least : 2 * gap + length_of_one < 2 * (3 * length_of_one) =
-      ⊎_elim (λ less. less)
-      (λ more. absurd (let no : 3 ≤ rounded gap length_of_one =
-      rounded-least length_of_one some gap 3 more in omega arith))
-      (cases_lt (2 * gap + length_of_one) (2 * (3 * length_of_one))) in omega arith,
-      λ h. let below : rounded gap length_of_one < 3 =
-      rounded-below length_of_one some gap 3 (omega arith) in omega arith))
+      (λ other. let e = off-the-edge other in (
+        λ h. let least : 2 * gap + length_of_one < 2 * (3 * length_of_one) =
+            ⊎_elim (λ less. less)
+            (λ more. absurd (let no : 3 ≤ rounded gap length_of_one =
+            rounded-least length_of_one some gap 3 more in omega arith))
+            (cases_lt (2 * gap + length_of_one) (2 * (3 * length_of_one))) in omega arith,
+        λ h. let below : rounded gap length_of_one < 3 =
+            rounded-below length_of_one some gap 3 (omega arith) in omega arith,
+      ))
       (cases_eq (2 * gap) (5 * length_of_one))
 
   -- four or more exactly where it is at least 3.5
@@ -80,12 +81,13 @@ module _ (length_of_one : ℕ) (some : 0 < length_of_one) (gap : ℕ) where
   apart-end =
       ⊎_elim
       (λ same. let e = on-the-edge same in (λ h. absurd (omega arith), λ h. absurd (omega arith)))
-      (λ other. let e = off-the-edge other in
-      (λ h. ⊎_elim (λ less. absurd (let no : rounded gap length_of_one < 5 =
-      rounded-below length_of_one some gap 5 less in omega arith)) (λ more. omega arith)
-      (cases_lt (2 * gap + length_of_one) (2 * (5 * length_of_one))),
-      λ h. let least : 5 ≤ rounded gap length_of_one =
-      rounded-least length_of_one some gap 5 (omega arith) in omega arith))
+      (λ other. let e = off-the-edge other in (
+        λ h. ⊎_elim (λ less. absurd (let no : rounded gap length_of_one < 5 =
+            rounded-below length_of_one some gap 5 less in omega arith)) (λ more. omega arith)
+            (cases_lt (2 * gap + length_of_one) (2 * (5 * length_of_one))),
+        λ h. let least : 5 ≤ rounded gap length_of_one =
+            rounded-least length_of_one some gap 5 (omega arith) in omega arith,
+      ))
       (cases_eq (2 * gap) (5 * length_of_one))
 
   module _ (apart : length_of_one ≤ 2 * gap) where

@@ -3,3 +3,4 @@ pub mod Places
 pub mod Placing
 pub mod RateWords
 pub mod Giving
+pub mod Clock

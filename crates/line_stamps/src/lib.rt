@@ -6,6 +6,7 @@
 
 mod capture;
 mod giving;
+mod laws;
 mod placer;
 mod rate;
 mod rate_word;
@@ -14,6 +15,10 @@ mod timing;
 
 pub use capture::{CaptureByte, Way};
 pub use giving::tick_start;
+pub use laws::{
+    records_are_parted, same_bytes_in_the_same_order, silences_keep_their_edges,
+    ticks_keep_to_the_times,
+};
 pub use placer::{Placer, Unplaced};
 pub use rate::Rate;
 pub use rounding::{nearest, ticks_between};

@@ -1,0 +1,41 @@
+-- What was given as times of a capture is taken as the same ticks, over plain numbers: a character
+-- of `one` parts, and starts of ticks in parts, each at most half of `off` parts from its own.
+use Rattle.std.proofs.Common.{◌≡◌, ◌∙◌, ℕ, zero, suc, ◌+◌, ◌-◌, ◌*◌, ◌<◌, ◌≤◌, ⊎_elim, sym, ap, add-mul}
+use Rattle.std.proofs.Common.{arith, max, ◌⊎◌, inl, inr}
+use Rattle.std.proofs.Math.Nat.{mul-le-mul_right}
+use Rattle.std.proofs.lemmas.Bool.{cases_lt, cases_eq}
+use Rattle.line_stamps.specs.Parts.{rounded, ticks_apart}
+use Rattle.line_stamps.specs.Places.{tick_at}
+use Rattle.line_stamps.proofs.Clocks.{tick-far, tick-near}
+use Rattle.line_stamps.proofs.RoundingLaws.{rounded-is, apart-is}
+
+module _ (one off : ℕ) (some : 0 < one) (small : 2 * off < one) (start : ℕ → ℕ)
+    (most : (n : ℕ) → 2 * start n ≤ 2 * (n * one) + off)
+    (least : (n : ℕ) → 2 * (n * one) ≤ 2 * start n + off) where
+  -- starts rise
+  start-rises : (m n : ℕ) → m ≤ n → start m ≤ start n
+  start-rises m n h =
+      ⊎_elim
+      (λ before. let more : suc m ≤ n = omega arith in
+      let long : suc m * one ≤ n * one = mul-le-mul_right one more in
+      let e : suc m * one ≡ m * one + one = omega arith in
+      let a = most m in
+      let b = least n in
+      omega arith)
+      (λ (same : n ≤ m). let e : m ≡ n = omega arith in
+      let s : start m ≡ start n = ap start e in omega arith)
+      (cases_lt m n)
+
+  -- The tick of a byte k ticks behind tick m, of the time since the start of tick m, is k.
+  pub tick-is : (m r k : ℕ) (time : ℕ) → m ≤ r → r ≤ m + k
+      → time ≡ start r - start m + (m + k - r) * one → rounded time one ≡ k
+  tick-is m r k time from before is =
+      let rises = start-rises m r from in
+      let a = most m in
+      let b = least m in
+      let a' = most r in
+      let b' = least r in
+      let e : (m + k - r) * one + r * one ≡ (m + k) * one =
+      sym (add-mul (m + k - r) r one) ∙ ap (λ n. n * one) (omega arith) in
+      let f : (m + k) * one ≡ m * one + k * one = add-mul m k one in
+      rounded-is one some time k (omega arith) (omega arith)

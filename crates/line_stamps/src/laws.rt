@@ -1,0 +1,43 @@
+//! Laws of the definitions: how a line keeps to the times of a capture.
+
+ghost use Rattle.std.specs.Prelude.{◌≡◌, ℕ, ◌+◌, ◌*◌, ◌<◌, ◌≤◌, true, false, List, map, Some};
+ghost use Rattle.yasir_ticks.specs.Ticks.{bytes_in};
+ghost use Rattle.yasir_ticks.specs.declared.TheConstants.{T3_5_TICKS};
+ghost use Rattle.line_stamps.specs.declared.capture.CaptureByte.{CaptureByte};
+ghost use Rattle.line_stamps.specs.declared.timing.Spacing.TheVariants.{ByTime, ByRecord};
+ghost use Rattle.line_stamps.specs.declared.timing.Timing.{Timing};
+ghost use Rattle.line_stamps.specs.Parts.{character};
+ghost use Rattle.line_stamps.specs.Places.{Spot, placed, line_of, spot_of};
+ghost use Rattle.line_stamps.specs.Clock.{AllNext, KeepsEdges, KeepsTime, silent_ticks};
+
+/// A law of the definitions: the line of a capture has the same bytes in the same order.
+pub fn same_bytes_in_the_same_order()
+    ensures { (t : Timing) (cs : List CaptureByte)
+        → bytes_in (line_of t cs) ≡ map (λ c. c.byte) cs }
+{}
+
+/// A law of the definitions, for captures that are placed by their times: no silence is rounded
+/// across 1.5 or 3.5 characters.
+pub fn silences_keep_their_edges()
+    ensures { (t : Timing) (cs : List CaptureByte) → t.spacing ≡ ByTime
+        → AllNext (λ x y. KeepsEdges (character t.rate) x.spot y.spot) (placed t cs) }
+{}
+
+/// A law of the definitions, for captures that are placed by their times: the ticks between two
+/// bytes are at most half a tick off, and drift is taken up in silences above 320 ticks alone,
+/// never below 320.
+pub fn ticks_keep_to_the_times()
+    ensures { (t : Timing) (cs : List CaptureByte) → t.spacing ≡ ByTime
+        → AllNext (λ x y. KeepsTime (character t.rate) x.spot y.spot) (placed t cs) }
+{}
+
+/// A law of the definitions, for captures whose records are taken for frames: four silent ticks or
+/// more stand before the first byte of a record behind another one, and none before the others.
+pub fn records_are_parted()
+    ensures first { (t : Timing) (before : Spot) (c : CaptureByte) → t.spacing ≡ ByRecord
+        → c.first ≡ true
+        → T3_5_TICKS ≤ silent_ticks (character t.rate) before (spot_of t (Some before) c) }
+    ensures further { (t : Timing) (before : Spot) (c : CaptureByte) → t.spacing ≡ ByRecord
+        → c.first ≡ false
+        → silent_ticks (character t.rate) before (spot_of t (Some before) c) ≡ 0 }
+{}
