@@ -87,11 +87,11 @@ module _ (one : ℕ) (some : 0 < one) (x y : Spot)
         omega arith;
   }
 
-character-some : (t : Timing) → 0 < character t.rate
+pub character-some : (t : Timing) → 0 < character t.rate
 character-some t = let few : 10 ≤ t.rate.bits = t.rate.fewest_bits in omega arith
 
 -- where a byte stands after another, by time
-spot-is : (t : Timing) → t.spacing ≡ ByTime → (before : Spot) (c : CaptureByte)
+pub spot-is : (t : Timing) → t.spacing ≡ ByTime → (before : Spot) (c : CaptureByte)
     → (spot_of t (Some before) c).tick
     ≡ tick_at (ticks_apart ((spot_of t (Some before) c).time - before.time) (character t.rate))
     before.tick (spot_of t (Some before) c).time (character t.rate)

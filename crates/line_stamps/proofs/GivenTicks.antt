@@ -39,3 +39,38 @@ module _ (one off : ℕ) (some : 0 < one) (small : 2 * off < one) (start : ℕ �
       sym (add-mul (m + k - r) r one) ∙ ap (λ n. n * one) (omega arith) in
       let f : (m + k) * one ≡ m * one + k * one = add-mul m k one in
       rounded-is one some time k (omega arith) (omega arith)
+
+  module _ (m r k next : ℕ) (time later : ℕ) (from : m ≤ r) (before : r ≤ m + k)
+      (is : time ≡ start r - start m + (m + k - r) * one) where
+    -- From there to the start of a later tick it is the difference of the two ticks.
+    pub stamped-apart : k < next → later ≡ start (m + next) - start m
+        → ticks_apart (later - time) one ≡ next - k
+    stamped-apart behind at =
+        let rises = start-rises m r from in
+        let rises' = start-rises m (m + next) (omega arith) in
+        let a = most (m + next) in
+        let b = least (m + next) in
+        let a' = most r in
+        let b' = least r in
+        let e : (m + k - r) * one + r * one ≡ (m + k) * one =
+        sym (add-mul (m + k - r) r one) ∙ ap (λ n. n * one) (omega arith) in
+        let f : (next - k) * one + (m + k) * one ≡ (m + next) * one =
+        sym (add-mul (next - k) (m + k) one) ∙ ap (λ n. n * one) (omega arith) in
+        let g : one ≤ (next - k) * one =
+        (let w : 1 ≤ next - k = omega arith in
+        let h : 1 * one ≤ (next - k) * one = mul-le-mul_right one w in omega arith) in
+        apart-is one some (later - time) (next - k) (omega arith) (omega arith) (omega arith)
+
+    -- To the end of its character it is one.
+    pub following-apart : later ≡ time + one → ticks_apart (later - time) one ≡ 1
+    following-apart at =
+        apart-is one some (later - time) 1 (omega arith) (omega arith) (omega arith)
+
+  -- The tick of a later byte, so many ticks after the one before, drift taken up or not.
+  pub tick-later : (k next time : ℕ) → k < next → rounded time one ≡ next
+      → tick_at (next - k) k time one ≡ next
+  tick-later k next time behind is =
+      ⊎_elim
+      (λ (far : 321 < next - k). tick-far (next - k) k time one far ∙ omega arith)
+      (λ (near : next - k ≤ 321). tick-near (next - k) k time one near ∙ omega arith)
+      (cases_lt 321 (next - k))

@@ -5,3 +5,4 @@ mod Words
 mod RoundingLaws
 mod Clocks
 mod GivenTicks
+mod GivenLines

@@ -1,15 +1,31 @@
 -- Ticks as times of a capture.
-use Rattle.std.specs.Prelude.{◌≡◌, ℕ, suc, ◌+◌, ◌*◌, true, false, List, [], ◌∷◌, Option, Some, None}
+use Rattle.std.specs.Prelude.{◌≡◌, ℕ, suc, ◌+◌, ◌*◌, true, false, List, [], ◌∷◌, ◌++◌, Option, Some, None}
+use Rattle.yasir_ticks.specs.Ticks.{silent}
 use Rattle.yasir_ticks.specs.declared.tick.Tick.{Tick}
 use Rattle.yasir_ticks.specs.declared.tick.Tick.TheVariants.{Silent, Byte}
 use Rattle.line_stamps.specs.declared.capture.CaptureByte.{CaptureByte}
 use Rattle.line_stamps.specs.declared.rate.Rate.{Rate}
+use Rattle.line_stamps.specs.declared.timing.Spacing.TheVariants.{ByTime}
+use Rattle.line_stamps.specs.declared.timing.Timing.{Timing}
+use Rattle.line_stamps.specs.Places.{line_of}
 use Rattle.line_stamps.specs.Parts.{character, rounded}
 
 -- When a tick starts, in nanoseconds since tick 0, where a capture counts time in units of so many
 -- nanoseconds: the nearest whole number of units, a half up.
 abbrev pub tick_start : Rate → ℕ → ℕ → ℕ
 tick_start rate unit tick = unit * rounded (tick * character rate) (rate.baud * unit)
+
+-- how a capture is placed whose tick 0 is tick m of the line that was given, since an epoch
+abbrev pub taken_from : Rate → ℕ → ℕ → ℕ → Timing
+taken_from rate unit epoch m = record {
+  rate = rate;
+  spacing = ByTime;
+  origin = epoch + tick_start rate unit m;
+}
+
+-- A capture is taken as this line, up to the silence behind its last byte.
+abbrev pub IsTakenAs : Timing → List CaptureByte → List Tick → Type 0
+IsTakenAs t cs line = (n : ℕ) × (line ≡ line_of t cs ++ silent n)
 
 -- a byte, and its tick
 pub record ByteAt : Type 0 where

@@ -1,11 +1,14 @@
 //! Laws of the definitions: how a line keeps to the times of a capture.
 
-ghost use Rattle.std.specs.Prelude.{◌≡◌, ℕ, ◌+◌, ◌*◌, ◌<◌, ◌≤◌, true, false, List, map, Some};
+ghost use Rattle.std.specs.Prelude.{◌≡◌, ℕ, ◌+◌, ◌*◌, ◌<◌, ◌≤◌, true, false, List, map, Some, None};
 ghost use Rattle.yasir_ticks.specs.Ticks.{bytes_in};
+ghost use Rattle.yasir_ticks.specs.declared.tick.Tick.{Tick};
 ghost use Rattle.yasir_ticks.specs.declared.TheConstants.{T3_5_TICKS};
 ghost use Rattle.line_stamps.specs.declared.capture.CaptureByte.{CaptureByte};
 ghost use Rattle.line_stamps.specs.declared.timing.Spacing.TheVariants.{ByTime, ByRecord};
 ghost use Rattle.line_stamps.specs.declared.timing.Timing.{Timing};
+ghost use Rattle.line_stamps.specs.declared.rate.Rate.{Rate};
+ghost use Rattle.line_stamps.specs.Giving.{bytes_from, AreGiven, taken_from, IsTakenAs};
 ghost use Rattle.line_stamps.specs.Parts.{character};
 ghost use Rattle.line_stamps.specs.Places.{Spot, placed, line_of, spot_of};
 ghost use Rattle.line_stamps.specs.Clock.{AllNext, KeepsEdges, KeepsTime, silent_ticks};
@@ -40,4 +43,15 @@ pub fn records_are_parted()
     ensures further { (t : Timing) (before : Spot) (c : CaptureByte) → t.spacing ≡ ByRecord
         → c.first ≡ false
         → silent_ticks (character t.rate) before (spot_of t (Some before) c) ≡ 0 }
+{}
+
+/// A law of the definitions: bytes that were given as times of a capture are taken as the same
+/// ticks, in whatever records they were given, as long as the unit of its times is below half a
+/// character. Here tick `m` is where the taken line begins, and what is behind its last byte is
+/// silence, which a capture doesn't tell.
+pub fn what_was_given_is_taken()
+    ensures { (rate : Rate) (unit epoch m : ℕ) (rest : List Tick) (cs : List CaptureByte)
+        → 0 < unit → 2 * (unit * rate.baud) < character rate
+        → AreGiven rate unit epoch None (bytes_from m rest) cs
+        → IsTakenAs (taken_from rate unit epoch m) cs rest }
 {}

@@ -1,0 +1,7 @@
+use Rattle.std.proofs.Common.{None}
+use Rattle.line_stamps.proofs.GivenLines.{given-line}
+use Rattle.line_stamps.proofs.laws.what_was_given_is_taken.Goals as goal
+
+pub returns : goal.returns
+returns c = λ rate unit epoch m rest cs some small given.
+    given-line rate unit epoch m some small rest cs given
