@@ -3,6 +3,6 @@ mod Taking
 mod Numbers
 mod Words
 mod RoundingLaws
-mod Clocks
+pub mod Clocks
 mod GivenTicks
 mod GivenLines

@@ -1,0 +1,2 @@
+mod TimedBursts
+mod TimedReads

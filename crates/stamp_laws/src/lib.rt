@@ -1,0 +1,6 @@
+//! What devices read of the line of a capture: laws of its definitions.
+#![tactic(auto)]
+
+mod rtu_law;
+
+pub use rtu_law::times_tell_what_is_read;
