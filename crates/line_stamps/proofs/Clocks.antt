@@ -1,9 +1,9 @@
 -- The ticks of a line keep to the times of a capture.
 use Rattle.std.proofs.Common.{◌≡◌, ◌∙◌, ℕ, suc, ◌+◌, ◌-◌, ◌*◌, ◌<◌, ◌≤◌, ◌↔◌, ◌⊎◌, ⊎_elim, inl, inr}
 use Rattle.std.proofs.Common.{List, [], ◌∷◌, Option, Some, None, nat_lt, sym, ap, arith, max, lit<}
-use Rattle.std.proofs.Common.{map, refl, subst}
+use Rattle.std.proofs.Common.{map, refl, subst, Bool, true, false, add-one}
 use Rattle.std.proofs.Math.Nat.{mul-le-mul_right}
-use Rattle.std.proofs.lemmas.Bool.{cases_lt, cond-true, cond-false, lt-ltb, le-ltb}
+use Rattle.std.proofs.lemmas.Bool.{cases_lt, cases_Bool, cond-true, cond-false, lt-ltb, le-ltb}
 use Rattle.yasir_ticks.specs.Ticks.{bytes_in}
 use Rattle.yasir_ticks.specs.declared.tick.Tick.TheVariants.{Byte}
 use Rattle.yasir_ticks.proofs.SilenceLaws.{bytes_in-silent}
@@ -14,10 +14,11 @@ use Rattle.line_stamps.specs.declared.timing.Spacing.TheVariants.{ByTime, ByReco
 use Rattle.line_stamps.specs.declared.timing.Timing.{Timing}
 use Rattle.line_stamps.specs.Parts.{character, rounded, ticks_apart}
 use Rattle.line_stamps.specs.Places.{Spot, PlacedByte, tick_at, spot_of, start_of, steps_apart}
-use Rattle.line_stamps.specs.Places.{placed_from, placed, ticks_from}
+use Rattle.line_stamps.specs.Places.{placed_at, placed_from, placed, ticks_from}
 use Rattle.line_stamps.specs.Clock.{AllNext, KeepsEdges, KeepsTime, WithinHalf}
+use Rattle.line_stamps.specs.Clock.{ArePartedRecords}
 use Rattle.line_stamps.proofs.RoundingLaws.{apart-some, apart-inside, apart-end, apart-most}
-use Rattle.line_stamps.proofs.RoundingLaws.{apart-least, rounded-most, rounded-some}
+use Rattle.line_stamps.proofs.RoundingLaws.{apart-is, apart-least, rounded-most, rounded-some}
 
 -- what the tick of a byte is, where drift is taken up and where it isn't
 pub tick-far : (n before time one : ℕ) → suc DRIFT_SILENCE < n
@@ -28,25 +29,25 @@ pub tick-near : (n before time one : ℕ) → n ≤ suc DRIFT_SILENCE
     → tick_at n before time one ≡ before + n
 tick-near n before time one h = cond-false _ _ _ (le-ltb (suc DRIFT_SILENCE) n h)
 
-module _ (one : ℕ) (some : 0 < one) (x y : Spot)
-    (is : y.tick ≡ tick_at (ticks_apart (y.time - x.time) one) x.tick y.time one) where
+module _ (one : ℕ) (some : 0 < one) (x y : PlacedByte)
+    (is : y.spot.tick ≡ tick_at (ticks_apart (y.spot.time - x.spot.time) one) x.spot.tick y.spot.time one) where
   pub keeps-edges : KeepsEdges one x y
   keeps-edges =
-      let i = apart-inside one some (y.time - x.time) in
-      let e = apart-end one some (y.time - x.time) in
-      let s = apart-some one some (y.time - x.time) in
+      let i = apart-inside one some (y.spot.time - x.spot.time) in
+      let e = apart-end one some (y.spot.time - x.spot.time) in
+      let s = apart-some one some (y.spot.time - x.spot.time) in
       ⊎_elim
-      (λ far. let t : y.tick ≡ max (rounded y.time one) (x.tick + 321) =
-      is ∙ tick-far (ticks_apart (y.time - x.time) one) x.tick y.time one far in
-      let m : x.tick + 321 ≤ y.tick = omega arith in
-      let long : 9 * one ≤ 2 * (y.time - x.time) = e.0 (omega arith) in
+      (λ far. let t : y.spot.tick ≡ max (rounded y.spot.time one) (x.spot.tick + 321) =
+      is ∙ tick-far (ticks_apart (y.spot.time - x.spot.time) one) x.spot.tick y.spot.time one far in
+      let m : x.spot.tick + 321 ≤ y.spot.tick = omega arith in
+      let long : 9 * one ≤ 2 * (y.spot.time - x.spot.time) = e.0 (omega arith) in
       record {
         later = omega arith;
         inside = (λ h. absurd (omega arith), λ h. absurd (omega arith));
         end = (λ h. omega arith, λ h. omega arith);
       })
-      (λ near. let t : y.tick ≡ x.tick + ticks_apart (y.time - x.time) one =
-      is ∙ tick-near (ticks_apart (y.time - x.time) one) x.tick y.time one near in
+      (λ near. let t : y.spot.tick ≡ x.spot.tick + ticks_apart (y.spot.time - x.spot.time) one =
+      is ∙ tick-near (ticks_apart (y.spot.time - x.spot.time) one) x.spot.tick y.spot.time one near in
       record {
         later = omega arith;
         inside = (
@@ -58,32 +59,32 @@ module _ (one : ℕ) (some : 0 < one) (x y : Spot)
           λ h. let k = e.1 (omega arith) in omega arith,
         );
       })
-      (cases_lt 321 (ticks_apart (y.time - x.time) one))
+      (cases_lt 321 (ticks_apart (y.spot.time - x.spot.time) one))
 
   pub keeps-time : KeepsTime one x y
   keeps-time = record {
-    near = λ apart few. let t : y.tick ≡ x.tick + ticks_apart (y.time - x.time) one =
-        is ∙ tick-near (ticks_apart (y.time - x.time) one) x.tick y.time one few in
-        let steps : y.tick - x.tick ≡ ticks_apart (y.time - x.time) one = omega arith in
-        let P : ℕ → Type 0 = λ k. WithinHalf one k (y.time - x.time) in
+    near = λ apart few. let t : y.spot.tick ≡ x.spot.tick + ticks_apart (y.spot.time - x.spot.time) one =
+        is ∙ tick-near (ticks_apart (y.spot.time - x.spot.time) one) x.spot.tick y.spot.time one few in
+        let steps : y.spot.tick - x.spot.tick ≡ ticks_apart (y.spot.time - x.spot.time) one = omega arith in
+        let P : ℕ → Type 0 = λ k. WithinHalf one k (y.spot.time - x.spot.time) in
         subst P (sym steps)
-        (apart-most one some (y.time - x.time) apart, apart-least one some (y.time - x.time) apart);
-    far = λ far. let t : y.tick ≡ max (rounded y.time one) (x.tick + 321) =
-        is ∙ tick-far (ticks_apart (y.time - x.time) one) x.tick y.time one far in
-        let most = rounded-most one some y.time in
-        let least = rounded-some one some y.time in
+        (apart-most one some (y.spot.time - x.spot.time) apart, apart-least one some (y.spot.time - x.spot.time) apart);
+    far = λ far. let t : y.spot.tick ≡ max (rounded y.spot.time one) (x.spot.tick + 321) =
+        is ∙ tick-far (ticks_apart (y.spot.time - x.spot.time) one) x.spot.tick y.spot.time one far in
+        let most = rounded-most one some y.spot.time in
+        let least = rounded-some one some y.spot.time in
         ⊎_elim
-        (λ ahead. let left : y.tick ≡ x.tick + 321 = omega arith in
-        let more : suc (rounded y.time one) ≤ y.tick = omega arith in
-        let long : suc (rounded y.time one) * one ≤ y.tick * one = mul-le-mul_right one more in
-        let e : suc (rounded y.time one) * one ≡ rounded y.time one * one + one = omega arith in
+        (λ ahead. let left : y.spot.tick ≡ x.spot.tick + 321 = omega arith in
+        let more : suc (rounded y.spot.time one) ≤ y.spot.tick = omega arith in
+        let long : suc (rounded y.spot.time one) * one ≤ y.spot.tick * one = mul-le-mul_right one more in
+        let e : suc (rounded y.spot.time one) * one ≡ rounded y.spot.time one * one + one = omega arith in
         inr (omega arith, omega arith))
-        (λ behind. let there : y.tick ≡ rounded y.time one = omega arith in
-        let P : ℕ → Type 0 = λ k. WithinHalf one k y.time in
+        (λ behind. let there : y.spot.tick ≡ rounded y.spot.time one = omega arith in
+        let P : ℕ → Type 0 = λ k. WithinHalf one k y.spot.time in
         inl (subst P (sym there) (most, omega arith)))
-        (cases_lt (rounded y.time one) (x.tick + 321));
-    long = λ far. let t : y.tick ≡ max (rounded y.time one) (x.tick + 321) =
-        is ∙ tick-far (ticks_apart (y.time - x.time) one) x.tick y.time one far in
+        (cases_lt (rounded y.spot.time one) (x.spot.tick + 321));
+    long = λ far. let t : y.spot.tick ≡ max (rounded y.spot.time one) (x.spot.tick + 321) =
+        is ∙ tick-far (ticks_apart (y.spot.time - x.spot.time) one) x.spot.tick y.spot.time one far in
         omega arith;
   }
 
@@ -99,31 +100,85 @@ spot-is t by-time before c =
     ap (λ s. tick_at (steps_apart s c.first ((spot_of t (Some before) c).time - before.time)
     (character t.rate)) before.tick (spot_of t (Some before) c).time (character t.rate)) by-time
 
-module _ (t : Timing) (Related : Spot → Spot → Type 0)
-    (step : (before : Spot) (c : CaptureByte) → Related before (spot_of t (Some before) c)) where
-  each-next : (before : Spot) (byte : ℕ) (cs : List CaptureByte)
-      → AllNext (λ x y. Related x.spot y.spot)
-      (let x : PlacedByte = record { spot = before; byte = byte } in x ∷ placed_from t (Some before) cs)
-  each-next before byte [] = tt
-  each-next before byte (c ∷ cs) =
-      (step before c, each-next (spot_of t (Some before) c) c.byte cs)
+module _ (t : Timing) (Related : PlacedByte → PlacedByte → Type 0)
+    (step : (x : PlacedByte) (c : CaptureByte)
+    → Related x (placed_at (spot_of t (Some x.spot) c) c)) where
+  each-next : (x : PlacedByte) (cs : List CaptureByte)
+      → AllNext Related (x ∷ placed_from t (Some x.spot) cs)
+  each-next x [] = tt
+  each-next x (c ∷ cs) = (step x c, each-next (placed_at (spot_of t (Some x.spot) c) c) cs)
 
-  pub all-next : (cs : List CaptureByte) → AllNext (λ x y. Related x.spot y.spot) (placed t cs)
+  pub all-next : (cs : List CaptureByte) → AllNext Related (placed t cs)
   all-next [] = tt
-  all-next (c ∷ cs) = each-next (spot_of t None c) c.byte cs
+  all-next (c ∷ cs) = each-next (placed_at (spot_of t None c) c) cs
 
 module _ (t : Timing) (by-time : t.spacing ≡ ByTime) (cs : List CaptureByte) where
-  pub edges-kept : AllNext (λ x y. KeepsEdges (character t.rate) x.spot y.spot) (placed t cs)
+  pub edges-kept : AllNext (KeepsEdges (character t.rate)) (placed t cs)
   edges-kept =
       all-next t (KeepsEdges (character t.rate))
-      (λ before c. keeps-edges (character t.rate) (character-some t) before
-      (spot_of t (Some before) c) (spot-is t by-time before c)) cs
+      (λ x c. keeps-edges (character t.rate) (character-some t) x
+      (placed_at (spot_of t (Some x.spot) c) c) (spot-is t by-time x.spot c)) cs
 
-  pub times-kept : AllNext (λ x y. KeepsTime (character t.rate) x.spot y.spot) (placed t cs)
+  pub times-kept : AllNext (KeepsTime (character t.rate)) (placed t cs)
   times-kept =
       all-next t (KeepsTime (character t.rate))
-      (λ before c. keeps-time (character t.rate) (character-some t) before
-      (spot_of t (Some before) c) (spot-is t by-time before c)) cs
+      (λ x c. keeps-time (character t.rate) (character-some t) x
+      (placed_at (spot_of t (Some x.spot) c) c) (spot-is t by-time x.spot c)) cs
+
+-- a tick that is so many behind the one before, drift taken up or not
+tick-five : (n before time one : ℕ) → 5 ≤ n → before + 5 ≤ tick_at n before time one
+tick-five n before time one h =
+    ⊎_elim (λ (far : 321 < n). rw (tick-far n before time one far) (omega arith))
+    (λ (near : n ≤ 321). rw (tick-near n before time one near) (omega arith))
+    (cases_lt 321 n)
+
+-- where a byte stands after another, where records are taken for frames
+module _ (t : Timing) (by-record : t.spacing ≡ ByRecord) (x : PlacedByte) (c : CaptureByte) where
+  abbrev there : PlacedByte
+  there = placed_at (spot_of t (Some x.spot) c) c
+
+  abbrev tick-by : Bool → ℕ
+  tick-by first =
+      tick_at (steps_apart ByRecord first (there.spot.time - x.spot.time) (character t.rate))
+      x.spot.tick there.spot.time (character t.rate)
+
+  tick-by-record : there.spot.tick ≡ tick-by c.first
+  tick-by-record =
+      ap (λ s. tick_at (steps_apart s c.first (there.spot.time - x.spot.time) (character t.rate))
+      x.spot.tick there.spot.time (character t.rate)) by-record
+
+  begins : c.first ≡ true → x.spot.tick + 5 ≤ there.spot.tick
+  begins first =
+      let five : x.spot.tick + 5 ≤ tick-by true =
+      tick-five (max (ticks_apart (there.spot.time - x.spot.time) (character t.rate)) 5) x.spot.tick
+      there.spot.time (character t.rate) (omega arith) in
+      rw tick-by-record (subst (λ (b : Bool). x.spot.tick + 5 ≤ tick-by b) (sym first) five)
+
+  goes-on : c.first ≡ false → there.spot.tick ≡ suc x.spot.tick
+  goes-on further =
+      let start : there.spot.time ≡ x.spot.time + character t.rate = cond-false _ _ _ further in
+      let some = character-some t in
+      let gap : there.spot.time - x.spot.time ≡ character t.rate = omega arith in
+      let step : ticks_apart (there.spot.time - x.spot.time) (character t.rate) ≡ 1 =
+      ap (λ g. ticks_apart g (character t.rate)) gap
+      ∙ apart-is (character t.rate) some (character t.rate) 1 (omega arith) (omega arith)
+      (omega arith) in
+      let near : tick-by false ≡ x.spot.tick + 1 =
+      ap (λ n. tick_at n x.spot.tick there.spot.time (character t.rate)) step
+      ∙ tick-near 1 x.spot.tick there.spot.time (character t.rate) (omega arith) in
+      tick-by-record ∙ (ap tick-by further ∙ (near ∙ add-one x.spot.tick))
+
+  parted : ArePartedRecords x there
+  parted = record {
+    later = ⊎_elim (λ first. let h = begins first in omega arith)
+        (λ further. let h = goes-on further in omega arith) (cases_Bool c.first);
+    begins = λ first. let h = begins first in omega arith;
+    goes_on = λ further. let h = goes-on further in omega arith;
+  }
+
+pub records-parted : (t : Timing) → t.spacing ≡ ByRecord → (cs : List CaptureByte)
+    → AllNext ArePartedRecords (placed t cs)
+records-parted t by-record cs = all-next t ArePartedRecords (parted t by-record) cs
 
 -- the bytes of the line, from whatever tick and byte on
 pub same-bytes : (t : Timing) (last : Option Spot) (n : ℕ) (cs : List CaptureByte)

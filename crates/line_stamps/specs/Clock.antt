@@ -1,8 +1,10 @@
 -- How the ticks of a line keep to the times of a capture.
 use Rattle.std.specs.Prelude.{◌≡◌, ◌↔◌, ◌⊎◌, ℕ, suc, ◌+◌, ◌-◌, ◌*◌, ◌<◌, ◌≤◌, List, [], ◌∷◌}
+use Rattle.std.specs.Prelude.{true, false}
+use Rattle.yasir_ticks.specs.declared.TheConstants.{T3_5_TICKS}
 use Rattle.line_stamps.specs.declared.TheConstants.{DRIFT_SILENCE}
 use Rattle.line_stamps.specs.Parts.{ticks_apart}
-use Rattle.line_stamps.specs.Places.{Spot}
+use Rattle.line_stamps.specs.Places.{PlacedByte}
 
 -- Each of these and the next one are related.
 abbrev pub AllNext : {A : Type 0} → (A → A → Type 0) → List A → Type 0
@@ -10,20 +12,30 @@ AllNext Related [] = Unit {0}
 AllNext Related (x ∷ []) = Unit {0}
 AllNext Related (x ∷ y ∷ more) = Related x y × AllNext Related (y ∷ more)
 
+-- the time from the start of one byte to that of the next, none where the two are in the wrong order
+abbrev pub time_between : PlacedByte → PlacedByte → ℕ
+time_between x y = y.spot.time - x.spot.time
+
+-- the silent ticks between two bytes
+abbrev pub silent_ticks : PlacedByte → PlacedByte → ℕ
+silent_ticks x y = y.spot.tick - suc x.spot.tick
+
+-- Four silent ticks or more stand before the first byte of a record, and none before the others.
+pub record ArePartedRecords (x y : PlacedByte) : Type 0 where
+  pub later : x.spot.tick < y.spot.tick
+  pub begins : y.first ≡ true → T3_5_TICKS ≤ silent_ticks x y
+  pub goes_on : y.first ≡ false → silent_ticks x y ≡ 0
+
 module _ (character : ℕ) where
   -- the silence between two bytes: the time from the end of one to the start of the next, none
   -- where they overlap
-  abbrev pub silence : Spot → Spot → ℕ
-  silence x y = y.time - (x.time + character)
-
-  -- the silent ticks between two bytes
-  abbrev pub silent_ticks : Spot → Spot → ℕ
-  silent_ticks x y = y.tick - suc x.tick
+  abbrev pub silence : PlacedByte → PlacedByte → ℕ
+  silence x y = y.spot.time - (x.spot.time + character)
 
   -- At most one silent tick stands for exactly the silences of at most 1.5 characters, and four or
   -- more for exactly those of at least 3.5.
-  pub record KeepsEdges (x y : Spot) : Type 0 where
-    pub later : x.tick < y.tick
+  pub record KeepsEdges (x y : PlacedByte) : Type 0 where
+    pub later : x.spot.tick < y.spot.tick
     pub inside : (silent_ticks x y ≤ 1) ↔ (2 * silence x y ≤ 3 * character)
     pub end : (4 ≤ silent_ticks x y) ↔ (7 * character ≤ 2 * silence x y)
 
@@ -36,12 +48,12 @@ module _ (character : ℕ) where
   -- The ticks from one byte to the next are at most half a tick off, unless the two overlap. Only
   -- in silences above 320 ticks drift is taken up: there the tick of a byte is at most half a tick
   -- off from its time, or 320 silent ticks are left and the line is still ahead.
-  pub record KeepsTime (x y : Spot) : Type 0 where
-    pub near : character ≤ 2 * (y.time - x.time)
-        → ticks_apart (y.time - x.time) character ≤ suc DRIFT_SILENCE
-        → WithinHalf (y.tick - x.tick) (y.time - x.time)
-    pub far : suc DRIFT_SILENCE < ticks_apart (y.time - x.time) character
-        → WithinHalf y.tick y.time
-        ⊎ (silent_ticks x y ≡ DRIFT_SILENCE) × (y.time < y.tick * character)
-    pub long : suc DRIFT_SILENCE < ticks_apart (y.time - x.time) character
+  pub record KeepsTime (x y : PlacedByte) : Type 0 where
+    pub near : character ≤ 2 * time_between x y
+        → ticks_apart (time_between x y) character ≤ suc DRIFT_SILENCE
+        → WithinHalf (y.spot.tick - x.spot.tick) (time_between x y)
+    pub long : suc DRIFT_SILENCE < ticks_apart (time_between x y) character
         → DRIFT_SILENCE ≤ silent_ticks x y
+    pub far : suc DRIFT_SILENCE < ticks_apart (time_between x y) character
+        → WithinHalf y.spot.tick y.spot.time
+        ⊎ (silent_ticks x y ≡ DRIFT_SILENCE) × (y.spot.time < y.spot.tick * character)

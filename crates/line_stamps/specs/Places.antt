@@ -61,16 +61,20 @@ abbrev pub next_tick : Option Spot → ℕ
 next_tick None = 0
 next_tick (Some spot) = suc spot.tick
 
--- a byte, and where it stands
+-- a byte, where it stands, and whether it is the first one of its record
 pub record PlacedByte : Type 0 where
   pub spot : Spot
   pub byte : ℕ
+  pub first : Bool
+
+abbrev pub placed_at : Spot → CaptureByte → PlacedByte
+placed_at spot c = record { spot = spot; byte = c.byte; first = c.first }
 
 -- where bytes stand that come after one that stands there, if there is one
 abbrev pub placed_from : Timing → Option Spot → List CaptureByte → List PlacedByte
 placed_from t last [] = []
 placed_from t last (c ∷ cs) =
-    record { spot = spot_of t last c; byte = c.byte } ∷ placed_from t (Some (spot_of t last c)) cs
+    placed_at (spot_of t last c) c ∷ placed_from t (Some (spot_of t last c)) cs
 
 -- where the bytes of one way of a capture stand
 abbrev pub placed : Timing → List CaptureByte → List PlacedByte

@@ -11,7 +11,7 @@ ghost use Rattle.line_stamps.specs.declared.rate.Rate.{Rate};
 ghost use Rattle.line_stamps.specs.Giving.{bytes_from, AreGiven, taken_from, IsTakenAs};
 ghost use Rattle.line_stamps.specs.Parts.{character};
 ghost use Rattle.line_stamps.specs.Places.{Spot, placed, line_of, spot_of};
-ghost use Rattle.line_stamps.specs.Clock.{AllNext, KeepsEdges, KeepsTime, silent_ticks};
+ghost use Rattle.line_stamps.specs.Clock.{AllNext, KeepsEdges, KeepsTime, ArePartedRecords};
 
 /// A law of the definitions: the line of a capture has the same bytes in the same order.
 pub fn same_bytes_in_the_same_order()
@@ -23,7 +23,7 @@ pub fn same_bytes_in_the_same_order()
 /// across 1.5 or 3.5 characters.
 pub fn silences_keep_their_edges()
     ensures { (t : Timing) (cs : List CaptureByte) → t.spacing ≡ ByTime
-        → AllNext (λ x y. KeepsEdges (character t.rate) x.spot y.spot) (placed t cs) }
+        → AllNext (KeepsEdges (character t.rate)) (placed t cs) }
 {}
 
 /// A law of the definitions, for captures that are placed by their times: the ticks between two
@@ -31,18 +31,14 @@ pub fn silences_keep_their_edges()
 /// never below 320.
 pub fn ticks_keep_to_the_times()
     ensures { (t : Timing) (cs : List CaptureByte) → t.spacing ≡ ByTime
-        → AllNext (λ x y. KeepsTime (character t.rate) x.spot y.spot) (placed t cs) }
+        → AllNext (KeepsTime (character t.rate)) (placed t cs) }
 {}
 
 /// A law of the definitions, for captures whose records are taken for frames: four silent ticks or
 /// more stand before the first byte of a record behind another one, and none before the others.
 pub fn records_are_parted()
-    ensures first { (t : Timing) (before : Spot) (c : CaptureByte) → t.spacing ≡ ByRecord
-        → c.first ≡ true
-        → T3_5_TICKS ≤ silent_ticks (character t.rate) before (spot_of t (Some before) c) }
-    ensures further { (t : Timing) (before : Spot) (c : CaptureByte) → t.spacing ≡ ByRecord
-        → c.first ≡ false
-        → silent_ticks (character t.rate) before (spot_of t (Some before) c) ≡ 0 }
+    ensures { (t : Timing) (cs : List CaptureByte) → t.spacing ≡ ByRecord
+        → AllNext ArePartedRecords (placed t cs) }
 {}
 
 /// A law of the definitions: bytes that were given as times of a capture are taken as the same
