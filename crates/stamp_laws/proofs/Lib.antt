@@ -1,2 +1,4 @@
-mod TimedBursts
-mod TimedReads
+mod CutLines
+mod CutReads
+mod ByTimes
+mod ByRecords

@@ -3,4 +3,4 @@
 
 mod rtu_law;
 
-pub use rtu_law::times_tell_what_is_read;
+pub use rtu_law::{records_tell_what_is_read, times_tell_what_is_read};

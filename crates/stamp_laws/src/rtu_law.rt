@@ -1,15 +1,17 @@
-//! A Modbus RTU device reads of the line of a capture what one reads that measures silence by time.
+//! What a Modbus RTU device reads of the line of a capture.
 
 ghost use Rattle.std.specs.Prelude.{◌≡◌, ◌++◌, ◌≤◌, ℕ, List, map};
 ghost use Rattle.yasir_ticks.specs.Ticks.{silent};
 ghost use Rattle.yasir_ticks.specs.declared.TheConstants.{T3_5_TICKS};
 ghost use Rattle.device_model.specs.RtuReads.{rtu_reads};
 ghost use Rattle.line_stamps.specs.declared.capture.CaptureByte.{CaptureByte};
-ghost use Rattle.line_stamps.specs.declared.timing.Spacing.TheVariants.{ByTime};
+ghost use Rattle.line_stamps.specs.declared.timing.Spacing.TheVariants.{ByTime, ByRecord};
 ghost use Rattle.line_stamps.specs.declared.timing.Timing.{Timing};
 ghost use Rattle.line_stamps.specs.Parts.{character};
 ghost use Rattle.line_stamps.specs.Places.{line_of, placed};
-ghost use Rattle.stamp_laws.specs.TimedFrames.{frames_by_time, frame_of};
+ghost use Rattle.stamp_laws.specs.Cuts.{frame_of};
+ghost use Rattle.stamp_laws.specs.RecordFrames.{records_that_are_frames};
+ghost use Rattle.stamp_laws.specs.TimedFrames.{frames_by_time};
 
 /// A law of the definitions, for captures that are placed by their times: what the stated Modbus
 /// RTU device reads of the line, once four silent ticks or more have followed it, is what a device
@@ -19,4 +21,13 @@ pub fn times_tell_what_is_read()
     ensures { (t : Timing) (cs : List CaptureByte) (n : ℕ) → t.spacing ≡ ByTime → T3_5_TICKS ≤ n
         → rtu_reads (line_of t cs ++ silent n)
         ≡ map frame_of (frames_by_time (character t.rate) (placed t cs)) }
+{}
+
+/// A law of the definitions, for captures whose records are taken for frames: what the stated
+/// Modbus RTU device reads of the line, once four silent ticks or more have followed it, is each
+/// record that is a frame, whatever its time, and nothing else.
+pub fn records_tell_what_is_read()
+    ensures { (t : Timing) (cs : List CaptureByte) (n : ℕ) → t.spacing ≡ ByRecord → T3_5_TICKS ≤ n
+        → rtu_reads (line_of t cs ++ silent n)
+        ≡ map frame_of (records_that_are_frames (placed t cs)) }
 {}

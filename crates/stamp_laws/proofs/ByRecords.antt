@@ -1,0 +1,51 @@
+-- Records that are taken for frames tell the silent ticks of a line.
+use Rattle.std.proofs.Common.{◌≡◌, ◌∙◌, ℕ, ◌<◌, ◌≤◌, ⊎_elim, sym, ap, List, [], ◌∷◌, Bool, true, false}
+use Rattle.std.proofs.Common.{nat_lt, nat_le, arith, le-leb, ◌&&◌, not, refl, filter, cond}
+use Rattle.std.proofs.lemmas.Bool.{cases_Bool, le-ltb, lt-leb}
+use Rattle.rtu_frame.specs.Frame.{is_frame}
+use Rattle.line_stamps.specs.Places.{PlacedByte}
+use Rattle.line_stamps.specs.Clock.{AllNext, ArePartedRecords, silent_ticks}
+use Rattle.stamp_laws.specs.Cuts.{any_next, bytes_of}
+use Rattle.stamp_laws.specs.RecordFrames.{begins_record}
+use Rattle.stamp_laws.proofs.CutLines.{AreTold, Told}
+use Rattle.stamp_laws.proofs.CutReads.{is_whole_frame}
+
+-- inside a record there is no silence
+abbrev pub never : PlacedByte → PlacedByte → Bool
+never x y = false
+
+one-told : (x y : PlacedByte) → ArePartedRecords x y → AreTold begins_record never x y
+one-told x y are =
+    ⊎_elim
+    (λ (first : y.first ≡ true). record {
+      later = are.later;
+      ends = first ∙ sym (le-leb 4 (silent_ticks x y) (are.begins first));
+      breaks = λ further. absurd (let no : true ≡ false = sym first ∙ further in cc);
+    })
+    (λ (further : y.first ≡ false). let none = are.goes_on further in record {
+      later = are.later;
+      ends = further ∙ sym (lt-leb 4 (silent_ticks x y) (omega arith));
+      breaks = λ joins. le-ltb 1 (silent_ticks x y) (omega arith);
+    })
+    (cases_Bool y.first)
+
+pub told : (xs : List PlacedByte) → AllNext ArePartedRecords xs → Told begins_record never xs
+told [] are = tt
+told (x ∷ []) are = tt
+told (x ∷ y ∷ more) are = (one-told x y are.0, told (y ∷ more) are.1)
+
+never-next : (z : List PlacedByte) → any_next never z ≡ false
+never-next [] = refl
+never-next (x ∷ []) = refl
+never-next (x ∷ y ∷ more) = never-next (y ∷ more)
+
+whole : (z : List PlacedByte) → is_whole_frame begins_record never z ≡ is_frame (bytes_of z)
+whole z = ap (λ v. not v && is_frame (bytes_of z)) (never-next z)
+
+pub whole-frames : (zs : List (List PlacedByte))
+    → filter (is_whole_frame begins_record never) zs ≡ filter (λ z. is_frame (bytes_of z)) zs
+whole-frames [] = refl
+whole-frames (z ∷ zs) =
+    ap (λ v. cond v (z ∷ filter (is_whole_frame begins_record never) zs)
+    (filter (is_whole_frame begins_record never) zs)) (whole z)
+    ∙ ap (λ w. cond (is_frame (bytes_of z)) (z ∷ w) w) (whole-frames zs)

@@ -1,0 +1,14 @@
+use Rattle.std.proofs.Common.{◌∙◌, ap, map}
+use Rattle.line_stamps.specs.Places.{placed}
+use Rattle.line_stamps.proofs.Clocks.{records-parted}
+use Rattle.stamp_laws.specs.Cuts.{cut_where, frame_of}
+use Rattle.stamp_laws.specs.RecordFrames.{begins_record}
+use Rattle.stamp_laws.proofs.ByRecords.{never, told, whole-frames}
+use Rattle.stamp_laws.proofs.CutReads.{reads-of-parts}
+use Rattle.stamp_laws.proofs.rtu_law.records_tell_what_is_read.Goals as goal
+
+pub returns : goal.returns
+returns c = λ t cs n by-record some.
+    reads-of-parts begins_record never (placed t cs)
+    (told (placed t cs) (records-parted t by-record cs)) n some
+    ∙ ap (λ zs. map frame_of zs) (whole-frames (cut_where begins_record (placed t cs)))
