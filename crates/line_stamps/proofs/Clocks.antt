@@ -1,6 +1,6 @@
 -- The ticks of a line keep to the times of a capture.
-use Rattle.std.proofs.Common.{◌≡◌, ◌∙◌, ℕ, suc, ◌+◌, ◌-◌, ◌*◌, ◌<◌, ◌≤◌, ◌↔◌, ◌⊎◌, ⊎_elim, inl, inr}
-use Rattle.std.proofs.Common.{List, [], ◌∷◌, Option, Some, None, nat_lt, sym, ap, arith, max, lit<}
+use Rattle.std.proofs.Common.{◌≡◌, ◌∙◌, ℕ, suc, ◌+◌, ◌-◌, ◌*◌, ◌<◌, ◌≤◌, ⊎_elim, inl, inr}
+use Rattle.std.proofs.Common.{List, [], ◌∷◌, Option, Some, None, sym, ap, arith, max}
 use Rattle.std.proofs.Common.{map, refl, subst, Bool, true, false, add-one}
 use Rattle.std.proofs.Math.Nat.{mul-le-mul_right}
 use Rattle.std.proofs.lemmas.Bool.{cases_lt, cases_Bool, cond-true, cond-false, lt-ltb, le-ltb}
@@ -9,11 +9,10 @@ use Rattle.yasir_ticks.specs.declared.tick.Tick.TheVariants.{Byte}
 use Rattle.yasir_ticks.proofs.SilenceLaws.{bytes_in-silent}
 use Rattle.line_stamps.specs.declared.TheConstants.{DRIFT_SILENCE}
 use Rattle.line_stamps.specs.declared.capture.CaptureByte.{CaptureByte}
-use Rattle.line_stamps.specs.declared.timing.Spacing.{Spacing}
 use Rattle.line_stamps.specs.declared.timing.Spacing.TheVariants.{ByTime, ByRecord}
 use Rattle.line_stamps.specs.declared.timing.Timing.{Timing}
 use Rattle.line_stamps.specs.Parts.{character, rounded, ticks_apart}
-use Rattle.line_stamps.specs.Places.{Spot, PlacedByte, tick_at, spot_of, start_of, steps_apart}
+use Rattle.line_stamps.specs.Places.{Spot, PlacedByte, tick_at, spot_of, steps_apart}
 use Rattle.line_stamps.specs.Places.{placed_at, placed_from, placed, ticks_from}
 use Rattle.line_stamps.specs.Clock.{AllNext, KeepsEdges, KeepsTime, WithinHalf}
 use Rattle.line_stamps.specs.Clock.{ArePartedRecords}

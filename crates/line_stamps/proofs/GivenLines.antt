@@ -1,9 +1,10 @@
 -- What was given as times of a capture is taken as the same line.
-use Rattle.std.proofs.Common.{◌≡◌, ◌∙◌, ℕ, zero, suc, ◌+◌, ◌-◌, ◌*◌, ◌<◌, ◌≤◌, ⊎_elim, sym, ap, add-mul}
-use Rattle.std.proofs.Common.{List, [], ◌∷◌, ◌++◌, Option, Some, None, Bool, true, false, arith, refl}
-use Rattle.std.proofs.Common.{append_assoc, add-one, subst}
-use Rattle.std.proofs.Math.Nat.{mul-sub, mul_comm}
-use Rattle.std.proofs.lemmas.Bool.{cases_Bool, cond-true, cond-false}
+use Rattle.std.proofs.Common.{◌≡◌, ◌∙◌, ℕ, zero, suc, ◌+◌, ◌-◌, ◌*◌, ◌<◌, ◌≤◌, ⊎_elim, sym, ap}
+use Rattle.std.proofs.Common.{List, [], ◌∷◌, ◌++◌, Option, Some, None, true, false, arith, refl}
+use Rattle.std.proofs.Common.{append_assoc, subst, nat_lt, ◌&&◌}
+use Rattle.std.proofs.Math.Bool.{and-false}
+use Rattle.std.proofs.Math.Nat.{mul-sub, mul_comm, le_of_mul-le-mul_right}
+use Rattle.std.proofs.lemmas.Bool.{cases_Bool, cond-true, cond-false, le-ltb}
 use Rattle.std.proofs.lemmas.List.{append-nil}
 use Rattle.yasir_ticks.specs.Ticks.{silent}
 use Rattle.yasir_ticks.specs.declared.tick.Tick.{Tick}
@@ -15,12 +16,13 @@ use Rattle.line_stamps.specs.declared.timing.Timing.{Timing}
 use Rattle.line_stamps.specs.Parts.{character, rounded, ticks_apart}
 use Rattle.line_stamps.specs.Places.{Spot, spot_of, next_tick, placed_from, ticks_from, tick_at, stamp}
 use Rattle.line_stamps.specs.Places.{start_of}
-use Rattle.line_stamps.specs.Giving.{ByteAt, bytes_from, tick_start, Gives, AreGiven}
+use Rattle.line_stamps.specs.Placing.{is_stamped, is_early, overlaps, NoneRefused}
+use Rattle.line_stamps.specs.Giving.{bytes_from, tick_start, Gives, AreGiven}
 use Rattle.line_stamps.specs.Giving.{IsTakenAs}
 use Rattle.line_stamps.proofs.Clocks.{spot-is}
 use Rattle.line_stamps.proofs.RoundingLaws.{rounded-most, rounded-some}
 use Rattle.line_stamps.proofs.GivenTicks.{tick-is, stamped-apart, following-apart}
-use Rattle.line_stamps.proofs.GivenTicks.{tick-later}
+use Rattle.line_stamps.proofs.GivenTicks.{start-rises, stamped-free, tick-later}
 
 sub-mul : (a b k : ℕ) → (a - b) * k ≡ a * k - b * k
 sub-mul a b k =
@@ -76,6 +78,25 @@ module _ (rate : Rate) (unit epoch m : ℕ) (some : 0 < unit)
   rounded-at r k time from before is =
       tick-is (character rate) (unit * rate.baud) one-some small start most least m r k time from
       before is
+
+  -- A byte with the time stamp of a later tick isn't early.
+  in-time : (k : ℕ) (last : Option Spot) (c : CaptureByte)
+      → c.start ≡ epoch + tick_start rate unit (m + k) → is_early t last c ≡ false
+  in-time k last c at =
+      let rises : start m ≤ start (m + k) =
+      start-rises (character rate) (unit * rate.baud) one-some small start most least m (m + k)
+      (omega arith) in
+      let some-baud : 0 < rate.baud = (let few : 300 ≤ rate.baud = rate.slowest in omega arith) in
+      let later : tick_start rate unit m ≤ tick_start rate unit (m + k) =
+      le_of_mul-le-mul_right rises some-baud in
+      let from : epoch + tick_start rate unit m ≤ c.start = omega arith in
+      ap (λ v. is_stamped last c && v) (le-ltb c.start (epoch + tick_start rate unit m) from)
+      ∙ and-false (is_stamped last c)
+
+  abbrev Free : Option Spot → CaptureByte → Type 0
+  Free last c =
+      (is_early t last c ≡ false)
+      × (overlaps ByTime last (spot_of t last c).time (character rate) ≡ false)
 
   -- the first byte
   first-near : (k : ℕ) (byte : ℕ) (c : CaptureByte)
@@ -145,11 +166,33 @@ module _ (rate : Rate) (unit epoch m : ℕ) (some : 0 < unit)
         (following-apart (character rate) (unit * rate.baud) one-some small start most least m near.r k
         next s.time (s.time + character rate) near.from near.before near.time_is refl ∙ omega arith)
 
+    stamped-apart-free : c.first ≡ true → c.start ≡ epoch + tick_start rate unit (m + next)
+        → Free (Some s) c
+    stamped-apart-free first gives =
+        let at : start_of t (Some s) c ≡ start (m + next) - start m =
+        cond-true _ _ _ first ∙ stamp-is (m + next) c gives in
+        let free : character rate ≤ 2 * (start_of t (Some s) c - s.time) =
+        subst (λ (x : ℕ). character rate ≤ 2 * (x - s.time)) (sym at)
+        (stamped-free (character rate) (unit * rate.baud) one-some small start most least m near.r k
+        next s.time (start (m + next) - start m) near.from near.before near.time_is behind refl) in (
+          in-time next (Some s) c gives,
+          le-ltb (2 * (start_of t (Some s) c - s.time)) (character rate) free,
+        )
+
+    following-free : c.first ≡ false → Free (Some s) c
+    following-free further =
+        let at : start_of t (Some s) c ≡ s.time + character rate = cond-false _ _ _ further in
+        let free : character rate ≤ 2 * (start_of t (Some s) c - s.time) = omega arith in (
+          ap (λ v. v && nat_lt c.start (epoch + tick_start rate unit m)) further,
+          le-ltb (2 * (start_of t (Some s) c - s.time)) (character rate) free,
+        )
+
     later-near : Gives rate unit epoch (Some (m + k)) (record { tick = m + next; byte = byte }) c
-        → Near next (spot_of t (Some s) c)
+        → Near next (spot_of t (Some s) c) × Free (Some s) c
     later-near gives =
-        ⊎_elim (λ first. stamped first (gives.0 first))
-        (λ further. following further (gives.1 further)) (cases_Bool c.first)
+        ⊎_elim (λ first. (stamped first (gives.0 first), stamped-apart-free first (gives.0 first)))
+        (λ further. (following further (gives.1 further), following-free further))
+        (cases_Bool c.first)
 
   -- the byte before stands in its own tick, before the next tick at k behind tick m
   abbrev Follows : ℕ → Option ℕ → Option Spot → Type 0
@@ -161,14 +204,17 @@ module _ (rate : Rate) (unit epoch m : ℕ) (some : 0 < unit)
   follows-near : (k : ℕ) (before : Option ℕ) (last : Option Spot) (b : ℕ) (c : CaptureByte)
       → Follows k before last
       → Gives rate unit epoch before (record { tick = m + k; byte = b }) c
-      → Near k (spot_of t last c) × (next_tick last ≤ k)
-  follows-near k None None b c had gives = (first-near k b c gives, omega arith)
+      → Near k (spot_of t last c) × (next_tick last ≤ k) × Free last c
+  follows-near k None None b c had gives =
+      (first-near k b c gives, omega arith, (in-time k None c gives, refl))
   follows-near k None (Some s) b c had gives = elim had [ ]
   follows-near k (Some p) None b c had gives = elim had [ ]
   follows-near k (Some p) (Some s) b c (j, is, behind, near) gives =
       let gives' : Gives rate unit epoch (Some (m + j)) (record { tick = m + k; byte = b }) c =
-      subst (λ (q : ℕ). Gives rate unit epoch (Some q) (record { tick = m + k; byte = b }) c) is gives in
-      (later-near j s near k b c behind gives', (let e = near.tick_is in omega arith))
+      subst (λ (q : ℕ). Gives rate unit epoch (Some q) (record { tick = m + k; byte = b }) c) is
+      gives in
+      let all = later-near j s near k b c behind gives' in
+      (all.0, (let e = near.tick_is in omega arith), all.1)
 
   follows-later : (k : ℕ) (before : Option ℕ) (last : Option Spot) → Follows k before last
       → Follows (suc k) before last × (next_tick last ≤ k)
@@ -183,8 +229,9 @@ module _ (rate : Rate) (unit epoch m : ℕ) (some : 0 < unit)
       (cs : List CaptureByte) → Follows k before last
       → AreGiven rate unit epoch before (bytes_from (m + k) rest) cs
       → (n : ℕ) × (silent (k - next_tick last) ++ rest
-      ≡ ticks_from (next_tick last) (placed_from t last cs) ++ silent n)
-  same-line [] k before last [] had given = (k - next_tick last, append-nil (silent (k - next_tick last)))
+      ≡ ticks_from (next_tick last) (placed_from t last cs) ++ silent n) × NoneRefused t last cs
+  same-line [] k before last [] had given =
+      (k - next_tick last, append-nil (silent (k - next_tick last)), tt)
   same-line [] k before last (c ∷ cs) had given = elim given [ ]
   same-line (Silent ∷ rest) k before last cs had given =
       let more = follows-later k before last had in
@@ -197,6 +244,7 @@ module _ (rate : Rate) (unit epoch m : ℕ) (some : 0 < unit)
         all.0,
         silent-more (k - next_tick last) rest
             ∙ (ap (λ n. silent n ++ rest) (sym f) ∙ all.1),
+        all.2,
       )
   same-line (Byte b ∷ rest) k before last [] had given = elim given [ ]
   same-line (Byte b ∷ rest) k before last (c ∷ cs) had (same, gives, more) =
@@ -222,11 +270,18 @@ module _ (rate : Rate) (unit epoch m : ℕ) (some : 0 < unit)
             ∙ sym (append_assoc (silent ((spot_of t last c).tick - next_tick last))
             (Byte c.byte ∷ ticks_from (suc (spot_of t last c).tick) (placed_from t (Some (spot_of t last c)) cs))
             (silent all.0)))),
+        (here.2.0, here.2.1, all.2),
       )
 
-  pub given-line : (rest : List Tick) (cs : List CaptureByte)
-      → AreGiven rate unit epoch None (bytes_from m rest) cs → IsTakenAs t cs rest
-  given-line rest cs given =
-      let e : m ≡ m + 0 = omega arith in
-      same-line rest 0 None None cs tt
-      (subst (λ (i : ℕ). AreGiven rate unit epoch None (bytes_from i rest) cs) e given)
+  module _ (rest : List Tick) (cs : List CaptureByte)
+      (given : AreGiven rate unit epoch None (bytes_from m rest) cs) where
+    from-start : AreGiven rate unit epoch None (bytes_from (m + 0) rest) cs
+    from-start =
+        let e : m ≡ m + 0 = omega arith in
+        subst (λ (i : ℕ). AreGiven rate unit epoch None (bytes_from i rest) cs) e given
+
+    pub given-line : IsTakenAs t cs rest
+    given-line = let all = same-line rest 0 None None cs tt from-start in (all.0, all.1)
+
+    pub given-free : NoneRefused t None cs
+    given-free = (same-line rest 0 None None cs tt from-start).2

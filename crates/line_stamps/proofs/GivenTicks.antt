@@ -1,9 +1,9 @@
 -- What was given as times of a capture is taken as the same ticks, over plain numbers: a character
 -- of `one` parts, and starts of ticks in parts, each at most half of `off` parts from its own.
-use Rattle.std.proofs.Common.{◌≡◌, ◌∙◌, ℕ, zero, suc, ◌+◌, ◌-◌, ◌*◌, ◌<◌, ◌≤◌, ⊎_elim, sym, ap, add-mul}
-use Rattle.std.proofs.Common.{arith, max, ◌⊎◌, inl, inr}
+use Rattle.std.proofs.Common.{◌≡◌, ◌∙◌, ℕ, suc, ◌+◌, ◌-◌, ◌*◌, ◌<◌, ◌≤◌, ⊎_elim, sym, ap, add-mul}
+use Rattle.std.proofs.Common.{arith}
 use Rattle.std.proofs.Math.Nat.{mul-le-mul_right}
-use Rattle.std.proofs.lemmas.Bool.{cases_lt, cases_eq}
+use Rattle.std.proofs.lemmas.Bool.{cases_lt}
 use Rattle.line_stamps.specs.Parts.{rounded, ticks_apart}
 use Rattle.line_stamps.specs.Places.{tick_at}
 use Rattle.line_stamps.proofs.Clocks.{tick-far, tick-near}
@@ -13,7 +13,7 @@ module _ (one off : ℕ) (some : 0 < one) (small : 2 * off < one) (start : ℕ �
     (most : (n : ℕ) → 2 * start n ≤ 2 * (n * one) + off)
     (least : (n : ℕ) → 2 * (n * one) ≤ 2 * start n + off) where
   -- starts rise
-  start-rises : (m n : ℕ) → m ≤ n → start m ≤ start n
+  pub start-rises : (m n : ℕ) → m ≤ n → start m ≤ start n
   start-rises m n h =
       ⊎_elim
       (λ before. let more : suc m ≤ n = omega arith in
@@ -60,6 +60,23 @@ module _ (one off : ℕ) (some : 0 < one) (small : 2 * off < one) (start : ℕ �
         (let w : 1 ≤ next - k = omega arith in
         let h : 1 * one ≤ (next - k) * one = mul-le-mul_right one w in omega arith) in
         apart-is one some (later - time) (next - k) (omega arith) (omega arith) (omega arith)
+
+    -- The two don't overlap.
+    pub stamped-free : k < next → later ≡ start (m + next) - start m
+        → one ≤ 2 * (later - time)
+    stamped-free behind at =
+        let rises = start-rises m r from in
+        let rises' = start-rises m (m + next) (omega arith) in
+        let b = least (m + next) in
+        let a' = most r in
+        let e : (m + k - r) * one + r * one ≡ (m + k) * one =
+        sym (add-mul (m + k - r) r one) ∙ ap (λ n. n * one) (omega arith) in
+        let f : (next - k) * one + (m + k) * one ≡ (m + next) * one =
+        sym (add-mul (next - k) (m + k) one) ∙ ap (λ n. n * one) (omega arith) in
+        let g : one ≤ (next - k) * one =
+        (let w : 1 ≤ next - k = omega arith in
+        let h : 1 * one ≤ (next - k) * one = mul-le-mul_right one w in omega arith) in
+        omega arith
 
     -- To the end of its character it is one.
     pub following-apart : later ≡ time + one → ticks_apart (later - time) one ≡ 1

@@ -1,6 +1,6 @@
 -- What the nearest whole number is, and where the edges of 1.5 and 3.5 characters are.
-use Rattle.std.proofs.Common.{◌≡◌, ◌≢◌, ◌∙◌, ℕ, suc, ◌+◌, ◌-◌, ◌*◌, ◌<◌, ◌≤◌, ◌↔◌, ◌⊎◌, ⊎_elim}
-use Rattle.std.proofs.Common.{sym, ap, arith, max}
+use Rattle.std.proofs.Common.{◌≡◌, ◌∙◌, ℕ, suc, ◌+◌, ◌*◌, ◌<◌, ◌≤◌, ◌↔◌, ⊎_elim}
+use Rattle.std.proofs.Common.{arith, max}
 use Rattle.std.proofs.lemmas.Bool.{cases_lt, cases_eq, cond-true, cond-false, eq-eqb, ne_eqb}
 use Rattle.std.proofs.Math.Nat.{mul-le-mul_right}
 use Rattle.std.proofs.lemmas.Nat.{div_below, le-div}
@@ -59,6 +59,13 @@ module _ (length_of_one : ℕ) (some : 0 < length_of_one) (gap : ℕ) where
       ⊎_elim (λ same. rw (on-the-edge same) (omega arith))
       (λ other. rw (off-the-edge other) (omega arith))
       (cases_eq (2 * gap) (5 * length_of_one))
+
+  -- 1 for less than 1.5
+  pub apart-one : 2 * gap < 3 * length_of_one → ticks_apart gap length_of_one ≡ 1
+  apart-one less =
+      let below : rounded gap length_of_one < 2 =
+      rounded-below length_of_one some gap 2 (omega arith) in
+      off-the-edge (λ same. omega arith) ∙ omega arith
 
   -- at most one silent tick exactly where the silence is at most 1.5 characters
   pub apart-inside : (ticks_apart gap length_of_one ≤ 2) ↔ (2 * gap ≤ 5 * length_of_one)

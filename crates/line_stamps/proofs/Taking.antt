@@ -1,13 +1,12 @@
 -- One more byte: where it stands, and what it adds to the line.
-use Rattle.std.proofs.Common.{◌≡◌, ◌∙◌, ℕ, suc, ◌+◌, ◌-◌, List, [], ◌∷◌, ◌++◌, refl, ap, sym}
+use Rattle.std.proofs.Common.{◌≡◌, ◌∙◌, ℕ, suc, ◌-◌, List, [], ◌∷◌, ◌++◌, refl, ap, sym}
 use Rattle.std.proofs.Common.{append_assoc}
 use Rattle.std.specs.Prelude.{Option, Some, None}
 use Rattle.yasir_ticks.specs.Ticks.{silent}
-use Rattle.yasir_ticks.specs.declared.tick.Tick.{Tick}
 use Rattle.yasir_ticks.specs.declared.tick.Tick.TheVariants.{Byte}
 use Rattle.line_stamps.specs.declared.capture.CaptureByte.{CaptureByte}
 use Rattle.line_stamps.specs.declared.timing.Timing.{Timing}
-use Rattle.line_stamps.specs.Places.{Spot, PlacedByte, spot_of, next_tick, placed_from, ticks_from, line_of}
+use Rattle.line_stamps.specs.Places.{Spot, spot_of, next_tick, placed_from, ticks_from, line_of}
 use Rattle.line_stamps.specs.Places.{last_spot_from, last_spot, start_of, tick_after}
 use Rattle.line_stamps.specs.Placing.{silence_before}
 

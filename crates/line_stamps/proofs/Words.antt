@@ -1,7 +1,7 @@
 -- What a word that ends in `x` and two digits has in front of them, and that it is the word of a
 -- rate or isn't.
 use Rattle.std.proofs.Common.{◌≡◌, ◌≢◌, ◌∙◌, ℕ, ◌+◌, ◌<◌, ◌≤◌, ◌/◌, ◌%◌, List, [], ◌∷◌, ◌++◌}
-use Rattle.std.proofs.Common.{Option, Some, None, IfSome, IfNone, sym, ap, subst, arith, decimal}
+use Rattle.std.proofs.Common.{Option, Some, None, IfSome, IfNone, sym, ap, arith, decimal}
 use Rattle.std.proofs.Common.{append_assoc, ◌⊎◌, ⊎_elim, lit<, ◌^◌, Bor}
 use Rattle.std.proofs.lemmas.Bool.{cases_lt}
 use Rattle.std.proofs.lemmas.Fmt.{decimal_step, decimal_digit, decimal_injective}

@@ -5,7 +5,6 @@ use Rattle.line_stamps.specs.declared.capture.CaptureByte.{CaptureByte}
 use Rattle.line_stamps.specs.declared.capture.Way.TheVariants.{A}
 use Rattle.line_stamps.specs.declared.timing.Spacing.{Spacing}
 use Rattle.line_stamps.specs.declared.timing.Spacing.TheVariants.{ByTime, ByRecord}
-use Rattle.line_stamps.specs.declared.timing.Timing.{Timing}
 use Rattle.line_stamps.specs.Parts.{ticks_apart}
 use Rattle.line_stamps.specs.Places.{placed}
 

@@ -45,6 +45,14 @@ answer_at t last c =
     else if overlaps t.spacing last (spot_of t last c).time (character t.rate) then Err Overlap
     else Ok (silence_before last (spot_of t last c))
 
+-- No byte that comes after one that stands there is early, and none overlaps the one before it.
+abbrev pub NoneRefused : Timing → Option Spot → List CaptureByte → Type 0
+NoneRefused t last [] = Unit {0}
+NoneRefused t last (c ∷ cs) =
+    (is_early t last c ≡ false)
+    × (overlaps t.spacing last (spot_of t last c).time (character t.rate) ≡ false)
+    × NoneRefused t (Some (spot_of t last c)) cs
+
 abbrev pub spot_at : Last → Spot
 spot_at last = record { time = last.time; tick = last.tick }
 

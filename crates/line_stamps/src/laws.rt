@@ -11,6 +11,7 @@ ghost use Rattle.line_stamps.specs.declared.rate.Rate.{Rate};
 ghost use Rattle.line_stamps.specs.Giving.{bytes_from, AreGiven, taken_from, IsTakenAs};
 ghost use Rattle.line_stamps.specs.Parts.{character};
 ghost use Rattle.line_stamps.specs.Places.{Spot, placed, line_of, spot_of};
+ghost use Rattle.line_stamps.specs.Placing.{NoneRefused};
 ghost use Rattle.line_stamps.specs.Clock.{AllNext, KeepsEdges, KeepsTime, ArePartedRecords};
 
 /// A law of the definitions: the line of a capture has the same bytes in the same order.
@@ -43,11 +44,16 @@ pub fn records_are_parted()
 
 /// A law of the definitions: bytes that were given as times of a capture are taken as the same
 /// ticks, in whatever records they were given, as long as the unit of its times is below half a
-/// character. Here tick `m` is where the taken line begins, and what is behind its last byte is
-/// silence, which a capture doesn't tell.
+/// character, and none of them is early or overlaps the one before it. Here tick `m` is where the
+/// line begins that is taken, and behind its last byte there is silence, of which a capture doesn't
+/// tell.
 pub fn what_was_given_is_taken()
-    ensures { (rate : Rate) (unit epoch m : ℕ) (rest : List Tick) (cs : List CaptureByte)
+    ensures same { (rate : Rate) (unit epoch m : ℕ) (rest : List Tick) (cs : List CaptureByte)
         → 0 < unit → 2 * (unit * rate.baud) < character rate
         → AreGiven rate unit epoch None (bytes_from m rest) cs
         → IsTakenAs (taken_from rate unit epoch m) cs rest }
+    ensures free { (rate : Rate) (unit epoch m : ℕ) (rest : List Tick) (cs : List CaptureByte)
+        → 0 < unit → 2 * (unit * rate.baud) < character rate
+        → AreGiven rate unit epoch None (bytes_from m rest) cs
+        → NoneRefused (taken_from rate unit epoch m) None cs }
 {}

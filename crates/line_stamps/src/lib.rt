@@ -11,6 +11,8 @@ mod placer;
 mod rate;
 mod rate_word;
 mod rounding;
+#[cfg(test)]
+mod tests;
 mod timing;
 
 pub use capture::{CaptureByte, Way};

@@ -24,6 +24,10 @@ pub fn ticks_between(gap: u64, character: u64) -> u64
     ensures ticks { result ≡ ticks_apart gap character }
     ensures some { 0 < result }
 {
+    // bytes of one burst, for which no division is needed
+    if 2 * gap < 3 * character {
+        return 1;
+    }
     if 2 * gap == 5 * character {
         return 2;
     }
