@@ -14,7 +14,7 @@ use Rattle.line_stamps.specs.declared.timing.Timing.{Timing}
 use Rattle.line_stamps.specs.Parts.{character, rounded, ticks_apart}
 use Rattle.line_stamps.specs.Places.{Spot, PlacedByte, tick_at, spot_of, steps_apart}
 use Rattle.line_stamps.specs.Places.{placed_at, placed_from, placed, ticks_from}
-use Rattle.line_stamps.specs.Clock.{AllNext, KeepsEdges, KeepsTime, WithinHalf}
+use Rattle.line_stamps.specs.Clock.{AllNext, time_between, KeepsEdges, KeepsTime, WithinHalf}
 use Rattle.line_stamps.specs.Clock.{ArePartedRecords}
 use Rattle.line_stamps.proofs.RoundingLaws.{apart-some, apart-inside, apart-end, apart-most}
 use Rattle.line_stamps.proofs.RoundingLaws.{apart-is, apart-least, rounded-most, rounded-some}
@@ -29,24 +29,31 @@ pub tick-near : (n before time one : ℕ) → n ≤ suc DRIFT_SILENCE
 tick-near n before time one h = cond-false _ _ _ (le-ltb (suc DRIFT_SILENCE) n h)
 
 module _ (one : ℕ) (some : 0 < one) (x y : PlacedByte)
-    (is : y.spot.tick ≡ tick_at (ticks_apart (y.spot.time - x.spot.time) one) x.spot.tick y.spot.time one) where
+    (is : y.spot.tick
+    ≡ tick_at (ticks_apart (time_between x y) one) x.spot.tick y.spot.time one) where
+  abbrev steps : ℕ
+  steps = ticks_apart (time_between x y) one
+
+  far-is : 321 < steps → y.spot.tick ≡ max (rounded y.spot.time one) (x.spot.tick + 321)
+  far-is far = is ∙ tick-far steps x.spot.tick y.spot.time one far
+
+  near-is : steps ≤ 321 → y.spot.tick ≡ x.spot.tick + steps
+  near-is near = is ∙ tick-near steps x.spot.tick y.spot.time one near
+
   pub keeps-edges : KeepsEdges one x y
   keeps-edges =
-      let i = apart-inside one some (y.spot.time - x.spot.time) in
-      let e = apart-end one some (y.spot.time - x.spot.time) in
-      let s = apart-some one some (y.spot.time - x.spot.time) in
+      let i = apart-inside one some (time_between x y) in
+      let e = apart-end one some (time_between x y) in
+      let s = apart-some one some (time_between x y) in
       ⊎_elim
-      (λ far. let t : y.spot.tick ≡ max (rounded y.spot.time one) (x.spot.tick + 321) =
-      is ∙ tick-far (ticks_apart (y.spot.time - x.spot.time) one) x.spot.tick y.spot.time one far in
-      let m : x.spot.tick + 321 ≤ y.spot.tick = omega arith in
-      let long : 9 * one ≤ 2 * (y.spot.time - x.spot.time) = e.0 (omega arith) in
+      (λ (far : 321 < steps). let t = far-is far in
+      let long : 9 * one ≤ 2 * time_between x y = e.0 (omega arith) in
       record {
         later = omega arith;
         inside = (λ h. absurd (omega arith), λ h. absurd (omega arith));
         end = (λ h. omega arith, λ h. omega arith);
       })
-      (λ near. let t : y.spot.tick ≡ x.spot.tick + ticks_apart (y.spot.time - x.spot.time) one =
-      is ∙ tick-near (ticks_apart (y.spot.time - x.spot.time) one) x.spot.tick y.spot.time one near in
+      (λ (near : steps ≤ 321). let t = near-is near in
       record {
         later = omega arith;
         inside = (
@@ -58,33 +65,30 @@ module _ (one : ℕ) (some : 0 < one) (x y : PlacedByte)
           λ h. let k = e.1 (omega arith) in omega arith,
         );
       })
-      (cases_lt 321 (ticks_apart (y.spot.time - x.spot.time) one))
+      (cases_lt 321 steps)
 
   pub keeps-time : KeepsTime one x y
   keeps-time = record {
-    near = λ apart few. let t : y.spot.tick ≡ x.spot.tick + ticks_apart (y.spot.time - x.spot.time) one =
-        is ∙ tick-near (ticks_apart (y.spot.time - x.spot.time) one) x.spot.tick y.spot.time one few in
-        let steps : y.spot.tick - x.spot.tick ≡ ticks_apart (y.spot.time - x.spot.time) one = omega arith in
-        let P : ℕ → Type 0 = λ k. WithinHalf one k (y.spot.time - x.spot.time) in
-        subst P (sym steps)
-        (apart-most one some (y.spot.time - x.spot.time) apart, apart-least one some (y.spot.time - x.spot.time) apart);
-    far = λ far. let t : y.spot.tick ≡ max (rounded y.spot.time one) (x.spot.tick + 321) =
-        is ∙ tick-far (ticks_apart (y.spot.time - x.spot.time) one) x.spot.tick y.spot.time one far in
+    near = λ apart few. let t = near-is few in
+        let same : y.spot.tick - x.spot.tick ≡ steps = omega arith in
+        subst (λ (k : ℕ). WithinHalf one k (time_between x y)) (sym same) (
+          apart-most one some (time_between x y) apart,
+          apart-least one some (time_between x y) apart,
+        );
+    far = λ far. let t = far-is far in
         let most = rounded-most one some y.spot.time in
         let least = rounded-some one some y.spot.time in
         ⊎_elim
-        (λ ahead. let left : y.spot.tick ≡ x.spot.tick + 321 = omega arith in
+        (λ (ahead : rounded y.spot.time one < x.spot.tick + 321).
         let more : suc (rounded y.spot.time one) ≤ y.spot.tick = omega arith in
-        let long : suc (rounded y.spot.time one) * one ≤ y.spot.tick * one = mul-le-mul_right one more in
-        let e : suc (rounded y.spot.time one) * one ≡ rounded y.spot.time one * one + one = omega arith in
+        let long : suc (rounded y.spot.time one) * one ≤ y.spot.tick * one =
+        mul-le-mul_right one more in
         inr (omega arith, omega arith))
-        (λ behind. let there : y.spot.tick ≡ rounded y.spot.time one = omega arith in
-        let P : ℕ → Type 0 = λ k. WithinHalf one k y.spot.time in
-        inl (subst P (sym there) (most, omega arith)))
+        (λ (behind : x.spot.tick + 321 ≤ rounded y.spot.time one).
+        let there : y.spot.tick ≡ rounded y.spot.time one = omega arith in
+        inl (subst (λ (k : ℕ). WithinHalf one k y.spot.time) (sym there) (most, omega arith)))
         (cases_lt (rounded y.spot.time one) (x.spot.tick + 321));
-    long = λ far. let t : y.spot.tick ≡ max (rounded y.spot.time one) (x.spot.tick + 321) =
-        is ∙ tick-far (ticks_apart (y.spot.time - x.spot.time) one) x.spot.tick y.spot.time one far in
-        omega arith;
+    long = λ far. let t = far-is far in omega arith;
   }
 
 pub character-some : (t : Timing) → 0 < character t.rate
@@ -185,6 +189,7 @@ pub same-bytes : (t : Timing) (last : Option Spot) (n : ℕ) (cs : List CaptureB
 same-bytes t last n [] = refl
 same-bytes t last n (c ∷ cs) =
     bytes_in-silent ((spot_of t last c).tick - n)
-    (Byte c.byte ∷ ticks_from (suc (spot_of t last c).tick) (placed_from t (Some (spot_of t last c)) cs))
+    (Byte c.byte
+    ∷ ticks_from (suc (spot_of t last c).tick) (placed_from t (Some (spot_of t last c)) cs))
     ∙ ap (λ x. c.byte ∷ x)
     (same-bytes t (Some (spot_of t last c)) (suc (spot_of t last c).tick) cs)

@@ -14,8 +14,8 @@ use Rattle.line_stamps.specs.declared.rate.Rate.{Rate}
 use Rattle.line_stamps.specs.declared.timing.Spacing.TheVariants.{ByTime}
 use Rattle.line_stamps.specs.declared.timing.Timing.{Timing}
 use Rattle.line_stamps.specs.Parts.{character, rounded, ticks_apart}
-use Rattle.line_stamps.specs.Places.{Spot, spot_of, next_tick, placed_from, ticks_from, tick_at, stamp}
-use Rattle.line_stamps.specs.Places.{start_of}
+use Rattle.line_stamps.specs.Places.{Spot, spot_of, next_tick, placed_from, ticks_from, tick_at}
+use Rattle.line_stamps.specs.Places.{stamp, start_of}
 use Rattle.line_stamps.specs.Placing.{is_stamped, is_early, overlaps, NoneRefused}
 use Rattle.line_stamps.specs.Giving.{bytes_from, tick_start, Gives, AreGiven}
 use Rattle.line_stamps.specs.Giving.{IsTakenAs}
@@ -130,10 +130,12 @@ module _ (rate : Rate) (unit epoch m : ℕ) (some : 0 < unit)
       before = before;
       time_is = at ∙ is;
       tick_is = spot-is t refl s c
-          ∙ (ap (λ x. tick_at (ticks_apart (x - s.time) (character rate)) s.tick x (character rate)) at
+          ∙ (ap
+          (λ x. tick_at (ticks_apart (x - s.time) (character rate)) s.tick x (character rate)) at
           ∙ (ap (λ n. tick_at n s.tick time (character rate)) apart
           ∙ (ap (λ x. tick_at (next - k) x time (character rate)) near.tick_is
-          ∙ tick-later (character rate) (unit * rate.baud) one-some small start most least k next time
+          ∙ tick-later (character rate) (unit * rate.baud) one-some small start most least k next
+          time
           behind (rounded-at r next time from before is))));
     }
 
@@ -147,7 +149,8 @@ module _ (rate : Rate) (unit epoch m : ℕ) (some : 0 < unit)
         (let e : m + next - (m + next) ≡ 0 = omega arith in e) ∙ omega arith in
         later-tick (m + next) (start (m + next) - start m) (omega arith) (omega arith) (omega arith)
         at
-        (stamped-apart (character rate) (unit * rate.baud) one-some small start most least m near.r k
+        (stamped-apart (character rate) (unit * rate.baud) one-some small start most least m near.r
+        k
         next s.time (start (m + next) - start m) near.from near.before near.time_is behind refl)
 
     following : c.first ≡ false → m + next ≡ suc (m + k) → Near next (spot_of t (Some s) c)
@@ -163,7 +166,8 @@ module _ (rate : Rate) (unit epoch m : ℕ) (some : 0 < unit)
         (let h = near.time_is in omega arith) in
         let before : near.r ≤ m + next = (let b = near.before in omega arith) in
         later-tick near.r (s.time + character rate) near.from before is at
-        (following-apart (character rate) (unit * rate.baud) one-some small start most least m near.r k
+        (following-apart (character rate) (unit * rate.baud) one-some small start most least m
+        near.r k
         next s.time (s.time + character rate) near.from near.before near.time_is refl ∙ omega arith)
 
     stamped-apart-free : c.first ≡ true → c.start ≡ epoch + tick_start rate unit (m + next)
@@ -174,7 +178,8 @@ module _ (rate : Rate) (unit epoch m : ℕ) (some : 0 < unit)
         let free : character rate ≤ 2 * (start_of t (Some s) c - s.time) =
         subst (λ (x : ℕ). character rate ≤ 2 * (x - s.time)) (sym at)
         (stamped-free (character rate) (unit * rate.baud) one-some small start most least m near.r k
-        next s.time (start (m + next) - start m) near.from near.before near.time_is behind refl) in (
+        next s.time (start (m + next) - start m) near.from near.before near.time_is behind refl)
+        in (
           in-time next (Some s) c gives,
           le-ltb (2 * (start_of t (Some s) c - s.time)) (character rate) free,
         )
@@ -268,7 +273,8 @@ module _ (rate : Rate) (unit epoch m : ℕ) (some : 0 < unit)
             ∷ (ticks_from (suc (spot_of t last c).tick) (placed_from t (Some (spot_of t last c)) cs)
             ++ silent all.0))) (sym same)
             ∙ sym (append_assoc (silent ((spot_of t last c).tick - next_tick last))
-            (Byte c.byte ∷ ticks_from (suc (spot_of t last c).tick) (placed_from t (Some (spot_of t last c)) cs))
+            (Byte c.byte
+            ∷ ticks_from (suc (spot_of t last c).tick) (placed_from t (Some (spot_of t last c)) cs))
             (silent all.0)))),
         (here.2.0, here.2.1, all.2),
       )

@@ -26,7 +26,8 @@ module _ (unit : ℕ) (some : 0 < unit) where
   rounded-is time k low high =
       let least : k ≤ rounded time unit = rounded-least time k low in
       let most : rounded time unit < suc k =
-      rounded-below time (suc k) (let e : suc k * unit ≡ k * unit + unit = omega arith in omega arith) in
+      (let e : suc k * unit ≡ k * unit + unit = omega arith in
+      rounded-below time (suc k) (omega arith)) in
       omega arith
 
   -- it is at most half a unit off
@@ -66,6 +67,14 @@ module _ (length_of_one : ℕ) (some : 0 < length_of_one) (gap : ℕ) where
       let below : rounded gap length_of_one < 2 =
       rounded-below length_of_one some gap 2 (omega arith) in
       off-the-edge (λ same. omega arith) ∙ omega arith
+
+  -- the nearest number for 1.5 and more
+  pub apart-nearest : 3 * length_of_one ≤ 2 * gap → (2 * gap ≡ 5 * length_of_one → ⊥)
+      → ticks_apart gap length_of_one ≡ rounded gap length_of_one
+  apart-nearest more other =
+      let least : 1 ≤ rounded gap length_of_one =
+      rounded-least length_of_one some gap 1 (omega arith) in
+      off-the-edge other ∙ omega arith
 
   -- at most one silent tick exactly where the silence is at most 1.5 characters
   pub apart-inside : (ticks_apart gap length_of_one ≤ 2) ↔ (2 * gap ≤ 5 * length_of_one)
@@ -123,7 +132,8 @@ module _ (length_of_one : ℕ) (some : 0 < length_of_one) (gap : ℕ) where
       → 4 * length_of_one < 2 * (k * length_of_one) → ⊥
   off-by-half k less more =
       ⊎_elim
-      (λ two. let h = mul-le-mul_right length_of_one (let two' : k ≤ 2 = omega arith in two') in omega arith)
+      (λ two. let h = mul-le-mul_right length_of_one (let two' : k ≤ 2 = omega arith in two') in
+      omega arith)
       (λ three. let h = mul-le-mul_right length_of_one three in omega arith)
       (cases_lt k 3)
 

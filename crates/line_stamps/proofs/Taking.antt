@@ -19,14 +19,16 @@ module _ (t : Timing) where
   pub line-more : (last : Option Spot) (cs : List CaptureByte) (c : CaptureByte)
       → ticks_from (next_tick last) (placed_from t last (cs ++ c ∷ []))
       ≡ ticks_from (next_tick last) (placed_from t last cs)
-      ++ (silent (silence_before (last_spot_from t last cs) (spot_of t (last_spot_from t last cs) c))
+      ++ (silent
+      (silence_before (last_spot_from t last cs) (spot_of t (last_spot_from t last cs) c))
       ++ Byte c.byte ∷ [])
   line-more last [] c = refl
   line-more last (d ∷ cs) c =
       ap (λ x. silent ((spot_of t last d).tick - next_tick last) ++ (Byte d.byte ∷ x))
       (line-more (Some (spot_of t last d)) cs c)
       ∙ sym (append_assoc (silent ((spot_of t last d).tick - next_tick last))
-      (Byte d.byte ∷ ticks_from (suc (spot_of t last d).tick) (placed_from t (Some (spot_of t last d)) cs))
+      (Byte d.byte
+      ∷ ticks_from (suc (spot_of t last d).tick) (placed_from t (Some (spot_of t last d)) cs))
       (silent (silence_before (last_spot_from t (Some (spot_of t last d)) cs)
       (spot_of t (last_spot_from t (Some (spot_of t last d)) cs) c)) ++ Byte c.byte ∷ []))
 

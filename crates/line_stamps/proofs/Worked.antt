@@ -59,11 +59,13 @@ rows-no-drift = refl
 
 -- Where ticks are ahead of times the silence becomes shorter, but not less than 320 ticks.
 rows-ahead : ticks ByTime 0
-    (begun 0 ∷ begun 16000 ∷ begun 32000 ∷ begun 48000 ∷ begun 64000 ∷ begun 80000 ∷ begun 3300000 ∷ [])
+    (begun 0 ∷ begun 16000 ∷ begun 32000 ∷ begun 48000 ∷ begun 64000 ∷ begun 80000
+    ∷ begun 3300000 ∷ [])
     ≡ 0 ∷ 2 ∷ 4 ∷ 6 ∷ 8 ∷ 10 ∷ 331 ∷ []
 rows-ahead = refl
 
 -- records taken for frames, the second one before the first could have ended
-rows-records : ticks ByRecord 0 (begun 0 ∷ further ∷ further ∷ begun 12000 ∷ further ∷ begun 92000 ∷ [])
+rows-records : ticks ByRecord 0
+    (begun 0 ∷ further ∷ further ∷ begun 12000 ∷ further ∷ begun 92000 ∷ [])
     ≡ 0 ∷ 1 ∷ 2 ∷ 7 ∷ 8 ∷ 15 ∷ []
 rows-records = refl

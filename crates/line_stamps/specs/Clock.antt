@@ -12,7 +12,7 @@ AllNext Related [] = Unit {0}
 AllNext Related (x ∷ []) = Unit {0}
 AllNext Related (x ∷ y ∷ more) = Related x y × AllNext Related (y ∷ more)
 
--- the time from the start of one byte to that of the next, none where the two are in the wrong order
+-- the time from the start of one byte to that of the next, none where the next one starts before
 abbrev pub time_between : PlacedByte → PlacedByte → ℕ
 time_between x y = y.spot.time - x.spot.time
 

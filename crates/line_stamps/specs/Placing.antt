@@ -1,6 +1,7 @@
 -- What a placer answers, and what it stands for.
 use Rattle.std.specs.Prelude.{◌≡◌, ℕ, ◌-◌, ◌*◌, nat_lt, nat_le, if◌then◌else◌, Bool, true}
-use Rattle.std.specs.Prelude.{◌&&◌, ◌||◌, false, List, [], ◌∷◌, ◌++◌, Option, Some, None, Result, Ok, Err}
+use Rattle.std.specs.Prelude.{◌&&◌, ◌||◌, false, List, [], ◌∷◌, ◌++◌, Option, Some, None, Result}
+use Rattle.std.specs.Prelude.{Ok, Err}
 use Rattle.line_stamps.specs.declared.TheConstants.{TIME_LIMIT}
 use Rattle.line_stamps.specs.declared.capture.CaptureByte.{CaptureByte}
 use Rattle.line_stamps.specs.declared.placer.Last.{Last}

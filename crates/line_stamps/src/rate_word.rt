@@ -1,6 +1,7 @@
 //! The word of a rate, as `9600x11`.
 
-ghost use Rattle.std.specs.Prelude.{◌≡◌, ◌≢◌, ◌<◌, ◌≤◌, ◌^◌, ℕ, List, [], ◌∷◌, ◌++◌, IfSome, IfNone};
+ghost use Rattle.std.specs.Prelude.{◌≡◌, ◌≢◌, ◌<◌, ◌≤◌, ◌^◌, ℕ, List, [], ◌∷◌, ◌++◌, IfSome};
+ghost use Rattle.std.specs.Prelude.{IfNone};
 ghost use Rattle.std.specs.Prelude.{decimal};
 ghost use Rattle.line_stamps.specs.declared.rate.Rate.{Rate};
 ghost use Rattle.line_stamps.specs.RateWords.{rate_word};

@@ -31,5 +31,5 @@ pub fn ticks_between(gap: u64, character: u64) -> u64
     if 2 * gap == 5 * character {
         return 2;
     }
-    nearest(gap, character).max(1)
+    nearest(gap, character)
 }

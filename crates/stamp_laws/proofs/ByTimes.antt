@@ -1,5 +1,6 @@
 -- Times tell the silent ticks of a line.
-use Rattle.std.proofs.Common.{◌≡◌, ◌∙◌, ℕ, ◌*◌, ◌<◌, ◌≤◌, ⊎_elim, sym, List, [], ◌∷◌, Bool, true, false}
+use Rattle.std.proofs.Common.{◌≡◌, ◌∙◌, ℕ, ◌*◌, ◌<◌, ◌≤◌, ⊎_elim, sym, List, [], ◌∷◌, Bool, true}
+use Rattle.std.proofs.Common.{false}
 use Rattle.std.proofs.Common.{nat_lt, nat_le, arith, le-leb}
 use Rattle.std.proofs.lemmas.Bool.{cases_lt, lt-ltb, le-ltb, lt-leb}
 use Rattle.line_stamps.specs.Places.{PlacedByte}

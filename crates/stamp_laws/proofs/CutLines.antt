@@ -71,7 +71,8 @@ module _ (parted apart : PlacedByte → PlacedByte → Bool) where
       (cases_lt y.spot.tick (suc x.spot.tick + 4))
 
   -- What holds of each part that begins with a byte holds of the parts that it was joined to.
-  with-first : (P : List (List PlacedByte) → Type 0) (y : PlacedByte) (parts : List (List PlacedByte))
+  with-first : (P : List (List PlacedByte) → Type 0) (y : PlacedByte)
+      (parts : List (List PlacedByte))
       → ((ys : List PlacedByte) (more : List (List PlacedByte)) → P ((y ∷ ys) ∷ more))
       → P (join parted y parts)
   with-first P y [] holds = holds [] []
@@ -100,7 +101,8 @@ module _ (parted apart : PlacedByte → PlacedByte → Bool) where
       ≡ map burst_of (join parted x parts)) y (cut_where parted ys)
       (λ zs more. before-part x y zs more told.0))
 
-  -- Inside each part the second test tells whether two silent ticks or more stand between two bytes.
+  -- Inside each part the second test tells whether two silent ticks or more stand between two
+  -- bytes.
   abbrev pub IsPart : List PlacedByte → Type 0
   IsPart xs = AllNext (λ x y. nat_lt 1 (silent_ticks x y) ≡ apart x y) xs
 

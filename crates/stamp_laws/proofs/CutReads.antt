@@ -1,6 +1,8 @@
 -- What a device reads of the bursts of a line, by tests that tell its silent ticks.
-use Rattle.std.proofs.Common.{◌≡◌, ◌∙◌, ℕ, zero, suc, ◌+◌, ◌-◌, ◌*◌, ◌<◌, ◌≤◌, ◌↔◌, ⊎_elim, inl, sym, ap}
-use Rattle.std.proofs.Common.{List, [], ◌∷◌, ◌++◌, Bool, true, false, arith, refl, subst, map, filter}
+use Rattle.std.proofs.Common.{◌≡◌, ◌∙◌, ℕ, zero, suc, ◌+◌, ◌-◌, ◌*◌, ◌<◌, ◌≤◌, ◌↔◌, ⊎_elim, inl}
+use Rattle.std.proofs.Common.{sym, ap}
+use Rattle.std.proofs.Common.{List, [], ◌∷◌, ◌++◌, Bool, true, false, arith, refl, subst, map}
+use Rattle.std.proofs.Common.{filter}
 use Rattle.std.proofs.Common.{nat_lt, nat_le, ◌&&◌, ◌||◌, not, cond, length, le-leb, length-append}
 use Rattle.std.proofs.lemmas.Bool.{cases_lt, lt-ltb, le-ltb}
 use Rattle.std.proofs.lemmas.List.{length-replicate}
@@ -14,7 +16,8 @@ use Rattle.yasir_ticks.proofs.BurstLaws.{bursts_from-silent_end}
 use Rattle.yasir_ticks.proofs.BurstsOfLaws.{bursts_from-are}
 use Rattle.yasir_ticks.proofs.SilenceLaws.{bytes_in-silent}
 use Rattle.device_model.specs.Frames.{FrameRead}
-use Rattle.device_model.specs.RtuReads.{has_silence, begins_silent, is_frame_body, is_read, frame_in}
+use Rattle.device_model.specs.RtuReads.{has_silence, begins_silent, is_frame_body, is_read}
+use Rattle.device_model.specs.RtuReads.{frame_in}
 use Rattle.device_model.specs.RtuReads.{rtu_reads}
 use Rattle.line_stamps.specs.Places.{PlacedByte, ticks_from}
 use Rattle.line_stamps.specs.Clock.{silent_ticks}
@@ -130,10 +133,12 @@ module _ (parted apart : PlacedByte → PlacedByte → Bool) where
       let all : length (ticks_from 0 xs ++ silent n) ≡ length (ticks_from 0 xs) + n =
       length-append (ticks_from 0 xs) (silent n)
       ∙ ap (λ k. length (ticks_from 0 xs) + k) (length-replicate n Silent) in
-      let long : length (ticks_from 0 xs) + 4 ≤ length (ticks_from 0 xs ++ silent n) = omega arith in
+      let long : length (ticks_from 0 xs) + 4 ≤ length (ticks_from 0 xs ++ silent n) =
+      omega arith in
       let ends : AllEnd (length (ticks_from 0 xs)) (map burst_of (cut_where parted xs)) =
       subst (λ (ds : List Burst). AllEnd (length (ticks_from 0 xs)) ds) are
-      (ends-within 0 (length (ticks_from 0 xs)) (ticks_from 0 xs) (bursts_from 4 0 (ticks_from 0 xs))
+      (ends-within 0 (length (ticks_from 0 xs)) (ticks_from 0 xs)
+      (bursts_from 4 0 (ticks_from 0 xs))
       (omega arith) (bursts_from-are 4 0 (ticks_from 0 xs))) in
       ap (λ ds. map frame_in (filter (is_read 4 2 (length (ticks_from 0 xs ++ silent n))) ds))
       (bursts_from-silent_end 4 0 n (ticks_from 0 xs) ∙ are)

@@ -1,3 +1,4 @@
+mod Worked
 mod CutLines
 mod CutReads
 mod ByTimes
