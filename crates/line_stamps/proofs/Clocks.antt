@@ -1,19 +1,23 @@
 -- The ticks of a line keep to the times of a capture.
 use Rattle.std.proofs.Common.{◌≡◌, ◌∙◌, ℕ, suc, ◌+◌, ◌-◌, ◌*◌, ◌<◌, ◌≤◌, ⊎_elim, inl, inr}
 use Rattle.std.proofs.Common.{List, [], ◌∷◌, Option, Some, None, sym, ap, arith, max}
-use Rattle.std.proofs.Common.{map, refl, subst, Bool, true, false, add-one}
+use Rattle.std.proofs.Common.{map, refl, subst, Bool, true, false, add-one, ◌++◌, length, length-append}
+use Rattle.std.proofs.Common.{zero-add}
 use Rattle.std.proofs.Math.Nat.{mul-le-mul_right}
 use Rattle.std.proofs.lemmas.Bool.{cases_lt, cases_Bool, cond-true, cond-false, lt-ltb, le-ltb}
-use Rattle.yasir_ticks.specs.Ticks.{bytes_in}
-use Rattle.yasir_ticks.specs.declared.tick.Tick.TheVariants.{Byte}
+use Rattle.std.proofs.lemmas.List.{length-replicate}
+use Rattle.yasir_ticks.specs.Ticks.{bytes_in, silent}
+use Rattle.yasir_ticks.specs.declared.tick.Tick.TheVariants.{Silent, Byte}
 use Rattle.yasir_ticks.proofs.SilenceLaws.{bytes_in-silent}
 use Rattle.line_stamps.specs.declared.TheConstants.{DRIFT_SILENCE}
 use Rattle.line_stamps.specs.declared.capture.CaptureByte.{CaptureByte}
 use Rattle.line_stamps.specs.declared.timing.Spacing.TheVariants.{ByTime, ByRecord}
+use Rattle.line_stamps.specs.declared.timing.Spacing.{Spacing}
 use Rattle.line_stamps.specs.declared.timing.Timing.{Timing}
 use Rattle.line_stamps.specs.Parts.{character, rounded, ticks_apart}
 use Rattle.line_stamps.specs.Places.{Spot, PlacedByte, tick_at, spot_of, steps_apart}
-use Rattle.line_stamps.specs.Places.{placed_at, placed_from, placed, ticks_from}
+use Rattle.line_stamps.specs.Places.{placed_at, placed_from, placed, ticks_from, next_tick}
+use Rattle.line_stamps.specs.Places.{last_spot_from, start_of}
 use Rattle.line_stamps.specs.Clock.{AllNext, time_between, KeepsEdges, KeepsTime, WithinHalf}
 use Rattle.line_stamps.specs.Clock.{ArePartedRecords}
 use Rattle.line_stamps.proofs.RoundingLaws.{apart-some, apart-inside, apart-end, apart-most}
@@ -193,3 +197,55 @@ same-bytes t last n (c ∷ cs) =
     ∷ ticks_from (suc (spot_of t last c).tick) (placed_from t (Some (spot_of t last c)) cs))
     ∙ ap (λ x. c.byte ∷ x)
     (same-bytes t (Some (spot_of t last c)) (suc (spot_of t last c).tick) cs)
+
+steps-some : (s : Spacing) (first : Bool) (gap one : ℕ) → 0 < one
+    → 0 < steps_apart s first gap one
+steps-some ByTime first gap one some = apart-some one some gap
+steps-some ByRecord true gap one some = omega arith
+steps-some ByRecord false gap one some = apart-some one some gap
+
+tick-behind : (n before time one : ℕ) → 0 < n → before < tick_at n before time one
+tick-behind n before time one h =
+    ⊎_elim (λ (far : 321 < n). rw (tick-far n before time one far) (omega arith))
+    (λ (near : n ≤ 321). rw (tick-near n before time one near) (omega arith))
+    (cases_lt 321 n)
+
+-- A byte stands behind the one before it.
+pub later : (t : Timing) (last : Option Spot) (c : CaptureByte)
+    → next_tick last ≤ (spot_of t last c).tick
+later t None c = omega arith
+later t (Some before) c =
+    let some = character-some t in
+    let steps = steps-some t.spacing c.first (start_of t (Some before) c - before.time)
+    (character t.rate) some in
+    let behind = tick-behind (steps_apart t.spacing c.first
+    (start_of t (Some before) c - before.time) (character t.rate)) before.tick
+    (start_of t (Some before) c) (character t.rate) steps in
+    omega arith
+
+-- The line ends with the last byte.
+pub line-length : (t : Timing) (last : Option Spot) (cs : List CaptureByte)
+    → length (ticks_from (next_tick last) (placed_from t last cs)) + next_tick last
+    ≡ next_tick (last_spot_from t last cs)
+line-length t last [] = zero-add (next_tick last)
+line-length t last (c ∷ cs) =
+    let behind = later t last c in
+    let rest = line-length t (Some (spot_of t last c)) cs in
+    let parts : length (silent ((spot_of t last c).tick - next_tick last)
+    ++ (Byte c.byte
+    ∷ ticks_from (suc (spot_of t last c).tick) (placed_from t (Some (spot_of t last c)) cs)))
+    ≡ (spot_of t last c).tick - next_tick last + suc (length
+    (ticks_from (suc (spot_of t last c).tick) (placed_from t (Some (spot_of t last c)) cs))) =
+    length-append (silent ((spot_of t last c).tick - next_tick last)) (Byte c.byte
+    ∷ ticks_from (suc (spot_of t last c).tick) (placed_from t (Some (spot_of t last c)) cs))
+    ∙ ap (λ n. n + suc (length
+    (ticks_from (suc (spot_of t last c).tick) (placed_from t (Some (spot_of t last c)) cs))))
+    (length-replicate ((spot_of t last c).tick - next_tick last) Silent) in
+    let count : length (ticks_from (next_tick last) (placed_from t last (c ∷ cs))) + next_tick last
+    ≡ suc (length (ticks_from (suc (spot_of t last c).tick)
+    (placed_from t (Some (spot_of t last c)) cs)) + (spot_of t last c).tick) = omega arith in
+    let same : suc (length (ticks_from (suc (spot_of t last c).tick)
+    (placed_from t (Some (spot_of t last c)) cs)) + (spot_of t last c).tick)
+    ≡ length (ticks_from (suc (spot_of t last c).tick)
+    (placed_from t (Some (spot_of t last c)) cs)) + suc (spot_of t last c).tick = omega arith in
+    count ∙ (same ∙ rest)

@@ -96,7 +96,7 @@ module _ (rate : Rate) (unit epoch m : ℕ) (some : 0 < unit)
   abbrev Free : Option Spot → CaptureByte → Type 0
   Free last c =
       (is_early t last c ≡ false)
-      × (overlaps ByTime last (spot_of t last c).time (character rate) ≡ false)
+      × (overlaps t last c ≡ false)
 
   -- the first byte
   first-near : (k : ℕ) (byte : ℕ) (c : CaptureByte)

@@ -1,14 +1,20 @@
 -- One more byte: where it stands, and what it adds to the line.
 use Rattle.std.proofs.Common.{◌≡◌, ◌∙◌, ℕ, suc, ◌-◌, List, [], ◌∷◌, ◌++◌, refl, ap, sym}
-use Rattle.std.proofs.Common.{append_assoc}
-use Rattle.std.specs.Prelude.{Option, Some, None}
+use Rattle.std.proofs.Common.{append_assoc, ◌+◌, ◌^◌, min, Bool, true, false, arith}
+use Rattle.std.specs.Prelude.{Option, Some, None, if◌then◌else◌}
 use Rattle.yasir_ticks.specs.Ticks.{silent}
 use Rattle.yasir_ticks.specs.declared.tick.Tick.TheVariants.{Byte}
 use Rattle.line_stamps.specs.declared.capture.CaptureByte.{CaptureByte}
 use Rattle.line_stamps.specs.declared.timing.Timing.{Timing}
+use Rattle.line_stamps.specs.Parts.{character}
 use Rattle.line_stamps.specs.Places.{Spot, spot_of, next_tick, placed_from, ticks_from, line_of}
 use Rattle.line_stamps.specs.Places.{last_spot_from, last_spot, start_of, tick_after}
-use Rattle.line_stamps.specs.Placing.{silence_before}
+use Rattle.line_stamps.specs.Placing.{silence_before, overlaps_at, overlaps, overlaps_from}
+use Rattle.line_stamps.specs.Placing.{overlap_count}
+
+-- what a placer that has taken these bytes knows of them
+abbrev pub HasStood : Timing → Option Spot → ℕ → List CaptureByte → Type 0
+HasStood t last n cs = (last ≡ last_spot t cs) × (n ≡ min (overlap_count t cs) (2 ^ 64 - 1))
 
 module _ (t : Timing) where
   pub last-more : (last : Option Spot) (cs : List CaptureByte) (c : CaptureByte)
@@ -32,17 +38,52 @@ module _ (t : Timing) where
       (silent (silence_before (last_spot_from t (Some (spot_of t last d)) cs)
       (spot_of t (last_spot_from t (Some (spot_of t last d)) cs) c)) ++ Byte c.byte ∷ []))
 
+  pub count-more : (last : Option Spot) (cs : List CaptureByte) (c : CaptureByte)
+      → overlaps_from t last (cs ++ c ∷ [])
+      ≡ overlaps_from t last cs + (if overlaps t (last_spot_from t last cs) c then 1 else 0)
+  count-more last [] c = omega arith
+  count-more last (d ∷ cs) c =
+      let rest = count-more (Some (spot_of t last d)) cs c in omega arith
+
   module _ (last : Option Spot) (c : CaptureByte) (time tick : ℕ) (start : time ≡ start_of t last c)
       (there : tick ≡ tick_after t last c.first time) where
     stands : let spot : Spot = record { time = time; tick = tick } in spot ≡ spot_of t last c
     stands = cc
 
-    pub taken : (cs : List CaptureByte) → last ≡ last_spot t cs
+    taken : (cs : List CaptureByte) → last ≡ last_spot t cs
         → Some (let spot : Spot = record { time = time; tick = tick } in spot)
         ≡ last_spot t (cs ++ c ∷ [])
     taken cs had =
         ap Some stands
         ∙ (ap (λ x. Some (spot_of t x c)) had ∙ sym (last-more None cs c))
+
+    -- the count, by whether the byte overlaps the one before it
+    module _ (b : Bool) (told : b ≡ overlaps_at t.spacing last time (character t.rate))
+        (cs : List CaptureByte) (had : last ≡ last_spot t cs) where
+      overlap-is : overlaps t (last_spot t cs) c ≡ b
+      overlap-is =
+          ap (λ x. overlaps t x c) (sym had)
+          ∙ (ap (λ n. overlaps_at t.spacing last n (character t.rate)) (sym start) ∙ sym told)
+
+      count-is : overlap_count t (cs ++ c ∷ []) ≡ overlap_count t cs + (if b then 1 else 0)
+      count-is =
+          count-more None cs c ∙ ap (λ v. overlap_count t cs + (if v then 1 else 0)) overlap-is
+
+    pub taken-apart : overlaps_at t.spacing last time (character t.rate) ≡ false → (n : ℕ)
+        → (cs : List CaptureByte) → last ≡ last_spot t cs
+        → n ≡ min (overlap_count t cs) (2 ^ 64 - 1)
+        → HasStood t (Some (let spot : Spot = record { time = time; tick = tick } in spot)) n
+        (cs ++ c ∷ [])
+    taken-apart apart n cs had counted =
+        let count = count-is false (sym apart) cs had in (taken cs had, omega arith)
+
+    pub taken-over : overlaps_at t.spacing last time (character t.rate) ≡ true → (n m : ℕ)
+        → m ≡ min (n + 1) (2 ^ 64 - 1) → (cs : List CaptureByte) → last ≡ last_spot t cs
+        → n ≡ min (overlap_count t cs) (2 ^ 64 - 1)
+        → HasStood t (Some (let spot : Spot = record { time = time; tick = tick } in spot)) m
+        (cs ++ c ∷ [])
+    taken-over over n m more cs had counted =
+        let count = count-is true (sym over) cs had in (taken cs had, omega arith)
 
     pub silence-line : (n m : ℕ) → m ≡ next_tick last → n ≡ tick - m
         → (cs : List CaptureByte) → last ≡ last_spot t cs

@@ -1,5 +1,5 @@
 -- What a placer answers, and what it stands for.
-use Rattle.std.specs.Prelude.{◌≡◌, ℕ, ◌-◌, ◌*◌, nat_lt, nat_le, if◌then◌else◌, Bool, true}
+use Rattle.std.specs.Prelude.{◌≡◌, ℕ, ◌+◌, ◌-◌, ◌*◌, ◌^◌, min, nat_lt, nat_le, if◌then◌else◌, Bool, true}
 use Rattle.std.specs.Prelude.{◌&&◌, ◌||◌, false, List, [], ◌∷◌, ◌++◌, Option, Some, None, Result}
 use Rattle.std.specs.Prelude.{Ok, Err}
 use Rattle.line_stamps.specs.declared.TheConstants.{TIME_LIMIT}
@@ -12,7 +12,7 @@ use Rattle.line_stamps.specs.declared.timing.Spacing.{Spacing}
 use Rattle.line_stamps.specs.declared.timing.Spacing.TheVariants.{ByTime, ByRecord}
 use Rattle.line_stamps.specs.declared.timing.Timing.{Timing}
 use Rattle.line_stamps.specs.Parts.{character}
-use Rattle.line_stamps.specs.Places.{Spot, spot_of, next_tick, last_spot}
+use Rattle.line_stamps.specs.Places.{Spot, start_of, spot_of, next_tick, last_spot}
 
 -- whether the time of a byte is a time stamp
 abbrev pub is_stamped : Option Spot → CaptureByte → Bool
@@ -27,12 +27,26 @@ is_early t last c = is_stamped last c && nat_lt c.start t.origin
 abbrev pub is_late : Spot → Bool
 is_late spot = nat_le TIME_LIMIT spot.time || nat_le TIME_LIMIT spot.tick
 
--- A byte starts less than half a character after the byte before it: no tick is left for it.
-abbrev pub overlaps : Spacing → Option Spot → ℕ → ℕ → Bool
-overlaps ByRecord last time length_of_one = false
-overlaps ByTime None time length_of_one = false
-overlaps ByTime (Some before) time length_of_one =
+-- A byte that starts at this time starts less than half a character after the byte before it: no
+-- tick is left for it.
+abbrev pub overlaps_at : Spacing → Option Spot → ℕ → ℕ → Bool
+overlaps_at ByRecord last time length_of_one = false
+overlaps_at ByTime None time length_of_one = false
+overlaps_at ByTime (Some before) time length_of_one =
     nat_lt (2 * (time - before.time)) length_of_one
+
+-- a byte overlaps the byte before it, of where that one stands, if there is one
+abbrev pub overlaps : Timing → Option Spot → CaptureByte → Bool
+overlaps t last c = overlaps_at t.spacing last (start_of t last c) (character t.rate)
+
+-- how many bytes overlap the one before them
+abbrev pub overlaps_from : Timing → Option Spot → List CaptureByte → ℕ
+overlaps_from t last [] = 0
+overlaps_from t last (c ∷ cs) =
+    (if overlaps t last c then 1 else 0) + overlaps_from t (Some (spot_of t last c)) cs
+
+abbrev pub overlap_count : Timing → List CaptureByte → ℕ
+overlap_count t cs = overlaps_from t None cs
 
 -- how many silent ticks stand before a byte
 abbrev pub silence_before : Option Spot → Spot → ℕ
@@ -43,7 +57,7 @@ abbrev pub answer_at : Timing → Option Spot → CaptureByte → Result ℕ Unp
 answer_at t last c =
     if is_early t last c then Err Early
     else if is_late (spot_of t last c) then Err Late
-    else if overlaps t.spacing last (spot_of t last c).time (character t.rate) then Err Overlap
+    else if overlaps t last c then Err Overlap
     else Ok (silence_before last (spot_of t last c))
 
 -- No byte that comes after one that stands there is early, and none overlaps the one before it.
@@ -51,7 +65,7 @@ abbrev pub NoneRefused : Timing → Option Spot → List CaptureByte → Type 0
 NoneRefused t last [] = Unit {0}
 NoneRefused t last (c ∷ cs) =
     (is_early t last c ≡ false)
-    × (overlaps t.spacing last (spot_of t last c).time (character t.rate) ≡ false)
+    × (overlaps t last c ≡ false)
     × NoneRefused t (Some (spot_of t last c)) cs
 
 abbrev pub spot_at : Last → Spot
@@ -64,9 +78,11 @@ spot_if (Some last) = Some (spot_at last)
 abbrev pub timing_of : Placer → Timing
 timing_of placer = placer.timing
 
--- A placer has taken these bytes.
-abbrev pub HasTaken : Placer → List CaptureByte → Type 0
-HasTaken placer cs = spot_if placer.last ≡ last_spot placer.timing cs
+-- A placer has taken these bytes: it knows where the last one stands, and counts those that
+-- overlap, to 2^64 - 1 at most.
+pub record HasTaken (placer : Placer) (cs : List CaptureByte) : Type 0 where
+  pub stands : spot_if placer.last ≡ last_spot placer.timing cs
+  pub counted : placer.overlaps ≡ min (overlap_count placer.timing cs) (2 ^ 64 - 1)
 
 -- A placer that had taken these bytes or others has taken one more.
 abbrev pub HasTakenMore : Placer → Placer → CaptureByte → Type 0

@@ -35,6 +35,7 @@ struct Last {
 pub struct Placer {
     timing: Timing,
     last: Option<Last>,
+    overlaps: u64,
 }
 
 // How many ticks it is from the byte before to one with so much time between.
@@ -77,23 +78,27 @@ fn settled(steps: u64, before: u64, time: u64, character: u64) -> u64
 }
 
 impl Placer {
-    ghost use Rattle.std.specs.Prelude.{◌≡◌, ◌+◌, ◌*◌, ◌^◌, ◌<◌, ◌≤◌, true, false, IfOk, IfSome};
-    ghost use Rattle.std.specs.Prelude.{IfNone, MatchOption, List, [], ◌∷◌, ◌++◌};
+    ghost use Rattle.std.specs.Prelude.{◌≡◌, ◌+◌, ◌-◌, ◌*◌, ◌^◌, ◌<◌, ◌≤◌, true, false, IfOk, IfSome};
+    ghost use Rattle.std.specs.Prelude.{IfNone, min, length, List, [], ◌∷◌, ◌++◌};
     ghost use Rattle.yasir_ticks.specs.Ticks.{silent};
     ghost use Rattle.yasir_ticks.specs.declared.tick.Tick.TheVariants.{Byte};
     ghost use Rattle.line_stamps.specs.declared.capture.CaptureByte.{CaptureByte};
     ghost use Rattle.line_stamps.specs.Parts.{character};
     ghost use Rattle.line_stamps.specs.Places.{stamp, start_of, tick_after, next_tick};
     ghost use Rattle.line_stamps.specs.Places.{last_spot, line_of};
-    ghost use Rattle.line_stamps.specs.Placing.{is_early, overlaps, answer_at, spot_if, HasTaken};
-    ghost use Rattle.line_stamps.specs.Placing.{timing_of, Leaves};
+    ghost use Rattle.line_stamps.specs.Placing.{is_early, overlaps_at, answer_at, spot_if, HasTaken};
+    ghost use Rattle.line_stamps.specs.Placing.{timing_of, overlap_count, Leaves};
 
     /// A placer that has taken no byte yet.
     pub fn new(timing: Timing) -> Placer
         ensures timing { timing_of result ≡ timing }
         ensures start { HasTaken result [] }
     {
-        Placer { timing, last: None }
+        Placer {
+            timing,
+            last: None,
+            overlaps: 0,
+        }
     }
 
     // Whether the time stamp of a byte is before the origin.
@@ -152,9 +157,9 @@ impl Placer {
     }
 
     // Whether a byte that starts at this time overlaps the one before it.
-    fn overlaps(&self, time: u64) -> bool
+    fn overlaps_at(&self, time: u64) -> bool
         requires { time < 2 ^ 62 }
-        ensures { result ≡ overlaps self.now.timing.spacing (spot_if self.now.last) time
+        ensures { result ≡ overlaps_at self.now.timing.spacing (spot_if self.now.last) time
             (character self.now.timing.rate) }
     {
         match (self.timing.spacing, self.last) {
@@ -187,12 +192,29 @@ impl Placer {
             return Err(Unplaced::Late);
         }
         let silence = tick - self.next_tick();
-        let overlaps = self.overlaps(time);
+        let overlaps = self.overlaps_at(time);
         self.last = Some(Last { time, tick });
         if overlaps {
+            self.overlaps = self.overlaps.saturating_add(1);
             return Err(Unplaced::Overlap);
         }
         Ok(silence)
+    }
+
+    /// How many bytes overlapped the one before them; the count stands still at 2^64 - 1.
+    pub fn overlaps(&self) -> u64
+        ensures { (cs : List CaptureByte) → HasTaken self.now cs
+            → result ≡ min (overlap_count (timing_of self.now) cs) (2 ^ 64 - 1) }
+    {
+        self.overlaps
+    }
+
+    /// How many ticks the line has up to the byte that was taken last.
+    pub fn ticks(&self) -> u64
+        ensures { (cs : List CaptureByte) → HasTaken self.now cs
+            → result ≡ length (line_of (timing_of self.now) cs) }
+    {
+        self.next_tick()
     }
 
     // The tick behind the byte that was taken last.

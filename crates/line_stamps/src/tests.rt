@@ -88,7 +88,7 @@ fn timing(spacing: Spacing, origin: u64) -> Option<Timing> {
 }
 
 // Places bytes with these time stamps, in microseconds, and compares the answers.
-fn check_rows(rt: &impl Abort, spacing: Spacing, rows: &[Row]) -> Result<(), Fail> {
+fn check_rows(rt: &impl Abort, spacing: Spacing, rows: &[Row]) -> Result<Placer, Fail> {
     let timing = timing(spacing, 0).ok_or("no rate")?;
     let mut placer = Placer::new(timing);
     for (time, first, answer) in rows {
@@ -101,17 +101,23 @@ fn check_rows(rt: &impl Abort, spacing: Spacing, rows: &[Row]) -> Result<(), Fai
         };
         assert_eq!(rt; placer.place(byte), *answer);
     }
-    Ok(())
+    Ok(placer)
 }
 
 #[test]
 fn bytes_are_placed_by_time(rt: HostRuntime) -> Result<(), Fail> {
-    check_rows(&rt, Spacing::ByTime, &BY_TIME)
+    let placer = check_rows(&rt, Spacing::ByTime, &BY_TIME)?;
+    assert_eq!(rt; placer.overlaps(), 1);
+    assert_eq!(rt; placer.ticks(), 662);
+    Ok(())
 }
 
 #[test]
 fn records_are_placed_as_frames(rt: HostRuntime) -> Result<(), Fail> {
-    check_rows(&rt, Spacing::ByRecord, &BY_RECORD)
+    let placer = check_rows(&rt, Spacing::ByRecord, &BY_RECORD)?;
+    assert_eq!(rt; placer.overlaps(), 0);
+    assert_eq!(rt; placer.ticks(), 16);
+    Ok(())
 }
 
 #[test]
