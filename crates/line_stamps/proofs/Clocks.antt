@@ -2,11 +2,12 @@
 use Rattle.std.proofs.Common.{◌≡◌, ◌∙◌, ℕ, suc, ◌+◌, ◌-◌, ◌*◌, ◌<◌, ◌≤◌, ⊎_elim, inl, inr}
 use Rattle.std.proofs.Common.{List, [], ◌∷◌, Option, Some, None, sym, ap, arith, max}
 use Rattle.std.proofs.Common.{map, refl, subst, Bool, true, false, add-one, ◌++◌, length, length-append}
-use Rattle.std.proofs.Common.{zero-add}
+use Rattle.std.proofs.Common.{zero-add, add-zero, zero}
 use Rattle.std.proofs.Math.Nat.{mul-le-mul_right}
 use Rattle.std.proofs.lemmas.Bool.{cases_lt, cases_Bool, cond-true, cond-false, lt-ltb, le-ltb}
 use Rattle.std.proofs.lemmas.List.{length-replicate}
 use Rattle.yasir_ticks.specs.Ticks.{bytes_in, silent}
+use Rattle.yasir_ticks.specs.declared.tick.Tick.{Tick}
 use Rattle.yasir_ticks.specs.declared.tick.Tick.TheVariants.{Silent, Byte}
 use Rattle.yasir_ticks.proofs.SilenceLaws.{bytes_in-silent}
 use Rattle.line_stamps.specs.declared.TheConstants.{DRIFT_SILENCE}
@@ -18,6 +19,7 @@ use Rattle.line_stamps.specs.Parts.{character, rounded, ticks_apart}
 use Rattle.line_stamps.specs.Places.{Spot, PlacedByte, tick_at, spot_of, steps_apart}
 use Rattle.line_stamps.specs.Places.{placed_at, placed_from, placed, ticks_from, next_tick}
 use Rattle.line_stamps.specs.Places.{last_spot_from, start_of}
+use Rattle.line_stamps.specs.Giving.{bytes_from, at_tick}
 use Rattle.line_stamps.specs.Clock.{AllNext, time_between, KeepsEdges, KeepsTime, WithinHalf}
 use Rattle.line_stamps.specs.Clock.{ArePartedRecords}
 use Rattle.line_stamps.proofs.RoundingLaws.{apart-some, apart-inside, apart-end, apart-most}
@@ -249,3 +251,26 @@ line-length t last (c ∷ cs) =
     ≡ length (ticks_from (suc (spot_of t last c).tick)
     (placed_from t (Some (spot_of t last c)) cs)) + suc (spot_of t last c).tick = omega arith in
     count ∙ (same ∙ rest)
+
+-- the bytes behind silence
+bytes-behind : (n k : ℕ) (l : List Tick) → bytes_from n (silent k ++ l) ≡ bytes_from (n + k) l
+bytes-behind n zero l = ap (λ i. bytes_from i l) (sym (add-zero n))
+bytes-behind n (suc k) l =
+    let e : suc n + k ≡ n + suc k = omega arith in
+    bytes-behind (suc n) k l ∙ ap (λ i. bytes_from i l) e
+
+-- Each byte stands in its tick of the line.
+pub in-their-ticks : (t : Timing) (last : Option Spot) (cs : List CaptureByte)
+    → bytes_from (next_tick last) (ticks_from (next_tick last) (placed_from t last cs))
+    ≡ map at_tick (placed_from t last cs)
+in-their-ticks t last [] = refl
+in-their-ticks t last (c ∷ cs) =
+    let behind = later t last c in
+    let e : next_tick last + ((spot_of t last c).tick - next_tick last) ≡ (spot_of t last c).tick =
+    omega arith in
+    bytes-behind (next_tick last) ((spot_of t last c).tick - next_tick last) (Byte c.byte
+    ∷ ticks_from (suc (spot_of t last c).tick) (placed_from t (Some (spot_of t last c)) cs))
+    ∙ (ap (λ n. bytes_from n (Byte c.byte
+    ∷ ticks_from (suc (spot_of t last c).tick) (placed_from t (Some (spot_of t last c)) cs))) e
+    ∙ ap (λ xs. at_tick (placed_at (spot_of t last c) c) ∷ xs)
+    (in-their-ticks t (Some (spot_of t last c)) cs))

@@ -8,7 +8,7 @@ use Rattle.line_stamps.specs.declared.capture.CaptureByte.{CaptureByte}
 use Rattle.line_stamps.specs.declared.rate.Rate.{Rate}
 use Rattle.line_stamps.specs.declared.timing.Spacing.TheVariants.{ByTime}
 use Rattle.line_stamps.specs.declared.timing.Timing.{Timing}
-use Rattle.line_stamps.specs.Places.{line_of}
+use Rattle.line_stamps.specs.Places.{PlacedByte, line_of}
 use Rattle.line_stamps.specs.Parts.{character, rounded}
 
 -- When a tick starts, in nanoseconds since tick 0, where a capture counts time in units of so many
@@ -32,6 +32,10 @@ IsTakenAs t cs line = (n : ℕ) × (line ≡ line_of t cs ++ silent n)
 pub record ByteAt : Type 0 where
   pub tick : ℕ
   pub byte : ℕ
+
+-- a byte that is placed on a line, in its tick
+abbrev pub at_tick : PlacedByte → ByteAt
+at_tick x = record { tick = x.spot.tick; byte = x.byte }
 
 -- the bytes of a line whose first tick is tick n
 abbrev pub bytes_from : ℕ → List Tick → List ByteAt

@@ -8,7 +8,7 @@ ghost use Rattle.line_stamps.specs.declared.capture.CaptureByte.{CaptureByte};
 ghost use Rattle.line_stamps.specs.declared.timing.Spacing.TheVariants.{ByTime, ByRecord};
 ghost use Rattle.line_stamps.specs.declared.timing.Timing.{Timing};
 ghost use Rattle.line_stamps.specs.declared.rate.Rate.{Rate};
-ghost use Rattle.line_stamps.specs.Giving.{bytes_from, AreGiven, taken_from, IsTakenAs};
+ghost use Rattle.line_stamps.specs.Giving.{bytes_from, at_tick, AreGiven, taken_from, IsTakenAs};
 ghost use Rattle.line_stamps.specs.Parts.{character};
 ghost use Rattle.line_stamps.specs.Places.{Spot, placed, line_of, spot_of};
 ghost use Rattle.line_stamps.specs.Placing.{NoneRefused};
@@ -18,6 +18,12 @@ ghost use Rattle.line_stamps.specs.Clock.{AllNext, KeepsEdges, KeepsTime, ArePar
 pub fn same_bytes_in_the_same_order()
     ensures { (t : Timing) (cs : List CaptureByte)
         → bytes_in (line_of t cs) ≡ map (λ c. c.byte) cs }
+{}
+
+/// A law of the definitions: each byte of a capture stands in its tick of the line.
+pub fn bytes_stand_in_their_ticks()
+    ensures { (t : Timing) (cs : List CaptureByte)
+        → bytes_from 0 (line_of t cs) ≡ map at_tick (placed t cs) }
 {}
 
 /// A law of the definitions, for captures that are placed by their times: no silence is rounded

@@ -18,8 +18,8 @@ mod timing;
 pub use capture::{CaptureByte, Way};
 pub use giving::tick_start;
 pub use laws::{
-    records_are_parted, same_bytes_in_the_same_order, silences_keep_their_edges,
-    ticks_keep_to_the_times, what_was_given_is_taken,
+    bytes_stand_in_their_ticks, records_are_parted, same_bytes_in_the_same_order,
+    silences_keep_their_edges, ticks_keep_to_the_times, what_was_given_is_taken,
 };
 pub use placer::{Placer, Unplaced};
 pub use rate::Rate;

@@ -166,6 +166,7 @@ fn numbers_of_ticks(rt: HostRuntime) -> Result<(), Fail> {
         assert_eq!(rt; tick_start(rate, *unit, *tick), *start);
     }
     same_bytes_in_the_same_order();
+    bytes_stand_in_their_ticks();
     silences_keep_their_edges();
     ticks_keep_to_the_times();
     records_are_parted();

@@ -2,5 +2,7 @@
 #![tactic(auto)]
 
 mod rtu_law;
+#[cfg(test)]
+mod tests;
 
 pub use rtu_law::{records_tell_what_is_read, times_tell_what_is_read};
