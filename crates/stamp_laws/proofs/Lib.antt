@@ -3,3 +3,4 @@ mod CutLines
 mod CutReads
 mod ByTimes
 mod ByRecords
+mod HuntedLines

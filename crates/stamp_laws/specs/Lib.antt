@@ -1,3 +1,4 @@
 pub mod Cuts
 pub mod TimedFrames
 pub mod RecordFrames
+pub mod HuntedBytes

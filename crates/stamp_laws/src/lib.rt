@@ -1,8 +1,10 @@
 //! What devices read of the line of a capture: laws of its definitions.
 #![tactic(auto)]
 
-mod rtu_law;
+mod device_laws;
 #[cfg(test)]
 mod tests;
 
-pub use rtu_law::{records_tell_what_is_read, times_tell_what_is_read};
+pub use device_laws::{
+    bytes_tell_what_dnp_reads, records_tell_what_is_read, times_tell_what_is_read,
+};

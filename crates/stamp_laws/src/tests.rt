@@ -6,4 +6,5 @@ use crate::*;
 fn laws() {
     times_tell_what_is_read();
     records_tell_what_is_read();
+    bytes_tell_what_dnp_reads();
 }

@@ -4,7 +4,7 @@ use Rattle.line_stamps.proofs.Clocks.{edges-kept}
 use Rattle.stamp_laws.specs.TimedFrames.{are_parted, are_apart}
 use Rattle.stamp_laws.proofs.ByTimes.{told}
 use Rattle.stamp_laws.proofs.CutReads.{reads-of-parts}
-use Rattle.stamp_laws.proofs.rtu_law.times_tell_what_is_read.Goals as goal
+use Rattle.stamp_laws.proofs.device_laws.times_tell_what_is_read.Goals as goal
 
 pub returns : goal.returns
 returns c = λ t cs n by-time some.

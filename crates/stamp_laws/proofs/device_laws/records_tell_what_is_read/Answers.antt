@@ -5,7 +5,7 @@ use Rattle.stamp_laws.specs.Cuts.{cut_where, frame_of}
 use Rattle.stamp_laws.specs.RecordFrames.{begins_record}
 use Rattle.stamp_laws.proofs.ByRecords.{never, told, whole-frames}
 use Rattle.stamp_laws.proofs.CutReads.{reads-of-parts}
-use Rattle.stamp_laws.proofs.rtu_law.records_tell_what_is_read.Goals as goal
+use Rattle.stamp_laws.proofs.device_laws.records_tell_what_is_read.Goals as goal
 
 pub returns : goal.returns
 returns c = λ t cs n by-record some.

@@ -1,8 +1,11 @@
-//! What a Modbus RTU device reads of the line of a capture.
+//! What the stated devices read of the line of a capture.
 
 ghost use Rattle.std.specs.Prelude.{◌≡◌, ◌++◌, ◌≤◌, ℕ, List, map};
 ghost use Rattle.yasir_ticks.specs.Ticks.{silent};
 ghost use Rattle.yasir_ticks.specs.declared.TheConstants.{T3_5_TICKS};
+ghost use Rattle.dnp_link_frame.specs.Rules.{dnp_rules};
+ghost use Rattle.device_model.specs.DnpReads.{dnp_reads};
+ghost use Rattle.device_model.specs.Hunt.{hunt};
 ghost use Rattle.device_model.specs.RtuReads.{rtu_reads};
 ghost use Rattle.line_stamps.specs.declared.capture.CaptureByte.{CaptureByte};
 ghost use Rattle.line_stamps.specs.declared.timing.Spacing.TheVariants.{ByTime, ByRecord};
@@ -10,6 +13,7 @@ ghost use Rattle.line_stamps.specs.declared.timing.Timing.{Timing};
 ghost use Rattle.line_stamps.specs.Parts.{character};
 ghost use Rattle.line_stamps.specs.Places.{line_of, placed};
 ghost use Rattle.stamp_laws.specs.Cuts.{frame_of};
+ghost use Rattle.stamp_laws.specs.HuntedBytes.{timed_byte};
 ghost use Rattle.stamp_laws.specs.RecordFrames.{records_that_are_frames};
 ghost use Rattle.stamp_laws.specs.TimedFrames.{frames_by_time};
 
@@ -30,4 +34,13 @@ pub fn records_tell_what_is_read()
     ensures { (t : Timing) (cs : List CaptureByte) (n : ℕ) → t.spacing ≡ ByRecord → T3_5_TICKS ≤ n
         → rtu_reads (line_of t cs ++ silent n)
         ≡ map frame_of (records_that_are_frames (placed t cs)) }
+{}
+
+/// A law of the definitions: a DNP3 device takes no notice of silence, so what it reads of the line
+/// is what it reads of the bytes of the capture, whatever their times and whatever is taken for a
+/// frame, each frame in the tick of its first byte.
+pub fn bytes_tell_what_dnp_reads()
+    ensures { (t : Timing) (cs : List CaptureByte) (n : ℕ)
+        → dnp_reads (line_of t cs ++ silent n)
+        ≡ hunt 0x05 0x64 dnp_rules 0 (map timed_byte (placed t cs)) }
 {}
