@@ -1,7 +1,7 @@
 -- Records that are taken for frames tell the silent ticks of a line.
-use Rattle.std.proofs.Common.{◌≡◌, ◌∙◌, ℕ, ◌<◌, ◌≤◌, ⊎_elim, sym, ap, List, [], ◌∷◌, Bool, true}
+use Rattle.std.proofs.Common.{◌≡◌, ◌∙◌, ⊎_elim, sym, ap, List, [], ◌∷◌, Bool, true}
 use Rattle.std.proofs.Common.{false}
-use Rattle.std.proofs.Common.{nat_lt, nat_le, arith, le-leb, ◌&&◌, not, refl, filter, cond}
+use Rattle.std.proofs.Common.{arith, le-leb, ◌&&◌, not, refl, filter, cond}
 use Rattle.std.proofs.lemmas.Bool.{cases_Bool, le-ltb, lt-leb}
 use Rattle.rtu_frame.specs.Frame.{is_frame}
 use Rattle.line_stamps.specs.Places.{PlacedByte}

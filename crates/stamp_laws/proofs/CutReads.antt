@@ -1,10 +1,10 @@
 -- What a device reads of the bursts of a line, by tests that tell its silent ticks.
-use Rattle.std.proofs.Common.{◌≡◌, ◌∙◌, ℕ, zero, suc, ◌+◌, ◌-◌, ◌*◌, ◌<◌, ◌≤◌, ◌↔◌, ⊎_elim, inl}
+use Rattle.std.proofs.Common.{◌≡◌, ◌∙◌, ℕ, zero, suc, ◌+◌, ◌≤◌, inl}
 use Rattle.std.proofs.Common.{sym, ap}
 use Rattle.std.proofs.Common.{List, [], ◌∷◌, ◌++◌, Bool, true, false, arith, refl, subst, map}
 use Rattle.std.proofs.Common.{filter}
 use Rattle.std.proofs.Common.{nat_lt, nat_le, ◌&&◌, ◌||◌, not, cond, length, le-leb, length-append}
-use Rattle.std.proofs.lemmas.Bool.{cases_lt, lt-ltb, le-ltb}
+use Rattle.std.proofs.lemmas.Bool.{lt-ltb}
 use Rattle.std.proofs.lemmas.List.{length-replicate}
 use Rattle.rtu_frame.specs.Frame.{is_frame}
 use Rattle.yasir_ticks.specs.Ticks.{silent, bytes_in}
@@ -16,7 +16,7 @@ use Rattle.yasir_ticks.proofs.BurstLaws.{bursts_from-silent_end}
 use Rattle.yasir_ticks.proofs.BurstsOfLaws.{bursts_from-are}
 use Rattle.yasir_ticks.proofs.SilenceLaws.{bytes_in-silent}
 use Rattle.device_model.specs.Frames.{FrameRead}
-use Rattle.device_model.specs.RtuReads.{has_silence, begins_silent, is_frame_body, is_read}
+use Rattle.device_model.specs.RtuReads.{has_silence, is_frame_body, is_read}
 use Rattle.device_model.specs.RtuReads.{frame_in}
 use Rattle.device_model.specs.RtuReads.{rtu_reads}
 use Rattle.line_stamps.specs.Places.{PlacedByte, ticks_from}

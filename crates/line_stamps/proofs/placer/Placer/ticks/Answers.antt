@@ -1,5 +1,5 @@
-use Rattle.std.proofs.Common.{◌∙◌, None, sym, ap, arith, length}
-use Rattle.line_stamps.specs.Places.{next_tick, line_of}
+use Rattle.std.proofs.Common.{◌∙◌, None, ap, arith}
+use Rattle.line_stamps.specs.Places.{next_tick}
 use Rattle.line_stamps.proofs.Clocks.{line-length}
 use Rattle.line_stamps.proofs.placer.Placer.ticks.Goals as goal
 
