@@ -8,6 +8,7 @@ use crate::rounding::nearest;
 
 /// When a tick starts, in nanoseconds since tick 0, for a capture that counts time in units of so
 /// many nanoseconds: the nearest whole number of units, a half up.
+#[inline]
 pub fn tick_start(rate: Rate, unit: u64, tick: u64) -> u64
     requires some { 0 < unit }
     requires short { unit ≤ 1000000000 }

@@ -1,16 +1,15 @@
 //! Laws of the definitions: how a line keeps to the times of a capture.
 
-ghost use Rattle.std.specs.Prelude.{◌≡◌, ℕ, ◌+◌, ◌*◌, ◌<◌, ◌≤◌, true, false, List, map, Some, None};
+ghost use Rattle.std.specs.Prelude.{◌≡◌, ℕ, ◌*◌, ◌<◌, List, map, None};
 ghost use Rattle.yasir_ticks.specs.Ticks.{bytes_in};
 ghost use Rattle.yasir_ticks.specs.declared.tick.Tick.{Tick};
-ghost use Rattle.yasir_ticks.specs.declared.TheConstants.{T3_5_TICKS};
 ghost use Rattle.line_stamps.specs.declared.capture.CaptureByte.{CaptureByte};
 ghost use Rattle.line_stamps.specs.declared.timing.Spacing.TheVariants.{ByTime, ByRecord};
 ghost use Rattle.line_stamps.specs.declared.timing.Timing.{Timing};
 ghost use Rattle.line_stamps.specs.declared.rate.Rate.{Rate};
 ghost use Rattle.line_stamps.specs.Giving.{bytes_from, at_tick, AreGiven, taken_from, IsTakenAs};
 ghost use Rattle.line_stamps.specs.Parts.{character};
-ghost use Rattle.line_stamps.specs.Places.{Spot, placed, line_of, spot_of};
+ghost use Rattle.line_stamps.specs.Places.{placed, line_of};
 ghost use Rattle.line_stamps.specs.Placing.{NoneRefused};
 ghost use Rattle.line_stamps.specs.Clock.{AllNext, KeepsEdges, KeepsTime, ArePartedRecords};
 

@@ -39,6 +39,7 @@ pub struct Placer {
 }
 
 // How many ticks it is from the byte before to one with so much time between.
+#[inline]
 fn steps(spacing: Spacing, first: bool, gap: u64, character: u64) -> u64
     requires some { 0 < character }
     requires small { character < 2 ^ 60 }
@@ -61,6 +62,7 @@ fn steps(spacing: Spacing, first: bool, gap: u64, character: u64) -> u64
 }
 
 // The tick of a byte so many ticks behind the one before, drift taken up where it may be.
+#[inline]
 fn settled(steps: u64, before: u64, time: u64, character: u64) -> u64
     requires some { 0 < character }
     requires small { character < 2 ^ 60 }
@@ -78,7 +80,7 @@ fn settled(steps: u64, before: u64, time: u64, character: u64) -> u64
 }
 
 impl Placer {
-    ghost use Rattle.std.specs.Prelude.{◌≡◌, ◌+◌, ◌-◌, ◌*◌, ◌^◌, ◌<◌, ◌≤◌, true, false, IfOk, IfSome};
+    ghost use Rattle.std.specs.Prelude.{◌≡◌, ◌+◌, ◌-◌, ◌^◌, ◌<◌, ◌≤◌, false, IfOk, IfSome};
     ghost use Rattle.std.specs.Prelude.{IfNone, min, length, List, [], ◌∷◌, ◌++◌};
     ghost use Rattle.yasir_ticks.specs.Ticks.{silent};
     ghost use Rattle.yasir_ticks.specs.declared.tick.Tick.TheVariants.{Byte};
@@ -102,6 +104,7 @@ impl Placer {
     }
 
     // Whether the time stamp of a byte is before the origin.
+    #[inline]
     fn is_early(&self, byte: &CaptureByte) -> bool
         ensures { result ≡ is_early self.now.timing (spot_if self.now.last) byte.now }
     {
@@ -109,6 +112,7 @@ impl Placer {
     }
 
     // The time stamp of a byte, in parts since the origin; none where it is too late.
+    #[inline]
     fn stamp(&self, byte: &CaptureByte) -> Option<u64>
         requires { self.now.timing.origin ≤ byte.now.start }
         ensures late { IfNone result (2 ^ 62 ≤ stamp self.now.timing byte.now) }
@@ -121,6 +125,7 @@ impl Placer {
     }
 
     // The start of a byte, in parts since the origin; none where it is too late.
+    #[inline]
     fn start_of(&self, byte: &CaptureByte) -> Option<u64>
         requires { is_early self.now.timing (spot_if self.now.last) byte.now ≡ false }
         ensures late { IfNone result
@@ -140,6 +145,7 @@ impl Placer {
     }
 
     // The tick of a byte that starts at this time.
+    #[inline]
     fn tick_of(&self, first: bool, time: u64) -> u64
         requires { time < 2 ^ 62 }
         ensures tick { result ≡ tick_after self.now.timing (spot_if self.now.last) first time }
@@ -157,6 +163,7 @@ impl Placer {
     }
 
     // Whether a byte that starts at this time overlaps the one before it.
+    #[inline]
     fn overlaps_at(&self, time: u64) -> bool
         requires { time < 2 ^ 62 }
         ensures { result ≡ overlaps_at self.now.timing.spacing (spot_if self.now.last) time
@@ -173,6 +180,7 @@ impl Placer {
     /// Places the next byte: the silent ticks that stand before it, behind the byte before it or
     /// from tick 0 on. A byte that overlaps the one before is taken nevertheless, in the next tick,
     /// so that all that overlap can be counted; one that is early or late isn't taken.
+    #[inline]
     pub fn place(&mut self, byte: CaptureByte) -> Result<u64, Unplaced>
         ensures answer { (cs : List CaptureByte) → HasTaken self.old cs
             → result ≡ answer_at (timing_of self.old) (last_spot (timing_of self.old) cs) byte }
@@ -202,6 +210,7 @@ impl Placer {
     }
 
     /// How many bytes overlapped the one before them; the count stands still at 2^64 - 1.
+    #[inline]
     pub fn overlaps(&self) -> u64
         ensures { (cs : List CaptureByte) → HasTaken self.now cs
             → result ≡ min (overlap_count (timing_of self.now) cs) (2 ^ 64 - 1) }
@@ -210,6 +219,7 @@ impl Placer {
     }
 
     /// How many ticks the line has up to the byte that was taken last.
+    #[inline]
     pub fn ticks(&self) -> u64
         ensures { (cs : List CaptureByte) → HasTaken self.now cs
             → result ≡ length (line_of (timing_of self.now) cs) }
@@ -218,6 +228,7 @@ impl Placer {
     }
 
     // The tick behind the byte that was taken last.
+    #[inline]
     fn next_tick(&self) -> u64
         ensures { result ≡ next_tick (spot_if self.now.last) }
     {

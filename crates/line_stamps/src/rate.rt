@@ -25,6 +25,7 @@ impl Rate {
     ghost use Rattle.line_stamps.specs.Parts.{character};
 
     /// The length of a character, in parts: a nanosecond has `baud` of them.
+    #[inline]
     pub fn character(&self) -> u64
         ensures { result ≡ character self.now }
     {

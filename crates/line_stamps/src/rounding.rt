@@ -1,9 +1,10 @@
 //! Times as whole numbers of ticks.
 
-ghost use Rattle.std.specs.Prelude.{◌≡◌, ◌+◌, ◌*◌, ◌^◌, ◌<◌, ◌≤◌, ◌↔◌};
+ghost use Rattle.std.specs.Prelude.{◌≡◌, ◌^◌, ◌<◌};
 ghost use Rattle.line_stamps.specs.Parts.{rounded, ticks_apart};
 
 /// How many units a time is: the nearest whole number, a half up.
+#[inline]
 pub fn nearest(time: u64, unit: u64) -> u64
     requires some { 0 < unit }
     requires small { unit < 2 ^ 62 }
@@ -17,6 +18,7 @@ pub fn nearest(time: u64, unit: u64) -> u64
 /// two starts and the length of a character, both in one unit: the nearest whole number, a half
 /// up, but a silence of 1.5 characters down, and at least 1. So at most one silent tick stands for
 /// exactly the silences of at most 1.5 characters, and four or more for those of at least 3.5.
+#[inline]
 pub fn ticks_between(gap: u64, character: u64) -> u64
     requires some { 0 < character }
     requires small { character < 2 ^ 60 }
