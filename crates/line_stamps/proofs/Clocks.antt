@@ -1,7 +1,8 @@
 -- The ticks of a line keep to the times of a capture.
 use Rattle.std.proofs.Common.{◌≡◌, ◌∙◌, ℕ, suc, ◌+◌, ◌-◌, ◌*◌, ◌<◌, ◌≤◌, ⊎_elim, inl, inr}
 use Rattle.std.proofs.Common.{List, [], ◌∷◌, Option, Some, None, sym, ap, arith, max}
-use Rattle.std.proofs.Common.{map, refl, subst, Bool, true, false, add-one, ◌++◌, length, length-append}
+use Rattle.std.proofs.Common.{map, refl, subst, Bool, true, false, add-one, ◌++◌, length}
+use Rattle.std.proofs.Common.{length-append}
 use Rattle.std.proofs.Common.{zero-add, add-zero, zero}
 use Rattle.std.proofs.Math.Nat.{mul-le-mul_right}
 use Rattle.std.proofs.lemmas.Bool.{cases_lt, cases_Bool, cond-true, cond-false, lt-ltb, le-ltb}

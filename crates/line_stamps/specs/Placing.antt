@@ -1,5 +1,6 @@
 -- What a placer answers, and what it stands for.
-use Rattle.std.specs.Prelude.{◌≡◌, ℕ, ◌+◌, ◌-◌, ◌*◌, ◌^◌, min, nat_lt, nat_le, if◌then◌else◌, Bool, true}
+use Rattle.std.specs.Prelude.{◌≡◌, ℕ, ◌+◌, ◌-◌, ◌*◌, ◌^◌, min, nat_lt, nat_le, if◌then◌else◌, Bool}
+use Rattle.std.specs.Prelude.{true}
 use Rattle.std.specs.Prelude.{◌&&◌, ◌||◌, false, List, [], ◌∷◌, ◌++◌, Option, Some, None, Result}
 use Rattle.std.specs.Prelude.{Ok, Err}
 use Rattle.line_stamps.specs.declared.TheConstants.{TIME_LIMIT}

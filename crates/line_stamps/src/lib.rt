@@ -30,6 +30,6 @@ pub use timing::{Spacing, Timing};
 /// of them becomes shorter than these.
 pub const DRIFT_SILENCE: u64 = 320;
 
-/// Each byte of a capture starts before this time behind the origin, in parts, and before this tick:
-/// 2^62. That is 11 hours at 115,200 baud, and at least 419,244,183 characters at each rate.
+/// Each byte of a capture starts before this time behind the origin, in parts, and before this
+/// tick: 2^62. That is 11 hours at 115,200 baud, and at least 419,244,183 characters at each rate.
 pub const TIME_LIMIT: u64 = 4_611_686_018_427_387_904;

@@ -88,7 +88,8 @@ impl Placer {
     ghost use Rattle.line_stamps.specs.Parts.{character};
     ghost use Rattle.line_stamps.specs.Places.{stamp, start_of, tick_after, next_tick};
     ghost use Rattle.line_stamps.specs.Places.{last_spot, line_of};
-    ghost use Rattle.line_stamps.specs.Placing.{is_early, overlaps_at, answer_at, spot_if, HasTaken};
+    ghost use Rattle.line_stamps.specs.Placing.{is_early, overlaps_at, answer_at, spot_if};
+    ghost use Rattle.line_stamps.specs.Placing.{HasTaken};
     ghost use Rattle.line_stamps.specs.Placing.{timing_of, overlap_count, Leaves};
 
     /// A placer that has taken no byte yet.
