@@ -1,0 +1,52 @@
+-- A reader that takes bytes one by one. At each place a byte leads to a place and gives an item or
+-- none, or is refused.
+use Rattle.std.specs.Prelude.{◌≡◌, ℕ, Bool, true, List, [], ◌∷◌, ◌++◌, Option, Result, Ok, Err}
+use Rattle.std.specs.Option.{option_to_list}
+
+module _ {P I F : Type 0} where
+  -- these items, and then what the rest comes to
+  abbrev pub after_items : List I → Result (P × List I) F → Result (P × List I) F
+  after_items items (Ok rest) = Ok (rest.0, items ++ rest.1)
+  after_items items (Err why) = Err why
+
+  -- what a byte comes to, and then the rest
+  abbrev pub and_then_walk : Result (P × Option I) F → (P → Result (P × List I) F)
+      → Result (P × List I) F
+  and_then_walk (Ok next) rest = after_items (option_to_list next.1) (rest next.0)
+  and_then_walk (Err why) rest = Err why
+
+module _ {P I F : Type 0} (step : P → ℕ → Result (P × Option I) F) where
+  -- where a reader comes to from this place over these bytes, and the items that they give; or why
+  -- one of them is refused
+  unfoldable pub walk : P → List ℕ → Result (P × List I) F
+  walk from [] = Ok (from, [])
+  walk from (b ∷ bytes) = and_then_walk (step from b) (λ place. walk place bytes)
+
+-- The bytes begin an input of this format, and these are the items of what stands there: an input
+-- that goes on so has these items first.
+module _ {I : Type 0} (IsRight : List ℕ → List I → Type 0) where
+  pub record Begins (bytes : List ℕ) (items : List I) : Type 0 where
+    pub more : List ℕ
+    pub others : List I
+    pub right : IsRight (bytes ++ more) (items ++ others)
+    pub each : (more : List ℕ) (all : List I) → IsRight (bytes ++ more) all
+        → (others : List I) × (all ≡ items ++ others)
+
+  -- No input of this format begins with these bytes.
+  abbrev pub BeginsNone : List ℕ → Type 0
+  BeginsNone bytes = (more : List ℕ) (items : List I) → IsRight (bytes ++ more) items → ⊥
+
+-- A reader reads a format: from its first place it comes to a place where the input may end exactly
+-- over the inputs of that format, with their items, and from each place that it comes to, it can
+-- still come to such a place.
+module _ {P I F : Type 0} (step : P → ℕ → Result (P × Option I) F) (start : P) (ends : P → Bool)
+    (IsRight : List ℕ → List I → Type 0) where
+  pub record ReadsFormat : Type 0 where
+    pub sound : (bytes : List ℕ) (place : P) (items : List I)
+        → walk step start bytes ≡ Ok (place, items) → ends place ≡ true → IsRight bytes items
+    pub complete : (bytes : List ℕ) (items : List I) → IsRight bytes items
+        → (place : P) × (walk step start bytes ≡ Ok (place, items)) × (ends place ≡ true)
+    pub goes_on : (bytes : List ℕ) (place : P) (items : List I)
+        → walk step start bytes ≡ Ok (place, items)
+        → (more : List ℕ) × (others : List I) × (last : P)
+        × (walk step place more ≡ Ok (last, others)) × (ends last ≡ true)

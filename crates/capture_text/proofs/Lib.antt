@@ -1,0 +1,5 @@
+pub mod LineFacts
+pub mod Places
+pub mod Reached
+pub mod Spelled
+pub mod Reading

@@ -1,0 +1,132 @@
+-- The reader reads text captures exactly.
+use Rattle.std.proofs.Common.{◌≡◌, ◌∙◌, ℕ, ◌+◌, ◌*◌, ◌<◌, ◌^◌, ◌==◌, Bool, true, false, List, []}
+use Rattle.std.proofs.Common.{◌∷◌, ◌++◌, Option, Some, None, Ok, Err, refl, ap, sym, arith}
+use Rattle.std.specs.Option.{option_to_list}
+use Rattle.line_stamps.specs.declared.capture.CaptureByte.{CaptureByte}
+use Rattle.byte_walk.specs.Walks.{walk, ReadsFormat, Begins, BeginsNone}
+use Rattle.byte_walk.proofs.WalkLaws.{walk-cons, walk-more, reads_begins, reads_none, reads_open}
+use Rattle.capture_text.specs.CaptureText.{IsTextCapture, capture_byte, IsCause}
+use Rattle.capture_text.specs.TextStep.{step_at, may_end, fitting, end_fault_at}
+use Rattle.capture_text.specs.declared.place.Place.{Place}
+use Rattle.capture_text.specs.declared.place.Place.TheVariants.{Start, Comment, Whole, Point}
+use Rattle.capture_text.specs.declared.place.Place.TheVariants.{Fraction, Blank, Pairs, Half}
+use Rattle.capture_text.specs.declared.place.Place.TheVariants.{Returned}
+use Rattle.capture_text.specs.declared.fault.TextFault.{TextFault}
+use Rattle.capture_text.proofs.Places.{At}
+use Rattle.capture_text.proofs.Places.At.{start, in_comment, whole, after_point, fraction}
+use Rattle.capture_text.proofs.Places.At.{after_blank, pairs, half, after_return}
+use Rattle.capture_text.proofs.Reached.{reached, reached_end, reached_cause, reached_open}
+use Rattle.capture_text.proofs.Reached.{reached_closed}
+use Rattle.capture_text.proofs.Spelled.{text_walk, fits_so}
+
+-- how a text goes on from a place to an end
+record GoesOnFrom (place : Place) : Type 0 where
+  pub more : List ℕ
+  pub others : List CaptureByte
+  pub last : Place
+  pub walks : walk step_at place more ≡ Ok (last, others)
+  pub end : may_end last ≡ true
+
+at_once : (place : Place) → may_end place ≡ true → GoesOnFrom place
+unfolding walk
+at_once place e = record { more = []; others = []; last = place; walks = refl; end = e }
+
+blank_on : (time : ℕ) → walk step_at (Blank time) (48 ∷ 48 ∷ [])
+    ≡ Ok (Pairs time, capture_byte time true 0 ∷ [])
+unfolding walk step_at
+blank_on time = refl
+
+goes_on : (place : Place) (line : List ℕ) (items : List CaptureByte) → At place line items
+    → GoesOnFrom place
+unfolding walk step_at
+goes_on place line items start = at_once Start refl
+goes_on place line items (in_comment _ c) = at_once Comment refl
+goes_on place line items (whole _ time w) = record {
+  more = 32 ∷ 48 ∷ 48 ∷ [];
+  others = capture_byte time true 0 ∷ [];
+  last = Pairs time;
+  walks = refl;
+  end = refl;
+}
+goes_on place line items (after_point front time w) = record {
+  more = 48 ∷ 32 ∷ 48 ∷ 48 ∷ [];
+  others = capture_byte time true 0 ∷ [];
+  last = Pairs time;
+  walks = walk-cons step_at (Point time) (Fraction time 10000000) (Pairs time) 48
+      (32 ∷ 48 ∷ 48 ∷ []) None (capture_byte time true 0 ∷ []) (first time w.fits) refl;
+  end = refl;
+}
+  where
+    first : (time : ℕ) → time < 2 ^ 64
+        → step_at (Point time) 48 ≡ Ok (Fraction time 10000000, None)
+    first time h = let same : time + 0 ≡ time = omega arith in rw (same, fits_so time h) refl
+goes_on place line items (fraction _ time counts f) = record {
+  more = 32 ∷ 48 ∷ 48 ∷ [];
+  others = capture_byte time true 0 ∷ [];
+  last = Pairs time;
+  walks = refl;
+  end = refl;
+}
+goes_on place line items (after_blank seconds blank time t apart) = record {
+  more = 48 ∷ 48 ∷ [];
+  others = capture_byte time true 0 ∷ [];
+  last = Pairs time;
+  walks = refl;
+  end = refl;
+}
+goes_on place line items (pairs _ time _ r) = at_once (Pairs time) refl
+goes_on place line items (half _ time first high _ h) = record {
+  more = 48 ∷ [];
+  others = capture_byte time first (high * 16 + 0) ∷ [];
+  last = Pairs time;
+  walks = refl;
+  end = refl;
+}
+goes_on place line items (after_return content _ c) = at_once Returned refl
+
+pub reads_text : ReadsFormat step_at Start may_end IsTextCapture
+reads_text = record {
+  sound = λ bytes place items e m.
+      reached_end place bytes items (reached place bytes items e) m;
+  complete = λ bytes items t.
+      let walks = text_walk bytes items t in (walks.place, walks.walks, walks.end);
+  goes_on = λ bytes place items e.
+      let r = reached place bytes items e in
+      let on = goes_on place r.line r.these r.at in
+      (on.more, on.others, on.last, on.walks, on.end);
+}
+
+-- ---- what a reader says of a text that it came to a place over
+
+module _ (place : Place) (text : List ℕ) (items : List CaptureByte)
+    (walks : walk step_at Start text ≡ Ok (place, items)) where
+  pub text_more : (b : ℕ) (next : Place) (item : Option CaptureByte)
+      → Ok (next, item) ≡ step_at place b
+      → walk step_at Start (text ++ b ∷ []) ≡ Ok (next, items ++ option_to_list item)
+  text_more b next item e = walk-more step_at Start place next text items b item walks (sym e)
+
+  pub text_begins : Begins IsTextCapture text items
+  text_begins = reads_begins step_at Start may_end IsTextCapture reads_text text place items walks
+
+  pub text_none : (b : ℕ) (why : TextFault) → Err why ≡ step_at place b
+      → BeginsNone IsTextCapture (text ++ b ∷ [])
+  text_none b why e =
+      reads_none step_at Start may_end IsTextCapture reads_text text place items b why walks (sym e)
+
+  pub text_cause : (b : ℕ) (why : TextFault) → Err why ≡ step_at place b
+      → IsCause text (Some b) why
+  text_cause b why e =
+      reached_cause place text items b why (reached place text items walks) (sym e)
+
+  pub text_right : None ≡ end_fault_at place → IsTextCapture text items
+  text_right e =
+      let r = reached place text items walks in
+      reached_end place text items r (reached_closed place text items r (sym e))
+
+  pub text_wrong : (why : TextFault) → Some why ≡ end_fault_at place
+      → ((all : List CaptureByte) → IsTextCapture text all → ⊥) × IsCause text None why
+  text_wrong why e =
+      let both = reached_open place text items why (reached place text items walks) (sym e) in (
+        reads_open step_at Start may_end IsTextCapture reads_text text place items walks both.0,
+        both.1,
+      )

@@ -1,0 +1,13 @@
+use Rattle.std.proofs.Common.{refl, []}
+use Rattle.byte_walk.specs.Walks.{walk}
+use Rattle.capture_text.specs.declared.place.Place.TheVariants.{Start}
+use Rattle.capture_text.proofs.Reading.{text_begins}
+use Rattle.capture_text.proofs.reader.TextReader.new.Goals as goal
+
+pub returns-clause-stands : goal.returns-clause-stands
+unfolding walk
+returns-clause-stands c = record { walks = refl; open_yet = refl; counted = refl; lines = refl }
+
+pub returns-clause-begins : goal.returns-clause-begins
+unfolding walk
+returns-clause-begins c = text_begins Start [] [] refl

@@ -1,0 +1,166 @@
+-- A text capture: lines of a time in seconds, a blank, and the bytes of a record in pairs of hex
+-- digits of either case, as `1690000000.000123456 010300000002`. The time is that of the record's
+-- first byte. The format is this project's own; a field and the time of `tshark -T fields` have it.
+use Rattle.std.specs.Prelude.{◌≡◌, ℕ, ◌+◌, ◌*◌, ◌-◌, ◌/◌, ◌<◌, ◌^◌, ◌==◌, ◌||◌, Bool, true, not}
+use Rattle.std.specs.Prelude.{false, List, [], ◌∷◌, ◌++◌, length, map, Option, Some, nat_lt}
+use Rattle.std.specs.Prelude.{if◌then◌else◌}
+use Rattle.std.specs.List.{list_all}
+use Rattle.std.specs.Option.{option_map_or}
+use Rattle.hex.specs.Hex.{hex_digit_value}
+use Rattle.yasir_ticks.specs.Characters.{number_sign, line_feed, carriage_return, digit_zero}
+use Rattle.yasir_ticks.specs.TickText.{is_decimal_digit, number_after, ends_in_return}
+use Rattle.yasir_ticks.specs.TickText.{ends_content}
+use Rattle.line_stamps.specs.declared.capture.CaptureByte.{CaptureByte}
+use Rattle.line_stamps.specs.declared.capture.Way.TheVariants.{A}
+use Rattle.capture_text.specs.declared.fault.TextFault.{TextFault}
+use Rattle.capture_text.specs.declared.fault.TextFault.TheVariants.{Char, Late, Odd, Empty}
+
+-- `.`
+abbrev pub point : ℕ
+point = 46
+
+-- a space or a tab
+abbrev pub is_blank : ℕ → Bool
+is_blank b = b == 32 || b == 9
+
+-- LF or CR
+abbrev pub ends_line : ℕ → Bool
+ends_line b = b == line_feed || b == carriage_return
+
+-- what digits behind a point count, the first of them so many nanoseconds, and each further one a
+-- tenth of the digit before it: the tenth one behind the point and those that follow count nothing
+abbrev pub fraction_value : ℕ → List ℕ → ℕ
+fraction_value counts [] = 0
+fraction_value counts (d ∷ digits) =
+    (d - digit_zero) * counts + fraction_value (counts / 10) digits
+
+-- the nanoseconds of a time of these digits before and behind the point
+abbrev pub nanoseconds : List ℕ → List ℕ → ℕ
+nanoseconds whole fraction =
+    1000000000 * number_after 0 whole + fraction_value 100000000 fraction
+
+-- a point and the digits behind it, or nothing where there are none
+abbrev pub with_point : List ℕ → List ℕ
+with_point [] = []
+with_point (d ∷ digits) = point ∷ d ∷ digits
+
+-- A time: digits of whole seconds, at least one, and maybe a point and digits behind it.
+pub record IsTime (text : List ℕ) (time : ℕ) : Type 0 where
+  pub whole : List ℕ
+  pub fraction : List ℕ
+  pub is : text ≡ whole ++ with_point fraction
+  pub some : 0 < length whole
+  pub digits : list_all is_decimal_digit whole ≡ true
+  pub fraction_digits : list_all is_decimal_digit fraction ≡ true
+  pub value : time ≡ nanoseconds whole fraction
+  pub fits : time < 2 ^ 64
+
+-- the byte of a pair of hex digits
+pub record IsPair (high low byte : ℕ) : Type 0 where
+  pub first : ℕ
+  pub second : ℕ
+  pub high_is : hex_digit_value high ≡ Some first
+  pub low_is : hex_digit_value low ≡ Some second
+  pub byte_is : byte ≡ first * 16 + second
+
+-- pairs of hex digits, and their bytes
+abbrev pub ArePairs : List ℕ → List ℕ → Type 0
+ArePairs [] [] = Unit {0}
+ArePairs [] (byte ∷ bytes) = ⊥
+ArePairs (high ∷ []) bytes = ⊥
+ArePairs (high ∷ low ∷ digits) [] = ⊥
+ArePairs (high ∷ low ∷ digits) (byte ∷ bytes) = IsPair high low byte × ArePairs digits bytes
+
+-- a byte of a record of this time; a text has one way
+abbrev pub capture_byte : ℕ → Bool → ℕ → CaptureByte
+capture_byte time first byte = record { way = A; start = time; first = first; byte = byte }
+
+-- the bytes of a record of this time
+abbrev pub recorded : ℕ → List ℕ → List CaptureByte
+recorded time [] = []
+recorded time (byte ∷ bytes) =
+    capture_byte time true byte ∷ map (capture_byte time false) bytes
+
+-- A record of this time: the time, a blank and pairs of digits, at least one.
+pub record IsRecord (line : List ℕ) (time : ℕ) (items : List CaptureByte) : Type 0 where
+  pub seconds : List ℕ
+  pub blank : ℕ
+  pub digits : List ℕ
+  pub bytes : List ℕ
+  pub is : line ≡ seconds ++ blank ∷ digits
+  pub stamped : IsTime seconds time
+  pub apart : is_blank blank ≡ true
+  pub pairs : ArePairs digits bytes
+  pub some : 0 < length bytes
+  pub items_are : items ≡ recorded time bytes
+
+-- a byte other than LF
+abbrev pub stays_in_line : ℕ → Bool
+stays_in_line b = not (b == line_feed)
+
+-- `#` and what follows it on its line
+pub record IsComment (line : List ℕ) : Type 0 where
+  pub after : List ℕ
+  pub is : line ≡ number_sign ∷ after
+  pub one_line : list_all stays_in_line after ≡ true
+
+-- What a line has before its end: nothing, a comment or a record.
+pub data IsContent : List ℕ → List CaptureByte → Type 0 where
+  nothing : IsContent [] []
+  comment : (content : List ℕ) → IsComment content → IsContent content []
+  stamped : (content : List ℕ) (time : ℕ) (items : List CaptureByte)
+      → IsRecord content time items → IsContent content items
+
+-- A line, without its LF: a content, and a CR may follow.
+pub data IsLine : List ℕ → List CaptureByte → Type 0 where
+  plain : (content : List ℕ) (items : List CaptureByte) → IsContent content items
+      → IsLine content items
+  returned : (content : List ℕ) (items : List CaptureByte) → IsContent content items
+      → IsLine (content ++ carriage_return ∷ []) items
+
+-- Lines that an LF ended, one after the other.
+pub data AreLines : List ℕ → List CaptureByte → Type 0 where
+  none : AreLines [] []
+  more : (text line : List ℕ) (items others : List CaptureByte) → AreLines text items
+      → IsLine line others → AreLines (text ++ (line ++ line_feed ∷ [])) (items ++ others)
+
+-- A text capture of these bytes: lines that an LF ended, and a last line, which may be empty.
+pub record IsTextCapture (text : List ℕ) (items : List CaptureByte) : Type 0 where
+  pub ended : List ℕ
+  pub last : List ℕ
+  pub items_before : List CaptureByte
+  pub items_last : List CaptureByte
+  pub text_is : text ≡ ended ++ last
+  pub items_are : items ≡ items_before ++ items_last
+  pub lines : AreLines ended items_before
+  pub last_line : IsLine last items_last
+
+-- what stands behind the first blank of a line
+abbrev pub behind_blank : List ℕ → List ℕ
+behind_blank [] = []
+behind_blank (b ∷ line) = if is_blank b then line else behind_blank line
+
+-- Why a byte, or the end of the text, is refused after this beginning of its line: a digit because
+-- of the time that it makes, and an end of the line because a digit or all bytes are missing.
+abbrev pub fault_in_line : List ℕ → Option ℕ → TextFault
+fault_in_line line next =
+    if ends_in_return line then Char
+    else if option_map_or is_decimal_digit next false then Late
+    else if ends_content next
+    then (if nat_lt 0 (length (behind_blank line)) then Odd else Empty)
+    else Char
+
+-- A byte, or the end of the text, is refused after this text for this cause.
+pub record IsCause (text : List ℕ) (next : Option ℕ) (why : TextFault) : Type 0 where
+  pub ended : List ℕ
+  pub line : List ℕ
+  pub items : List CaptureByte
+  pub text_is : text ≡ ended ++ line
+  pub lines : AreLines ended items
+  pub one_line : list_all stays_in_line line ≡ true
+  pub why_is : why ≡ fault_in_line line next
+
+-- how many lines an LF ended
+abbrev pub lines_ended : List ℕ → ℕ
+lines_ended [] = 0
+lines_ended (b ∷ text) = (if b == line_feed then 1 else 0) + lines_ended text

@@ -1,0 +1,3 @@
+pub mod CaptureText
+pub mod TextStep
+pub mod Reader

@@ -1,0 +1,29 @@
+-- What a reader of a text capture stands for.
+use Rattle.std.specs.Prelude.{◌≡◌, ℕ, ◌+◌, List, length, Some, None, Ok}
+use Rattle.line_stamps.specs.declared.capture.CaptureByte.{CaptureByte}
+use Rattle.byte_walk.specs.Walks.{walk}
+use Rattle.capture_text.specs.CaptureText.{lines_ended}
+use Rattle.capture_text.specs.TextStep.{step_at}
+use Rattle.capture_text.specs.declared.fault.BadText.{BadText}
+use Rattle.capture_text.specs.declared.place.Place.TheVariants.{Start}
+use Rattle.capture_text.specs.declared.reader.TextReader.{TextReader}
+
+abbrev pub bytes_taken : TextReader → ℕ
+bytes_taken reader = reader.taken
+
+-- The reader has taken this text, no byte of which it refused, and these are the bytes of the
+-- capture so far.
+pub record StandsFor (reader : TextReader) (text : List ℕ) (items : List CaptureByte) : Type 0 where
+  pub walks : walk step_at Start text ≡ Ok (reader.place, items)
+  pub open_yet : reader.refused ≡ None
+  pub counted : reader.taken ≡ length text
+  pub lines : reader.ended ≡ lines_ended text
+
+-- The reader has refused its text so, and answers so from then on.
+abbrev pub HasRefused : TextReader → BadText → Type 0
+HasRefused reader bad = reader.refused ≡ Some bad
+
+-- A refusal tells the place behind this text, and its line.
+pub record IsPlaceOf (bad : BadText) (text : List ℕ) : Type 0 where
+  pub offset : bad.offset ≡ length text
+  pub line : bad.line ≡ lines_ended text + 1

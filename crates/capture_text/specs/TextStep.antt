@@ -1,0 +1,127 @@
+-- What one byte of a text capture does at each place of its line. It is a second view of the format
+-- of CaptureText.antt, and is proved equal to it.
+use Rattle.std.specs.Prelude.{◌≡◌, ℕ, ◌+◌, ◌*◌, ◌-◌, ◌/◌, ◌^◌, ◌==◌, ◌||◌, nat_lt, Bool, true, false}
+use Rattle.std.specs.Prelude.{if◌then◌else◌, Option, Some, None, Result, Ok, Err}
+use Rattle.hex.specs.Hex.{hex_digit_value}
+use Rattle.yasir_ticks.specs.Characters.{number_sign, line_feed, carriage_return, digit_zero}
+use Rattle.yasir_ticks.specs.TickText.{is_decimal_digit}
+use Rattle.line_stamps.specs.declared.capture.CaptureByte.{CaptureByte}
+use Rattle.capture_text.specs.CaptureText.{point, is_blank, ends_line, capture_byte}
+use Rattle.capture_text.specs.declared.fault.TextFault.{TextFault}
+use Rattle.capture_text.specs.declared.fault.TextFault.TheVariants.{Char, Late, Odd, Empty}
+use Rattle.capture_text.specs.declared.place.Place.{Place}
+use Rattle.capture_text.specs.declared.place.Place.TheVariants.{Start, Comment, Whole, Point}
+use Rattle.capture_text.specs.declared.place.Place.TheVariants.{Fraction, Blank, Pairs, Half}
+use Rattle.capture_text.specs.declared.place.Place.TheVariants.{Returned}
+
+abbrev pub Stepped : Type 0
+Stepped = Result (Place × Option CaptureByte) TextFault
+
+-- a time, if it is below 2^64
+abbrev pub fitting : ℕ → Option ℕ
+fitting time = if nat_lt time (2 ^ 64) then Some time else None
+
+-- a time of whole seconds with one digit more
+abbrev pub whole_time : ℕ → ℕ → Option ℕ
+whole_time time digit = fitting (10 * time + (digit - digit_zero) * 1000000000)
+
+-- a time with one digit more behind its point, which counts so many nanoseconds
+abbrev pub fraction_time : ℕ → ℕ → ℕ → Option ℕ
+fraction_time time counts digit = fitting (time + (digit - digit_zero) * counts)
+
+abbrev pub fault_without_bytes : ℕ → TextFault
+fault_without_bytes b = if ends_line b then Empty else Char
+
+abbrev pub fault_in_pair : ℕ → TextFault
+fault_in_pair b = if ends_line b then Odd else Char
+
+abbrev pub after_line : ℕ → Stepped
+after_line b =
+    if b == line_feed then Ok (Start, None)
+    else if b == carriage_return then Ok (Returned, None)
+    else Err Char
+
+abbrev pub after_time : ℕ → ℕ → Stepped
+after_time time b = if is_blank b then Ok (Blank time, None) else Err (fault_without_bytes b)
+
+abbrev pub to_whole : Option ℕ → Stepped
+to_whole (Some time) = Ok (Whole time, None)
+to_whole None = Err Late
+
+abbrev pub to_fraction : ℕ → Option ℕ → Stepped
+to_fraction counts (Some time) = Ok (Fraction time (counts / 10), None)
+to_fraction counts None = Err Late
+
+abbrev pub after_fraction : ℕ → ℕ → ℕ → Stepped
+after_fraction time counts b = to_fraction counts (fraction_time time counts b)
+
+-- the first digit of a pair, or what else may stand there
+abbrev pub to_half : ℕ → Bool → Option ℕ → Stepped → Stepped
+to_half time first (Some high) other = Ok (Half time first high, None)
+to_half time first None other = other
+
+-- the second digit of a pair
+abbrev pub to_pairs : ℕ → Bool → ℕ → Option ℕ → Stepped → Stepped
+to_pairs time first high (Some low) other =
+    Ok (Pairs time, Some (capture_byte time first (high * 16 + low)))
+to_pairs time first high None other = other
+
+unfoldable pub step_at : Place → ℕ → Stepped
+step_at Start b =
+    if b == number_sign then Ok (Comment, None)
+    else if is_decimal_digit b then Ok (Whole ((b - digit_zero) * 1000000000), None)
+    else after_line b
+step_at Comment b = if b == line_feed then Ok (Start, None) else Ok (Comment, None)
+step_at (Whole time) b =
+    if is_decimal_digit b then to_whole (whole_time time b)
+    else if b == point then Ok (Point time, None)
+    else after_time time b
+step_at (Point time) b =
+    if is_decimal_digit b then after_fraction time 100000000 b else Err (fault_without_bytes b)
+step_at (Fraction time counts) b =
+    if is_decimal_digit b then after_fraction time counts b else after_time time b
+step_at (Blank time) b = to_half time true (hex_digit_value b) (Err (fault_without_bytes b))
+step_at (Pairs time) b = to_half time false (hex_digit_value b) (after_line b)
+step_at (Half time first high) b =
+    to_pairs time first high (hex_digit_value b) (Err (fault_in_pair b))
+step_at Returned b = if b == line_feed then Ok (Start, None) else Err Char
+
+-- whether a line may end here
+abbrev pub may_end : Place → Bool
+may_end Start = true
+may_end Comment = true
+may_end (Whole time) = false
+may_end (Point time) = false
+may_end (Fraction time counts) = false
+may_end (Blank time) = false
+may_end (Pairs time) = true
+may_end (Half time first high) = false
+may_end Returned = true
+
+-- why the text is refused that ends here, if it is
+abbrev pub end_fault_at : Place → Option TextFault
+end_fault_at Start = None
+end_fault_at Comment = None
+end_fault_at (Whole time) = Some Empty
+end_fault_at (Point time) = Some Empty
+end_fault_at (Fraction time counts) = Some Empty
+end_fault_at (Blank time) = Some Empty
+end_fault_at (Pairs time) = None
+end_fault_at (Half time first high) = Some Odd
+end_fault_at Returned = None
+
+-- the digit of a pair is one
+abbrev pub is_sound : Place → Bool
+is_sound (Half time first high) = nat_lt high 16
+is_sound Start = true
+is_sound Comment = true
+is_sound (Whole time) = true
+is_sound (Point time) = true
+is_sound (Fraction time counts) = true
+is_sound (Blank time) = true
+is_sound (Pairs time) = true
+is_sound Returned = true
+
+abbrev pub IsSoundStep : Stepped → Type 0
+IsSoundStep (Ok next) = is_sound next.0 ≡ true
+IsSoundStep (Err why) = Unit {0}

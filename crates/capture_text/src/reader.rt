@@ -1,0 +1,132 @@
+//! A reader of text captures, byte by byte.
+ghost use Rattle.std.specs.Prelude.{◌≡◌, ℕ, ◌+◌, ◌-◌, ◌<◌, ◌≤◌, ◌^◌, ◌++◌, ◌∷◌, [], List, true};
+ghost use Rattle.std.specs.Prelude.{length, Some, None, OnOk, IfOk, IfErr, Err};
+ghost use Rattle.std.specs.Option.{option_to_list};
+ghost use Rattle.capture_text.specs.TextStep.{is_sound};
+ghost use Rattle.capture_text.specs.declared.TheConstants.{MAX_BYTES};
+
+use crate::place::{Place, end_fault, step};
+use crate::{BadText, MAX_BYTES, TextFault};
+use line_stamps::CaptureByte;
+
+/// A reader of a text capture, byte by byte, in constant memory. It gives each byte of the capture
+/// as soon as its second digit has come.
+#[derive(Drop)]
+pub struct TextReader {
+    place: Place,
+    refused: Option<BadText>,
+    // how many bytes it took, and how many of them are LFs
+    taken: u64,
+    ended: u64,
+    ghost sound: { is_sound place ≡ true },
+    ghost fewer: { ended ≤ taken },
+    ghost bounded: { taken ≤ MAX_BYTES },
+}
+
+impl TextReader {
+    ghost use Rattle.line_stamps.specs.declared.capture.CaptureByte.{CaptureByte};
+    ghost use Rattle.byte_walk.specs.Walks.{Begins, BeginsNone};
+    ghost use Rattle.capture_text.specs.CaptureText.{IsTextCapture, IsCause, lines_ended};
+    ghost use Rattle.capture_text.specs.Reader.{StandsFor, HasRefused, bytes_taken, IsPlaceOf};
+    ghost use Rattle.capture_text.specs.declared.fault.BadText.{BadText};
+
+    /// A reader before its text.
+    pub fn new() -> TextReader
+        ensures stands { StandsFor result [] [] }
+        ensures begins { Begins IsTextCapture [] [] }
+        ensures taken { bytes_taken result ≡ 0 }
+    {
+        TextReader {
+            place: Place::Start,
+            refused: None,
+            taken: 0,
+            ended: 0,
+        }
+    }
+
+    /// How many bytes it took.
+    pub fn taken(&self) -> u64
+        ensures { result ≡ bytes_taken self.now }
+    {
+        self.taken
+    }
+
+    /// Refuses the text where the reader stands, for good.
+    fn refuse(&mut self, why: TextFault) -> BadText
+        requires { bytes_taken self.old < MAX_BYTES }
+        ensures place { (text : List ℕ) (items : List CaptureByte) → StandsFor self.old text items
+            → IsPlaceOf result text }
+        ensures why { result.why ≡ why }
+        ensures remembered { HasRefused self.new result }
+    {
+        let bad = BadText {
+            offset: self.taken,
+            line: self.ended + 1,
+            why,
+        };
+        self.refused = Some(bad);
+        bad
+    }
+
+    /// Takes the next byte of the text, and returns the byte of the capture whose digits it ends. A
+    /// refusal is for good.
+    #[inline]
+    pub fn feed(&mut self, b: u8) -> Result<Option<CaptureByte>, BadText>
+        requires { bytes_taken self.old < MAX_BYTES }
+        // A text so far stands for the bytes that were returned.
+        ensures stands { (text : List ℕ) (items : List CaptureByte) → StandsFor self.old text items
+            → IfOk result (λ byte. StandsFor self.new (text ++ b ∷ [])
+            (items ++ option_to_list byte)) }
+        // Some text capture goes on so, and each that does has these bytes first.
+        ensures begins { (text : List ℕ) (items : List CaptureByte) → StandsFor self.old text items
+            → IfOk result (λ byte. Begins IsTextCapture (text ++ b ∷ [])
+            (items ++ option_to_list byte)) }
+        // It refuses the first byte with which no text capture goes on, and no other.
+        ensures refused { (text : List ℕ) (items : List CaptureByte)
+            → StandsFor self.old text items
+            → IfErr result (λ bad. Begins IsTextCapture text items
+            × BeginsNone IsTextCapture (text ++ b ∷ []) × IsPlaceOf bad text
+            × IsCause text (Some b) bad.why) }
+        ensures taken { OnOk result (bytes_taken self.new ≡ bytes_taken self.old + 1) }
+        ensures remembered { IfErr result (λ bad. HasRefused self.new bad) }
+        ensures for_good { (bad : BadText) → HasRefused self.old bad
+            → (result ≡ Err bad) × (self.new ≡ self.old) }
+    {
+        if let Some(bad) = self.refused {
+            return Err(bad);
+        }
+        match step(self.place, b) {
+            Ok((place, byte)) => {
+                self.place = place;
+                self.taken += 1;
+                if b == b'\n' {
+                    self.ended += 1;
+                }
+                Ok(byte)
+            }
+            Err(why) => Err(self.refuse(why)),
+        }
+    }
+
+    /// Takes the end of the text.
+    pub fn finish(self) -> Result<(), BadText>
+        ensures right { (text : List ℕ) (items : List CaptureByte) → StandsFor self text items
+            → OnOk result (IsTextCapture text items) }
+        ensures refused { (text : List ℕ) (items : List CaptureByte) → StandsFor self text items
+            → IfErr result (λ bad. ((all : List CaptureByte) → IsTextCapture text all → ⊥)
+            × IsPlaceOf bad text × IsCause text None bad.why) }
+        ensures again { (bad : BadText) → HasRefused self bad → result ≡ Err bad }
+    {
+        if let Some(bad) = self.refused {
+            return Err(bad);
+        }
+        match end_fault(self.place) {
+            None => Ok(()),
+            Some(why) => Err(BadText {
+                offset: self.taken,
+                line: self.ended + 1,
+                why,
+            }),
+        }
+    }
+}
