@@ -4,6 +4,7 @@ use Rattle.std.proofs.Common.{◌≡◌, ◌∙◌, ℕ, Bool, true, false, List
 use Rattle.std.proofs.Common.{None, Result, Ok, Err, refl, ap, sym, append_assoc, append-nil, subst}
 use Rattle.std.specs.Option.{option_to_list}
 use Rattle.byte_walk.specs.Walks.{walk, after_items, and_then_walk, Begins, BeginsNone, ReadsFormat}
+use Rattle.byte_walk.specs.Walks.{GoesOnFrom}
 
 module _ {P I F : Type 0} where
   after_items-twice : (first second : List I) (rest : Result (P × List I) F)
@@ -111,21 +112,26 @@ module _ {P I F : Type 0} (step : P → ℕ → Result (P × Option I) F) where
 
 module _ {P I F : Type 0} (step : P → ℕ → Result (P × Option I) F) (start : P) (ends : P → Bool)
     (IsRight : List ℕ → List I → Type 0) (reads : ReadsFormat step start ends IsRight) where
+  -- whatever goes on so has these items first
+  pub reads_each : (bytes : List ℕ) (place : P) (items : List I)
+      → walk step start bytes ≡ Ok (place, items) → (more : List ℕ) (all : List I)
+      → IsRight (bytes ++ more) all → (others : List I) × (all ≡ items ++ others)
+  reads_each bytes place items e = λ more all r.
+      let whole = reads.complete (bytes ++ more) all r in
+      let came = came_to items (walk step place more) whole.0 all
+      (sym (walk-append step start place bytes more items e) ∙ whole.1) in
+      (came.others, came.all_is)
+
   pub reads_begins : (bytes : List ℕ) (place : P) (items : List I)
-      → walk step start bytes ≡ Ok (place, items) → Begins IsRight bytes items
-  reads_begins bytes place items e =
-      let on = reads.goes_on bytes place items e in
-      record {
-        more = on.0;
-        others = on.1;
-        right = reads.sound (bytes ++ on.0) on.2 (items ++ on.1)
-            (walk-join step start place on.2 bytes on.0 items on.1 e on.3) on.4;
-        each = λ more all r.
-            let whole = reads.complete (bytes ++ more) all r in
-            let came = came_to items (walk step place more) whole.0 all
-            (sym (walk-append step start place bytes more items e) ∙ whole.1) in
-            (came.others, came.all_is);
-      }
+      → walk step start bytes ≡ Ok (place, items)
+      → GoesOnFrom step start ends IsRight place → Begins IsRight bytes items
+  reads_begins bytes place items e on = record {
+    more = on.more;
+    others = on.others;
+    right = reads.sound (bytes ++ on.more) on.last (items ++ on.others)
+        (walk-join step start place on.last bytes on.more items on.others e on.walks) on.end;
+    each = reads_each bytes place items e;
+  }
 
   pub reads_none : (bytes : List ℕ) (place : P) (items : List I) (b : ℕ) (why : F)
       → walk step start bytes ≡ Ok (place, items) → step place b ≡ Err why

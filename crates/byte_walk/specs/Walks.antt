@@ -37,8 +37,7 @@ module _ {I : Type 0} (IsRight : List ℕ → List I → Type 0) where
   BeginsNone bytes = (more : List ℕ) (items : List I) → IsRight (bytes ++ more) items → ⊥
 
 -- A reader reads a format: from its first place it comes to a place where the input may end exactly
--- over the inputs of that format, with their items, and from each place that it comes to, it can
--- still come to such a place.
+-- over the inputs of that format, with their items.
 module _ {P I F : Type 0} (step : P → ℕ → Result (P × Option I) F) (start : P) (ends : P → Bool)
     (IsRight : List ℕ → List I → Type 0) where
   pub record ReadsFormat : Type 0 where
@@ -46,7 +45,11 @@ module _ {P I F : Type 0} (step : P → ℕ → Result (P × Option I) F) (start
         → walk step start bytes ≡ Ok (place, items) → ends place ≡ true → IsRight bytes items
     pub complete : (bytes : List ℕ) (items : List I) → IsRight bytes items
         → (place : P) × (walk step start bytes ≡ Ok (place, items)) × (ends place ≡ true)
-    pub goes_on : (bytes : List ℕ) (place : P) (items : List I)
-        → walk step start bytes ≡ Ok (place, items)
-        → (more : List ℕ) × (others : List I) × (last : P)
-        × (walk step place more ≡ Ok (last, others)) × (ends last ≡ true)
+
+  -- from this place the input can still come to an end
+  pub record GoesOnFrom (place : P) : Type 0 where
+    pub more : List ℕ
+    pub others : List I
+    pub last : P
+    pub walks : walk step place more ≡ Ok (last, others)
+    pub end : ends last ≡ true

@@ -3,7 +3,7 @@ use Rattle.std.proofs.Common.{◌≡◌, ◌∙◌, ℕ, ◌+◌, ◌*◌, ◌<�
 use Rattle.std.proofs.Common.{◌∷◌, ◌++◌, Option, Some, None, Ok, Err, refl, ap, sym, arith}
 use Rattle.std.specs.Option.{option_to_list}
 use Rattle.line_stamps.specs.declared.capture.CaptureByte.{CaptureByte}
-use Rattle.byte_walk.specs.Walks.{walk, ReadsFormat, Begins, BeginsNone}
+use Rattle.byte_walk.specs.Walks.{walk, ReadsFormat, GoesOnFrom, Begins, BeginsNone}
 use Rattle.byte_walk.proofs.WalkLaws.{walk-cons, walk-more, reads_begins, reads_none, reads_open}
 use Rattle.capture_text.specs.CaptureText.{IsTextCapture, capture_byte, IsCause}
 use Rattle.capture_text.specs.TextStep.{step_at, may_end, fitting, end_fault_at}
@@ -19,15 +19,11 @@ use Rattle.capture_text.proofs.Reached.{reached, reached_end, reached_cause, rea
 use Rattle.capture_text.proofs.Reached.{reached_closed}
 use Rattle.capture_text.proofs.Spelled.{text_walk, fits_so}
 
--- how a text goes on from a place to an end
-record GoesOnFrom (place : Place) : Type 0 where
-  pub more : List ℕ
-  pub others : List CaptureByte
-  pub last : Place
-  pub walks : walk step_at place more ≡ Ok (last, others)
-  pub end : may_end last ≡ true
+-- from this place a text can still come to its end
+abbrev GoesOn : Place → Type 0
+GoesOn place = GoesOnFrom step_at Start may_end IsTextCapture place
 
-at_once : (place : Place) → may_end place ≡ true → GoesOnFrom place
+at_once : (place : Place) → may_end place ≡ true → GoesOn place
 unfolding walk
 at_once place e = record { more = []; others = []; last = place; walks = refl; end = e }
 
@@ -37,7 +33,7 @@ unfolding walk step_at
 blank_on time = refl
 
 goes_on : (place : Place) (line : List ℕ) (items : List CaptureByte) → At place line items
-    → GoesOnFrom place
+    → GoesOn place
 unfolding walk step_at
 goes_on place line items start = at_once Start refl
 goes_on place line items (in_comment _ c) = at_once Comment refl
@@ -90,10 +86,6 @@ reads_text = record {
       reached_end place bytes items (reached place bytes items e) m;
   complete = λ bytes items t.
       let walks = text_walk bytes items t in (walks.place, walks.walks, walks.end);
-  goes_on = λ bytes place items e.
-      let r = reached place bytes items e in
-      let on = goes_on place r.line r.these r.at in
-      (on.more, on.others, on.last, on.walks, on.end);
 }
 
 -- ---- what a reader says of a text that it came to a place over
@@ -106,7 +98,10 @@ module _ (place : Place) (text : List ℕ) (items : List CaptureByte)
   text_more b next item e = walk-more step_at Start place next text items b item walks (sym e)
 
   pub text_begins : Begins IsTextCapture text items
-  text_begins = reads_begins step_at Start may_end IsTextCapture reads_text text place items walks
+  text_begins =
+      let r = reached place text items walks in
+      reads_begins step_at Start may_end IsTextCapture reads_text text place items walks
+      (goes_on place r.line r.these r.at)
 
   pub text_none : (b : ℕ) (why : TextFault) → Err why ≡ step_at place b
       → BeginsNone IsTextCapture (text ++ b ∷ [])

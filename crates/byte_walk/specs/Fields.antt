@@ -1,0 +1,42 @@
+-- Readers of formats that have fields of four bytes, and single bytes between them.
+use Rattle.std.specs.Prelude.{◌≡◌, ℕ, ◌+◌, ◌≤◌, ◌<◌, nat_lt, Bool, if◌then◌else◌, List, [], ◌∷◌, ◌++◌}
+use Rattle.std.specs.Prelude.{length, Option, None, Result, Ok, Err}
+use Rattle.byte_walk.specs.Walks.{Begins, BeginsNone}
+
+-- where such a reader stands: what comes next, and the bytes of a field that have come
+pub record Spot (S : Type 0) : Type 0 where
+  pub stage : S
+  pub partial : List ℕ
+
+-- before a field or a byte
+abbrev pub before_field : {S : Type 0} → S → Spot S
+before_field stage = record { stage = stage; partial = [] }
+
+module _ {S I F : Type 0} where
+  abbrev pub at_spot : Result (S × Option I) F → Result (Spot S × Option I) F
+  at_spot (Ok next) = Ok (before_field next.0, next.1)
+  at_spot (Err why) = Err why
+
+-- One byte: where single bytes come next, it is taken at once, and else with its field.
+module _ {S I F : Type 0} (takes_bytes : S → Bool) (field_at : S → List ℕ → Result (S × Option I) F)
+    (byte_at : S → ℕ → Result (S × Option I) F) where
+  abbrev pub spot_step : Spot S → ℕ → Result (Spot S × Option I) F
+  spot_step spot b =
+      if takes_bytes spot.stage then at_spot (byte_at spot.stage b)
+      else if nat_lt (length spot.partial) 3
+      then Ok (record { stage = spot.stage; partial = spot.partial ++ b ∷ [] }, None)
+      else at_spot (field_at spot.stage (spot.partial ++ b ∷ []))
+
+-- A byte is refused after these bytes: its field is the first one with which no input of the format
+-- begins, for this cause. What stands before the field begins one, with these items.
+module _ {I F : Type 0} (IsRight : List ℕ → List I → Type 0)
+    (IsCause : List ℕ → List ℕ → F → Type 0) where
+  pub record RefusesField (bytes : List ℕ) (items : List I) (b offset : ℕ) (why : F) : Type 0 where
+    pub front : List ℕ
+    pub field : List ℕ
+    pub is : bytes ++ b ∷ [] ≡ front ++ field
+    pub short : length field ≤ 4
+    pub begins : Begins IsRight front items
+    pub wrong : BeginsNone IsRight (front ++ field)
+    pub place : offset ≡ length front
+    pub cause : IsCause front field why

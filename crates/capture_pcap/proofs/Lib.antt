@@ -1,0 +1,5 @@
+pub mod Bodies
+pub mod Stages
+pub mod Spelled
+pub mod GoingOn
+pub mod Reading

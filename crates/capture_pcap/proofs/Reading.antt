@@ -1,0 +1,194 @@
+-- The reader reads pcap files exactly.
+use Rattle.std.proofs.Common.{◌≡◌, ◌∙◌, ℕ, ◌+◌, ◌<◌, ◌≤◌, ◌==◌, ◌&&◌, Bool, true, false, List, []}
+use Rattle.std.proofs.Common.{◌∷◌, ◌++◌, length, Option, Some, None, Ok, Err, refl, ap, sym, subst}
+use Rattle.std.proofs.Common.{arith, append_assoc, append-nil, nat_lt, cond, ◌⊎◌, inl, inr, Result}
+use Rattle.std.specs.Option.{option_to_list}
+use Rattle.std.proofs.lemmas.Bool.{and_parts, eqb-true, ltb-false, cond-true, cond-false}
+use Rattle.std.proofs.lemmas.List.{length-append}
+use Rattle.byte_walk.specs.Walks.{walk, ReadsFormat, Begins, BeginsNone}
+use Rattle.byte_walk.specs.Fields.{Spot, before_field, at_spot, RefusesField}
+use Rattle.byte_walk.proofs.WalkLaws.{walk-more, reads_begins, reads_none, reads_each, reads_open}
+use Rattle.byte_walk.proofs.FieldLaws.{ReachedSpot, reached_spot}
+use Rattle.capture_pcap.specs.Pcap.{IsPcap, ArePackets, IsCause}
+use Rattle.capture_pcap.specs.PcapStep.{Stepped, takes_bytes, field_at, byte_at, step_at, may_end}
+use Rattle.capture_pcap.specs.PcapStep.{may_end_at}
+use Rattle.capture_pcap.specs.declared.seen.Seen.{Seen}
+use Rattle.capture_pcap.specs.declared.fault.PcapFault.{PcapFault}
+use Rattle.capture_pcap.specs.declared.stage.Stage.{Stage}
+use Rattle.capture_pcap.specs.declared.stage.Stage.TheVariants.{Magic}
+use Rattle.capture_pcap.proofs.Stages.{AtStage, Goes, field_goes, byte_goes}
+use Rattle.capture_pcap.proofs.Stages.AtStage.{magic, free, link, seconds, fraction, captured}
+use Rattle.capture_pcap.proofs.Stages.AtStage.{original, packet}
+use Rattle.capture_pcap.proofs.Spelled.{packets_walk}
+use Rattle.capture_pcap.proofs.GoingOn.{on_stage}
+
+pub fields : (stage next : Stage) (front field : List ℕ) (items : List Seen) (item : Option Seen)
+    → AtStage stage front items → takes_bytes stage ≡ false → length field ≡ 4
+    → field_at stage field ≡ Ok (next, item)
+    → AtStage next (front ++ field) (items ++ option_to_list item)
+fields stage next front field items item at h four e =
+    let Q : Stepped → Type 0 = λ s. Goes front field items s in
+    subst Q e (field_goes stage front field items at h four)
+
+pub bytes : (stage next : Stage) (front : List ℕ) (items : List Seen) (b : ℕ) (item : Option Seen)
+    → AtStage stage front items → takes_bytes stage ≡ true → byte_at stage b ≡ Ok (next, item)
+    → AtStage next (front ++ b ∷ []) (items ++ option_to_list item)
+bytes stage next front items b item at h e =
+    let Q : Stepped → Type 0 = λ s. Goes front (b ∷ []) items s in
+    subst Q e (byte_goes stage front items b at h)
+
+-- what came before the field in which a reader stands
+abbrev pub Reached : Spot Stage → List ℕ → List Seen → Type 0
+Reached = ReachedSpot takes_bytes field_at byte_at Magic AtStage fields bytes
+
+pub reached : (spot : Spot Stage) (file : List ℕ) (items : List Seen)
+    → walk step_at (before_field Magic) file ≡ Ok (spot, items) → Reached spot file items
+reached spot file items e =
+    reached_spot takes_bytes field_at byte_at Magic AtStage fields bytes magic spot file items e
+
+-- where a file may end, it is one
+ends_so : (stage : Stage) (front : List ℕ) (items : List Seen) → AtStage stage front items
+    → may_end stage ≡ true → IsPcap front items
+ends_so stage front items magic m = cc
+ends_so stage front items (free clock before word words g long few) m = cc
+ends_so stage front items (link clock word words g long) m = cc
+ends_so stage front items (seconds clock _ _ p) m = record { clock = clock; packets = p }
+ends_so stage front items (fraction clock packets first _ p long) m = cc
+ends_so stage front items (captured clock packets time start _ p t) m = cc
+ends_so stage front items (original clock packets time size start _ p t long most) m = cc
+ends_so stage front items
+    (packet clock packets time lengths bytes start count body before these p t l at) m = cc
+
+nothing_left : (partial : List ℕ) → (length partial == 0) ≡ true → partial ≡ []
+nothing_left [] h = refl
+nothing_left (b ∷ partial) h = absurd (omega (arith, eqb-true (length (b ∷ partial)) 0 h))
+
+sound : (file : List ℕ) (spot : Spot Stage) (items : List Seen)
+    → walk step_at (before_field Magic) file ≡ Ok (spot, items) → may_end_at spot ≡ true
+    → IsPcap file items
+sound file spot items e m =
+    let r = reached spot file items e in
+    let parts = and_parts (may_end spot.stage) (length spot.partial == 0) m in
+    let whole : file ≡ r.front = r.text_is
+    ∙ ap (λ x. r.front ++ x) (nothing_left spot.partial parts.1) ∙ append-nil r.front in
+    let Q : List ℕ → Type 0 = λ x. IsPcap x items in
+    subst Q (sym whole) (ends_so spot.stage r.front items r.holds_there parts.0)
+
+pub reads_pcap : ReadsFormat step_at (before_field Magic) may_end_at IsPcap
+reads_pcap = record {
+  sound = sound;
+  complete = λ file items p. (_, (packets_walk p.clock file items p.packets).is, refl);
+}
+
+-- ---- what a reader says of a file that it came to a spot over
+
+-- a byte more of a field
+abbrev goes_on : Spot Stage → ℕ → Result (Spot Stage × Option Seen) PcapFault
+goes_on spot b = Ok (record { stage = spot.stage; partial = spot.partial ++ b ∷ [] }, None)
+
+module _ (spot : Spot Stage) (file : List ℕ) (items : List Seen)
+    (walks : walk step_at (before_field Magic) file ≡ Ok (spot, items)) where
+  pub file_more : (b : ℕ) (next : Spot Stage) (item : Option Seen)
+      → step_at spot b ≡ Ok (next, item)
+      → walk step_at (before_field Magic) (file ++ b ∷ []) ≡ Ok (next, items ++ option_to_list item)
+  file_more b next item e =
+      walk-more step_at (before_field Magic) spot next file items b item walks e
+
+  pub file_each : (more : List ℕ) (all : List Seen) → IsPcap (file ++ more) all
+      → (others : List Seen) × (all ≡ items ++ others)
+  file_each = reads_each step_at (before_field Magic) may_end_at IsPcap reads_pcap file spot items
+      walks
+
+  pub front_begins : (front : List ℕ) (stage : Stage) → AtStage stage front items
+      → walk step_at (before_field Magic) front ≡ Ok (before_field stage, items)
+      → Begins IsPcap front items
+  front_begins front stage at came =
+      reads_begins step_at (before_field Magic) may_end_at IsPcap reads_pcap front
+      (before_field stage) items came (on_stage stage front items at)
+
+  bool_cases : (t : Bool) → (t ≡ true) ⊎ (t ≡ false)
+  bool_cases true = inl refl
+  bool_cases false = inr refl
+
+  err_of : (r : Stepped) (why : PcapFault) → at_spot r ≡ Err why → r ≡ Err why
+  err_of (Ok next) why e = cc
+  err_of (Err other) why e = ap (λ f. Err f) (ap (fault_of other) e)
+    where
+      fault_of : PcapFault → Result (Spot Stage × Option Seen) PcapFault → PcapFault
+      fault_of d (Ok next) = d
+      fault_of d (Err f) = f
+
+  byte_fits : (stage : Stage) (front : List ℕ) (b : ℕ) (why : PcapFault)
+      → AtStage stage front items → takes_bytes stage ≡ true → byte_at stage b ≡ Err why
+      → IsCause front (b ∷ []) why
+  byte_fits stage front b why at h e =
+      let Q : Stepped → Type 0 = λ s. Goes front (b ∷ []) items s in
+      subst Q e (byte_goes stage front items b at h)
+
+  field_fits : (stage : Stage) (front field : List ℕ) (why : PcapFault)
+      → AtStage stage front items → takes_bytes stage ≡ false → length field ≡ 4
+      → field_at stage field ≡ Err why → IsCause front field why
+  field_fits stage front field why at h four e =
+      let Q : Stepped → Type 0 = λ s. Goes front field items s in
+      subst Q e (field_goes stage front field items at h four)
+
+  cause_of : (b : ℕ) (why : PcapFault) (r : Reached spot file items) → step_at spot b ≡ Err why
+      → IsCause r.front (spot.partial ++ b ∷ []) why
+  cause_of b why r e = elim (bool_cases (takes_bytes spot.stage)) [
+    | inl t ↦
+        let Q : List ℕ → Type 0 = λ x. IsCause r.front (x ++ b ∷ []) why in
+        subst Q (sym (r.alone t)) (byte_fits spot.stage r.front b why r.holds_there t
+        (err_of (byte_at spot.stage b) why (sym (cond-true _ _ _ t) ∙ e)))
+    | inr t ↦ elim (bool_cases (nat_lt (length spot.partial) 3)) [
+      | inl few ↦ absurd (never (sym (cond-true _ _ _ few) ∙ sym (cond-false _ _ _ t) ∙ e))
+      | inr many ↦ field_fits spot.stage r.front (spot.partial ++ b ∷ []) why r.holds_there t
+          (omega (
+            arith,
+            length-append spot.partial (b ∷ []),
+            r.short,
+            ltb-false (length spot.partial) 3 many,
+          ))
+          (err_of (field_at spot.stage (spot.partial ++ b ∷ [])) why
+          (sym (cond-false _ _ _ many) ∙ sym (cond-false _ _ _ t) ∙ e))
+    ]
+  ]
+    where
+      never : goes_on spot b ≡ Err why → ⊥
+      never g = cc
+
+  -- a refusal, with the place and the cause of its field
+  pub file_refused : (b offset : ℕ) (why : PcapFault) → step_at spot b ≡ Err why
+      → offset + length spot.partial ≡ length file
+      → RefusesField IsPcap IsCause file items b offset why
+  file_refused b offset why e place =
+      let r = reached spot file items walks in
+      let whole : file ++ b ∷ [] ≡ r.front ++ (spot.partial ++ b ∷ []) =
+      ap (λ x. x ++ b ∷ []) r.text_is ∙ append_assoc r.front spot.partial (b ∷ []) in
+      let Q : List ℕ → Type 0 = λ x. BeginsNone IsPcap x in
+      record {
+        front = r.front;
+        field = spot.partial ++ b ∷ [];
+        is = whole;
+        short = omega (arith, length-append spot.partial (b ∷ []), r.short);
+        begins = front_begins r.front spot.stage r.holds_there r.came;
+        wrong = subst Q whole (reads_none step_at (before_field Magic) may_end_at IsPcap reads_pcap
+            file spot items b why walks e);
+        place = omega (arith, place, ap length r.text_is, length-append r.front spot.partial);
+        cause = cause_of b why r e;
+      }
+
+  pub file_right : may_end_at spot ≡ true → IsPcap file items
+  file_right m = sound file spot items walks m
+
+  pub file_open : may_end_at spot ≡ false → (all : List Seen) → IsPcap file all → ⊥
+  file_open m = reads_open step_at (before_field Magic) may_end_at IsPcap reads_pcap file spot items
+      walks m
+
+pub nothing_begins : Begins IsPcap [] []
+unfolding walk
+nothing_begins = front_begins (before_field Magic) [] [] refl [] Magic magic refl
+
+pub nothing_walks : (partial : List ℕ) → partial ≡ []
+    → walk step_at (before_field Magic) [] ≡ Ok (record { stage = Magic; partial = partial }, [])
+unfolding walk
+nothing_walks partial e = ap (λ x. Ok (record { stage = Magic; partial = x }, [])) (sym e)

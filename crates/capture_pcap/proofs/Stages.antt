@@ -1,0 +1,302 @@
+-- What a file so far is at each stage of its reader, and what a field or a byte makes of it.
+use Rattle.std.proofs.Common.{◌≡◌, ◌∙◌, ℕ, ◌+◌, ◌*◌, ◌-◌, ◌<◌, ◌≤◌, ◌==◌, ◌&&◌, nat_lt, nat_le, Bool}
+use Rattle.std.proofs.Common.{true, false, List, [], ◌∷◌, ◌++◌, length, Option, Some, None, Result, Ok}
+use Rattle.std.proofs.Common.{Err, refl, ap, sym, subst, arith, append_assoc, append-nil, cond}
+use Rattle.std.proofs.Common.{lt-ltb, slice_index}
+use Rattle.std.specs.Option.{option_to_list}
+use Rattle.std.proofs.lemmas.Bool.{ltb-true, ltb-false, cond_both, and_parts, eqb-true}
+use Rattle.std.proofs.lemmas.List.{length-append}
+use Rattle.capture_pcap.specs.Words.{number, nanoseconds}
+use Rattle.capture_pcap.specs.Record.{IsRecord}
+use Rattle.capture_pcap.specs.Pcap.{IsMagic, IsHeader, IsTime, AreLengths, IsPacket, ArePackets}
+use Rattle.capture_pcap.specs.Pcap.{IsCause}
+use Rattle.capture_pcap.specs.Pcap.IsMagic.{big_micro, little_micro, big_nano, little_nano}
+use Rattle.capture_pcap.specs.Pcap.ArePackets.{none, more}
+use Rattle.capture_pcap.specs.Pcap.IsCause.{no_magic, other_link, short_packet, cut_packet}
+use Rattle.capture_pcap.specs.BodyStep.{takes_data, body_field_at, body_byte_at, body_or}
+use Rattle.capture_pcap.specs.PcapStep.{Stepped, takes_bytes, field_at, byte_at, is_field, free_at}
+use Rattle.capture_pcap.specs.PcapStep.{after_magic_at, after_link, after_captured, after_length}
+use Rattle.capture_pcap.specs.declared.seen.Seen.{Seen}
+use Rattle.capture_pcap.specs.declared.body.Body.{Body}
+use Rattle.capture_pcap.specs.declared.body.Body.TheVariants.{Seconds as RtacSeconds}
+use Rattle.capture_pcap.specs.declared.words.Clock.{Clock}
+use Rattle.capture_pcap.specs.declared.words.Order.TheVariants.{Big, Little}
+use Rattle.capture_pcap.specs.declared.words.Resolution.TheVariants.{Microseconds, Nanoseconds}
+use Rattle.capture_pcap.specs.declared.fault.PcapFault.{PcapFault}
+use Rattle.capture_pcap.specs.declared.fault.PcapFault.TheVariants.{Magic as NoMagic}
+use Rattle.capture_pcap.specs.declared.fault.PcapFault.TheVariants.{Link as NoLink, Short, Cut}
+use Rattle.capture_pcap.specs.declared.stage.Stage.{Stage}
+use Rattle.capture_pcap.specs.declared.stage.Stage.TheVariants.{Magic, Free, Link, Seconds}
+use Rattle.capture_pcap.specs.declared.stage.Stage.TheVariants.{Fraction, Captured, Original}
+use Rattle.capture_pcap.specs.declared.stage.Stage.TheVariants.{Packet}
+use Rattle.capture_pcap.proofs.Bodies.{AtBody, BodyGoes, body_field_goes, body_byte_goes}
+use Rattle.capture_pcap.proofs.Bodies.AtBody.{seconds as rtac_seconds}
+
+-- the file so far brings its reader to this stage, and has these items
+pub data AtStage : Stage → List ℕ → List Seen → Type 0 where
+  magic : AtStage Magic [] []
+  free : (clock : Clock) (before : ℕ) (word front : List ℕ) → IsMagic clock word
+      → length front ≡ 4 * before → before < 4 → AtStage (Free clock before) (word ++ front) []
+  link : (clock : Clock) (word front : List ℕ) → IsMagic clock word → length front ≡ 16
+      → AtStage (Link clock) (word ++ front) []
+  seconds : (clock : Clock) (front : List ℕ) (items : List Seen) → ArePackets clock front items
+      → AtStage (Seconds clock) front items
+  fraction : (clock : Clock) (front first : List ℕ) (items : List Seen)
+      → ArePackets clock front items → length first ≡ 4
+      → AtStage (Fraction clock (number clock.order first)) (front ++ first) items
+  captured : (clock : Clock) (front time : List ℕ) (start : ℕ) (items : List Seen)
+      → ArePackets clock front items → IsTime clock time start
+      → AtStage (Captured clock start) (front ++ time) items
+  original : (clock : Clock) (front time size : List ℕ) (start : ℕ) (items : List Seen)
+      → ArePackets clock front items → IsTime clock time start → length size ≡ 4
+      → 12 ≤ number clock.order size
+      → AtStage (Original clock start (number clock.order size)) ((front ++ time) ++ size) items
+  packet : (clock : Clock) (front time lengths bytes : List ℕ) (start count : ℕ) (body : Body)
+      (items these : List Seen) → ArePackets clock front items → IsTime clock time start
+      → AreLengths clock lengths (12 + count) → AtBody start count body bytes these
+      → AtStage (Packet clock body) ((front ++ (time ++ lengths)) ++ bytes) (items ++ these)
+
+-- what a field makes of a file so far
+abbrev pub Goes : List ℕ → List ℕ → List Seen → Stepped → Type 0
+Goes front field items (Ok next) = AtStage next.0 (front ++ field) (items ++ option_to_list next.1)
+Goes front field items (Err why) = IsCause front field why
+
+same_items : (stage : Stage) (front : List ℕ) (items : List Seen) → AtStage stage front items
+    → AtStage stage front (items ++ [])
+same_items stage front items at =
+    let Q : List Seen → Type 0 = λ x. AtStage stage front x in subst Q (sym (append-nil items)) at
+
+-- ---- the magic number
+
+field_is : (a b c d : ℕ) (field : List ℕ) → length field ≡ 4 → is_field a b c d field ≡ true
+    → field ≡ a ∷ b ∷ c ∷ d ∷ []
+field_is a b c d [] four h = absurd (omega arith)
+field_is a b c d (e ∷ []) four h = absurd (omega arith)
+field_is a b c d (e ∷ f ∷ []) four h = absurd (omega arith)
+field_is a b c d (e ∷ f ∷ g ∷ []) four h = absurd (omega arith)
+field_is a b c d (e ∷ f ∷ g ∷ i ∷ []) four h =
+    let three = and_parts ((e == a) && (f == b) && (g == c)) (i == d) h in
+    let two = and_parts ((e == a) && (f == b)) (g == c) three.0 in
+    let one = and_parts (e == a) (f == b) two.0 in
+    rw (eqb-true e a one.0, eqb-true f b one.1, eqb-true g c two.1, eqb-true i d three.1) refl
+field_is a b c d (e ∷ f ∷ g ∷ i ∷ j ∷ field) four h = absurd (omega arith)
+
+magic_found : (clock : Clock) (word field : List ℕ) → field ≡ word → IsMagic clock word
+    → AtStage (Free clock 0) ([] ++ field) []
+magic_found clock word field e m =
+    let Q : List ℕ → Type 0 = λ x. AtStage (Free clock 0) x [] in
+    subst Q (append-nil word ∙ sym e) (free clock 0 word [] m refl (omega arith))
+
+no_magic_at : (field : List ℕ) → is_field 0xA1 0xB2 0xC3 0xD4 field ≡ false
+    → is_field 0xD4 0xC3 0xB2 0xA1 field ≡ false → is_field 0xA1 0xB2 0x3C 0x4D field ≡ false
+    → is_field 0x4D 0x3C 0xB2 0xA1 field ≡ false → (clock : Clock) → IsMagic clock field → ⊥
+no_magic_at field e f g h clock big_micro = cc
+no_magic_at field e f g h clock little_micro = cc
+no_magic_at field e f g h clock big_nano = cc
+no_magic_at field e f g h clock little_nano = cc
+
+magic_goes : (field : List ℕ) → length field ≡ 4 → Goes [] field [] (after_magic_at field)
+magic_goes field four =
+    cond_both (is_field 0xA1 0xB2 0xC3 0xD4 field) (free_at Big Microseconds) _ (Goes [] field [])
+    (λ e. magic_found _ _ field (field_is 0xA1 0xB2 0xC3 0xD4 field four e) big_micro)
+    (λ e. cond_both (is_field 0xD4 0xC3 0xB2 0xA1 field) (free_at Little Microseconds) _
+    (Goes [] field [])
+    (λ f. magic_found _ _ field (field_is 0xD4 0xC3 0xB2 0xA1 field four f) little_micro)
+    (λ f. cond_both (is_field 0xA1 0xB2 0x3C 0x4D field) (free_at Big Nanoseconds) _
+    (Goes [] field [])
+    (λ g. magic_found _ _ field (field_is 0xA1 0xB2 0x3C 0x4D field four g) big_nano)
+    (λ g. cond_both (is_field 0x4D 0x3C 0xB2 0xA1 field) (free_at Little Nanoseconds)
+    (Err NoMagic) (Goes [] field [])
+    (λ h. magic_found _ _ field (field_is 0x4D 0x3C 0xB2 0xA1 field four h) little_nano)
+    (λ h. no_magic refl (no_magic_at field e f g h)))))
+
+not_equal : (a b : ℕ) → (a == b) ≡ false → a ≡ b → ⊥
+not_equal a b e = grind arith
+
+-- ---- the header
+
+free_goes : (clock : Clock) (before : ℕ) (word front field : List ℕ) → IsMagic clock word
+    → length front ≡ 4 * before → before < 4 → length field ≡ 4
+    → Goes (word ++ front) field [] (field_at (Free clock before) field)
+unfolding field_at
+free_goes clock before word front field m long few four =
+    let longer = length-append front field in
+    let Q : (s : Stage) → List ℕ → Type 0 = λ s x. AtStage s x [] in
+    cond_both (nat_lt before 3) (Ok (Free clock (before + 1), None)) (Ok (Link clock, None))
+    (Goes (word ++ front) field [])
+    (λ e. subst (Q (Free clock (before + 1))) (sym (append_assoc word front field))
+    (free clock (before + 1) word (front ++ field) m (omega (arith, longer, long, four))
+    (omega (arith, ltb-true before 3 e))))
+    (λ e. subst (Q (Link clock)) (sym (append_assoc word front field))
+    (link clock word (front ++ field) m
+    (omega (arith, longer, long, four, ltb-false before 3 e, few))))
+
+link_goes : (clock : Clock) (word front field : List ℕ) → IsMagic clock word
+    → length front ≡ 16 → length field ≡ 4
+    → Goes (word ++ front) field [] (field_at (Link clock) field)
+unfolding field_at
+link_goes clock word front field m long four =
+    cond_both (number clock.order field == 250) (Ok (Seconds clock, None)) (Err NoLink)
+    (Goes (word ++ front) field [])
+    (λ e. seconds clock ((word ++ front) ++ field) [] (none ((word ++ front) ++ field) (record {
+      magic = word;
+      free = front;
+      link = field;
+      is = refl;
+      magic_is = m;
+      free_long = long;
+      link_long = four;
+      link_is = eqb-true (number clock.order field) 250 e;
+    })))
+    (λ e. other_link clock word front refl m long (not_equal (number clock.order field) 250 e))
+
+-- ---- the header of a packet
+
+fraction_goes : (clock : Clock) (front first field : List ℕ) (items : List Seen)
+    → ArePackets clock front items → length first ≡ 4 → length field ≡ 4
+    → Goes (front ++ first) field items
+    (field_at (Fraction clock (number clock.order first)) field)
+unfolding field_at
+fraction_goes clock front first field items p long four =
+    let start : ℕ = number clock.order first * 1000000000
+    + number clock.order field * nanoseconds clock.resolution in
+    let Q : List ℕ → Type 0 = λ x. AtStage (Captured clock start) x items in
+    same_items (Captured clock start) ((front ++ first) ++ field) items
+    (subst Q (sym (append_assoc front first field))
+    (captured clock front (first ++ field) start items p (record {
+      seconds = first;
+      fraction = field;
+      is = refl;
+      seconds_long = long;
+      fraction_long = four;
+      start_is = refl;
+    })))
+
+captured_goes : (clock : Clock) (front time field : List ℕ) (start : ℕ) (items : List Seen)
+    → ArePackets clock front items → IsTime clock time start → length field ≡ 4
+    → Goes (front ++ time) field items (field_at (Captured clock start) field)
+unfolding field_at
+captured_goes clock front time field start items p t four =
+    let size : ℕ = number clock.order field in
+    cond_both (nat_lt size 12) (Err Short) (Ok (Original clock start size, None))
+    (Goes (front ++ time) field items)
+    (λ e. short_packet clock front time items start refl p t (ltb-true size 12 e))
+    (λ e. same_items (Original clock start size) ((front ++ time) ++ field) items
+    (original clock front time field start items p t four (ltb-false size 12 e)))
+
+original_goes : (clock : Clock) (front time size field : List ℕ) (start : ℕ) (items : List Seen)
+    → ArePackets clock front items → IsTime clock time start → length size ≡ 4
+    → 12 ≤ number clock.order size → length field ≡ 4
+    → Goes ((front ++ time) ++ size) field items
+    (field_at (Original clock start (number clock.order size)) field)
+unfolding field_at
+original_goes clock front time size field start items p t long most four =
+    let count : ℕ = number clock.order size - 12 in
+    let next : Stage = Packet clock (RtacSeconds start count) in
+    let Q : List ℕ → Type 0 = λ x. AtStage next x (items ++ []) in
+    cond_both (number clock.order field == number clock.order size) (Ok (next, None)) (Err Cut)
+    (Goes ((front ++ time) ++ size) field items)
+    (λ e. subst Q (spelled front time size field)
+    (packet clock front time (size ++ field) [] start count (RtacSeconds start count) items [] p
+    t (record {
+      captured = size;
+      original = field;
+      is = refl;
+      captured_long = long;
+      original_long = four;
+      captured_is = omega (arith, most);
+      original_is = omega (
+        arith,
+        most,
+        eqb-true (number clock.order field) (number clock.order size) e,
+      );
+    }) rtac_seconds))
+    (λ e. cut_packet clock front time size items start refl p t long
+    (not_equal (number clock.order field) (number clock.order size) e))
+  where
+    spelled : (front time size field : List ℕ)
+        → (front ++ (time ++ (size ++ field))) ++ [] ≡ ((front ++ time) ++ size) ++ field
+    spelled front time size field = append-nil (front ++ (time ++ (size ++ field)))
+        ∙ sym (append_assoc front time (size ++ field))
+        ∙ sym (append_assoc (front ++ time) size field)
+
+-- ---- a packet
+
+packet_goes : (clock : Clock) (front time lengths bytes : List ℕ) (start count : ℕ)
+    (items these : List Seen) (next : Option Body) → ArePackets clock front items
+    → IsTime clock time start → AreLengths clock lengths (12 + count)
+    → BodyGoes start count bytes these next
+    → AtStage (body_or (Packet clock) (Seconds clock) next)
+    ((front ++ (time ++ lengths)) ++ bytes) (items ++ these)
+packet_goes clock front time lengths bytes start count items these (Some body) p t l goes =
+    packet clock front time lengths bytes start count body items these p t l goes
+packet_goes clock front time lengths bytes start count items these None p t l goes =
+    let Q : List ℕ → Type 0 = λ x. AtStage (Seconds clock) x (items ++ these) in
+    subst Q (sym (append_assoc front (time ++ lengths) bytes))
+    (seconds clock (front ++ ((time ++ lengths) ++ bytes)) (items ++ these)
+    (more front ((time ++ lengths) ++ bytes) items these p (record {
+      time = time;
+      lengths = lengths;
+      body = bytes;
+      start = start;
+      count = count;
+      is = refl;
+      time_is = t;
+      lengths_are = l;
+      record_is = goes;
+    })))
+
+moved : (stage : Stage) (front bytes last : List ℕ) (items these others : List Seen)
+    → AtStage stage (front ++ (bytes ++ last)) (items ++ (these ++ others))
+    → AtStage stage ((front ++ bytes) ++ last) ((items ++ these) ++ others)
+moved stage front bytes last items these others at =
+    let Q : List ℕ → Type 0 = λ x. AtStage stage x (items ++ (these ++ others)) in
+    let R : List Seen → Type 0 = λ x. AtStage stage ((front ++ bytes) ++ last) x in
+    subst R (sym (append_assoc items these others))
+    (subst Q (sym (append_assoc front bytes last)) at)
+
+pub field_goes : (stage : Stage) (front field : List ℕ) (items : List Seen)
+    → AtStage stage front items → takes_bytes stage ≡ false → length field ≡ 4
+    → Goes front field items (field_at stage field)
+unfolding field_at
+field_goes stage front field items magic h four = magic_goes field four
+field_goes stage front field items (free clock before word words m long few) h four =
+    free_goes clock before word words field m long few four
+field_goes stage front field items (link clock word words m long) h four =
+    link_goes clock word words field m long four
+field_goes stage front field items (seconds clock _ _ p) h four =
+    same_items (Fraction clock (number clock.order field)) (front ++ field) items
+    (fraction clock front field items p four)
+field_goes stage front field items (fraction clock packets first _ p long) h four =
+    fraction_goes clock packets first field items p long four
+field_goes stage front field items (captured clock packets time start _ p t) h four =
+    captured_goes clock packets time field start items p t four
+field_goes stage front field items (original clock packets time size start _ p t long most) h four =
+    original_goes clock packets time size field start items p t long most four
+field_goes stage front field items
+    (packet clock packets time lengths bytes start count body before these p t l at) h four =
+    moved (body_or (Packet clock) (Seconds clock) (body_field_at body field).0)
+    (packets ++ (time ++ lengths)) bytes field before these
+    (option_to_list (body_field_at body field).1)
+    (packet_goes clock packets time lengths (bytes ++ field) start count before
+    (these ++ option_to_list (body_field_at body field).1) (body_field_at body field).0 p t l
+    (body_field_goes start count body bytes field these at h four))
+
+pub byte_goes : (stage : Stage) (front : List ℕ) (items : List Seen) (b : ℕ)
+    → AtStage stage front items → takes_bytes stage ≡ true
+    → Goes front (b ∷ []) items (byte_at stage b)
+byte_goes stage front items b magic h = cc
+byte_goes stage front items b (free clock before word words m long few) h = cc
+byte_goes stage front items b (link clock word words m long) h = cc
+byte_goes stage front items b (seconds clock _ _ p) h = cc
+byte_goes stage front items b (fraction clock packets first _ p long) h = cc
+byte_goes stage front items b (captured clock packets time start _ p t) h = cc
+byte_goes stage front items b (original clock packets time size start _ p t long most) h = cc
+byte_goes stage front items b
+    (packet clock packets time lengths bytes start count body before these p t l at) h =
+    moved (body_or (Packet clock) (Seconds clock) (body_byte_at body b).0)
+    (packets ++ (time ++ lengths)) bytes (b ∷ []) before these
+    (option_to_list (body_byte_at body b).1)
+    (packet_goes clock packets time lengths (bytes ++ b ∷ []) start count before
+    (these ++ option_to_list (body_byte_at body b).1) (body_byte_at body b).0 p t l
+    (body_byte_goes start count body bytes these b at h))

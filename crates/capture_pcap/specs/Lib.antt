@@ -1,0 +1,6 @@
+pub mod Words
+pub mod Record
+pub mod BodyStep
+pub mod Pcap
+pub mod PcapStep
+pub mod Reader

@@ -1,0 +1,127 @@
+-- What a field and a byte make of a pcap file. It is a second view of the format of Pcap.antt, and is
+-- proved equal to it.
+use Rattle.std.specs.Prelude.{◌≡◌, ℕ, ◌+◌, ◌*◌, ◌-◌, ◌==◌, ◌&&◌, nat_lt, nat_le, Bool, true, false}
+use Rattle.std.specs.Prelude.{if◌then◌else◌, List, [], ◌∷◌, Option, Some, None, Result, Ok, Err}
+use Rattle.std.specs.Prelude.{slice_index, length}
+use Rattle.byte_walk.specs.Fields.{Spot, spot_step}
+use Rattle.capture_pcap.specs.Words.{number, nanoseconds}
+use Rattle.capture_pcap.specs.BodyStep.{Next, body_field_at, body_byte_at, takes_data, has_more}
+use Rattle.capture_pcap.specs.BodyStep.{body_or}
+use Rattle.capture_pcap.specs.declared.seen.Seen.{Seen}
+use Rattle.capture_pcap.specs.declared.body.Body.{Body}
+use Rattle.capture_pcap.specs.declared.body.Body.TheVariants.{Seconds as RtacSeconds}
+use Rattle.capture_pcap.specs.declared.words.Clock.{Clock}
+use Rattle.capture_pcap.specs.declared.words.Order.{Order}
+use Rattle.capture_pcap.specs.declared.words.Order.TheVariants.{Big, Little}
+use Rattle.capture_pcap.specs.declared.words.Resolution.{Resolution}
+use Rattle.capture_pcap.specs.declared.words.Resolution.TheVariants.{Microseconds, Nanoseconds}
+use Rattle.capture_pcap.specs.declared.fault.PcapFault.{PcapFault}
+use Rattle.capture_pcap.specs.declared.fault.PcapFault.TheVariants.{Magic as NoMagic}
+use Rattle.capture_pcap.specs.declared.fault.PcapFault.TheVariants.{Link as NoLink, Short, Cut}
+use Rattle.capture_pcap.specs.declared.stage.Stage.{Stage}
+use Rattle.capture_pcap.specs.declared.stage.Stage.TheVariants.{Magic, Free, Link, Seconds}
+use Rattle.capture_pcap.specs.declared.stage.Stage.TheVariants.{Fraction, Captured, Original}
+use Rattle.capture_pcap.specs.declared.stage.Stage.TheVariants.{Packet}
+
+abbrev pub Stepped : Type 0
+Stepped = Result (Stage × Option Seen) PcapFault
+
+-- whether single bytes come next, and no field of four
+abbrev pub takes_bytes : Stage → Bool
+takes_bytes Magic = false
+takes_bytes (Free clock before) = false
+takes_bytes (Link clock) = false
+takes_bytes (Seconds clock) = false
+takes_bytes (Fraction clock seconds) = false
+takes_bytes (Captured clock start) = false
+takes_bytes (Original clock start captured) = false
+takes_bytes (Packet clock body) = takes_data body
+
+-- a packet has at least its RTAC header, and bytes left where data come next
+abbrev pub is_sound : Stage → Bool
+is_sound Magic = true
+is_sound (Free clock before) = true
+is_sound (Link clock) = true
+is_sound (Seconds clock) = true
+is_sound (Fraction clock seconds) = true
+is_sound (Captured clock start) = true
+is_sound (Original clock start captured) = nat_le 12 captured
+is_sound (Packet clock body) = has_more body
+
+abbrev pub IsSoundStep : Stepped → Type 0
+IsSoundStep (Ok next) = is_sound next.0 ≡ true
+IsSoundStep (Err why) = Unit {0}
+
+-- whether a field of four bytes has these bytes
+abbrev pub is_field : ℕ → ℕ → ℕ → ℕ → List ℕ → Bool
+is_field a b c d field = (slice_index field 0 == a) && (slice_index field 1 == b)
+    && (slice_index field 2 == c) && (slice_index field 3 == d)
+
+abbrev pub free_at : Order → Resolution → Stepped
+free_at order resolution = Ok (Free (record { order = order; resolution = resolution }) 0, None)
+
+abbrev pub after_magic_at : List ℕ → Stepped
+after_magic_at field =
+    if is_field 0xA1 0xB2 0xC3 0xD4 field then free_at Big Microseconds
+    else if is_field 0xD4 0xC3 0xB2 0xA1 field then free_at Little Microseconds
+    else if is_field 0xA1 0xB2 0x3C 0x4D field then free_at Big Nanoseconds
+    else if is_field 0x4D 0x3C 0xB2 0xA1 field then free_at Little Nanoseconds
+    else Err NoMagic
+
+-- after a field or a byte of a packet
+abbrev pub after_body : Clock → Next → Stepped
+after_body clock next = Ok (body_or (Packet clock) (Seconds clock) next.0, next.1)
+
+abbrev pub after_length : Clock → ℕ → ℕ → ℕ → Stepped
+after_length clock start captured original =
+    if original == captured then Ok (Packet clock (RtacSeconds start (captured - 12)), None)
+    else Err Cut
+
+abbrev pub after_link : Clock → ℕ → Stepped
+after_link clock link = if link == 250 then Ok (Seconds clock, None) else Err NoLink
+
+abbrev pub after_captured : Clock → ℕ → ℕ → Stepped
+after_captured clock start captured =
+    if nat_lt captured 12 then Err Short else Ok (Original clock start captured, None)
+
+unfoldable pub field_at : Stage → List ℕ → Stepped
+field_at Magic field = after_magic_at field
+field_at (Free clock before) field =
+    if nat_lt before 3 then Ok (Free clock (before + 1), None) else Ok (Link clock, None)
+field_at (Link clock) field = after_link clock (number clock.order field)
+field_at (Seconds clock) field = Ok (Fraction clock (number clock.order field), None)
+field_at (Fraction clock seconds) field =
+    Ok (Captured clock (seconds * 1000000000 + number clock.order field * nanoseconds clock.resolution), None)
+field_at (Captured clock start) field = after_captured clock start (number clock.order field)
+field_at (Original clock start captured) field =
+    after_length clock start captured (number clock.order field)
+field_at (Packet clock body) field = after_body clock (body_field_at body field)
+
+abbrev pub byte_at : Stage → ℕ → Stepped
+byte_at Magic b = Err NoMagic
+byte_at (Free clock before) b = Err NoMagic
+byte_at (Link clock) b = Err NoMagic
+byte_at (Seconds clock) b = Err NoMagic
+byte_at (Fraction clock seconds) b = Err NoMagic
+byte_at (Captured clock start) b = Err NoMagic
+byte_at (Original clock start captured) b = Err NoMagic
+byte_at (Packet clock body) b = after_body clock (body_byte_at body b)
+
+-- whether a file may end here
+abbrev pub may_end : Stage → Bool
+may_end Magic = false
+may_end (Free clock before) = false
+may_end (Link clock) = false
+may_end (Seconds clock) = true
+may_end (Fraction clock seconds) = false
+may_end (Captured clock start) = false
+may_end (Original clock start captured) = false
+may_end (Packet clock body) = false
+
+-- one byte of a file
+abbrev pub step_at : Spot Stage → ℕ → Result (Spot Stage × Option Seen) PcapFault
+step_at = spot_step takes_bytes field_at byte_at
+
+-- a file may end before a packet
+abbrev pub may_end_at : Spot Stage → Bool
+may_end_at spot = may_end spot.stage && (length spot.partial == 0)

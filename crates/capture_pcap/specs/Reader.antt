@@ -1,0 +1,34 @@
+-- What a reader of a pcap file stands for.
+use Rattle.std.specs.Prelude.{◌≡◌, ℕ, ◌++◌, ◌∷◌, [], List, length, Option, Some, None, Result, Ok, Err, ◌+◌}
+use Rattle.byte_walk.specs.Walks.{walk}
+use Rattle.byte_walk.specs.Fields.{Spot, before_field}
+use Rattle.capture_pcap.specs.PcapStep.{step_at}
+use Rattle.capture_pcap.specs.declared.seen.Seen.{Seen}
+use Rattle.capture_pcap.specs.declared.fault.BadPcap.{BadPcap}
+use Rattle.capture_pcap.specs.declared.fault.PcapFault.{PcapFault}
+use Rattle.capture_pcap.specs.declared.stage.Stage.{Stage}
+use Rattle.capture_pcap.specs.declared.stage.Stage.TheVariants.{Magic}
+use Rattle.capture_pcap.specs.declared.reader.PcapReader.{PcapReader}
+
+abbrev pub bytes_taken : PcapReader → ℕ
+bytes_taken reader = reader.taken
+
+abbrev pub spot_of : PcapReader → Spot Stage
+spot_of reader = record { stage = reader.stage; partial = reader.partial.items }
+
+-- The reader has taken this much of a file, no field of which it refused, and has seen these items.
+pub record StandsFor (reader : PcapReader) (file : List ℕ) (items : List Seen) : Type 0 where
+  pub walks : walk step_at (before_field Magic) file ≡ Ok (spot_of reader, items)
+  pub open_yet : reader.refused ≡ None
+  pub counted : reader.taken ≡ length file
+
+-- The reader has refused its file so, and answers so from then on.
+abbrev pub HasRefused : PcapReader → BadPcap → Type 0
+HasRefused reader bad = reader.refused ≡ Some bad
+
+-- one byte at a reader
+abbrev pub Takes : PcapReader → ℕ → Result (Option Seen) PcapFault → PcapReader → Type 0
+Takes old b (Ok item) new =
+    (step_at (spot_of old) b ≡ Ok (spot_of new, item)) × (new.taken ≡ old.taken + 1)
+    × (new.refused ≡ old.refused)
+Takes old b (Err why) new = (step_at (spot_of old) b ≡ Err why) × (new ≡ old)

@@ -1,0 +1,17 @@
+-- Numbers of four bytes, in the order of a file.
+use Rattle.std.specs.Prelude.{ℕ, List}
+use Rattle.byteorder.specs.Endian.{big_number, little_number}
+use Rattle.capture_pcap.specs.declared.words.Order.{Order}
+use Rattle.capture_pcap.specs.declared.words.Order.TheVariants.{Big, Little}
+use Rattle.capture_pcap.specs.declared.words.Resolution.{Resolution}
+use Rattle.capture_pcap.specs.declared.words.Resolution.TheVariants.{Microseconds, Nanoseconds}
+
+-- the number in the first four bytes
+abbrev pub number : Order → List ℕ → ℕ
+number Big word = big_number 4 word
+number Little word = little_number 4 word
+
+-- how many nanoseconds one of them is
+abbrev pub nanoseconds : Resolution → ℕ
+nanoseconds Microseconds = 1000
+nanoseconds Nanoseconds = 1

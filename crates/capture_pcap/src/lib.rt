@@ -1,0 +1,19 @@
+//! Captures of a serial line as pcap files of link type 250 (RTAC serial).
+#![tactic(auto)]
+
+mod body;
+mod fault;
+mod reader;
+mod seen;
+mod stage;
+mod words;
+
+pub use body::Body;
+pub use fault::{BadPcap, PcapFault};
+pub use reader::PcapReader;
+pub use seen::{LineEvent, Seen};
+pub use stage::Stage;
+pub use words::{Clock, Order, Resolution};
+
+/// How many bytes of a file a reader takes at most: 2^62.
+pub const MAX_BYTES: u64 = 4_611_686_018_427_387_904;

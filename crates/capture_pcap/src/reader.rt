@@ -1,0 +1,160 @@
+//! A reader of pcap files, byte by byte.
+ghost use Rattle.std.specs.Prelude.{◌≡◌, ℕ, ◌+◌, ◌<◌, ◌≤◌, ◌++◌, ◌∷◌, [], List, true, length};
+ghost use Rattle.std.specs.Prelude.{Some, None, OnOk, IfOk, IfErr, Err, ◌==◌, false};
+ghost use Rattle.std.specs.Option.{option_to_list};
+ghost use Rattle.capture_pcap.specs.PcapStep.{is_sound, takes_bytes};
+ghost use Rattle.capture_pcap.specs.declared.TheConstants.{MAX_BYTES};
+
+use crate::stage::Stage;
+use crate::{BadPcap, MAX_BYTES, PcapFault, Seen};
+use arrayvec::ArrayVec;
+
+/// A reader of a pcap file of link type 250, byte by byte, in constant memory. It gives each byte of
+/// the line as it comes, and each event with its record's header.
+#[derive(Drop)]
+pub struct PcapReader {
+    stage: Stage,
+    // the bytes of a field that have come
+    partial: ArrayVec<u8, 4>,
+    refused: Option<BadPcap>,
+    taken: u64,
+    ghost sound: { is_sound stage ≡ true },
+    ghost short: { length partial.items < 4 },
+    ghost alone: { takes_bytes stage ≡ true → length partial.items ≡ 0 },
+    ghost fewer: { length partial.items ≤ taken },
+    ghost bounded: { taken ≤ MAX_BYTES },
+}
+
+impl PcapReader {
+    ghost use Rattle.byte_walk.specs.Walks.{Begins, BeginsNone};
+    ghost use Rattle.byte_walk.specs.Fields.{RefusesField, before_field, Spot};
+    ghost use Rattle.capture_pcap.specs.Pcap.{IsPcap, IsCause};
+    ghost use Rattle.capture_pcap.specs.PcapStep.{step_at, may_end_at};
+    ghost use Rattle.capture_pcap.specs.Reader.{StandsFor, HasRefused, bytes_taken, spot_of};
+    ghost use Rattle.capture_pcap.specs.Reader.{Takes};
+    ghost use Rattle.capture_pcap.specs.declared.seen.Seen.{Seen};
+    ghost use Rattle.capture_pcap.specs.declared.fault.BadPcap.{BadPcap};
+
+    /// A reader before its file.
+    pub fn new() -> PcapReader
+        ensures stands { StandsFor result [] [] }
+        ensures begins { Begins IsPcap [] [] }
+        ensures taken { bytes_taken result ≡ 0 }
+    {
+        PcapReader {
+            stage: Stage::Magic,
+            partial: ArrayVec::new(),
+            refused: None,
+            taken: 0,
+        }
+    }
+
+    /// How many bytes it took.
+    pub fn taken(&self) -> u64
+        ensures { result ≡ bytes_taken self.now }
+    {
+        self.taken
+    }
+
+    /// Takes one byte: at once, or with its field.
+    #[inline]
+    fn step(&mut self, b: u8) -> Result<Option<Seen>, PcapFault>
+        requires { bytes_taken self.old < MAX_BYTES }
+        ensures { Takes self.old b result self.new }
+    {
+        if self.stage.is_data() {
+            let (stage, seen) = self.stage.byte(b)?;
+            self.stage = stage;
+            self.taken += 1;
+            return Ok(seen);
+        }
+        if self.partial.len() < 3 {
+            self.partial.push(b);
+            self.taken += 1;
+            return Ok(None);
+        }
+        self.end_field(b)
+    }
+
+    /// The last byte of a field.
+    fn end_field(&mut self, b: u8) -> Result<Option<Seen>, PcapFault>
+        requires taken { bytes_taken self.old < MAX_BYTES }
+        requires field { takes_bytes self.old.stage ≡ false }
+        requires three { length self.old.partial.items ≡ 3 }
+        ensures { Takes self.old b result self.new }
+    {
+        let field = [self.partial[0], self.partial[1], self.partial[2], b];
+        let (stage, seen) = self.stage.field(&field)?;
+        self.stage = stage;
+        self.partial.clear();
+        self.taken += 1;
+        Ok(seen)
+    }
+
+    /// Takes the next byte of the file, and returns what it ends: a byte of the line or an event. A
+    /// refusal is for good.
+    #[inline]
+    pub fn feed(&mut self, b: u8) -> Result<Option<Seen>, BadPcap>
+        requires { bytes_taken self.old < MAX_BYTES }
+        // A file so far stands for what was returned.
+        ensures stands { (file : List ℕ) (items : List Seen) → StandsFor self.old file items
+            → IfOk result (λ seen. StandsFor self.new (file ++ b ∷ [])
+            (items ++ option_to_list seen)) }
+        // Each pcap file that goes on so has these items first.
+        ensures each { (file : List ℕ) (items : List Seen) → StandsFor self.old file items
+            → IfOk result (λ seen. (more : List ℕ) (all : List Seen)
+            → IsPcap ((file ++ b ∷ []) ++ more) all
+            → (others : List Seen) × (all ≡ (items ++ option_to_list seen) ++ others)) }
+        // It refuses the first field with which no pcap file begins, and no other. What stands
+        // before that field begins one, with all that was returned.
+        ensures refused { (file : List ℕ) (items : List Seen) → StandsFor self.old file items
+            → IfErr result (λ bad. RefusesField IsPcap IsCause file items b bad.offset bad.why) }
+        ensures taken { OnOk result (bytes_taken self.new ≡ bytes_taken self.old + 1) }
+        ensures remembered { IfErr result (λ bad. HasRefused self.new bad) }
+        ensures for_good { (bad : BadPcap) → HasRefused self.old bad
+            → (result ≡ Err bad) × (self.new ≡ self.old) }
+    {
+        if let Some(bad) = self.refused {
+            return Err(bad);
+        }
+        match self.step(b) {
+            Ok(seen) => Ok(seen),
+            Err(why) => {
+                let bad = BadPcap {
+                    offset: self.taken - self.partial.len() as u64,
+                    why,
+                };
+                self.refused = Some(bad);
+                Err(bad)
+            }
+        }
+    }
+
+    /// Whether the file may end here.
+    fn may_end(&self) -> bool
+        ensures { result ≡ may_end_at (spot_of self.now) }
+    {
+        self.stage.may_end() && self.partial.is_empty()
+    }
+
+    /// Takes the end of the file.
+    pub fn finish(self) -> Result<(), BadPcap>
+        ensures right { (file : List ℕ) (items : List Seen) → StandsFor self file items
+            → OnOk result (IsPcap file items) }
+        ensures refused { (file : List ℕ) (items : List Seen) → StandsFor self file items
+            → IfErr result (λ bad. ((all : List Seen) → IsPcap file all → ⊥)
+            × (bad.offset ≡ length file) × (bad.why ≡ PcapFault.End)) }
+        ensures again { (bad : BadPcap) → HasRefused self bad → result ≡ Err bad }
+    {
+        if let Some(bad) = self.refused {
+            return Err(bad);
+        }
+        if self.may_end() {
+            return Ok(());
+        }
+        Err(BadPcap {
+            offset: self.taken,
+            why: PcapFault::End,
+        })
+    }
+}

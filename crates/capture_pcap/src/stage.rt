@@ -1,0 +1,169 @@
+//! Which field of a pcap file comes next, and what a field makes of it.
+#![tactic(auto, unfolding(crate::specs::PcapStep::field_at))]
+
+ghost use Rattle.std.specs.Prelude.{◌≡◌, ◌+◌, ◌<◌, ◌≤◌, ◌*◌, length, true, false};
+ghost use Rattle.capture_pcap.specs.PcapStep.{field_at, byte_at, after_magic_at, takes_bytes, may_end};
+ghost use Rattle.capture_pcap.specs.PcapStep.{is_sound, IsSoundStep, after_body, after_length};
+ghost use Rattle.capture_pcap.specs.BodyStep.{IsSoundNext};
+ghost use Rattle.capture_pcap.specs.Words.{nanoseconds};
+
+use crate::body::Next;
+use crate::{Body, Clock, Order, PcapFault, Resolution, Seen};
+
+/// The link type of RTAC serial.
+const RTAC_SERIAL: u32 = 250;
+
+/// The bytes of an RTAC header, which stands in front of a packet's data.
+const RTAC_HEADER: u32 = 12;
+
+/// What comes next in a pcap file.
+#[derive(Clone, Copy, Debug, PartialEq, Eq)]
+pub enum Stage {
+    /// The magic number.
+    Magic,
+    /// A field of the header that may be anything, after so many of the four: version, zone,
+    /// figures and length of a packet.
+    Free(Clock, u8),
+    /// The link type.
+    Link(Clock),
+    /// The seconds of a packet, or the end of the file.
+    Seconds(Clock),
+    /// The fraction of this second.
+    Fraction(Clock, u32),
+    /// How many bytes of the packet of this time, in nanoseconds, the file has.
+    Captured(Clock, u64),
+    /// How many bytes this packet had, of which the file has so many.
+    Original(Clock, u64, u32),
+    /// The packet itself.
+    Packet(Clock, Body),
+}
+
+/// What a field or a byte comes to: what comes next and what was seen, or why it is refused.
+pub type Step = Result<(Stage, Option<Seen>), PcapFault>;
+
+/// The nanoseconds of a time.
+fn start_of(clock: Clock, seconds: u32, fraction: u32) -> u64
+    ensures { result ≡ seconds * 1000000000 + fraction * nanoseconds clock.resolution }
+{
+    let counts = u64::from(clock.resolution.nanoseconds());
+    u64::from(seconds) * 1_000_000_000 + u64::from(fraction) * counts
+}
+
+/// What comes after the magic number of a file.
+fn after_magic(word: &[u8]) -> Step
+    requires { length word.now ≡ 4 }
+    ensures { result ≡ after_magic_at word.now }
+{
+    let (order, resolution) = match word {
+        [0xA1, 0xB2, 0xC3, 0xD4] => (Order::Big, Resolution::Microseconds),
+        [0xD4, 0xC3, 0xB2, 0xA1] => (Order::Little, Resolution::Microseconds),
+        [0xA1, 0xB2, 0x3C, 0x4D] => (Order::Big, Resolution::Nanoseconds),
+        [0x4D, 0x3C, 0xB2, 0xA1] => (Order::Little, Resolution::Nanoseconds),
+        _ => return Err(PcapFault::Magic),
+    };
+    Ok((Stage::Free(Clock { order, resolution }, 0), None))
+}
+
+/// What comes after a field or a byte of a packet.
+#[inline]
+fn behind(clock: Clock, next: Next) -> Step
+    requires { IsSoundNext next }
+    ensures step { result ≡ after_body clock next }
+    ensures sound { IsSoundStep result }
+{
+    match next.0 {
+        Some(body) => Ok((Stage::Packet(clock, body), next.1)),
+        None => Ok((Stage::Seconds(clock), next.1)),
+    }
+}
+
+/// What comes after the length of a packet.
+fn behind_length(clock: Clock, start: u64, captured: u32, original: u32) -> Step
+    requires { 12 ≤ captured }
+    ensures step { result ≡ after_length clock start captured original }
+    ensures sound { IsSoundStep result }
+{
+    if original == captured {
+        let body = Body::Seconds(start, captured - RTAC_HEADER);
+        Ok((Stage::Packet(clock, body), None))
+    } else {
+        Err(PcapFault::Cut)
+    }
+}
+
+impl Stage {
+    /// Whether single bytes come next, and no field of four.
+    #[inline]
+    pub fn is_data(self) -> bool
+        ensures { result ≡ takes_bytes self }
+    {
+        match self {
+            Stage::Packet(_, body) => body.is_data(),
+            _ => false,
+        }
+    }
+
+    /// Whether a file may end before this.
+    pub fn may_end(self) -> bool
+        ensures { result ≡ may_end self }
+    {
+        matches!(self, Stage::Seconds(_))
+    }
+
+    /// Takes a byte of data.
+    #[inline]
+    pub fn byte(self, b: u8) -> Step
+        requires sound { is_sound self ≡ true }
+        requires payload { takes_bytes self ≡ true }
+        ensures step { result ≡ byte_at self b }
+        ensures sound { IsSoundStep result }
+    {
+        let Stage::Packet(clock, body) = self else {
+            unreachable!()
+        };
+        behind(clock, body.byte(b))
+    }
+
+    /// Takes a field of four bytes.
+    pub fn field(self, word: &[u8]) -> Step
+        requires sound { is_sound self ≡ true }
+        requires four { length word.now ≡ 4 }
+        requires field { takes_bytes self ≡ false }
+        ensures step { result ≡ field_at self word.now }
+        ensures sound { IsSoundStep result }
+    {
+        match self {
+            Stage::Magic => after_magic(word),
+            Stage::Free(clock, before) => {
+                if before < 3 {
+                    Ok((Stage::Free(clock, before + 1), None))
+                } else {
+                    Ok((Stage::Link(clock), None))
+                }
+            }
+            Stage::Link(clock) => {
+                if clock.order.number(word) == RTAC_SERIAL {
+                    Ok((Stage::Seconds(clock), None))
+                } else {
+                    Err(PcapFault::Link)
+                }
+            }
+            Stage::Seconds(clock) => Ok((Stage::Fraction(clock, clock.order.number(word)), None)),
+            Stage::Fraction(clock, seconds) => {
+                let start = start_of(clock, seconds, clock.order.number(word));
+                Ok((Stage::Captured(clock, start), None))
+            }
+            Stage::Captured(clock, start) => {
+                let captured = clock.order.number(word);
+                if captured < RTAC_HEADER {
+                    return Err(PcapFault::Short);
+                }
+                Ok((Stage::Original(clock, start, captured), None))
+            }
+            Stage::Original(clock, start, captured) => {
+                behind_length(clock, start, captured, clock.order.number(word))
+            }
+            Stage::Packet(clock, body) => behind(clock, body.field(word)),
+        }
+    }
+}

@@ -1,0 +1,59 @@
+//! Numbers of four bytes, in the order of a file.
+ghost use Rattle.std.specs.Prelude.{◌≡◌, ◌≤◌, length};
+
+use byteorder::{BigEndian, ByteOrder, LittleEndian};
+
+/// In which order a file has the bytes of its numbers.
+#[derive(Clone, Copy, Debug, PartialEq, Eq)]
+pub enum Order {
+    /// The highest byte first.
+    Big,
+    /// The lowest byte first.
+    Little,
+}
+
+/// What the second number of a time counts.
+#[derive(Clone, Copy, Debug, PartialEq, Eq)]
+pub enum Resolution {
+    Microseconds,
+    Nanoseconds,
+}
+
+/// How a file counts.
+#[derive(Clone, Copy, Debug, PartialEq, Eq)]
+pub struct Clock {
+    pub order: Order,
+    pub resolution: Resolution,
+}
+
+impl Resolution {
+    ghost use Rattle.capture_pcap.specs.Words.{nanoseconds};
+
+    /// How many nanoseconds one of them is.
+    #[inline]
+    pub fn nanoseconds(self) -> u32
+        ensures value { result ≡ nanoseconds self }
+        ensures small { result ≤ 1000 }
+    {
+        match self {
+            Resolution::Microseconds => 1000,
+            Resolution::Nanoseconds => 1,
+        }
+    }
+}
+
+impl Order {
+    ghost use Rattle.capture_pcap.specs.Words.{number};
+
+    /// The number in the first four bytes.
+    #[inline]
+    pub fn number(self, word: &[u8]) -> u32
+        requires { 4 ≤ length word.now }
+        ensures { result ≡ number self word.now }
+    {
+        match self {
+            Order::Big => BigEndian::read_u32(word),
+            Order::Little => LittleEndian::read_u32(word),
+        }
+    }
+}
