@@ -3,3 +3,4 @@ pub mod Stages
 pub mod Spelled
 pub mod GoingOn
 pub mod Reading
+pub mod Written

@@ -4,3 +4,4 @@ pub mod BodyStep
 pub mod Pcap
 pub mod PcapStep
 pub mod Reader
+pub mod Writing

@@ -15,3 +15,8 @@ number Little word = little_number 4 word
 abbrev pub nanoseconds : Resolution → ℕ
 nanoseconds Microseconds = 1000
 nanoseconds Nanoseconds = 1
+
+-- the number in the first two bytes
+abbrev pub short_number : Order → List ℕ → ℕ
+short_number Big field = big_number 2 field
+short_number Little field = little_number 2 field

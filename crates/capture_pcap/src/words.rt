@@ -43,7 +43,7 @@ impl Resolution {
 }
 
 impl Order {
-    ghost use Rattle.capture_pcap.specs.Words.{number};
+    ghost use Rattle.capture_pcap.specs.Words.{number, short_number};
 
     /// The number in the first four bytes.
     #[inline]
@@ -54,6 +54,18 @@ impl Order {
         match self {
             Order::Big => BigEndian::read_u32(word),
             Order::Little => LittleEndian::read_u32(word),
+        }
+    }
+
+    /// The number in the first two bytes.
+    #[inline]
+    pub fn short_number(self, word: &[u8]) -> u16
+        requires { 2 ≤ length word.now }
+        ensures { result ≡ short_number self word.now }
+    {
+        match self {
+            Order::Big => BigEndian::read_u16(word),
+            Order::Little => LittleEndian::read_u16(word),
         }
     }
 }

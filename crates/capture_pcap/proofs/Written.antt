@@ -1,0 +1,84 @@
+-- The header of a packet that is written, and data behind it, are a packet.
+use Rattle.std.proofs.Common.{◌≡◌, ◌∙◌, ℕ, ◌+◌, ◌*◌, ◌++◌, ◌∷◌, [], List, length, true, refl, ap, sym}
+use Rattle.std.proofs.Common.{arith, append_assoc, subst}
+use Rattle.line_stamps.specs.declared.capture.Way.{Way}
+use Rattle.line_stamps.specs.declared.capture.Way.TheVariants.{A, B}
+use Rattle.capture_pcap.specs.Words.{number}
+use Rattle.capture_pcap.specs.Record.{seen_of, seen_bytes, IsRecord}
+use Rattle.capture_pcap.specs.Pcap.{IsPacket}
+use Rattle.capture_pcap.specs.Writing.{written_clock, data_event, AppendsNumber, AppendsFour}
+use Rattle.capture_pcap.specs.declared.words.Order.TheVariants.{Little}
+use Rattle.capture_pcap.specs.declared.seen.Seen.{Seen}
+
+data_seen : (start : ℕ) (way : Way) (payload : List ℕ)
+    → seen_bytes start way true payload ≡ seen_of start (data_event way) payload
+data_seen start A payload = refl
+data_seen start B payload = refl
+
+-- the parts of a packet, as the writer and as the format have them
+regrouped : (a b c d e f g p : List ℕ)
+    → ((((((a ++ b) ++ c) ++ d) ++ e) ++ f) ++ g) ++ p
+    ≡ ((a ++ b) ++ (c ++ d)) ++ (((e ++ f) ++ g) ++ p)
+regrouped a b c d e f g p =
+    append_assoc (((((a ++ b) ++ c) ++ d) ++ e) ++ f) g p
+    ∙ append_assoc ((((a ++ b) ++ c) ++ d) ++ e) f (g ++ p)
+    ∙ append_assoc (((a ++ b) ++ c) ++ d) e (f ++ (g ++ p))
+    ∙ ap (λ x. x ++ (e ++ (f ++ (g ++ p)))) (append_assoc (a ++ b) c d)
+    ∙ ap (λ x. ((a ++ b) ++ (c ++ d)) ++ x)
+    (sym (append_assoc (e ++ f) g p ∙ append_assoc e f (g ++ p)))
+
+pub written_packet : (way : Way) (start whole rest count : ℕ)
+    (none h1 h2 h3 h4 h5 h6 : List ℕ) → none ≡ []
+    → AppendsNumber none h1 whole → AppendsNumber h1 h2 rest
+    → AppendsNumber h2 h3 (count + 12) → AppendsNumber h3 h4 (count + 12)
+    → AppendsFour h4 h5 → AppendsFour h5 h6
+    → start ≡ whole * 1000000000 + rest
+    → (payload : List ℕ) → length payload ≡ count
+    → IsPacket written_clock ((h6 ++ data_event way ∷ 0 ∷ 0 ∷ 0 ∷ []) ++ payload)
+    (seen_bytes start way true payload)
+written_packet way start whole rest count none h1 h2 h3 h4 h5 h6 e a b c d f g time payload long =
+    record {
+      time = a.field ++ b.field;
+      lengths = c.field ++ d.field;
+      body = ((f.field ++ g.field) ++ data_event way ∷ 0 ∷ 0 ∷ 0 ∷ []) ++ payload;
+      start = start;
+      count = count;
+      is = ap (λ x. (x ++ data_event way ∷ 0 ∷ 0 ∷ 0 ∷ []) ++ payload) spelled
+          ∙ regrouped a.field b.field c.field d.field f.field g.field
+          (data_event way ∷ 0 ∷ 0 ∷ 0 ∷ []) payload;
+      time_is = record {
+        seconds = a.field;
+        fraction = b.field;
+        is = refl;
+        seconds_long = a.long;
+        fraction_long = b.long;
+        start_is = omega (arith, time, a.value, b.value);
+      };
+      lengths_are = record {
+        captured = c.field;
+        original = d.field;
+        is = refl;
+        captured_long = c.long;
+        original_long = d.long;
+        captured_is = omega (arith, c.value);
+        original_is = omega (arith, d.value);
+      };
+      record_is = record {
+        seconds = f.field;
+        microseconds = g.field;
+        event = data_event way;
+        others = 0 ∷ 0 ∷ 0 ∷ [];
+        payload = payload;
+        is = refl;
+        seconds_long = f.long;
+        microseconds_long = g.long;
+        others_long = refl;
+        payload_long = long;
+        items_are = data_seen start way payload;
+      };
+    }
+  where
+    spelled : h6 ≡ ((((a.field ++ b.field) ++ c.field) ++ d.field) ++ f.field) ++ g.field
+    spelled = g.is ∙ ap (λ x. x ++ g.field) (f.is ∙ ap (λ x. x ++ f.field)
+        (d.is ∙ ap (λ x. x ++ d.field) (c.is ∙ ap (λ x. x ++ c.field)
+        (b.is ∙ ap (λ x. x ++ b.field) (a.is ∙ ap (λ x. x ++ a.field) e)))))

@@ -1,0 +1,18 @@
+use Rattle.std.proofs.Common.{◌≡◌, ℕ, List, true, ◌+◌, ◌*◌, ◌/◌, ◌%◌, ap, sym, subst, arith, ◌++◌, ◌∙◌}
+use Rattle.capture_pcap.proofs.Written.{written_packet}
+use Rattle.capture_pcap.specs.Writing.{written_clock}
+use Rattle.capture_pcap.specs.Pcap.{IsPacket}
+use Rattle.capture_pcap.specs.Record.{seen_bytes}
+use Rattle.capture_pcap.proofs.writer.packet_header.Goals as goal
+
+pub returns : goal.returns
+returns c = record {
+  packet = λ payload long.
+      let Q : List ℕ → Type 0 = λ x. IsPacket written_clock (x ++ payload)
+      (seen_bytes c.args.start c.args.way true payload) in
+      subst Q (sym c.push_event.ensures)
+      (written_packet c.args.way c.args.start _ _ c.args.count _ _ _ _ _ _ _ c.new-header.ensures
+      c.push_number.ensures c.push_number-2.ensures c.push_number-3.ensures
+      c.push_number-4.ensures c.push_stamp.ensures c.push_stamp-2.ensures (omega arith) payload
+      long);
+}

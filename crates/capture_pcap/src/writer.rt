@@ -1,0 +1,81 @@
+//! The parts of a pcap file that is written: little-endian, with times in nanoseconds.
+ghost use Rattle.std.specs.Prelude.{◌≡◌, ℕ, ◌+◌, ◌*◌, ◌<◌, ◌≤◌, ◌^◌, ◌++◌, ◌∷◌, [], List, length, true};
+ghost use Rattle.capture_pcap.specs.Writing.{AppendsNumber, AppendsFour, written_clock, data_event};
+ghost use Rattle.capture_pcap.specs.Pcap.{IsHeader, IsPacket};
+ghost use Rattle.capture_pcap.specs.Record.{seen_bytes};
+
+use arrayvec::ArrayVec;
+use byteorder::{BigEndian, ByteOrder, LittleEndian};
+use line_stamps::Way;
+
+/// The header of a file that is written: version 2.4, packets of at most 262,144 bytes, link type
+/// 250.
+pub const FILE_HEADER: [u8; 24] = [
+    0x4D, 0x3C, 0xB2, 0xA1, 2, 0, 4, 0, 0, 0, 0, 0, 0, 0, 0, 0, 0, 0, 4, 0, 250, 0, 0, 0,
+];
+
+/// What stands before the data of a packet.
+pub type PacketHeader = ArrayVec<u8, 28>;
+
+/// `FILE_HEADER` is the header of a file whose times count nanoseconds.
+pub fn written_header()
+    ensures { IsHeader written_clock FILE_HEADER }
+{}
+
+/// Appends a number, the lowest byte first.
+fn push_number(out: &mut PacketHeader, n: u32)
+    requires { length out.old.items + 4 ≤ 28 }
+    ensures { AppendsNumber out.old.items out.new.items n }
+{
+    let mut word = [0; 4];
+    LittleEndian::write_u32(&mut word, n);
+    let _ = out.try_extend_from_slice(&word);
+}
+
+/// Appends a number of an RTAC header, the highest byte first.
+fn push_stamp(out: &mut PacketHeader, n: u32)
+    requires { length out.old.items + 4 ≤ 28 }
+    ensures { AppendsFour out.old.items out.new.items }
+{
+    let mut word = [0; 4];
+    BigEndian::write_u32(&mut word, n);
+    let _ = out.try_extend_from_slice(&word);
+}
+
+/// The event in front of data that go a way: the start of data sent, or of data received.
+fn event_of(way: Way) -> u8
+    ensures { result ≡ data_event way }
+{
+    match way {
+        Way::A => 1,
+        Way::B => 2,
+    }
+}
+
+/// Appends the event in front of data, with no control line and no footer.
+fn push_event(out: &mut PacketHeader, way: Way)
+    requires { length out.old.items + 4 ≤ 28 }
+    ensures { out.new.items ≡ out.old.items ++ data_event way ∷ 0 ∷ 0 ∷ 0 ∷ [] }
+{
+    let _ = out.try_extend_from_slice(&[event_of(way), 0, 0, 0]);
+}
+
+/// What stands before so many bytes of data, which start then, in nanoseconds since 1970.
+pub fn packet_header(way: Way, start: u64, count: u32) -> PacketHeader
+    requires time { start < 2 ^ 32 * 1000000000 }
+    requires size { count + 12 < 2 ^ 32 }
+    ensures packet { (payload : List ℕ) → length payload ≡ count
+        → IsPacket written_clock (result.items ++ payload) (seen_bytes start way true payload) }
+{
+    let seconds = (start / 1_000_000_000) as u32;
+    let nanoseconds = (start % 1_000_000_000) as u32;
+    let mut header = ArrayVec::new();
+    push_number(&mut header, seconds);
+    push_number(&mut header, nanoseconds);
+    push_number(&mut header, count + 12);
+    push_number(&mut header, count + 12);
+    push_stamp(&mut header, seconds);
+    push_stamp(&mut header, nanoseconds / 1000);
+    push_event(&mut header, way);
+    header
+}
