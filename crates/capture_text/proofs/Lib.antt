@@ -3,3 +3,4 @@ pub mod Places
 pub mod Reached
 pub mod Spelled
 pub mod Reading
+pub mod Written

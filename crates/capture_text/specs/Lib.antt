@@ -1,3 +1,4 @@
 pub mod CaptureText
 pub mod TextStep
 pub mod Reader
+pub mod Writing

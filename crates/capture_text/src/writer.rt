@@ -1,0 +1,69 @@
+//! The text of a record's time, as it is written.
+ghost use Rattle.std.specs.Prelude.{◌≡◌, ◌∷◌, [], ◌++◌, ◌+◌, ◌-◌, ◌*◌, ◌/◌, ◌%◌, ◌<◌, ◌≤◌, ◌^◌, ℕ};
+ghost use Rattle.std.specs.Prelude.{List, length};
+ghost use Rattle.std.specs.Fmt.{decimal};
+ghost use Rattle.hex.specs.Hex.{encode_lower, IsBytes};
+ghost use Rattle.capture_text.specs.CaptureText.{IsRecord, recorded, point};
+ghost use Rattle.capture_text.specs.Writing.{fraction_digits};
+
+use arrayvec::ArrayVec;
+use itoa::Buffer;
+
+/// The nanoseconds of a second.
+const SECOND: u64 = 1_000_000_000;
+
+/// What a line has before the digits of its bytes.
+pub type LineFront = ArrayVec<u8, 32>;
+
+/// Appends the digit that counts so many, and returns what is left.
+fn push_digit(front: &mut LineFront, rest: u32, counts: u32) -> u32
+    requires room { length front.old.items < 32 }
+    requires some { 0 < counts }
+    requires digit { rest < 10 * counts }
+    ensures digit { front.new.items ≡ front.old.items ++ (48 + rest / counts) ∷ [] }
+    ensures rest { result ≡ rest % counts }
+{
+    front.push(b'0' + (rest / counts) as u8);
+    rest % counts
+}
+
+/// Appends the nine digits of nanoseconds behind a point.
+fn push_fraction(front: &mut LineFront, nanoseconds: u32)
+    requires room { length front.old.items ≤ 23 }
+    requires digits { nanoseconds < 1000000000 }
+    ensures { front.new.items ≡ front.old.items ++ fraction_digits nanoseconds }
+{
+    let rest = push_digit(front, nanoseconds, 100_000_000);
+    let rest = push_digit(front, rest, 10_000_000);
+    let rest = push_digit(front, rest, 1_000_000);
+    let rest = push_digit(front, rest, 100_000);
+    let rest = push_digit(front, rest, 10_000);
+    let rest = push_digit(front, rest, 1_000);
+    let rest = push_digit(front, rest, 100);
+    let rest = push_digit(front, rest, 10);
+    push_digit(front, rest, 1);
+}
+
+/// Appends a number.
+fn push_number(front: &mut LineFront, n: u64)
+    requires { length front.old.items ≤ 12 }
+    ensures digits { front.new.items ≡ front.old.items ++ decimal n }
+    ensures long { length front.new.items ≤ length front.old.items + 20 }
+{
+    let mut buffer = Buffer::new();
+    let _ = front.try_extend_from_slice(buffer.format(n).as_bytes());
+}
+
+/// The time of a record, in nanoseconds, as its line has it, and a space. The bytes of the record
+/// follow, in hex digits, and an LF.
+pub fn line_front(start: u64) -> LineFront
+    ensures line { (bytes : List ℕ) → 0 < length bytes → IsBytes bytes
+        → IsRecord (result.items ++ encode_lower bytes) start (recorded start bytes) }
+{
+    let mut front = LineFront::new();
+    push_number(&mut front, start / SECOND);
+    front.push(b'.');
+    push_fraction(&mut front, (start % SECOND) as u32);
+    front.push(b' ');
+    front
+}
