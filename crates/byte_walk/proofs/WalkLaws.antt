@@ -1,7 +1,7 @@
 -- What a reader comes to over two lists of bytes, one after the other, and what follows for a reader
 -- of a format.
-use Rattle.std.proofs.Common.{◌≡◌, ◌∙◌, ℕ, Bool, true, false, List, [], ◌∷◌, ◌++◌, Option, Some}
-use Rattle.std.proofs.Common.{None, Result, Ok, Err, refl, ap, sym, append_assoc, append-nil, subst}
+use Rattle.std.proofs.Common.{◌≡◌, ◌∙◌, ℕ, Bool, true, false, List, [], ◌∷◌, ◌++◌, Option}
+use Rattle.std.proofs.Common.{Result, Ok, Err, refl, ap, sym, append_assoc, append-nil, subst}
 use Rattle.std.specs.Option.{option_to_list}
 use Rattle.byte_walk.specs.Walks.{walk, after_items, and_then_walk, Begins, BeginsNone, ReadsFormat}
 use Rattle.byte_walk.specs.Walks.{GoesOnFrom}

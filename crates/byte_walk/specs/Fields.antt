@@ -1,5 +1,5 @@
 -- Readers of formats that have fields of four bytes, and single bytes between them.
-use Rattle.std.specs.Prelude.{◌≡◌, ℕ, ◌+◌, ◌≤◌, ◌<◌, nat_lt, Bool, if◌then◌else◌, List, [], ◌∷◌, ◌++◌}
+use Rattle.std.specs.Prelude.{◌≡◌, ℕ, ◌≤◌, nat_lt, Bool, if◌then◌else◌, List, [], ◌∷◌, ◌++◌}
 use Rattle.std.specs.Prelude.{length, Option, None, Result, Ok, Err}
 use Rattle.byte_walk.specs.Walks.{Begins, BeginsNone}
 

@@ -1,13 +1,12 @@
 -- What the bytes of a line are, and what follows for the causes of its refusals.
-use Rattle.std.proofs.Common.{◌≡◌, ◌≢◌, ◌∙◌, ℕ, ◌+◌, ◌*◌, ◌-◌, ◌/◌, ◌<◌, ◌≤◌, ◌==◌, ◌||◌, Bool, true}
-use Rattle.std.proofs.Common.{false, not, List, [], ◌∷◌, ◌++◌, length, Option, Some, None, refl, ap}
-use Rattle.std.proofs.Common.{sym, arith, cond, is_some, append_assoc, option_map}
+use Rattle.std.proofs.Common.{◌≡◌, ◌∙◌, ℕ, ◌+◌, ◌*◌, ◌-◌, ◌/◌, ◌==◌, ◌||◌, Bool, true}
+use Rattle.std.proofs.Common.{false, List, [], ◌∷◌, ◌++◌, Some, None, refl, ap}
+use Rattle.std.proofs.Common.{arith}
 use Rattle.std.specs.List.{list_all}
-use Rattle.std.proofs.lemmas.Bool.{both_ways, and_parts, eqb-true}
-use Rattle.std.proofs.lemmas.List.Folds.{list_all-append}
-use Rattle.hex.specs.Hex.{hex_digit_value, is_hex_digit}
-use Rattle.yasir_ticks.specs.TickText.{is_decimal_digit, number_after, ends_in_return}
-use Rattle.capture_text.specs.CaptureText.{point, is_blank, ends_line, with_point, IsTime, ArePairs}
+use Rattle.std.proofs.lemmas.Bool.{and_parts}
+use Rattle.hex.specs.Hex.{hex_digit_value}
+use Rattle.yasir_ticks.specs.TickText.{is_decimal_digit, ends_in_return}
+use Rattle.capture_text.specs.CaptureText.{point, is_blank, with_point, IsTime, ArePairs}
 use Rattle.capture_text.specs.CaptureText.{IsPair, fraction_value, stays_in_line, behind_blank}
 
 -- the bytes of a time

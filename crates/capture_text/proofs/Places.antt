@@ -1,23 +1,23 @@
 -- What a line so far is at each place of its reader, and what one byte more makes of it.
-use Rattle.std.proofs.Common.{◌≡◌, ◌≢◌, ◌∙◌, ℕ, ◌+◌, ◌*◌, ◌-◌, ◌/◌, ◌<◌, ◌≤◌, ◌^◌, ◌==◌, ◌||◌, ◌⊎◌}
+use Rattle.std.proofs.Common.{◌≡◌, ◌∙◌, ℕ, ◌+◌, ◌*◌, ◌-◌, ◌/◌, ◌<◌, ◌^◌, ◌==◌, ◌⊎◌}
 use Rattle.std.proofs.Common.{Bool, true, false, List, [], ◌∷◌, ◌++◌, length, map, Option, Some, None}
 use Rattle.std.proofs.Common.{Ok, Err, refl, ap, sym, arith, cond, append_assoc, append-nil, inl, inr}
 use Rattle.std.proofs.Common.{subst, lt-ltb, nat_lt}
 use Rattle.std.specs.List.{list_all}
 use Rattle.std.specs.Option.{option_to_list}
-use Rattle.std.proofs.lemmas.Bool.{both_ways, and_parts, eqb-true, cond_both, ltb-true}
+use Rattle.std.proofs.lemmas.Bool.{eqb-true, cond_both, ltb-true}
 use Rattle.std.proofs.lemmas.List.{length-append}
 use Rattle.hex.specs.Hex.{hex_digit_value}
 use Rattle.yasir_ticks.specs.TickText.{is_decimal_digit, number_after, ends_in_return}
 use Rattle.yasir_ticks.proofs.Digits.{number_after-append}
 use Rattle.line_stamps.specs.declared.capture.CaptureByte.{CaptureByte}
-use Rattle.capture_text.specs.CaptureText.{point, is_blank, ends_line, with_point, IsTime, ArePairs}
-use Rattle.capture_text.specs.CaptureText.{IsPair, fraction_value, nanoseconds, stays_in_line}
+use Rattle.capture_text.specs.CaptureText.{point, is_blank, ends_line, IsTime, ArePairs}
+use Rattle.capture_text.specs.CaptureText.{nanoseconds, stays_in_line}
 use Rattle.capture_text.specs.CaptureText.{behind_blank, fault_in_line, IsComment, IsContent, IsLine}
 use Rattle.capture_text.specs.CaptureText.{IsRecord, recorded, capture_byte}
 use Rattle.capture_text.specs.CaptureText.IsContent.{nothing, comment, stamped}
 use Rattle.capture_text.specs.CaptureText.IsLine.{plain, returned}
-use Rattle.capture_text.specs.TextStep.{Stepped, step_at, fitting, whole_time, fraction_time}
+use Rattle.capture_text.specs.TextStep.{Stepped, step_at, whole_time}
 use Rattle.capture_text.specs.TextStep.{fault_without_bytes, fault_in_pair, after_line, after_time}
 use Rattle.capture_text.specs.TextStep.{to_whole, to_fraction, after_fraction, to_half, to_pairs}
 use Rattle.capture_text.specs.TextStep.{may_end, end_fault_at}
@@ -27,7 +27,7 @@ use Rattle.capture_text.specs.declared.place.Place.TheVariants.{Fraction, Blank,
 use Rattle.capture_text.specs.declared.place.Place.TheVariants.{Returned}
 use Rattle.capture_text.specs.declared.fault.TextFault.{TextFault}
 use Rattle.capture_text.specs.declared.fault.TextFault.TheVariants.{Char, Late, Odd, Empty}
-use Rattle.capture_text.proofs.LineFacts.{is_time_byte, all_more, all_both, all_weaker}
+use Rattle.capture_text.proofs.LineFacts.{is_time_byte, all_more, all_weaker}
 use Rattle.capture_text.proofs.LineFacts.{digit_is_time_byte, time_byte_no_return, hex_no_return}
 use Rattle.capture_text.proofs.LineFacts.{blank_no_return, blank_stays, hex_stays, digit_stays, no_hex_no_digit}
 use Rattle.capture_text.proofs.LineFacts.{ends_in_return-more}

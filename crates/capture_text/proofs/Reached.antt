@@ -1,14 +1,14 @@
 -- What a text so far is where its reader has come to a place.
-use Rattle.std.proofs.Common.{◌≡◌, ◌∙◌, ℕ, ◌+◌, ◌==◌, Bool, true, false, List, [], ◌∷◌, ◌++◌}
+use Rattle.std.proofs.Common.{◌≡◌, ◌∙◌, ℕ, ◌+◌, ◌==◌, true, false, List, [], ◌∷◌, ◌++◌}
 use Rattle.std.proofs.Common.{Option, Some, None, Ok, Err, refl, ap, sym, subst, arith, append_assoc}
-use Rattle.std.proofs.Common.{append-nil, inl, inr, ◌⊎◌, if◌then◌else◌}
+use Rattle.std.proofs.Common.{append-nil, inl, inr, if◌then◌else◌}
 use Rattle.std.specs.List.{list_all}
 use Rattle.std.specs.Option.{option_to_list}
 use Rattle.line_stamps.specs.declared.capture.CaptureByte.{CaptureByte}
 use Rattle.byte_walk.specs.Walks.{walk}
 use Rattle.byte_walk.proofs.WalkLaws.{walk_keeps}
 use Rattle.capture_text.specs.CaptureText.{stays_in_line, AreLines, IsLine, IsTextCapture, IsCause}
-use Rattle.capture_text.specs.CaptureText.{lines_ended, IsContent}
+use Rattle.capture_text.specs.CaptureText.{lines_ended}
 use Rattle.capture_text.specs.CaptureText.AreLines.{none, more}
 use Rattle.capture_text.specs.CaptureText.IsLine.{plain, returned}
 use Rattle.capture_text.specs.CaptureText.IsContent.{nothing, comment, stamped}

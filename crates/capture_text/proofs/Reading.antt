@@ -1,15 +1,15 @@
 -- The reader reads text captures exactly.
-use Rattle.std.proofs.Common.{◌≡◌, ◌∙◌, ℕ, ◌+◌, ◌*◌, ◌<◌, ◌^◌, ◌==◌, Bool, true, false, List, []}
-use Rattle.std.proofs.Common.{◌∷◌, ◌++◌, Option, Some, None, Ok, Err, refl, ap, sym, arith}
+use Rattle.std.proofs.Common.{◌≡◌, ℕ, ◌+◌, ◌*◌, ◌<◌, ◌^◌, true, List, []}
+use Rattle.std.proofs.Common.{◌∷◌, ◌++◌, Option, Some, None, Ok, Err, refl, sym, arith}
 use Rattle.std.specs.Option.{option_to_list}
 use Rattle.line_stamps.specs.declared.capture.CaptureByte.{CaptureByte}
 use Rattle.byte_walk.specs.Walks.{walk, ReadsFormat, GoesOnFrom, Begins, BeginsNone}
 use Rattle.byte_walk.proofs.WalkLaws.{walk-cons, walk-more, reads_begins, reads_none, reads_open}
 use Rattle.capture_text.specs.CaptureText.{IsTextCapture, capture_byte, IsCause}
-use Rattle.capture_text.specs.TextStep.{step_at, may_end, fitting, end_fault_at}
+use Rattle.capture_text.specs.TextStep.{step_at, may_end, end_fault_at}
 use Rattle.capture_text.specs.declared.place.Place.{Place}
-use Rattle.capture_text.specs.declared.place.Place.TheVariants.{Start, Comment, Whole, Point}
-use Rattle.capture_text.specs.declared.place.Place.TheVariants.{Fraction, Blank, Pairs, Half}
+use Rattle.capture_text.specs.declared.place.Place.TheVariants.{Start, Comment, Point}
+use Rattle.capture_text.specs.declared.place.Place.TheVariants.{Fraction, Blank, Pairs}
 use Rattle.capture_text.specs.declared.place.Place.TheVariants.{Returned}
 use Rattle.capture_text.specs.declared.fault.TextFault.{TextFault}
 use Rattle.capture_text.proofs.Places.{At}

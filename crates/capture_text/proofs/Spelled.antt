@@ -1,31 +1,28 @@
 -- What a reader comes to over the lines of a right text.
-use Rattle.std.proofs.Common.{◌≡◌, ◌∙◌, ℕ, ◌+◌, ◌*◌, ◌-◌, ◌/◌, ◌<◌, ◌≤◌, ◌^◌, ◌==◌, ◌||◌, Bool, true}
-use Rattle.std.proofs.Common.{false, List, [], ◌∷◌, ◌++◌, length, map, Option, Some, None, Ok, Err}
-use Rattle.std.proofs.Common.{refl, ap, sym, subst, arith, append_assoc, append-nil, nat_lt, lt-ltb}
+use Rattle.std.proofs.Common.{◌≡◌, ◌∙◌, ℕ, ◌+◌, ◌*◌, ◌-◌, ◌/◌, ◌<◌, ◌^◌, ◌==◌, Bool, true}
+use Rattle.std.proofs.Common.{false, List, [], ◌∷◌, ◌++◌, length, map, Some, None, Ok}
+use Rattle.std.proofs.Common.{refl, ap, sym, subst, arith, append-nil, lt-ltb}
 use Rattle.std.specs.List.{list_all}
-use Rattle.std.specs.Option.{option_to_list}
-use Rattle.std.proofs.lemmas.Bool.{both_ways, and_parts, eqb-true}
+use Rattle.std.proofs.lemmas.Bool.{and_parts}
 use Rattle.hex.specs.Hex.{hex_digit_value}
 use Rattle.yasir_ticks.specs.TickText.{is_decimal_digit, number_after}
 use Rattle.yasir_ticks.proofs.Digits.{number_after-grows}
 use Rattle.line_stamps.specs.declared.capture.CaptureByte.{CaptureByte}
 use Rattle.byte_walk.specs.Walks.{walk}
-use Rattle.byte_walk.proofs.WalkLaws.{walk-append, walk-join, walk-one, walk-more, walk-cons}
-use Rattle.capture_text.specs.CaptureText.{point, is_blank, ends_line, with_point, IsTime, ArePairs}
-use Rattle.capture_text.specs.CaptureText.{IsPair, fraction_value, nanoseconds, stays_in_line}
-use Rattle.capture_text.specs.CaptureText.{IsComment, IsContent, IsLine, AreLines, IsTextCapture}
+use Rattle.byte_walk.proofs.WalkLaws.{walk-join, walk-more, walk-cons}
+use Rattle.capture_text.specs.CaptureText.{point, is_blank, with_point, IsTime, ArePairs}
+use Rattle.capture_text.specs.CaptureText.{fraction_value, nanoseconds, stays_in_line}
+use Rattle.capture_text.specs.CaptureText.{IsContent, IsLine, AreLines, IsTextCapture}
 use Rattle.capture_text.specs.CaptureText.{IsRecord, recorded, capture_byte}
 use Rattle.capture_text.specs.CaptureText.IsContent.{nothing, comment, stamped}
 use Rattle.capture_text.specs.CaptureText.IsLine.{plain, returned}
 use Rattle.capture_text.specs.CaptureText.AreLines.{none, more}
-use Rattle.capture_text.specs.TextStep.{Stepped, step_at, may_end, fitting, whole_time}
-use Rattle.capture_text.specs.TextStep.{fraction_time, to_whole, to_fraction, after_fraction}
-use Rattle.capture_text.specs.TextStep.{to_half, to_pairs, after_line, after_time}
+use Rattle.capture_text.specs.TextStep.{step_at, may_end, fitting}
 use Rattle.capture_text.specs.declared.place.Place.{Place}
 use Rattle.capture_text.specs.declared.place.Place.TheVariants.{Start, Comment, Whole, Point}
 use Rattle.capture_text.specs.declared.place.Place.TheVariants.{Fraction, Blank, Pairs, Half}
 use Rattle.capture_text.specs.declared.place.Place.TheVariants.{Returned}
-use Rattle.capture_text.proofs.LineFacts.{counts_after, all_weaker}
+use Rattle.capture_text.proofs.LineFacts.{counts_after}
 
 -- ---- times
 

@@ -1,6 +1,6 @@
 -- What one byte of a text capture does at each place of its line. It is a second view of the format
 -- of CaptureText.antt, and is proved equal to it.
-use Rattle.std.specs.Prelude.{◌≡◌, ℕ, ◌+◌, ◌*◌, ◌-◌, ◌/◌, ◌^◌, ◌==◌, ◌||◌, nat_lt, Bool, true, false}
+use Rattle.std.specs.Prelude.{◌≡◌, ℕ, ◌+◌, ◌*◌, ◌-◌, ◌/◌, ◌^◌, ◌==◌, nat_lt, Bool, true, false}
 use Rattle.std.specs.Prelude.{if◌then◌else◌, Option, Some, None, Result, Ok, Err}
 use Rattle.hex.specs.Hex.{hex_digit_value}
 use Rattle.yasir_ticks.specs.Characters.{number_sign, line_feed, carriage_return, digit_zero}

@@ -1,4 +1,4 @@
-use Rattle.std.proofs.Common.{[], ◌∷◌, arith, length, ◌∙◌, ap, sym, ◌+◌}
+use Rattle.std.proofs.Common.{[], ◌∷◌, arith}
 use Rattle.std.proofs.lemmas.List.{length-append}
 use Rattle.capture_text.proofs.Reading.{text_more, text_begins, text_none, text_cause}
 use Rattle.capture_text.proofs.Reached.{lines_ended-more}
