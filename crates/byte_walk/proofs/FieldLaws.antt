@@ -65,7 +65,8 @@ module _ {S I F : Type 0} (takes_bytes : S → Bool) (field_at : S → List ℕ 
   field_walk stage next (a ∷ b ∷ []) item h long e = absurd (omega arith)
   field_walk stage next (a ∷ b ∷ c ∷ []) item h long e = absurd (omega arith)
   field_walk stage next (a ∷ b ∷ c ∷ d ∷ []) item h long e =
-      walk-cons step (before_field stage) _ (before_field next) a (b ∷ c ∷ d ∷ []) None (option_to_list item)
+      walk-cons step (before_field stage) _ (before_field next) a (b ∷ c ∷ d ∷ []) None
+      (option_to_list item)
       (partial_step stage [] a h (omega arith))
       (walk-cons step _ _ (before_field next) b (c ∷ d ∷ []) None (option_to_list item)
       (partial_step stage (a ∷ []) b h (omega arith))
@@ -78,7 +79,8 @@ module _ {S I F : Type 0} (takes_bytes : S → Bool) (field_at : S → List ℕ 
   pub single_walk : (stage next : S) (b : ℕ) (item : Option I) → takes_bytes stage ≡ true
       → byte_at stage b ≡ Ok (next, item)
       → walk step (before_field stage) (b ∷ []) ≡ Ok (before_field next, option_to_list item)
-  single_walk stage next b item h e = walk-one step (before_field stage) (before_field next) b item (rw (h, e) refl)
+  single_walk stage next b item h e = walk-one step (before_field stage) (before_field next) b item
+      (rw (h, e) refl)
 
   -- ---- what holds before each field and each byte
 

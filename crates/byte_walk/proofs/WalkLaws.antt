@@ -1,4 +1,5 @@
--- What a reader comes to over two lists of bytes, one after the other, and what follows for a reader
+-- What a reader comes to over two lists of bytes, one after the other, and what follows for a
+-- reader
 -- of a format.
 use Rattle.std.proofs.Common.{◌≡◌, ◌∙◌, ℕ, Bool, true, false, List, [], ◌∷◌, ◌++◌, Option}
 use Rattle.std.proofs.Common.{Result, Ok, Err, refl, ap, sym, append_assoc, append-nil, subst}
@@ -186,10 +187,13 @@ module _ {P I F : Type 0} (step : P → ℕ → Result (P × Option I) F)
           → holds place (before ++ b ∷ bytes) (first ++ items)
       by_step (Ok r) same shorter e =
           let came = came_to (option_to_list r.1) (walk step r.0 bytes) place items e in
-          let kept = shorter r.0 came.others r.1 (stays from r.0 before first b r.1 h same) came.is in
-          let Q : List ℕ → Type 0 = λ x. holds place x ((first ++ option_to_list r.1) ++ came.others)
+          let kept = shorter r.0 came.others r.1 (stays from r.0 before first b r.1 h same) came.is
           in
-          let longer : holds place (before ++ b ∷ bytes) ((first ++ option_to_list r.1) ++ came.others)
+          let Q : List ℕ → Type 0 = λ x. holds place x ((first ++ option_to_list r.1) ++
+          came.others)
+          in
+          let longer : holds place (before ++ b ∷ bytes) ((first ++ option_to_list r.1) ++
+          came.others)
           = subst Q (append_assoc before (b ∷ []) bytes) kept in
           let R : List I → Type 0 = λ x. holds place (before ++ b ∷ bytes) x in
           subst R (append_assoc first (option_to_list r.1) came.others

@@ -5,7 +5,8 @@
 ghost use Rattle.std.specs.Prelude.{◌≡◌, ℕ, ◌++◌, List, Option, Result, Ok};
 ghost use Rattle.byte_walk.specs.Walks.{walk, after_items};
 
-/// It doesn't matter in which pieces the bytes come: what a reader comes to over two lists is what it
+/// It doesn't matter in which pieces the bytes come: what a reader comes to over two lists is what
+/// it
 /// comes to over the second from where the first one leads.
 pub fn walks_in_pieces()
     ensures { (step : ℕ → ℕ → Result (ℕ × Option ℕ) ℕ) (from to : ℕ) (first second items : List ℕ)

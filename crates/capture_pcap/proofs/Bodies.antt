@@ -1,6 +1,8 @@
 -- What a packet so far is at each place of its reader, and what a field or a byte makes of it.
-use Rattle.std.proofs.Common.{◌≡◌, ◌∙◌, ℕ, ◌+◌, ◌-◌, ◌<◌, ◌≤◌, ◌==◌, nat_lt, Bool, true, false, List}
-use Rattle.std.proofs.Common.{[], ◌∷◌, ◌++◌, length, Option, Some, None, Result, Ok, Err, refl, ap, sym}
+use Rattle.std.proofs.Common.{◌≡◌, ◌∙◌, ℕ, ◌+◌, ◌-◌, ◌<◌, ◌≤◌, ◌==◌, nat_lt, Bool, true, false}
+use Rattle.std.proofs.Common.{List}
+use Rattle.std.proofs.Common.{[], ◌∷◌, ◌++◌, length, Option, Some, None, Result, Ok, Err, refl, ap}
+use Rattle.std.proofs.Common.{sym}
 use Rattle.std.proofs.Common.{subst, arith, append_assoc, append-nil, cond, lt-ltb, slice_index}
 use Rattle.std.proofs.Common.{option_map}
 use Rattle.std.specs.Option.{option_to_list}
@@ -95,7 +97,8 @@ data_goes start count left way first bytes items some none =
 event_goes : (start count : ℕ) (stamp more : List ℕ) (e : ℕ) (others : List ℕ)
     → length stamp ≡ 4 → length more ≡ 4 → length others ≡ 3
     → BodyGoes start count ((stamp ++ more) ++ e ∷ others)
-    (option_to_list (seen_event start e count (event_way e))) (data_of start count (event_way e) true)
+    (option_to_list (seen_event start e count (event_way e))) (data_of start count (event_way e)
+    true)
 event_goes start count stamp more e others stamp_long more_long others_long =
     let seen : List Seen = option_to_list (seen_event start e count (event_way e)) in
     let whole : seen ≡ seen ++ seen_data start (event_way e) true [] =
@@ -198,7 +201,8 @@ body_byte_goes start count body front items b (payload left way first _ _ p) h =
     seen : List Seen
     seen = option_to_list (option_map (λ w. seen_byte start w first b) way)
 
-    spelled : front ++ b ∷ [] ≡ ((p.seconds ++ p.microseconds) ++ p.event ∷ p.others) ++ (p.front ++ b ∷ [])
+    spelled : front ++ b ∷ [] ≡ ((p.seconds ++ p.microseconds) ++ p.event ∷ p.others) ++ (p.front ++
+        b ∷ [])
     spelled = ap (λ x. x ++ b ∷ []) p.is
         ∙ append_assoc ((p.seconds ++ p.microseconds) ++ p.event ∷ p.others) p.front (b ∷ [])
 
@@ -243,7 +247,8 @@ module _ {S F : Type 0} (takes_bytes : S → Bool)
       → walk step (before_field (body_or within behind (data_of start (length front) way first)))
       front ≡ Ok (before_field behind, seen_data start way first front)
   unfolding walk
-  data_walk start way first [] = ap (λ x. Ok (before_field behind, x)) (sym (seen_data-none start way first))
+  data_walk start way first [] = ap (λ x. Ok (before_field behind, x)) (sym (seen_data-none start
+      way first))
   data_walk start way first (b ∷ front) =
       let seen : List Seen = option_to_list (option_map (λ w. seen_byte start w first b) way) in
       let left : length (b ∷ front) - 1 ≡ length front = omega arith in

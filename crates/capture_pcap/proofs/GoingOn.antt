@@ -1,6 +1,7 @@
 -- How a file goes on to its end from each stage of its reader.
 use Rattle.std.proofs.Common.{◌≡◌, ◌∙◌, ℕ, zero, suc, ◌+◌, ◌*◌, ◌-◌, ◌<◌, ◌≤◌, ◌==◌, nat_lt, Bool}
-use Rattle.std.proofs.Common.{true, false, List, [], ◌∷◌, ◌++◌, length, replicate, Option, Some, None}
+use Rattle.std.proofs.Common.{true, false, List, [], ◌∷◌, ◌++◌, length, replicate, Option, Some}
+use Rattle.std.proofs.Common.{None}
 use Rattle.std.proofs.Common.{Ok, Err, refl, ap, sym, subst, arith, append-nil, lt-ltb, le-ltb}
 use Rattle.std.specs.Option.{option_to_list}
 use Rattle.std.proofs.lemmas.Bool.{eq-eqb}
@@ -91,7 +92,8 @@ on_event clock start left =
     (1 ∷ 0 ∷ 0 ∷ 0 ∷ []) (seen_event start 1 left (event_way 1)) refl refl refl
     (on_left clock start left (event_way 1) true)
 
-on_rtac_fraction : (clock : Clock) (start left : ℕ) → GoesOn (Packet clock (RtacFraction start left))
+on_rtac_fraction : (clock : Clock) (start left : ℕ) → GoesOn (Packet clock (RtacFraction start
+    left))
 unfolding field_at body_field_at
 on_rtac_fraction clock start left =
     on_field (Packet clock (RtacFraction start left)) (Packet clock (Event start left))
@@ -145,7 +147,8 @@ on_captured clock start =
     let size : List ℕ = spelled clock.order 12 in
     on_field (Captured clock start) (Original clock start (number clock.order size)) size None refl
     (spelled_long clock.order 12)
-    (rw (spelled_is clock.order 12) refl) (on_original clock start size (spelled_long clock.order 12))
+    (rw (spelled_is clock.order 12) refl) (on_original clock start size (spelled_long clock.order
+    12))
 
 on_fraction : (clock : Clock) (whole : ℕ) → GoesOn (Fraction clock whole)
 unfolding field_at

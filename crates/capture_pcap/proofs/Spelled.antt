@@ -1,6 +1,7 @@
 -- What a reader comes to over the parts of a right file.
 use Rattle.std.proofs.Common.{◌≡◌, ◌∙◌, ℕ, ◌+◌, ◌*◌, ◌-◌, ◌<◌, ◌≤◌, ◌==◌, nat_lt, Bool, true, false}
-use Rattle.std.proofs.Common.{List, [], ◌∷◌, ◌++◌, length, Option, Some, None, Result, Ok, Err, refl, ap}
+use Rattle.std.proofs.Common.{List, [], ◌∷◌, ◌++◌, length, Option, Some, None, Result, Ok, Err}
+use Rattle.std.proofs.Common.{refl, ap}
 use Rattle.std.proofs.Common.{sym, subst, arith, append_assoc, append-nil, cond, lt-ltb, le-ltb}
 use Rattle.std.specs.Option.{option_to_list}
 use Rattle.std.proofs.lemmas.Bool.{eq-eqb}
@@ -14,7 +15,8 @@ use Rattle.capture_pcap.specs.Pcap.{IsMagic, IsHeader, IsTime, AreLengths, IsPac
 use Rattle.capture_pcap.specs.Pcap.IsMagic.{big_micro, little_micro, big_nano, little_nano}
 use Rattle.capture_pcap.specs.Pcap.ArePackets.{none, more}
 use Rattle.capture_pcap.specs.BodyStep.{body_field_at, body_byte_at, body_or}
-use Rattle.capture_pcap.specs.PcapStep.{takes_bytes, field_at, byte_at, after_length, after_captured}
+use Rattle.capture_pcap.specs.PcapStep.{takes_bytes, field_at, byte_at, after_length}
+use Rattle.capture_pcap.specs.PcapStep.{after_captured}
 use Rattle.capture_pcap.specs.PcapStep.{step_at}
 use Rattle.capture_pcap.specs.declared.seen.Seen.{Seen}
 use Rattle.capture_pcap.specs.declared.body.Body.{Body}
@@ -159,7 +161,8 @@ lengths_walk clock lengths start count l =
     let next : Stage = Packet clock (RtacSeconds start count) in
     let Q : List ℕ → Type 0 = λ x. Walks (Captured clock start) x next [] in
     subst Q (sym l.is)
-    (both (Captured clock start) (Original clock start (12 + count)) next l.captured l.original [] []
+    (both (Captured clock start) (Original clock start (12 + count)) next l.captured l.original []
+    []
     (one_field (Captured clock start) (Original clock start (12 + count)) l.captured None refl
     l.captured_long
     (captured_step clock start (number clock.order l.captured) count l.captured_is))

@@ -1,5 +1,6 @@
 -- The header of a packet that is written, and data behind it, are a packet.
-use Rattle.std.proofs.Common.{◌≡◌, ◌∙◌, ℕ, ◌+◌, ◌*◌, ◌++◌, ◌∷◌, [], List, length, true, refl, ap, sym}
+use Rattle.std.proofs.Common.{◌≡◌, ◌∙◌, ℕ, ◌+◌, ◌*◌, ◌++◌, ◌∷◌, [], List, length, true, refl, ap}
+use Rattle.std.proofs.Common.{sym}
 use Rattle.std.proofs.Common.{arith, append_assoc, subst}
 use Rattle.line_stamps.specs.declared.capture.Way.{Way}
 use Rattle.line_stamps.specs.declared.capture.Way.TheVariants.{A, B}

@@ -1,4 +1,5 @@
--- A pcap file of link type 250, RTAC serial: a header of 24 bytes, and packets, each behind a header
+-- A pcap file of link type 250, RTAC serial: a header of 24 bytes, and packets, each behind a
+-- header
 -- of 16 bytes (draft-ietf-opsawg-pcap).
 use Rattle.std.specs.Prelude.{◌≡◌, ℕ, ◌+◌, ◌*◌, ◌<◌, List, [], ◌∷◌, ◌++◌, length}
 use Rattle.capture_pcap.specs.Words.{number, nanoseconds}
@@ -13,10 +14,12 @@ use Rattle.capture_pcap.specs.declared.words.Resolution.TheVariants.{Microsecond
 -- The magic number of a file of this clock: 0xA1B2C3D4 in its order where its times count
 -- microseconds, and 0xA1B23C4D where they count nanoseconds.
 pub data IsMagic : Clock → List ℕ → Type 0 where
-  big_micro : IsMagic (record { order = Big; resolution = Microseconds }) (0xA1 ∷ 0xB2 ∷ 0xC3 ∷ 0xD4 ∷ [])
+  big_micro : IsMagic (record { order = Big; resolution = Microseconds }) (0xA1 ∷ 0xB2 ∷ 0xC3 ∷ 0xD4
+      ∷ [])
   little_micro : IsMagic (record { order = Little; resolution = Microseconds })
       (0xD4 ∷ 0xC3 ∷ 0xB2 ∷ 0xA1 ∷ [])
-  big_nano : IsMagic (record { order = Big; resolution = Nanoseconds }) (0xA1 ∷ 0xB2 ∷ 0x3C ∷ 0x4D ∷ [])
+  big_nano : IsMagic (record { order = Big; resolution = Nanoseconds }) (0xA1 ∷ 0xB2 ∷ 0x3C ∷ 0x4D ∷
+      [])
   little_nano : IsMagic (record { order = Little; resolution = Nanoseconds })
       (0x4D ∷ 0x3C ∷ 0xB2 ∷ 0xA1 ∷ [])
 

@@ -1,4 +1,5 @@
--- What a field and a byte make of a pcap file. It is a second view of the format of Pcap.antt, and is
+-- What a field and a byte make of a pcap file. It is a second view of the format of Pcap.antt, and
+-- is
 -- proved equal to it.
 use Rattle.std.specs.Prelude.{◌≡◌, ℕ, ◌+◌, ◌*◌, ◌-◌, ◌==◌, ◌&&◌, nat_lt, nat_le, Bool, true, false}
 use Rattle.std.specs.Prelude.{if◌then◌else◌, List, [], ◌∷◌, Option, Some, None, Result, Ok, Err}
@@ -91,7 +92,11 @@ field_at (Free clock before) field =
 field_at (Link clock) field = after_link clock (number clock.order field)
 field_at (Seconds clock) field = Ok (Fraction clock (number clock.order field), None)
 field_at (Fraction clock seconds) field =
-    Ok (Captured clock (seconds * 1000000000 + number clock.order field * nanoseconds clock.resolution), None)
+    Ok (
+      Captured clock (seconds * 1000000000 + number clock.order field * nanoseconds
+          clock.resolution),
+      None,
+    )
 field_at (Captured clock start) field = after_captured clock start (number clock.order field)
 field_at (Original clock start captured) field =
     after_length clock start captured (number clock.order field)

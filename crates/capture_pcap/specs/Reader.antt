@@ -1,5 +1,6 @@
 -- What a reader of a pcap file stands for.
-use Rattle.std.specs.Prelude.{◌≡◌, ℕ, ◌++◌, ◌∷◌, [], List, length, Option, Some, None, Result, Ok, Err, ◌+◌}
+use Rattle.std.specs.Prelude.{◌≡◌, ℕ, ◌++◌, ◌∷◌, [], List, length, Option, Some, None, Result, Ok}
+use Rattle.std.specs.Prelude.{Err, ◌+◌}
 use Rattle.byte_walk.specs.Walks.{walk}
 use Rattle.byte_walk.specs.Fields.{Spot, before_field}
 use Rattle.capture_pcap.specs.PcapStep.{step_at}

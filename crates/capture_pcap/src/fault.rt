@@ -1,3 +1,5 @@
+//! Why a pcap file is refused.
+
 /// Why a pcap file is refused.
 #[derive(Clone, Copy, Debug, PartialEq, Eq)]
 pub enum PcapFault {

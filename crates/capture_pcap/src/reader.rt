@@ -9,7 +9,8 @@ use crate::stage::Stage;
 use crate::{BadPcap, MAX_BYTES, PcapFault, Seen};
 use arrayvec::ArrayVec;
 
-/// A reader of a pcap file of link type 250, byte by byte, in constant memory. It gives each byte of
+/// A reader of a pcap file of link type 250, byte by byte, in constant memory. It gives each byte
+/// of
 /// the line as it comes, and each event with its record's header.
 #[derive(Drop)]
 pub struct PcapReader {

@@ -1,3 +1,5 @@
+//! What a capture has in it: bytes of the line, and events.
+
 use line_stamps::CaptureByte;
 
 /// A record of an RTAC capture that isn't the start of data.

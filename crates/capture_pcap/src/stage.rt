@@ -2,7 +2,8 @@
 #![tactic(auto, unfolding(crate::specs::PcapStep::field_at))]
 
 ghost use Rattle.std.specs.Prelude.{◌≡◌, ◌+◌, ◌<◌, ◌≤◌, ◌*◌, length, true, false};
-ghost use Rattle.capture_pcap.specs.PcapStep.{field_at, byte_at, after_magic_at, takes_bytes, may_end};
+ghost use Rattle.capture_pcap.specs.PcapStep.{field_at, byte_at, after_magic_at, takes_bytes};
+ghost use Rattle.capture_pcap.specs.PcapStep.{may_end};
 ghost use Rattle.capture_pcap.specs.PcapStep.{is_sound, IsSoundStep, after_body, after_length};
 ghost use Rattle.capture_pcap.specs.BodyStep.{IsSoundNext};
 ghost use Rattle.capture_pcap.specs.Words.{nanoseconds};

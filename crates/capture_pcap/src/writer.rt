@@ -1,5 +1,6 @@
 //! The parts of a pcap file that is written: little-endian, with times in nanoseconds.
-ghost use Rattle.std.specs.Prelude.{◌≡◌, ℕ, ◌+◌, ◌*◌, ◌<◌, ◌≤◌, ◌^◌, ◌++◌, ◌∷◌, [], List, length, true};
+ghost use Rattle.std.specs.Prelude.{◌≡◌, ℕ, ◌+◌, ◌*◌, ◌<◌, ◌≤◌, ◌^◌, ◌++◌, ◌∷◌, [], List, length};
+ghost use Rattle.std.specs.Prelude.{true};
 ghost use Rattle.capture_pcap.specs.Writing.{AppendsNumber, AppendsFour, written_clock, data_event};
 ghost use Rattle.capture_pcap.specs.Pcap.{IsHeader, IsPacket};
 ghost use Rattle.capture_pcap.specs.Record.{seen_bytes};

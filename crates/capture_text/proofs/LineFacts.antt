@@ -118,7 +118,8 @@ counts_after counts [] = counts
 counts_after counts (d ∷ digits) = counts_after (counts / 10) digits
 
 pub fraction_value-more : (counts : ℕ) (x : List ℕ) (d : ℕ)
-    → fraction_value counts (x ++ d ∷ []) ≡ fraction_value counts x + (d - 48) * counts_after counts x
+    → fraction_value counts (x ++ d ∷ []) ≡ fraction_value counts x + (d - 48) * counts_after counts
+    x
 fraction_value-more counts [] d = omega arith
 fraction_value-more counts (c ∷ x) d =
     ap (λ n. (c - 48) * counts + n) (fraction_value-more (counts / 10) x d)

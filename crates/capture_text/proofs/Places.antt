@@ -1,7 +1,9 @@
 -- What a line so far is at each place of its reader, and what one byte more makes of it.
 use Rattle.std.proofs.Common.{◌≡◌, ◌∙◌, ℕ, ◌+◌, ◌*◌, ◌-◌, ◌/◌, ◌<◌, ◌^◌, ◌==◌, ◌⊎◌}
-use Rattle.std.proofs.Common.{Bool, true, false, List, [], ◌∷◌, ◌++◌, length, map, Option, Some, None}
-use Rattle.std.proofs.Common.{Ok, Err, refl, ap, sym, arith, cond, append_assoc, append-nil, inl, inr}
+use Rattle.std.proofs.Common.{Bool, true, false, List, [], ◌∷◌, ◌++◌, length, map, Option, Some}
+use Rattle.std.proofs.Common.{None}
+use Rattle.std.proofs.Common.{Ok, Err, refl, ap, sym, arith, cond, append_assoc, append-nil, inl}
+use Rattle.std.proofs.Common.{inr}
 use Rattle.std.proofs.Common.{subst, lt-ltb, nat_lt}
 use Rattle.std.specs.List.{list_all}
 use Rattle.std.specs.Option.{option_to_list}
@@ -13,7 +15,8 @@ use Rattle.yasir_ticks.proofs.Digits.{number_after-append}
 use Rattle.line_stamps.specs.declared.capture.CaptureByte.{CaptureByte}
 use Rattle.capture_text.specs.CaptureText.{point, is_blank, ends_line, IsTime, ArePairs}
 use Rattle.capture_text.specs.CaptureText.{nanoseconds, stays_in_line}
-use Rattle.capture_text.specs.CaptureText.{behind_blank, fault_in_line, IsComment, IsContent, IsLine}
+use Rattle.capture_text.specs.CaptureText.{behind_blank, fault_in_line, IsComment, IsContent}
+use Rattle.capture_text.specs.CaptureText.{IsLine}
 use Rattle.capture_text.specs.CaptureText.{IsRecord, recorded, capture_byte}
 use Rattle.capture_text.specs.CaptureText.IsContent.{nothing, comment, stamped}
 use Rattle.capture_text.specs.CaptureText.IsLine.{plain, returned}
@@ -29,7 +32,8 @@ use Rattle.capture_text.specs.declared.fault.TextFault.{TextFault}
 use Rattle.capture_text.specs.declared.fault.TextFault.TheVariants.{Char, Late, Odd, Empty}
 use Rattle.capture_text.proofs.LineFacts.{is_time_byte, all_more, all_weaker}
 use Rattle.capture_text.proofs.LineFacts.{digit_is_time_byte, time_byte_no_return, hex_no_return}
-use Rattle.capture_text.proofs.LineFacts.{blank_no_return, blank_stays, hex_stays, digit_stays, no_hex_no_digit}
+use Rattle.capture_text.proofs.LineFacts.{blank_no_return, blank_stays, hex_stays, digit_stays}
+use Rattle.capture_text.proofs.LineFacts.{no_hex_no_digit}
 use Rattle.capture_text.proofs.LineFacts.{ends_in_return-more}
 use Rattle.capture_text.proofs.LineFacts.{ends_in_return-none, behind_blank-none}
 use Rattle.capture_text.proofs.LineFacts.{behind_blank-some, time_bytes, counts_after}
@@ -161,7 +165,11 @@ line_goes : (line : List ℕ) (items : List CaptureByte) (b : ℕ) → IsContent
 line_goes line items b content d =
     cond_both (b == 10) (Ok (Start, None)) (cond (b == 13) (Ok (Returned, None)) (Err Char))
     (Goes line items b)
-    (λ e. inl (record { feed = eqb-true b 10 e; next_is = refl; is_line = plain line items content }))
+    (λ e. inl (record {
+      feed = eqb-true b 10 e;
+      next_is = refl;
+      is_line = plain line items content;
+    }))
     (λ e. cond_both (b == 13) (Ok (Returned, None)) (Err Char) (Goes line items b)
     (λ f. inr (returns_line line items b content (eqb-true b 13 f)))
     (λ f. fault_char line b d (no_end b e f)))
@@ -302,7 +310,8 @@ fraction_digit line b time counts f d =
         whole = f.whole;
         first = f.first;
         others = f.others ++ b ∷ [];
-        is = ap (λ x. x ++ b ∷ []) f.is ∙ append_assoc f.whole (point ∷ f.first ∷ f.others) (b ∷ []);
+        is = ap (λ x. x ++ b ∷ []) f.is ∙ append_assoc f.whole (point ∷ f.first ∷ f.others) (b ∷
+            []);
         digits = f.digits;
         fraction_digits = all_more is_decimal_digit (f.first ∷ f.others) b f.fraction_digits d;
         some = f.some;
@@ -335,7 +344,8 @@ point_goes line b time w =
     cond_both (is_decimal_digit b) (after_fraction time 100000000 b)
     (Err (fault_without_bytes b)) (Goes (line ++ point ∷ []) [] b)
     (λ d. first_digit d)
-    (λ d. fault_plain (line ++ point ∷ []) b closed (behind_blank-none (line ++ point ∷ []) bytes) d)
+    (λ d. fault_plain (line ++ point ∷ []) b closed (behind_blank-none (line ++ point ∷ []) bytes)
+    d)
   where
     bytes : list_all is_time_byte (line ++ point ∷ []) ≡ true
     bytes = all_more is_time_byte line point
@@ -436,7 +446,8 @@ recorded-more : (time : ℕ) (bytes : List ℕ) (first : Bool) (byte : ℕ)
     → recorded time bytes ++ capture_byte time first byte ∷ [] ≡ recorded time (bytes ++ byte ∷ [])
 recorded-more time [] first byte e = ap (λ f. capture_byte time f byte ∷ []) e
 recorded-more time (c ∷ bytes) first byte e =
-    ap (λ x. capture_byte time true c ∷ x) (others bytes (e ∙ sym (some_is_no_zero _ (omega arith))))
+    ap (λ x. capture_byte time true c ∷ x) (others bytes (e ∙ sym (some_is_no_zero _ (omega
+    arith))))
   where
     others : (bytes : List ℕ) → first ≡ false
         → map (capture_byte time false) bytes ++ capture_byte time first byte ∷ []
@@ -474,7 +485,8 @@ half_goes line b time first high items h =
             bytes = h.bytes ++ (high * 16 + low) ∷ [];
             is = ap (λ x. x ++ b ∷ []) h.is
                 ∙ append_assoc h.seconds (h.blank ∷ (h.digits ++ h.digit ∷ [])) (b ∷ [])
-                ∙ ap (λ x. h.seconds ++ h.blank ∷ x) (append_assoc h.digits (h.digit ∷ []) (b ∷ []));
+                ∙ ap (λ x. h.seconds ++ h.blank ∷ x) (append_assoc h.digits (h.digit ∷ []) (b ∷
+                []));
             stamped = h.stamped;
             apart = h.apart;
             pairs = pairs_more h.digits h.bytes h.digit b (high * 16 + low) h.pairs (record {

@@ -1,3 +1,5 @@
+//! Why a text capture is refused.
+
 /// Why a text capture is refused.
 #[derive(Clone, Copy, Debug, PartialEq, Eq)]
 pub enum TextFault {

@@ -38,7 +38,8 @@ pub enum Place {
     Returned,
 }
 
-/// What one byte of a line comes to: the next place and the byte of the capture that it ends, or why
+/// What one byte of a line comes to: the next place and the byte of the capture that it ends, or
+/// why
 /// it is refused.
 pub type Step = Result<(Place, Option<CaptureByte>), TextFault>;
 

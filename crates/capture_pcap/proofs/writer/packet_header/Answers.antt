@@ -1,4 +1,5 @@
-use Rattle.std.proofs.Common.{◌≡◌, ℕ, List, true, ◌+◌, ◌*◌, ◌/◌, ◌%◌, ap, sym, subst, arith, ◌++◌, ◌∙◌}
+use Rattle.std.proofs.Common.{◌≡◌, ℕ, List, true, ◌+◌, ◌*◌, ◌/◌, ◌%◌, ap, sym, subst, arith, ◌++◌}
+use Rattle.std.proofs.Common.{◌∙◌}
 use Rattle.capture_pcap.proofs.Written.{written_packet}
 use Rattle.capture_pcap.specs.Writing.{written_clock}
 use Rattle.capture_pcap.specs.Pcap.{IsPacket}
