@@ -1,6 +1,5 @@
 -- What a reader comes to over two lists of bytes, one after the other, and what follows for a
--- reader
--- of a format.
+-- reader of a format.
 use Rattle.std.proofs.Common.{◌≡◌, ◌∙◌, ℕ, Bool, true, false, List, [], ◌∷◌, ◌++◌, Option}
 use Rattle.std.proofs.Common.{Result, Ok, Err, refl, ap, sym, append_assoc, append-nil, subst}
 use Rattle.std.specs.Option.{option_to_list}

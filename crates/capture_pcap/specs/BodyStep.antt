@@ -1,6 +1,5 @@
 -- What a field and a byte make of a packet that its reader has come into. It is a second view of
--- the
--- format of Record.antt, and is proved equal to it.
+-- the format of Record.antt, and is proved equal to it.
 use Rattle.std.specs.Prelude.{◌≡◌, ℕ, ◌-◌, nat_lt, Bool, true, false, if◌then◌else◌, List, [], ◌∷◌}
 use Rattle.std.specs.Prelude.{Option, Some, None, slice_index}
 use Rattle.std.specs.Prelude.{option_map}

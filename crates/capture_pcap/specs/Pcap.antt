@@ -1,6 +1,5 @@
 -- A pcap file of link type 250, RTAC serial: a header of 24 bytes, and packets, each behind a
--- header
--- of 16 bytes (draft-ietf-opsawg-pcap).
+-- header of 16 bytes (draft-ietf-opsawg-pcap).
 use Rattle.std.specs.Prelude.{◌≡◌, ℕ, ◌+◌, ◌*◌, ◌<◌, List, [], ◌∷◌, ◌++◌, length}
 use Rattle.capture_pcap.specs.Words.{number, nanoseconds}
 use Rattle.capture_pcap.specs.Record.{IsRecord}

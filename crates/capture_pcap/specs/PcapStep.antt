@@ -1,6 +1,5 @@
 -- What a field and a byte make of a pcap file. It is a second view of the format of Pcap.antt, and
--- is
--- proved equal to it.
+-- is proved equal to it.
 use Rattle.std.specs.Prelude.{◌≡◌, ℕ, ◌+◌, ◌*◌, ◌-◌, ◌==◌, ◌&&◌, nat_lt, nat_le, Bool, true, false}
 use Rattle.std.specs.Prelude.{if◌then◌else◌, List, [], ◌∷◌, Option, Some, None, Result, Ok, Err}
 use Rattle.std.specs.Prelude.{slice_index, length}
