@@ -1,8 +1,12 @@
+# try: builds the program without proving it, and runs one recorded session through it. Nothing is promised of that build.
 # demo: proves the program crate by crate, runs it over a recorded exchange in both directions, and compares what it
 #       writes with examples/expected/; then it writes a page that shows it, out/timeline.html. JOBS is how many crates
-#       are proved side by side.
+#       are proved side by side at most: as many as processors and memory allow where it isn't given.
 # test: the gate. It proves each crate, tries the wrong bodies, and runs the tests and the program.
-.PHONY: demo test
+.PHONY: try demo test
+
+try:
+	@python3 scripts/try.py
 
 demo:
 	@python3 scripts/demo.py $(JOBS)
