@@ -3,13 +3,15 @@
 
     python3 scripts/demo.py [JOBS]
 
-JOBS is how many crates are proved side by side (half the processors where it isn't given; each takes 1 to 4 GB of memory).
+JOBS is how many crates are proved side by side at most. Where it isn't given they are as many as there are processors, and as
+memory allows (prove.py).
 What the prover says goes into out/demo.log. The exit status is 0 where everything is proved and nothing differs.
 """
-import concurrent.futures, difflib, os, subprocess, sys, tempfile, threading, time
+import difflib, os, subprocess, sys, tempfile, threading, time
 
 import timeline
 from killed import old_slot_of
+from prove import crates_below, lines_of, prove_all, room_here
 
 ROOT = os.path.dirname(os.path.dirname(os.path.abspath(__file__)))
 LOG = os.path.join(ROOT, "out", "demo.log")
@@ -18,51 +20,27 @@ EXAMPLES = os.path.join(ROOT, "examples")
 log_lock = threading.Lock()
 
 
-def crates_below(name):
-    """The crates of this repository that the crate `name` stands on, lowest first, and `name` last; each with those below it."""
-    lines = [line.split("#")[0].strip() for line in open(os.path.join(ROOT, "crates.txt"))]
-    below = {line.split(":")[0].split()[0]: line.split(":")[1].split() for line in lines if line}
-    order = []
-
-    def visit(crate):
-        if crate in below and crate not in order:
-            for other in below[crate]:
-                visit(other)
-            order.append(crate)
-
-    visit(name)
-    return [(crate, [other for other in below[crate] if other in below]) for crate in order]
-
-
-def prove(crate):
-    """Proves one crate, over those below it; the program is built and run too. Answers the seconds that it took."""
-    began = time.monotonic()
-    words = ["rt", "run", "--", "vectors"] if crate == "link_replay" else ["rt", "lib"]
+def prove(crate, jobs):
+    """Proves one crate, over those below it; the program is built and run too."""
+    words = ["rt", "run", "--jobs", str(jobs), "--", "vectors"] if crate == "link_replay" else ["rt", "lib", "--jobs", str(jobs)]
     ran = subprocess.run(words, cwd=os.path.join(ROOT, "crates", crate), stdin=subprocess.DEVNULL,
                          stdout=subprocess.PIPE, stderr=subprocess.STDOUT, text=True, errors="replace")
     with log_lock, open(LOG, "a") as log:
         log.write("== %s: %s\n%s\n" % (crate, " ".join(words), ran.stdout))
     if ran.returncode != 0:
         raise RuntimeError("%s is not proved; %s says why" % (crate, os.path.relpath(LOG, ROOT)))
-    return time.monotonic() - began
 
 
-def prove_all(jobs):
-    crates = crates_below("link_replay")
-    print("== Proving the program: %d crates, %d side by side" % (len(crates), jobs))
+def say_proved(crate, seconds, left):
+    print("%-18s %5.0f s   %2d left" % (crate, seconds, left), flush=True)
+
+
+def prove_program(most):
+    """Proves the program and all that it stands on, and builds it."""
+    below, room, began = crates_below("link_replay"), room_here(), time.monotonic()
+    print("== Proving the program: %d crates, over %d processors and %.0f GB of free memory" % (len(below), room.processors, room.memory))
     print("The first time this takes many minutes. Later only what changed is proved. What the prover says: %s\n" % os.path.relpath(LOG, ROOT), flush=True)
-    began, waiting, running, done = time.monotonic(), dict(crates), {}, set()
-    with concurrent.futures.ThreadPoolExecutor(jobs) as pool:
-        while waiting or running:
-            for crate in [c for c in waiting if all(below in done for below in waiting[c])][: jobs - len(running)]:
-                del waiting[crate]
-                running[pool.submit(prove, crate)] = crate
-            ended, _ = concurrent.futures.wait(running, return_when=concurrent.futures.FIRST_COMPLETED)
-            for future in ended:
-                crate = running.pop(future)
-                seconds = future.result()
-                done.add(crate)
-                print("%-18s %5.0f s   %2d left" % (crate, seconds, len(waiting) + len(running)), flush=True)
+    prove_all(below, {crate: lines_of(crate) for crate in below}, prove, say_proved, room, most)
     print("\nProved in %.0f s.\n" % (time.monotonic() - began), flush=True)
 
 
@@ -211,10 +189,10 @@ def show_picture():
 
 
 def main():
-    jobs = int(sys.argv[1]) if len(sys.argv) > 1 else max(1, (os.cpu_count() or 2) // 2)
+    most = int(sys.argv[1]) if len(sys.argv) > 1 else None
     os.makedirs(os.path.dirname(LOG), exist_ok=True)
     open(LOG, "w").close()
-    prove_all(jobs)
+    prove_program(most)
     with tempfile.TemporaryDirectory(prefix="demo.") as folder:
         same = show_side("requests", "rtu", "ab", "From the control centre to a Modbus RTU device", "device", folder)
         same &= show_side("replies", "rtu", "ba", "From the device to the control centre", "master", folder)

@@ -1,0 +1,114 @@
+"""Proves a crate and all that it stands on, as many crates side by side as processors and memory allow.
+
+crates.txt says which crate stands on which. Of the crates that are ready, those begin first that have the longest chain of
+crates above them, counted in lines: no run is shorter than its longest chain. Each crate has 4 GB of memory set aside for it,
+and a processor; a processor that no crate waits for goes to one that begins, with 2.5 GB more. prove_check.py tries this
+with crates that take no time to speak of.
+"""
+import collections, concurrent.futures, glob, os, re, time
+
+ROOT = os.path.dirname(os.path.dirname(os.path.abspath(__file__)))
+
+# Gigabytes that are set aside for a crate, and for each processor after its first one; and the most processors of a crate.
+CRATE_MEMORY, JOB_MEMORY, MOST_JOBS = 4, 2.5, 4
+
+# What there is to prove with: processors, and gigabytes of memory.
+Room = collections.namedtuple("Room", "processors memory")
+
+
+def number_in(path, pattern):
+    """The first number that the pattern finds in a file; none where there is no such file or number."""
+    try:
+        with open(path) as file:
+            found = re.search(pattern, file.read(), re.M)
+        return int(found[1]) if found else None
+    except OSError:
+        return None
+
+
+def room_here():
+    """The processors that this process may use, and the memory that is free, by the limits of its control group too."""
+    processors = len(os.sched_getaffinity(0)) if hasattr(os, "sched_getaffinity") else os.cpu_count() or 1
+    quota, period = (number_in("/sys/fs/cgroup/cpu.max", pattern) for pattern in (r"^(\d+) ", r"^\d+ (\d+)"))
+    if quota and period:
+        processors = max(1, min(processors, quota // period))
+    free = [(number_in("/proc/meminfo", r"^MemAvailable: +(\d+)") or 0) * 1024]
+    limit, held = (number_in("/sys/fs/cgroup/memory." + name, r"^(\d+)") for name in ("max", "current"))
+    if limit and held is not None:
+        free.append(limit - held)
+    return Room(processors, min(free) / 1e9)
+
+
+def crates_below(name, listing=None):
+    """Each crate of this repository that `name` stands on, and itself, with those of this repository that it stands on."""
+    lines = (line.split("#")[0] for line in listing or open(os.path.join(ROOT, "crates.txt")))
+    named = dict(line.split(":") for line in lines if line.strip())
+    below = {crate.split()[0]: others.split() for crate, others in named.items()}
+    found, left = {}, [name]
+    while left:
+        crate = left.pop()
+        if crate not in found:
+            found[crate] = [other for other in below[crate] if other in below]
+            left += found[crate]
+    return found
+
+
+def lines_of(crate):
+    """How many lines of code, definitions and proofs a crate has: about as long as it takes."""
+    files = glob.glob(os.path.join(ROOT, "crates", crate, "*", "**", "*.rt"), recursive=True)
+    files += glob.glob(os.path.join(ROOT, "crates", crate, "*", "**", "*.antt"), recursive=True)
+    return sum(open(file, "rb").read().count(b"\n") for file in files if "/out/" not in file)
+
+
+def longest_chains(below, work):
+    """For each crate the work of the longest chain of crates that begins with it and goes up, each standing on the one before."""
+    above = {crate: [other for other in below if crate in below[other]] for crate in below}
+    chains = {}
+
+    def chain(crate):
+        if crate not in chains:
+            chains[crate] = work[crate] + max(map(chain, above[crate]), default=0)
+        return chains[crate]
+
+    for crate in below:
+        chain(crate)
+    return chains
+
+
+def jobs_for(ready, used, room, most):
+    """How many processors the first of so many ready crates gets. `used` has those of the crates that are running; 0 where it must wait."""
+    free = room.memory - sum(CRATE_MEMORY + JOB_MEMORY * (jobs - 1) for jobs in used)
+    idle = room.processors - sum(used)
+    if not used:
+        idle = max(idle, 1)
+    elif len(used) >= most or idle < 1 or free < CRATE_MEMORY:
+        return 0
+    crates = max(1, min(ready, most - len(used), int(free / CRATE_MEMORY)))
+    return max(1, min(MOST_JOBS, idle // crates, 1 + int((free / crates - CRATE_MEMORY) / JOB_MEMORY)))
+
+
+def prove_all(below, work, prove, said, room, most=None):
+    """Calls `prove(crate, jobs)` for each crate once those below it are proved, and `said(crate, seconds, left)` as each one ends.
+
+    Where a call raises, no further one begins, and what it raised is raised once those that are running have ended. `most` is
+    how many crates are proved side by side at most.
+    """
+    chains, waiting, running, done = longest_chains(below, work), dict(below), {}, set()
+    most = most or room.processors
+    with concurrent.futures.ThreadPoolExecutor(max(most, 1)) as pool:
+        while waiting or running:
+            ready = sorted((c for c in waiting if done.issuperset(waiting[c])), key=lambda c: -chains[c])
+            while ready:
+                jobs = jobs_for(len(ready), [each[1] for each in running.values()], room, most)
+                if not jobs:
+                    break
+                crate = ready.pop(0)
+                del waiting[crate]
+                running[pool.submit(prove, crate, jobs)] = crate, jobs, time.monotonic()
+            if not running:
+                raise RuntimeError("crates.txt goes round in a circle: %s" % ", ".join(sorted(waiting)))
+            for future in concurrent.futures.wait(running, return_when=concurrent.futures.FIRST_COMPLETED).done:
+                crate, _, began = running.pop(future)
+                future.result()
+                done.add(crate)
+                said(crate, time.monotonic() - began, len(waiting) + len(running))

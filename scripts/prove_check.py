@@ -1,0 +1,96 @@
+#!/usr/bin/env python3
+"""Tries prove.py, which proves crates side by side, with a prover that only sleeps.
+
+    python3 scripts/prove_check.py
+
+The crates are those of crates.txt, and some small ones. Each must be proved once, behind those that it stands on; no more
+may be proved at a time than the room says; the longest chain must come first; and behind a crate that isn't proved no other
+one may begin. It ends with 1 where it is otherwise. It proves nothing, and needs no toolchain.
+"""
+import sys, threading, time
+
+from prove import CRATE_MEMORY, JOB_MEMORY, Room, crates_below, jobs_for, lines_of, longest_chains, prove_all
+
+# A chain of three, and six crates that stand on nothing, below one that stands on all of them.
+SMALL = {"low": [], "middle": ["low"], "high": ["middle"], **{"leaf%d" % each: [] for each in range(6)}}
+SMALL["top"] = list(SMALL)
+
+
+class Sleeper:
+    """A prover that sleeps as long as a crate has work, and keeps what was asked of it."""
+
+    def __init__(self, below, work, broken=None):
+        self.below, self.work, self.broken = below, work, broken
+        self.began, self.ended, self.running, self.most, self.held = [], [], {}, 0, 0
+        self.lock = threading.Lock()
+
+    def prove(self, crate, jobs):
+        with self.lock:
+            assert all(other in self.ended for other in self.below[crate]), "%s began before those below it had ended" % crate
+            self.began.append(crate)
+            self.running[crate] = jobs
+            self.most = max(self.most, sum(self.running.values()))
+            self.held = max(self.held, sum(CRATE_MEMORY + JOB_MEMORY * (each - 1) for each in self.running.values()))
+        time.sleep(self.work[crate])
+        with self.lock:
+            del self.running[crate]
+            self.ended.append(crate)
+        if crate == self.broken:
+            raise RuntimeError(crate)
+
+
+def ran(below, work, room, most=None, broken=None):
+    """A run of all crates over a sleeper, and the seconds that it took."""
+    sleeper, began = Sleeper(below, work, broken), time.monotonic()
+    try:
+        prove_all(below, work, sleeper.prove, lambda crate, seconds, left: None, room, most)
+        assert broken is None, "a crate that isn't proved was passed over"
+        assert sorted(sleeper.ended) == sorted(below), "not each crate was proved once"
+    except RuntimeError as why:
+        assert str(why) == broken, "it stopped for %s" % why
+    return sleeper, time.monotonic() - began
+
+
+def check_order():
+    """The crates of the program, at a five hundred thousandth of a second a line."""
+    below = crates_below("link_replay")
+    work = {crate: lines_of(crate) * 2e-6 + 0.002 for crate in below}
+    chains = longest_chains(below, work)
+    for room in (Room(4, 16.5), Room(2, 16), Room(8, 64), Room(4, 9), Room(1, 1)):
+        sleeper, seconds = ran(below, work, room)
+        assert sleeper.most <= room.processors, "%d processors in use of %d" % (sleeper.most, room.processors)
+        assert sleeper.held <= max(room.memory, CRATE_MEMORY), "%.1f GB in use of %.1f" % (sleeper.held, room.memory)
+        first = max((crate for crate in below if not below[crate]), key=chains.get)
+        assert sleeper.began[0] == first, "%s began, and not %s" % (sleeper.began[0], first)
+        wide = min(room.processors, max(1, int(room.memory / CRATE_MEMORY)))
+        assert seconds <= sum(work.values()) / wide + max(chains.values()) + 0.5, "it took %.2f s" % seconds
+        print("%d crates, %d processors, %4.1f GB: %.2f s; the longest chain is %.2f s, all is %.2f s"
+              % (len(below), room.processors, room.memory, seconds, max(chains.values()), sum(work.values())))
+
+
+def check_small():
+    work = {crate: 0.05 for crate in SMALL}
+    sleeper, _ = ran(SMALL, work, Room(2, 8))
+    assert sleeper.began[0] == "low" and sleeper.ended.index("high") <= 6, "the chain came late: %s" % sleeper.ended
+    sleeper, _ = ran(SMALL, work, Room(8, 64), most=1)
+    assert sleeper.began == sleeper.ended, "two crates at a time, where one was asked for"
+    sleeper, _ = ran(SMALL, work, Room(1, 8), broken="low")
+    assert sleeper.began == ["low"], "%s began behind a crate that isn't proved" % sleeper.began[1:]
+
+
+def check_jobs():
+    for (ready, used, room, most), wanted in {
+            (1, (), Room(4, 16), 4): 4, (1, (), Room(4, 5), 4): 1, (4, (), Room(4, 16), 4): 1, (2, (), Room(4, 16), 4): 2,
+            (1, (2,), Room(4, 10), 4): 0, (1, (2,), Room(4, 11), 4): 1, (1, (4,), Room(4, 64), 4): 0, (1, (), Room(4, 1), 4): 1,
+            (5, (1,), Room(8, 64), 1): 0, (5, (), Room(8, 64), 1): 4}.items():
+        found = jobs_for(ready, used, room, most)
+        assert found == wanted, "%d processors of %s for one of %d, beside %s, and not %d" % (found, room, ready, used, wanted)
+
+
+try:
+    check_jobs()
+    check_small()
+    check_order()
+except AssertionError as wrong:
+    sys.exit("prove_check: %s" % wrong)
+print("as it must be")
