@@ -3,7 +3,8 @@
 #       writes with examples/expected/; then it writes a page that shows it, out/timeline.html. JOBS is how many crates
 #       are proved side by side at most: as many as processors and memory allow where it isn't given.
 # test: the gate. It proves each crate, tries the wrong bodies, and runs the tests and the program.
-.PHONY: try demo test
+# check: the scripts that try the built program from outside the gate. LEVEL is quick, change or release.
+.PHONY: try demo test check
 
 try:
 	@python3 scripts/try.py
@@ -13,3 +14,6 @@ demo:
 
 test:
 	@.ci/run
+
+check:
+	@python3 scripts/check.py $(LEVEL)

@@ -1,8 +1,12 @@
 """What `trial P SEED COUNT` prints, by the model of the boxes (model.py) and the rules of docs/USAGE.md, written anew in Python.
 
-    python3 scripts/trial_model.py rtu 7 100
+    python3 scripts/trial_model.py P SEED COUNT
+    python3 scripts/trial_model.py compare [PROGRAM]
+
+The second form compares what the program prints with it, for both protocols and profiles and some seeds. It ends with 1
+where a line differs.
 """
-import sys
+import subprocess, sys
 
 from model import Dnp3, Rtu, Y18, Y24, check, seal
 
@@ -61,7 +65,23 @@ def counted(proto, profile, seed, count):
     return [words.count(word) for word in ("sealed", "passed", "refused", "dropped")] + [len(list(proto.reads(received)))]
 
 
-if __name__ == "__main__":
-    word, seed, count = sys.argv[1], int(sys.argv[2]), int(sys.argv[3])
+def line_of(word, seed, count):
     sealed, passed, refused, dropped, read = counted(*LINKS[word], seed, count)
-    print(f"trial {word} {seed} {count} sealed {sealed} passed {passed} refused {refused} dropped {dropped} read {read}")
+    return f"trial {word} {seed} {count} sealed {sealed} passed {passed} refused {refused} dropped {dropped} read {read}\n"
+
+
+def compare(program):
+    for word in LINKS:
+        for seed, count in ((0, 1), (7, 40), (4294967295, 40)):
+            words = ["trial", word, str(seed), str(count)]
+            ran = subprocess.run([program] + words, stdin=subprocess.DEVNULL, capture_output=True, text=True)
+            if (ran.returncode, ran.stdout) != (0, line_of(word, seed, count)):
+                sys.exit("`%s` prints %r, and the model %r" % (" ".join(words), ran.stdout, line_of(word, seed, count)))
+    print("%d sessions, and all is what the model prints" % (3 * len(LINKS)))
+
+
+if __name__ == "__main__":
+    if sys.argv[1] == "compare":
+        compare(sys.argv[2] if len(sys.argv) > 2 else "crates/link_replay/out/link_replay")
+    else:
+        print(line_of(sys.argv[1], int(sys.argv[2]), int(sys.argv[3])), end="")

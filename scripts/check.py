@@ -1,0 +1,115 @@
+#!/usr/bin/env python3
+"""Runs the scripts that try the built program from outside, as many as a level asks for, and says what was skipped and why.
+
+    python3 scripts/check.py [LEVEL] [PROGRAM]
+
+    quick      what takes seconds: after each change
+    change     that, and what takes minutes: before a change to the program goes in. It is the level where none is given
+    release    all of them, with more runs
+
+PROGRAM is crates/link_replay/out/link_replay where none is given, which `make demo` proves and builds. docs/TESTING.md says
+what each script sees. What a script prints goes into out/check/NAME.log. The exit status is 0 only where all that ran passed
+and there was a program to try, 1 where one failed, and 2 where there was no program or the words are wrong. None of it is
+part of the gate, and none of it proves anything.
+"""
+import collections, os, shutil, subprocess, sys, time
+
+import browser
+
+ROOT = os.path.dirname(os.path.dirname(os.path.abspath(__file__)))
+LOGS = os.path.join(ROOT, "out", "check")
+LEVELS = ("quick", "change", "release")
+MEMORY = "/dev/shm"
+
+# A script, what it needs, and its words at each level; None where the level doesn't run it. PROGRAM and MEMORY stand for paths.
+Check = collections.namedtuple("Check", "name needs quick change release")
+
+
+def same(*words):
+    return [list(words)] * 3
+
+
+CHECKS = [
+    Check("prove_check", (), *same()),
+    Check("docs_check", (), *same()),
+    Check("trial_model", ("program",), *same("compare", "PROGRAM")),
+    Check("random_lines", ("program",), ["200", "PROGRAM"], ["2000", "PROGRAM", "2"], ["20000", "PROGRAM", "3"]),
+    Check("closed_streams", ("program",), *same("PROGRAM")),
+    Check("init_over", ("program",), *same("PROGRAM")),
+    Check("two_runs", ("program",), None, ["PROGRAM", "10"], ["PROGRAM", "60"]),
+    Check("taken_over", ("program", "cc"), None, ["PROGRAM"], ["PROGRAM"]),
+    Check("killed_seal", ("program", "memory"), None, ["40", "PROGRAM", "MEMORY"], ["400", "PROGRAM", "MEMORY"]),
+    Check("killed_check", ("program", "memory"), None, ["40", "PROGRAM", "MEMORY"], ["400", "PROGRAM", "MEMORY"]),
+    Check("refused_memory", ("program", "cc"), None, ["PROGRAM"], ["PROGRAM"]),
+    Check("timeline_check", ("chromium",), None, [], []),
+    Check("tag_instructions", ("program", "valgrind"), None, None, ["PROGRAM"]),
+    Check("limits", ("program",), None, None, ["PROGRAM"]),
+]
+
+
+def lacking(need, program):
+    """Why what a script needs isn't there; None where it is."""
+    if need == "program" and not os.access(program, os.X_OK):
+        return "there is no program %s; `make demo` proves and builds it" % os.path.relpath(program)
+    if need == "memory" and not os.path.isdir(MEMORY):
+        return "there is no folder in memory, %s" % MEMORY
+    if need == "chromium" and browser.find() is None:
+        return "no Chromium is on the path"
+    if need in ("cc", "valgrind") and shutil.which(need) is None:
+        return "%s isn't on the path" % need
+    return None
+
+
+def older(program):
+    """A source of the program that is newer than it is; None where there is none."""
+    built = os.path.getmtime(program)
+    for folder, folders, files in os.walk(os.path.join(ROOT, "crates")):
+        folders[:] = [name for name in folders if name not in ("out", "must-fail", "proofs", "specs")]
+        for name in files:
+            path = os.path.join(folder, name)
+            if name.endswith(".rt") and os.path.getmtime(path) > built:
+                return os.path.relpath(path, ROOT)
+    return None
+
+
+def run(check, words, program):
+    """Runs one script. Returns whether it passed, its seconds, and the end of what it said."""
+    paths = {"PROGRAM": program, "MEMORY": MEMORY}
+    line = [sys.executable, os.path.join("scripts", check.name + ".py")] + [paths.get(word, word) for word in words]
+    log, began = os.path.join(LOGS, check.name + ".log"), time.monotonic()
+    with open(log, "w") as file:
+        ran = subprocess.run(line, cwd=ROOT, stdin=subprocess.DEVNULL, stdout=file, stderr=subprocess.STDOUT)
+    with open(log, errors="replace") as file:
+        said = file.read().splitlines()
+    return ran.returncode == 0, time.monotonic() - began, said[-3:]
+
+
+def main(words):
+    level = words[0] if words else "change"
+    if level not in LEVELS or len(words) > 2:
+        print(__doc__.strip())
+        return 2
+    program = os.path.abspath(words[1] if len(words) > 1 else os.path.join(ROOT, "crates", "link_replay", "out", "link_replay"))
+    os.makedirs(LOGS, exist_ok=True)
+    counts = collections.Counter()
+    if os.path.exists(program) and older(program):
+        print("Note: the program is older than %s" % older(program))
+    for check in CHECKS:
+        given = check[2 + LEVELS.index(level)]
+        why = "not asked for by the level %s" % level if given is None else None
+        why = why or next(filter(None, (lacking(need, program) for need in check.needs)), None)
+        if why:
+            counts["skipped"] += 1
+            print("%-17s skipped: %s" % (check.name, why), flush=True)
+            continue
+        passed, seconds, said = run(check, given, program)
+        counts["passed" if passed else "failed"] += 1
+        print("%-17s %s in %.0f s" % (check.name, "passed" if passed else "FAILED", seconds), flush=True)
+        if not passed:
+            print("".join("    %s\n" % text[:200] for text in said) + "    all of it: out/check/%s.log" % check.name, flush=True)
+    print("%d passed, %d failed, %d skipped" % (counts["passed"], counts["failed"], counts["skipped"]))
+    return 1 if counts["failed"] else 2 if lacking("program", program) else 0
+
+
+if __name__ == "__main__":
+    sys.exit(main(sys.argv[1:]))

@@ -1,0 +1,87 @@
+#!/usr/bin/env python3
+"""Looks at the documents: what they name must be there, and no paragraph may be too long.
+
+    python3 scripts/docs_check.py
+
+- Each link, and each file of this repository that is named in backquotes, must be there.
+- Each page of docs/ must be named by another page.
+- A row of a table of docs/PROOF.md whose last column is a file of crates/ names functions and definitions in backquotes and
+  clauses in italics: each must stand in one of the row's files, a clause as a clause or a field.
+- No paragraph may have more than 120 words; a row of a table is a paragraph.
+
+It ends with 1 where something is wrong. That a sentence says no more than its clause it can't see.
+"""
+import glob, os, re, sys
+
+ROOT = os.path.dirname(os.path.dirname(os.path.abspath(__file__)))
+LONGEST = 120
+# Pages whose rows have a clause each, and may be longer; and pages of what was, which may name what is gone.
+TABLES_OF_CLAIMS, OF_THE_PAST = ("docs/CLAIMS.md",), ("CHANGELOG.md",)
+
+
+def read(path):
+    with open(os.path.join(ROOT, path)) as file:
+        return file.read()
+
+
+def pages():
+    return sorted(os.path.relpath(path, ROOT) for path in glob.glob(os.path.join(ROOT, "*.md"))
+                  + glob.glob(os.path.join(ROOT, "docs", "*.md")) + glob.glob(os.path.join(ROOT, "examples", "*.md")))
+
+
+def paragraphs(text):
+    """The paragraphs of a page, each item and each row of a table for itself; code is left out."""
+    text = re.sub(r"^```.*?^```", "", text, flags=re.S | re.M)
+    for part in re.split(r"\n\s*\n", text):
+        lines = [line for line in part.split("\n") if not line.startswith("    ")]
+        yield from re.split(r"\n(?=\||\s*[-*] |\s*\d+\. |> )", "\n".join(lines))
+
+
+def places(page):
+    """The folders in which a page's names are looked for."""
+    return [os.path.dirname(page), "", "docs", "scripts"]
+
+
+def missing_files(page, text):
+    named = re.findall(r"\]\(([^)#:]+)\)", text)
+    named += re.findall(r"`((?:docs/|scripts/|crates/|examples/)[\w./*-]+|[A-Z_0-9]+\.md|[a-z_]+\.py)`", text)
+    for name in sorted(set(named)):
+        if "NAME" in name or "/out/" in name:
+            continue
+        if not any(glob.glob(os.path.join(ROOT, folder, name)) for folder in places(page)):
+            yield "there is no %s" % name
+
+
+def missing_names(text):
+    for row in re.findall(r"^\|.*\|$", text, re.M):
+        cells = [cell.strip() for cell in row.strip("|").split("|")]
+        files = re.findall(r"`(crates/[\w/]+\.(?:rt|antt))`", cells[-1])
+        if not files:
+            continue
+        found = "\n".join(read(file) for file in files if os.path.exists(os.path.join(ROOT, file)))
+        named = "|".join(cells[:-1])
+        for name in re.findall(r"`([\w:]+)`", named):
+            if not re.search(r"(fn|struct|enum|trait|impl|record|data|abbrev pub|abbrev|unfoldable pub|pub) (\w+ for )?%s\b" % name.split("::")[-1], found):
+                yield "%s isn't in %s" % (name, ", ".join(files))
+        for clause in re.findall(r"(?<!\*)\*(\w+)\*(?!\*)", named):
+            if not re.search(r"(ensures\*? %s \{|pub %s :|law %s\b|ghost %s\b)" % ((clause,) * 4), found):
+                yield "no clause %s is in %s" % (clause, ", ".join(files))
+
+
+def main():
+    wrong = []
+    texts = {page: read(page) for page in pages()}
+    for page, text in texts.items():
+        faults = list(missing_files(page, text)) if page not in OF_THE_PAST else []
+        faults += missing_names(text) if page == "docs/PROOF.md" else []
+        if page not in TABLES_OF_CLAIMS:
+            faults += ["%d words: %s .." % (len(part.split()), part.strip()[:60]) for part in paragraphs(text) if len(part.split()) > LONGEST]
+        if page.startswith("docs/") and not any(os.path.basename(page) in other for name, other in texts.items() if name != page):
+            faults.append("no other page names it")
+        wrong += ["%s: %s" % (page, fault) for fault in faults]
+    print("\n".join(wrong + ["%d pages, %d faults" % (len(texts), len(wrong))]))
+    return 1 if wrong else 0
+
+
+if __name__ == "__main__":
+    sys.exit(main())
