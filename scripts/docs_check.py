@@ -61,7 +61,7 @@ def missing_names(text):
         found = "\n".join(read(file) for file in files if os.path.exists(os.path.join(ROOT, file)))
         named = "|".join(cells[:-1])
         for name in re.findall(r"`([\w:]+)`", named):
-            if not re.search(r"(fn|struct|enum|trait|impl|record|data|abbrev pub|abbrev|unfoldable pub|pub) (\w+ for )?%s\b" % name.split("::")[-1], found):
+            if not re.search(r"(fn|struct|enum|trait|type|impl|record|data|abbrev pub|abbrev|unfoldable pub|pub) (\w+ for )?%s\b" % name.split("::")[-1], found):
                 yield "%s isn't in %s" % (name, ", ".join(files))
         for clause in re.findall(r"(?<!\*)\*(\w+)\*(?!\*)", named):
             if not re.search(r"(ensures\*? %s \{|pub %s :|law %s\b|ghost %s\b)" % ((clause,) * 4), found):
