@@ -5,8 +5,9 @@
 
 - Each link, and each file of this repository that is named in backquotes, must be there.
 - Each page of docs/ must be named by another page.
+- Each name of the code that is in backquotes must be somewhere in the code, if it has an underscore or a capital inside.
 - A row of a table of docs/PROOF.md whose last column is a file of crates/ names functions and definitions in backquotes and
-  clauses in italics: each must stand in one of the row's files, a clause as a clause or a field.
+  clauses in italics: each must be in one of the row's files, a clause as a clause or a field.
 - No paragraph may have more than 120 words; a row of a table is a paragraph.
 
 It ends with 1 where something is wrong. That a sentence says no more than its clause it can't see.
@@ -15,8 +16,10 @@ import glob, os, re, sys
 
 ROOT = os.path.dirname(os.path.dirname(os.path.abspath(__file__)))
 LONGEST = 120
-# Pages whose rows have a clause each, and may be longer; and pages of what was, which may name what is gone.
-TABLES_OF_CLAIMS, OF_THE_PAST = ("docs/CLAIMS.md",), ("CHANGELOG.md",)
+# Pages of what was, which may name what is gone.
+OF_THE_PAST = ("CHANGELOG.md",)
+# Names of the toolchain.
+OF_OTHERS = ("black_box",)
 
 
 def read(path):
@@ -68,14 +71,32 @@ def missing_names(text):
                 yield "no clause %s is in %s" % (clause, ", ".join(files))
 
 
+def words_of_the_code():
+    """All words of the crates' code, definitions and proofs, of crates.txt and of the scripts."""
+    found = set(re.findall(r"\w+", read("crates.txt")))
+    for pattern in ("crates/*/src/**/*.rt", "crates/*/specs/**/*.antt", "crates/*/proofs/**/*.antt", "scripts/*.py"):
+        for path in glob.glob(os.path.join(ROOT, pattern), recursive=True):
+            found.update(re.findall(r"\w+", read(path)))
+            found.add(os.path.basename(path).split(".")[0])
+    return found
+
+
+def unknown_names(text, words):
+    """Names of more than one word, or in capitals and small letters, that a page has in backquotes and no file has."""
+    for name in sorted(set(re.findall(r"`(\w+(?:::\w+)*)`", text))):
+        parts = [part for part in name.split("::") if re.search(r"[a-z]_[a-z]|[a-z][A-Z]", part)]
+        if any(part not in words and part not in OF_OTHERS for part in parts):
+            yield "%s is named, and is nowhere in the code" % name
+
+
 def main():
-    wrong = []
+    wrong, words = [], words_of_the_code()
     texts = {page: read(page) for page in pages()}
     for page, text in texts.items():
         faults = list(missing_files(page, text)) if page not in OF_THE_PAST else []
         faults += missing_names(text) if page == "docs/PROOF.md" else []
-        if page not in TABLES_OF_CLAIMS:
-            faults += ["%d words: %s .." % (len(part.split()), part.strip()[:60]) for part in paragraphs(text) if len(part.split()) > LONGEST]
+        faults += unknown_names(text, words) if page not in OF_THE_PAST else []
+        faults += ["%d words: %s .." % (len(part.split()), part.strip()[:60]) for part in paragraphs(text) if len(part.split()) > LONGEST]
         if page.startswith("docs/") and not any(os.path.basename(page) in other for name, other in texts.items() if name != page):
             faults.append("no other page names it")
         wrong += ["%s: %s" % (page, fault) for fault in faults]
