@@ -14,7 +14,7 @@ use Rattle.yasir_ticks.specs.TickText.{line_after, fault_after, is_decimal_digit
 use Rattle.yasir_ticks.specs.TickText.{number_after}
 use Rattle.yasir_ticks.specs.TickText.{BeginsTickText, IsRefusedAfter}
 use Rattle.yasir_ticks.specs.Place.{has_ticks}
-use Rattle.yasir_ticks.specs.Reader.{IsAt, StandsFor, HasRefused, items_of_content}
+use Rattle.yasir_ticks.specs.Reader.{IsAt, StandsFor, items_of_content}
 use Rattle.yasir_ticks.specs.ReaderStep.{Advances, line_with}
 use Rattle.yasir_ticks.specs.Slices.{GoesOn, TakesLine, EndsLine, StopsAt, FeedsLine}
 use Rattle.yasir_ticks.specs.Slices.{FeedsByte, TakesWhole, IsFewPairs}
@@ -257,13 +257,6 @@ module _ (old new : TickReader) (bytes : List ℕ) (taken : ℕ) where
       ∙ sym (append-nil (ended_items text)))
   line_items_are (Err bad) f marks text s = tt
 
-  pub line_nothing : (result : Result Content BadTicks) → FeedsLine old bytes taken result new
-      → IfOk result (λ content. items_of_content content new.bytes.items ≡ []
-      → content ≡ NoTick)
-  line_nothing (Ok content) (inl e) = e.nothing
-  line_nothing (Ok content) (inr t) = λ _. t.none
-  line_nothing (Err bad) f = tt
-
   pub line_last : (result : Result Content BadTicks) → FeedsLine old bytes taken result new
       → (marks : ℕ) (text : List ℕ) → StandsFor old marks text
       → IfOk result (λ content. content ≢ NoTick → (0 < taken)
@@ -271,12 +264,6 @@ module _ (old new : TickReader) (bytes : List ℕ) (taken : ℕ) where
   line_last (Ok content) (inl e) marks text s = λ _. (e.some, e.quiet marks text s)
   line_last (Ok content) (inr t) marks text s = λ some. absurd (some t.none)
   line_last (Err bad) f marks text s = tt
-
-  pub line_whole : (result : Result Content BadTicks) → FeedsLine old bytes taken result new
-      → OnOk result (taken < length bytes → get_or bytes (taken - 1) 0 ≡ 10)
-  line_whole (Ok content) (inl e) = λ _. e.feed
-  line_whole (Ok content) (inr t) = λ h. absurd (omega (arith, t.all))
-  line_whole (Err bad) f = tt
 
   pub line_progress : (result : Result Content BadTicks) → FeedsLine old bytes taken result new
       → 0 < length bytes → OnOk result (0 < taken)
@@ -300,11 +287,6 @@ module _ (old new : TickReader) (bytes : List ℕ) (taken : ℕ) where
   line_lines (Ok content) (inl e) = e.lines
   line_lines (Ok content) (inr t) = omega (arith, t.goes.lines, t.all, length-take taken bytes)
   line_lines (Err bad) f = f.lines
-
-  pub line_remembered : (result : Result Content BadTicks) → FeedsLine old bytes taken result new
-      → IfErr result (λ bad. HasRefused new bad)
-  line_remembered (Ok content) f = tt
-  line_remembered (Err bad) f = f.remembered
 
 -- ---- the usual lines
 

@@ -24,7 +24,6 @@ pub use hex_digits::push_digits;
 pub use place::Content;
 pub use reader::TickReader;
 pub use run::{LineBytes, Run};
-pub use slices::Fed;
 pub use tick::Tick;
 pub use tick_run::TickRun;
 pub use whole_lines::FedLine;

@@ -262,8 +262,8 @@ fn read_slices(alloc: Global, marks: u8, text: &[u8], size: usize) -> Result<See
         if reader.line() > 9 {
             return Err("too many lines".into());
         }
-        let fed = reader.feed_some(slice);
-        seen.take(fed.run.ok().ok_or("refused")?)?;
+        let fed = reader.feed_line(slice);
+        seen.take_line(fed.line.ok().ok_or("refused")?, reader.line_bytes())?;
         rest = &rest[fed.taken..];
     }
     seen.take(reader.finish().ok().ok_or("refused at the end")?)?;

@@ -5,6 +5,8 @@ use Rattle.std.specs.Io.KnownBytes.{prepend_known}
 use Rattle.yasir_io.specs.Pieces.{kept_bytes}
 use Rattle.yasir_ticks.specs.TickText.{ended_items}
 use Rattle.yasir_ticks.specs.Reader.{items_of_content, lent_bytes}
+use Rattle.yasir_ticks.proofs.WholeLines.{line_stands, line_begins, line_items_are, line_last}
+use Rattle.yasir_ticks.proofs.WholeLines.{line_progress, line_refused}
 use Rattle.tick_drive.specs.Intake.{HasMet}
 use Rattle.tick_drive.proofs.Known.{text_last, met_slice, met_slice_more, met_first}
 use Rattle.tick_drive.proofs.intake.Intake.feed_kept.Goals as goal
@@ -29,7 +31,7 @@ returns-in-Ok-clause-answer c = λ marks before now text met.
     let slice = take c.min-within.result kept in
     let n = c.feed_line-taken.result.taken in
     let fed = c.feed_line-taken.ensures in
-    let some : 0 < n = rw c.in-Ok.is at (fed.progress
+    let some : 0 < n = rw c.in-Ok.is at (line_progress _ _ _ _ _ fed.fed
     (omega (arith, length-take c.min-within.result kept, ap length c.kept-kept.ensures))) in
     let whole = text_last text slice n fed.within some in
     let source = subst (λ l. before ≡ prepend_known text (prepend_known l now))
@@ -39,8 +41,8 @@ returns-in-Ok-clause-answer c = λ marks before now text met.
       front = take (n - 1) slice;
       byte = get_or slice (n - 1) 0;
       met = subst (HasMet _ marks before now) (sym whole) (record {
-        stands = rw c.in-Ok.is at (fed.stands marks text met.stands);
-        begins = rw c.in-Ok.is at (fed.begins marks text met.stands);
+        stands = rw c.in-Ok.is at (line_stands _ _ _ _ _ fed.fed marks text met.stands);
+        begins = rw c.in-Ok.is at (line_begins _ _ _ _ _ fed.fed marks text met.stands);
         source = met_slice before now text kept _ c.min-within.result n fed.within rest source;
         open_end = c.skip.ensures.ended ∙ met.open_end;
         count = omega (
@@ -61,8 +63,9 @@ returns-in-Ok-clause-answer c = λ marks before now text met.
           c.min-within.ensures,
         );
       });
-      ended = ap ended_items whole ∙ (rw c.in-Ok.is at (fed.items marks text met.stands));
-      quiet = λ some. let last = rw c.in-Ok.is at (fed.last marks text met.stands) in
+      ended = ap ended_items whole ∙ (rw c.in-Ok.is at (line_items_are _ _ _ _ _ fed.fed marks text
+          met.stands));
+      quiet = λ some. let last = rw c.in-Ok.is at (line_last _ _ _ _ _ fed.fed marks text met.stands) in
           (last (λ none. some (ap (λ content. items_of_content content
           (lent_bytes c.feed_line-taken.new.self)) none))).1;
     }
@@ -72,7 +75,8 @@ returns-in-Err-clause-answer c = λ marks before now text met.
     let kept = c.kept-kept.result.now in
     let slice = take c.min-within.result kept in
     let n = c.feed_line-taken.result.taken in
-    let refused = rw c.in-Err.is at (c.feed_line-taken.ensures.refused marks text met.stands) in
+    let refused = rw c.in-Err.is at (line_refused _ _ _ _ _ c.feed_line-taken.ensures.fed marks text
+    met.stands) in
     let source = subst (λ l. before ≡ prepend_known text (prepend_known l now))
     (sym c.kept-kept.ensures) met.source in
     record {
