@@ -18,7 +18,6 @@ pub mod Worked
 pub mod TextLaws
 pub mod Writing
 pub mod Writers
-pub mod WriterRuns
 pub mod CanonicalLaws
 pub mod DigitLookups
 pub mod DigitEncoding
