@@ -1,15 +1,14 @@
 -- The canonical text of ticks stands for them, and for nothing else.
-use Rattle.std.proofs.Common.{◌≡◌, ◌≢◌, ◌∙◌, ◌==◌, ℕ, zero, suc, ◌+◌, ◌*◌, ◌/◌, ◌%◌, ◌^◌, ◌<◌, ◌≤◌}
-use Rattle.std.proofs.Common.{Bool, true, false, cond, List, [], ◌∷◌, ◌++◌, length, map, take, drop}
+use Rattle.std.proofs.Common.{◌≡◌, ◌≢◌, ◌∙◌, ◌==◌, ℕ, zero, suc, ◌+◌, ◌-◌, ◌/◌, ◌%◌, ◌^◌, ◌<◌, ◌≤◌}
+use Rattle.std.proofs.Common.{Bool, true, false, List, [], ◌∷◌, ◌++◌, length, map, take, drop}
 use Rattle.std.proofs.Common.{replicate, Some, get_or, refl, sym, ap, subst, arith, append_assoc}
 use Rattle.std.proofs.Common.{Ok, not, ◌⊎◌, inl, inr}
-use Rattle.std.specs.List.{flat_map, range_with_len, list_all, All}
+use Rattle.std.specs.List.{flat_map, list_all, All}
 use Rattle.std.specs.Fmt.{decimal}
-use Rattle.std.proofs.Math.Seq.{take-add}
 use Rattle.std.proofs.lemmas.Bool.{and_parts, both_ways, cases_lt}
 use Rattle.std.proofs.lemmas.Fmt.{decimal_by_steps}
-use Rattle.std.proofs.lemmas.List.{append-nil, map-append, length-take, get_or_past, take_all}
-use Rattle.std.proofs.lemmas.List.{drop-drop, length-drop, replicate-append-replicate}
+use Rattle.std.proofs.lemmas.List.{append-nil, map-append, length-take, get_or_past, take-append-drop}
+use Rattle.std.proofs.lemmas.List.{length-drop, replicate-append-replicate}
 use Rattle.std.proofs.lemmas.List.Elements.{All-nil, All-cons, All-take, All-drop, All-get_or}
 use Rattle.hex.specs.Hex.{encode_lower, decode_of, is_hex_digit, IsBytes}
 use Rattle.hex.proofs.HexLemmas.{decode_of-encode_lower}
@@ -26,7 +25,9 @@ use Rattle.yasir_ticks.specs.declared.tick.Tick.TheVariants.{Silent, Byte}
 use Rattle.yasir_ticks.proofs.Lines.{all_lines, joined, all_lines-lf, all_lines-byte}
 use Rattle.yasir_ticks.proofs.Items.{all_items_cons}
 use Rattle.yasir_ticks.proofs.Contents.{test_of, line_items-plain, without_return-same}
-use Rattle.yasir_ticks.proofs.Digits.{hex_digits, byte_items-right, silence_items-right}
+use Rattle.yasir_ticks.proofs.Writing.{full_bytes, last_bytes, full_silence, last_silence}
+use Rattle.yasir_ticks.proofs.Digits.{byte_items-right, silence_items-right}
+use Rattle.yasir_ticks.proofs.hex_digits.Decoding.{hex_digits}
 use Rattle.yasir_ticks.proofs.Digits.{is_plain_decimal-more, number_after-append}
 
 -- ---- one line
@@ -113,39 +114,30 @@ adds-bytes l all some few =
     adds-line is_hex_digit 43 (encode_lower l) (byte_ticks l) refl (λ e. absurd (omega arith))
     digits stands
 
--- so many lines of bytes, from one of them on
-adds-lines : (l : List ℕ) (a n : ℕ) → All (λ b. b < 256) l → 32 * (a + n) ≤ length l + 31
-    → Adds (flat_map (λ i. byte_line (take 32 (drop (32 * i) l))) (range_with_len a n))
-    (byte_ticks (take (32 * n) (drop (32 * a) l)))
-adds-lines l a zero all enough = let e : 32 * 0 ≡ 0 = omega arith in
-    adds-as [] [] [] (byte_ticks (take (32 * 0) (drop (32 * a) l))) refl
-    (ap (λ k. byte_ticks (take k (drop (32 * a) l))) (sym e)) adds-nil
-adds-lines l a (suc n) all enough =
-    let here : 1 ≤ length (take 32 (drop (32 * a) l)) =
-    simp (length-take, length-drop) (omega arith) in
-    let few : length (take 32 (drop (32 * a) l)) ≤ 32 = simp length-take (omega arith) in
-    let bytes_here : All (λ b. b < 256) (take 32 (drop (32 * a) l)) =
-    All-take (λ b. b < 256) 32 (drop (32 * a) l) (All-drop (λ b. b < 256) (32 * a) l all) in
-    let enough' : 32 * (a + 1 + n) ≤ length l + 31 = omega arith in
-    let step : 32 * suc n ≡ 32 + 32 * n = omega arith in
-    let next : 32 * a + 32 ≡ 32 * (a + 1) = omega arith in
-    let items : byte_ticks (take 32 (drop (32 * a) l))
-    ++ byte_ticks (take (32 * n) (drop (32 * (a + 1)) l))
-    ≡ byte_ticks (take (32 * suc n) (drop (32 * a) l)) =
-    sym (ap (λ k. byte_ticks (take k (drop (32 * a) l))) step
-    ∙ (ap byte_ticks (take-add 32 (32 * n) (drop (32 * a) l))
-    ∙ (map-append (λ b. tick (Byte b)) (take 32 (drop (32 * a) l))
-    (take (32 * n) (drop 32 (drop (32 * a) l)))
-    ∙ ap (λ x. byte_ticks (take 32 (drop (32 * a) l)) ++ byte_ticks (take (32 * n) x))
-    (drop-drop 32 (32 * a) l ∙ ap (λ k. drop k l) next)))) in
-    let first : List ℕ = byte_line (take 32 (drop (32 * a) l)) in
-    let others : List ℕ = flat_map (λ i. byte_line (take 32 (drop (32 * i) l)))
-    (range_with_len (a + 1) n) in
-    adds-as (first ++ others) (first ++ others) _ _ refl items
-    (adds-append first others (byte_ticks (take 32 (drop (32 * a) l)))
-    (byte_ticks (take (32 * n) (drop (32 * (a + 1)) l)))
-    (adds-bytes (take 32 (drop (32 * a) l)) bytes_here here few)
-    (adds-lines l (a + 1) n all enough'))
+-- a stretch of at most n bytes
+adds-lines : (n : ℕ) (l : List ℕ) → length l ≤ n → All (λ b. b < 256) l
+    → Adds (stretch_lines (bytes l)) (byte_ticks l)
+adds-lines n [] within all = adds-nil
+adds-lines zero (b ∷ l) within all = absurd (omega arith)
+adds-lines (suc n) (b ∷ l) within all = elim (cases_lt (length (b ∷ l)) 33) [
+  | inl few ↦ adds-as (byte_line (b ∷ l)) (stretch_lines (bytes (b ∷ l))) (byte_ticks (b ∷ l))
+      (byte_ticks (b ∷ l)) (sym (last_bytes (b ∷ l) (omega arith) (omega arith))) refl
+      (adds-bytes (b ∷ l) all (omega arith) (omega arith))
+  | inr many ↦
+      let front = take 32 (b ∷ l) in
+      let rest = drop 32 (b ∷ l) in
+      let full : length front ≡ 32 = omega (arith, length-take 32 (b ∷ l)) in
+      let fewer : length rest ≤ n = omega (arith, length-drop 32 (b ∷ l)) in
+      let whole : front ++ rest ≡ b ∷ l = take-append-drop 32 (b ∷ l) in
+      adds-as (byte_line front ++ stretch_lines (bytes rest)) (stretch_lines (bytes (b ∷ l)))
+      (byte_ticks front ++ byte_ticks rest) (byte_ticks (b ∷ l))
+      (sym (full_bytes front rest full) ∙ ap (λ x. stretch_lines (bytes x)) whole)
+      (sym (map-append (λ b. tick (Byte b)) front rest) ∙ ap byte_ticks whole)
+      (adds-append (byte_line front) (stretch_lines (bytes rest)) (byte_ticks front)
+      (byte_ticks rest)
+      (adds-bytes front (All-take (λ b. b < 256) 32 (b ∷ l) all) (omega arith) (omega arith))
+      (adds-lines n rest fewer (All-drop (λ b. b < 256) 32 (b ∷ l) all)))
+]
 
 -- ---- silence
 
@@ -194,30 +186,31 @@ adds-silence n some few =
     adds-line is_decimal_digit 45 (decimal n) (replicate n (tick Silent)) refl
     (λ e. absurd (omega arith)) digits stands
 
--- full lines, of a size that one line may have, and then what is left
-adds-full : (size full : ℕ) → 0 < size → size ≤ 1000000
-    → Adds (flat_map silence_line (replicate full size)) (replicate (size * full) (tick Silent))
-adds-full size zero some few = let e : size * 0 ≡ 0 = omega arith in
-    adds-as [] [] [] (replicate (size * 0) (tick Silent)) refl
-    (ap (λ k. replicate k (tick Silent)) (sym e)) adds-nil
-adds-full size (suc full) some few =
-    let e : size + size * full ≡ size * suc full = omega arith in
-    adds-as (silence_line size ++ flat_map silence_line (replicate full size))
-    (silence_line size ++ flat_map silence_line (replicate full size)) _ _ refl
-    (replicate-append-replicate size (size * full) (tick Silent)
-    ∙ ap (λ k. replicate k (tick Silent)) e)
-    (adds-append (silence_line size) (flat_map silence_line (replicate full size))
-    (replicate size (tick Silent)) (replicate (size * full) (tick Silent))
-    (adds-silence size some few) (adds-full size full some few))
+-- a filled line, and then a stretch
+adds-more : (full m k : ℕ) → full ≡ 1000000 → full + m ≡ k
+    → Adds (stretch_lines (silence m)) (replicate m (tick Silent))
+    → Adds (stretch_lines (silence k)) (replicate k (tick Silent))
+adds-more full m k is sum rest = adds-as (silence_line full ++ stretch_lines (silence m))
+    (stretch_lines (silence k)) (replicate full (tick Silent) ++ replicate m (tick Silent))
+    (replicate k (tick Silent))
+    (sym (full_silence full m is) ∙ ap (λ n. stretch_lines (silence n)) sum)
+    (replicate-append-replicate full m (tick Silent) ∙ ap (λ n. replicate n (tick Silent)) sum)
+    (adds-append (silence_line full) (stretch_lines (silence m)) (replicate full (tick Silent))
+    (replicate m (tick Silent)) (adds-silence full (omega arith) (omega arith)) rest)
 
-adds-left : (left : ℕ) → left ≤ 1000000
-    → Adds (cond (left == 0) [] (silence_line left)) (replicate left (tick Silent))
-adds-left zero few = adds-nil
-adds-left (suc left) few =
-    let e : (suc left == 0) ≡ false = test_of (suc left) 0 (λ e. absurd (omega arith)) in
-    adds-as (silence_line (suc left)) (cond (suc left == 0) [] (silence_line (suc left)))
-    (replicate (suc left) (tick Silent)) (replicate (suc left) (tick Silent)) (sym (rw e refl))
-    refl (adds-silence (suc left) (omega arith) few)
+-- a stretch of k silent ticks, at most n
+adds-silences : (n k : ℕ) → k ≤ n
+    → Adds (stretch_lines (silence k)) (replicate k (tick Silent))
+adds-silences n zero within = adds-nil
+adds-silences zero (suc k) within = absurd (omega arith)
+adds-silences (suc n) (suc k) within = elim (cases_lt (suc k) 1000001) [
+  | inl few ↦ adds-as (silence_line (suc k)) (stretch_lines (silence (suc k)))
+      (replicate (suc k) (tick Silent)) (replicate (suc k) (tick Silent))
+      (sym (last_silence (suc k) (omega arith) (omega arith))) refl
+      (adds-silence (suc k) (omega arith) (omega arith))
+  | inr many ↦ adds-more 1000000 (suc k - 1000000) (suc k) refl (omega arith)
+      (adds-silences n (suc k - 1000000) (omega arith))
+]
 
 -- ---- stretches
 
@@ -234,29 +227,8 @@ AreRight [] = Unit {0}
 AreRight (s ∷ more) = IsRight s × AreRight more
 
 adds-stretch : (s : Stretch) → IsRight s → Adds (stretch_lines s) (items_of_stretch s)
-adds-stretch (bytes l) right =
-    let enough : 32 * (0 + (length l + 31) / 32) ≤ length l + 31 = omega arith in
-    let all : length (drop (32 * 0) l) ≤ 32 * ((length l + 31) / 32) =
-    simp length-drop (omega arith) in
-    let e : 32 * 0 ≡ 0 = omega arith in
-    adds-as (stretch_lines (bytes l)) (stretch_lines (bytes l))
-    (byte_ticks (take (32 * ((length l + 31) / 32)) (drop (32 * 0) l))) (byte_ticks l) refl
-    (ap byte_ticks (take_all (32 * ((length l + 31) / 32)) (drop (32 * 0) l) all
-    ∙ ap (λ k. drop k l) e))
-    (adds-lines l 0 ((length l + 31) / 32) right enough)
-adds-stretch (silence n) right =
-    let left : n % 1000000 ≤ 1000000 = omega arith in
-    let e : 1000000 * (n / 1000000) + n % 1000000 ≡ n = omega arith in
-    adds-as (stretch_lines (silence n)) (stretch_lines (silence n))
-    (replicate (1000000 * (n / 1000000)) (tick Silent) ++ replicate (n % 1000000) (tick Silent))
-    (replicate n (tick Silent)) refl
-    (replicate-append-replicate (1000000 * (n / 1000000)) (n % 1000000) (tick Silent)
-    ∙ ap (λ k. replicate k (tick Silent)) e)
-    (adds-append (flat_map silence_line (replicate (n / 1000000) 1000000))
-    (cond (n % 1000000 == 0) [] (silence_line (n % 1000000)))
-    (replicate (1000000 * (n / 1000000)) (tick Silent)) (replicate (n % 1000000) (tick Silent))
-    (adds-full 1000000 (n / 1000000) (omega arith) (omega arith))
-    (adds-left (n % 1000000) left))
+adds-stretch (bytes l) right = adds-lines (length l) l (omega arith) right
+adds-stretch (silence n) right = adds-silences n n (omega arith)
 
 adds-stretches : (parts : List Stretch) → AreRight parts
     → Adds (flat_map stretch_lines parts) (flat_map items_of_stretch parts)

@@ -8,17 +8,12 @@ pub mod Readers
 pub mod Completions
 pub mod Feeding
 pub mod ManyBytes
-pub mod PairLanes
 pub mod WholeLines
 pub mod BurstsOfLaws
 pub mod SilenceLaws
 pub mod TickRuns
-pub mod HexValues
 pub mod Worked
 pub mod TextLaws
 pub mod Writing
 pub mod Writers
 pub mod CanonicalLaws
-pub mod DigitLookups
-pub mod DigitEncoding
-pub mod DigitsAdded

@@ -29,8 +29,9 @@ use Rattle.yasir_ticks.proofs.Contents.{test_of, line_items-plain, without_retur
 use Rattle.yasir_ticks.proofs.Contents.{line_items-byte, line_items-return, line_items-return_open}
 use Rattle.yasir_ticks.proofs.Contents.{line_items-return_inside, mark_items-bad}
 use Rattle.yasir_ticks.proofs.Items.{marks_in-content}
-use Rattle.yasir_ticks.proofs.Digits.{hex_digits, hex_length, byte_items-bad, byte_items-odd}
-use Rattle.yasir_ticks.proofs.Digits.{byte_items-long, byte_items-right, decode_of-more}
+use Rattle.yasir_ticks.proofs.Digits.{byte_items-bad, byte_items-odd}
+use Rattle.yasir_ticks.proofs.Digits.{byte_items-long, byte_items-right}
+use Rattle.yasir_ticks.proofs.hex_digits.Decoding.{hex_digits, hex_length, decode_of-more}
 use Rattle.yasir_ticks.proofs.Digits.{silence_items-bad, silence_items-right, silence_items-big}
 use Rattle.yasir_ticks.proofs.Digits.{silence_items-zero, number_after-append, number_after-grows}
 use Rattle.yasir_ticks.proofs.Digits.{is_plain_decimal-more}

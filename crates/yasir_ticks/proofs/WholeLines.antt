@@ -26,32 +26,15 @@ use Rattle.yasir_ticks.specs.declared.place.Content.TheVariants.{NoTick, KeptByt
 use Rattle.yasir_ticks.specs.declared.place.Content.TheVariants.{OneMark}
 use Rattle.yasir_ticks.specs.declared.place.Place.TheVariants.{Start}
 use Rattle.yasir_ticks.specs.declared.reader.TickReader.{TickReader}
-use Rattle.yasir_ticks.proofs.Digits.{hex_digits, is_plain_decimal-more, number_after-append}
-use Rattle.yasir_ticks.proofs.Digits.{decode_of-more}
-use Rattle.yasir_ticks.proofs.Lines.{lines_of-lf, lines_of-more}
+use Rattle.yasir_ticks.proofs.Digits.{is_plain_decimal-more, number_after-append}
+use Rattle.yasir_ticks.proofs.hex_digits.Decoding.{hex_digits, decode_of-more, take_pair}
+use Rattle.yasir_ticks.proofs.Lines.{IsFree, lines_of-lf, lines_of-free}
 use Rattle.yasir_ticks.proofs.Items.{marks_in-append, marks_in-content}
 use Rattle.yasir_ticks.proofs.Feeding.{items_lf, items_whole, accepted_at, accepted_items}
 use Rattle.yasir_ticks.proofs.Feeding.{refused_at}
 use Rattle.yasir_ticks.proofs.Steps.{closes_pairs, closes_number, closes_comment}
 use Rattle.yasir_ticks.proofs.Completions.{begins_at}
-use Rattle.yasir_ticks.proofs.ManyBytes.{goes_on_fed, text_more, take_pair}
-
--- bytes without an LF
-abbrev pub IsFree : List ℕ → Type 0
-IsFree line = (k : ℕ) → k < length line → get_or line k 0 ≢ 10
-
--- they go on with the last line
-lines_of-free : (more text : List ℕ) → IsFree more → lines_of (text ++ more)
-    ≡ record { ended = (lines_of text).ended; last = (lines_of text).last ++ more }
-lines_of-free [] text free = rw (append-nil text, append-nil (lines_of text).last) refl
-lines_of-free (b ∷ more) text free =
-    let first : b ≢ 10 = free 0 (omega arith) in
-    ap lines_of (sym (append_assoc text (b ∷ []) more))
-    ∙ lines_of-free more (text ++ b ∷ []) (λ k h. free (suc k) (omega arith))
-    ∙ ap (λ (x : Lines). record { ended = x.ended; last = x.last ++ more })
-    (lines_of-more text b first)
-    ∙ ap (λ l. record { ended = (lines_of text).ended; last = l })
-    (append_assoc (lines_of text).last (b ∷ []) more)
+use Rattle.yasir_ticks.proofs.ManyBytes.{goes_on_fed, text_more}
 
 -- an LF behind a last line that stands for these items
 line_ends : (text new_bytes : List ℕ) (line left marks : ℕ) (own : List Item)

@@ -32,7 +32,7 @@ shifted f g a (suc n) same =
     ∙ ap (λ x. g a ++ x) (shifted f g (a + 1) n same)
 
 -- a filled line, and then the lines of what follows
-full_bytes : (l m : List ℕ) → length l ≡ 32
+pub full_bytes : (l m : List ℕ) → length l ≡ 32
     → stretch_lines (bytes (l ++ m)) ≡ byte_line l ++ stretch_lines (bytes m)
 full_bytes l m full =
     let count : (length (l ++ m) + 31) / 32 ≡ suc ((length m + 31) / 32) =
@@ -51,7 +51,7 @@ full_bytes l m full =
         ∙ ap (λ x. byte_line (take 32 x)) (drop-append-add l m (32 * i))
 
 -- a line alone
-last_bytes : (l : List ℕ) → 0 < length l → length l ≤ 32 → stretch_lines (bytes l) ≡ byte_line l
+pub last_bytes : (l : List ℕ) → 0 < length l → length l ≤ 32 → stretch_lines (bytes l) ≡ byte_line l
 last_bytes l some few =
     let count : (length l + 31) / 32 ≡ 1 = omega arith in
     ap (λ n. flat_map (line_at l) (range_with_len 0 n)) count ∙ append-nil (byte_line (take 32 l))
@@ -138,7 +138,7 @@ unfolding silence_lines
 silence_lines-last left some =
     cond-false (left == 0) [] (silence_line left) (test_of left 0 (λ e. absurd (omega arith)))
 
-full_silence : (n m : ℕ) → n ≡ 1000000
+pub full_silence : (n m : ℕ) → n ≡ 1000000
     → stretch_lines (silence (n + m)) ≡ silence_line n ++ stretch_lines (silence m)
 full_silence n m full =
     lines_of_silence (n + m) (suc (m / 1000000)) (m % 1000000) (omega arith) (omega arith)
@@ -151,7 +151,7 @@ last_full : (n : ℕ) → n ≡ 1000000 → silence_line 1000000 ++ silence_line
 unfolding silence_lines
 last_full n full = append-nil (silence_line 1000000) ∙ ap silence_line (sym full)
 
-last_silence : (n : ℕ) → 0 < n → n ≤ 1000000 → stretch_lines (silence n) ≡ silence_line n
+pub last_silence : (n : ℕ) → 0 < n → n ≤ 1000000 → stretch_lines (silence n) ≡ silence_line n
 last_silence n some few = elim (cases_lt n 1000000) [
   | inl less ↦ lines_of_silence n 0 n (omega arith) (omega arith) ∙ silence_lines-last n some
   | inr full ↦ lines_of_silence n 1 0 (omega arith) (omega arith) ∙ silence_lines-full 0 0

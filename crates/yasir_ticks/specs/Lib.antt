@@ -11,5 +11,4 @@ pub mod ReaderStep
 pub mod Line
 pub mod Writer
 pub mod Slices
-pub mod Pairs
 pub mod HexDigits

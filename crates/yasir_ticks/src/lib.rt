@@ -1,13 +1,8 @@
 //! Ticks of a serial line, and tick text: the recorded line that a program reads.
 #![tactic(auto)]
 
-mod digit;
-mod digit_lanes;
 mod fault;
-#[cfg(test)]
-mod hex_digit_tests;
 mod hex_digits;
-mod pairs;
 mod place;
 mod reader;
 mod run;

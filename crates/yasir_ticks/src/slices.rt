@@ -3,7 +3,7 @@
 ghost use Rattle.std.specs.Prelude.{◌≡◌, ◌≤◌, length, take};
 
 use crate::TickReader;
-use crate::digit::hex_value;
+use crate::hex_digits::hex_value;
 use crate::place::Place;
 use crate::reader::MAX_COMMENT;
 use memchr::memchr;

@@ -4,8 +4,7 @@ ghost use Rattle.std.specs.Prelude.{IfSome, None};
 ghost use Rattle.yasir_ticks.specs.Characters.{line_feed, plus_sign, minus_sign, number_sign};
 ghost use Rattle.yasir_ticks.specs.Slices.{TakesWhole, IsSpelled, IsFewPairs, FeedsByte, FeedsLine};
 
-use crate::digit::hex_value;
-use crate::pairs::{Decoded, decode_front};
+use crate::hex_digits::{Decoded, decode_front, hex_value};
 use crate::place::{Content, Place};
 use crate::reader::MAX_COMMENT;
 use crate::{BadTicks, LineBytes, TickReader};
