@@ -1,56 +1,34 @@
 -- The canonical text of ticks stands for them, and for nothing else.
-use Rattle.std.proofs.Common.{◌≡◌, ◌≢◌, ◌∙◌, ◌==◌, ℕ, zero, suc, ◌+◌, ◌-◌, ◌/◌, ◌%◌, ◌^◌, ◌<◌, ◌≤◌}
-use Rattle.std.proofs.Common.{Bool, true, false, List, [], ◌∷◌, ◌++◌, length, map, take, drop}
+use Rattle.std.proofs.Common.{◌≡◌, ◌∙◌, ℕ, zero, suc, ◌+◌, ◌-◌, ◌/◌, ◌%◌, ◌^◌, ◌<◌, ◌≤◌}
+use Rattle.std.proofs.Common.{true, List, [], ◌∷◌, ◌++◌, length, map, take, drop}
 use Rattle.std.proofs.Common.{replicate, Some, get_or, refl, sym, ap, subst, arith, append_assoc}
-use Rattle.std.proofs.Common.{Ok, not, ◌⊎◌, inl, inr}
-use Rattle.std.specs.List.{flat_map, list_all, All}
+use Rattle.std.proofs.Common.{◌⊎◌, inl, inr}
+use Rattle.std.specs.List.{flat_map, All}
 use Rattle.std.specs.Fmt.{decimal}
-use Rattle.std.proofs.lemmas.Bool.{and_parts, both_ways, cases_lt}
+use Rattle.std.proofs.lemmas.Bool.{cases_lt}
 use Rattle.std.proofs.lemmas.Fmt.{decimal_by_steps}
 use Rattle.std.proofs.lemmas.List.{append-nil, map-append, length-take, get_or_past, take-append-drop}
 use Rattle.std.proofs.lemmas.List.{length-drop, replicate-append-replicate}
 use Rattle.std.proofs.lemmas.List.Elements.{All-nil, All-cons, All-take, All-drop, All-get_or}
-use Rattle.hex.specs.Hex.{encode_lower, decode_of, is_hex_digit, IsBytes}
+use Rattle.hex.specs.Hex.{encode_lower, IsBytes}
 use Rattle.hex.proofs.HexLemmas.{decode_of-encode_lower}
 use Rattle.yasir_ticks.specs.Ticks.{Item, IsTick, AreTicks, marks_in}
 use Rattle.yasir_ticks.specs.Ticks.Item.{tick}
 use Rattle.yasir_ticks.specs.TickText.{lines_of, line_items, all_items, is_decimal_digit}
-use Rattle.yasir_ticks.specs.TickText.{is_plain_decimal, number_after, ends_in_return}
-use Rattle.yasir_ticks.specs.TickText.{content_items, IsTickText}
+use Rattle.yasir_ticks.specs.TickText.{is_plain_decimal, number_after}
+use Rattle.yasir_ticks.specs.TickText.{IsTickText}
 use Rattle.yasir_ticks.specs.CanonicalText.{Stretch, stretches, with_tick, stretch_lines, byte_line}
 use Rattle.yasir_ticks.specs.CanonicalText.{silence_line, canonical_text}
 use Rattle.yasir_ticks.specs.CanonicalText.Stretch.{bytes, silence}
 use Rattle.yasir_ticks.specs.declared.tick.Tick.{Tick}
 use Rattle.yasir_ticks.specs.declared.tick.Tick.TheVariants.{Silent, Byte}
-use Rattle.yasir_ticks.proofs.Lines.{all_lines, joined, all_lines-lf, all_lines-byte}
+use Rattle.yasir_ticks.proofs.Lines.{all_lines, all_lines-line}
+use Rattle.yasir_ticks.proofs.Steps.{IsRightLine, pairs_right, number_right}
 use Rattle.yasir_ticks.proofs.Items.{all_items_cons}
-use Rattle.yasir_ticks.proofs.Contents.{test_of, line_items-plain, without_return-same}
 use Rattle.yasir_ticks.proofs.Writing.{full_bytes, last_bytes, full_silence, last_silence}
-use Rattle.yasir_ticks.proofs.Digits.{byte_items-right, silence_items-right}
-use Rattle.yasir_ticks.proofs.hex_digits.Decoding.{hex_digits}
 use Rattle.yasir_ticks.proofs.Digits.{is_plain_decimal-more, number_after-append}
 
 -- ---- one line
-
-module _ (test : ℕ → Bool) where
-  other : (b c : ℕ) → test b ≡ false → test c ≡ true → c ≢ b
-  other b c fails passes e = both_ways (test c) (ap test e ∙ fails) passes
-
-  -- content before an LF is the first line
-  first_line : test 10 ≡ false → (x more : List ℕ) → list_all test x ≡ true
-      → all_lines (x ++ 10 ∷ more) ≡ x ∷ all_lines more
-  first_line fails [] more h = all_lines-lf more
-  first_line fails (c ∷ x) more h =
-      let parts = and_parts (test c) (list_all test x) h in
-      all_lines-byte c (x ++ 10 ∷ more) (other 10 c fails parts.0)
-      ∙ ap (λ ls. joined (c ∷ []) ls) (first_line fails x more parts.1)
-
-  no_return : test 13 ≡ false → (c : ℕ) (x : List ℕ) → (c == 13) ≡ false → list_all test x ≡ true
-      → ends_in_return (c ∷ x) ≡ false
-  no_return fails c [] h all = h
-  no_return fails c (d ∷ x) h all =
-      let parts = and_parts (test d) (list_all test x) all in
-      no_return fails d x (test_of d 13 (other 13 d fails parts.0)) parts.1
 
 -- the text of these lines, whatever lines follow
 abbrev Adds : List ℕ → List Item → Type 0
@@ -71,14 +49,12 @@ adds-as x y i j e f adds more others h =
     ap (λ t. all_items (all_lines (t ++ more))) (sym e)
     ∙ (adds more others h ∙ ap (λ items. Some (items ++ others)) f)
 
-adds-line : (test : ℕ → Bool) (sign : ℕ) (content : List ℕ) (items : List Item) → test 10 ≡ false
-    → sign ≢ 10 → list_all test content ≡ true
-    → line_items (sign ∷ content) ≡ Some items → Adds (sign ∷ (content ++ 10 ∷ [])) items
-adds-line test sign content items fails other_sign all stands more others h =
-    ap (λ t. all_items (all_lines (sign ∷ t))) (append_assoc content (10 ∷ []) more)
-    ∙ (ap all_items (all_lines-byte sign (content ++ 10 ∷ more) other_sign
-    ∙ ap (λ ls. joined (sign ∷ []) ls) (first_line test fails content more all))
-    ∙ all_items_cons (sign ∷ content) (all_lines more) items others stands h)
+adds-line : (line : List ℕ) (items : List Item) → IsRightLine line items
+    → Adds (line ++ 10 ∷ []) items
+adds-line line items right more others h =
+    ap (λ t. all_items (all_lines t)) (append_assoc line (10 ∷ []) more)
+    ∙ ap all_items (all_lines-line line more right.free)
+    ∙ all_items_cons line (all_lines more) items others right.stands h
 
 -- ---- bytes
 
@@ -102,17 +78,8 @@ bytes_from (b ∷ l) all i = at_index i (within (length (b ∷ l)) i)
 
 adds-bytes : (l : List ℕ) → All (λ b. b < 256) l → 1 ≤ length l → length l ≤ 32
     → Adds (byte_line l) (byte_ticks l)
-adds-bytes l all some few =
-    let decoded : decode_of (encode_lower l) ≡ Ok l = decode_of-encode_lower l (bytes_from l all) in
-    let digits : list_all is_hex_digit (encode_lower l) ≡ true =
-    hex_digits (encode_lower l) l decoded in
-    let stands : line_items (43 ∷ encode_lower l) ≡ Some (byte_ticks l) =
-    line_items-plain (43 ∷ encode_lower l) refl
-    ∙ (ap content_items (without_return-same (43 ∷ encode_lower l)
-    (no_return is_hex_digit refl 43 (encode_lower l) refl digits))
-    ∙ byte_items-right (encode_lower l) l decoded some few) in
-    adds-line is_hex_digit 43 (encode_lower l) (byte_ticks l) refl (λ e. absurd (omega arith))
-    digits stands
+adds-bytes l all some few = adds-line (43 ∷ encode_lower l) (byte_ticks l)
+    (pairs_right (encode_lower l) l (decode_of-encode_lower l (bytes_from l all)) (omega arith) few)
 
 -- a stretch of at most n bytes
 adds-lines : (n : ℕ) (l : List ℕ) → length l ≤ n → All (λ b. b < 256) l
@@ -168,23 +135,12 @@ counts n some fits = decimal_by_steps (λ n digits. 0 < n → IsCount n digits) 
           number = number_after-append 0 digits (48 + n % 10) [] ∙ omega arith;
         }
 
-digits_of_count : (x : List ℕ) → is_plain_decimal x ≡ true → list_all is_decimal_digit x ≡ true
-digits_of_count [] h = refl
-digits_of_count (c ∷ x) h = (and_parts (not (c == 48)) (list_all is_decimal_digit (c ∷ x)) h).1
-
 adds-silence : (n : ℕ) → 0 < n → n ≤ 1000000 → Adds (silence_line n) (replicate n (tick Silent))
 adds-silence n some few =
     let fits : n < 2 ^ 64 = omega arith in
     let count : IsCount n (decimal n) = counts n some fits in
-    let digits : list_all is_decimal_digit (decimal n) ≡ true =
-    digits_of_count (decimal n) count.plain in
-    let stands : line_items (45 ∷ decimal n) ≡ Some (replicate n (tick Silent)) =
-    line_items-plain (45 ∷ decimal n) refl
-    ∙ (ap content_items (without_return-same (45 ∷ decimal n)
-    (no_return is_decimal_digit refl 45 (decimal n) refl digits))
-    ∙ silence_items-right (decimal n) n count.plain count.number few) in
-    adds-line is_decimal_digit 45 (decimal n) (replicate n (tick Silent)) refl
-    (λ e. absurd (omega arith)) digits stands
+    adds-line (45 ∷ decimal n) (replicate n (tick Silent))
+    (number_right (decimal n) n count.plain count.number few)
 
 -- a filled line, and then a stretch
 adds-more : (full m k : ℕ) → full ≡ 1000000 → full + m ≡ k

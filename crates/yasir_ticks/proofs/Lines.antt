@@ -2,6 +2,8 @@
 use Rattle.std.proofs.Common.{◌≡◌, ◌≢◌, ◌∙◌, ◌==◌, ℕ, zero, suc, Bool, true, false, List, [], ◌∷◌}
 use Rattle.std.proofs.Common.{◌++◌, ◌<◌, replicate, length, get_or, refl, ap, cond, arith}
 use Rattle.std.proofs.Common.{append_assoc, append-nil}
+use Rattle.std.specs.List.{list_all}
+use Rattle.std.proofs.lemmas.Bool.{and_parts}
 use Rattle.yasir_ticks.specs.TickText.{Lines, lines_of, with_front}
 
 -- all lines of a text, the last one too
@@ -103,6 +105,26 @@ pub all_lines-byte : (b : ℕ) (x : List ℕ) → b ≢ 10
     → all_lines (b ∷ x) ≡ joined (b ∷ []) (all_lines x)
 unfolding lines_of
 all_lines-byte b x h = all_lines-append (b ∷ []) x ∙ rw (test_of b h) refl
+
+-- bytes that pass a test which an LF doesn't have none
+pub free_passing : (test : ℕ → Bool) (line : List ℕ) → test 10 ≡ false
+    → list_all test line ≡ true → IsFree line
+free_passing test [] bad all k h = absurd (omega arith)
+free_passing test (b ∷ line) bad all zero h = λ e.
+    let parts = and_parts (test b) (list_all test line) all in cc (rw e at parts.0, bad)
+free_passing test (b ∷ line) bad all (suc k) h =
+    free_passing test line bad (and_parts (test b) (list_all test line) all).1 k (omega arith)
+
+pub free_behind : (sign : ℕ) (line : List ℕ) → sign ≢ 10 → IsFree line → IsFree (sign ∷ line)
+free_behind sign line other free zero h = other
+free_behind sign line other free (suc k) h = free k (omega arith)
+
+-- a line and its LF
+pub all_lines-line : (line more : List ℕ) → IsFree line
+    → all_lines (line ++ 10 ∷ more) ≡ line ∷ all_lines more
+all_lines-line line more free = all_lines-append line (10 ∷ more)
+    ∙ ap (λ (l : Lines). l.ended ++ joined l.last (all_lines (10 ∷ more))) (one_line line free)
+    ∙ ap (joined line) (all_lines-lf more) ∙ ap (λ l. l ∷ all_lines more) (append-nil line)
 
 -- there is a first line
 pub all_lines-first : (x : List ℕ) → (l : List ℕ) × (ls : List (List ℕ)) × (all_lines x ≡ l ∷ ls)
