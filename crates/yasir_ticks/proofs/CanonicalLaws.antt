@@ -1,8 +1,8 @@
 -- The canonical text of ticks stands for them, and for nothing else.
 use Rattle.std.proofs.Common.{◌≡◌, ◌∙◌, ℕ, zero, suc, ◌+◌, ◌-◌, ◌/◌, ◌%◌, ◌^◌, ◌<◌, ◌≤◌}
 use Rattle.std.proofs.Common.{true, List, [], ◌∷◌, ◌++◌, length, map, take, drop}
-use Rattle.std.proofs.Common.{replicate, Some, get_or, refl, sym, ap, subst, arith, append_assoc}
-use Rattle.std.proofs.Common.{◌⊎◌, inl, inr}
+use Rattle.std.proofs.Common.{replicate, Some, refl, sym, ap, subst, arith, append_assoc}
+use Rattle.std.proofs.Common.{inl, inr}
 use Rattle.std.specs.List.{flat_map, All}
 use Rattle.std.specs.Fmt.{decimal}
 use Rattle.std.proofs.lemmas.Bool.{cases_lt}
@@ -12,7 +12,7 @@ use Rattle.std.proofs.lemmas.List.{length-drop, replicate-append-replicate}
 use Rattle.std.proofs.lemmas.List.Elements.{All-nil, All-cons, All-take, All-drop, All-get_or}
 use Rattle.hex.specs.Hex.{encode_lower, IsBytes}
 use Rattle.hex.proofs.HexLemmas.{decode_of-encode_lower}
-use Rattle.yasir_ticks.specs.Ticks.{Item, IsTick, AreTicks, marks_in}
+use Rattle.yasir_ticks.specs.Ticks.{Item, IsTick, AreTicks, marks_in, ticks_in}
 use Rattle.yasir_ticks.specs.Ticks.Item.{tick}
 use Rattle.yasir_ticks.specs.TickText.{lines_of, line_items, all_items, is_decimal_digit}
 use Rattle.yasir_ticks.specs.TickText.{is_plain_decimal, number_after}
@@ -25,6 +25,7 @@ use Rattle.yasir_ticks.specs.declared.tick.Tick.TheVariants.{Silent, Byte}
 use Rattle.yasir_ticks.proofs.Lines.{all_lines, all_lines-line}
 use Rattle.yasir_ticks.proofs.Steps.{IsRightLine, pairs_right, number_right}
 use Rattle.yasir_ticks.proofs.Items.{all_items_cons}
+use Rattle.yasir_ticks.proofs.TickRuns.{ticks_in-ticks}
 use Rattle.yasir_ticks.proofs.Writing.{full_bytes, last_bytes, full_silence, last_silence}
 use Rattle.yasir_ticks.proofs.Digits.{is_plain_decimal-more, number_after-append}
 
@@ -62,19 +63,10 @@ abbrev byte_ticks : List ℕ → List Item
 byte_ticks l = map (λ b. tick (Byte b)) l
 
 bytes_from : (l : List ℕ) → All (λ b. b < 256) l → IsBytes l
-bytes_from [] all i = lit_zero i
-  where
-    lit_zero : (i : ℕ) → get_or [] i 0 < 256
-    lit_zero zero = omega arith
-    lit_zero (suc i) = omega arith
-bytes_from (b ∷ l) all i = at_index i (within (length (b ∷ l)) i)
-  where
-    within : (n i : ℕ) → (i < n) ⊎ (n ≤ i)
-    within n i = cases_lt i n
-
-    at_index : (i : ℕ) → (i < length (b ∷ l)) ⊎ (length (b ∷ l) ≤ i) → get_or (b ∷ l) i 0 < 256
-    at_index i (inl h) = All-get_or (λ x. x < 256) (b ∷ l) i 0 h all
-    at_index i (inr h) = rw (get_or_past (b ∷ l) i 0 h) (omega arith)
+bytes_from l all i = elim (cases_lt i (length l)) [
+  | inl h ↦ All-get_or (λ x. x < 256) l i 0 h all
+  | inr h ↦ rw (get_or_past l i 0 h) (omega arith)
+]
 
 adds-bytes : (l : List ℕ) → All (λ b. b < 256) l → 1 ≤ length l → length l ≤ 32
     → Adds (byte_line l) (byte_ticks l)
@@ -242,15 +234,6 @@ canonical_text-stands ticks are = record {
   marked = marks_in-ticks ticks;
 }
 
-map_tick-same : (a b : List Tick) → map tick a ≡ map tick b → a ≡ b
-map_tick-same [] [] h = refl
-map_tick-same [] (t ∷ b) h = cc
-map_tick-same (t ∷ a) [] h = cc
-map_tick-same (t ∷ a) (u ∷ b) h =
-    let first : t ≡ u = cc in
-    let others : map tick a ≡ map tick b = cc in
-    rw (first, map_tick-same a b others) refl
-
 -- and two lists with the same text are equal.
 pub canonical_text-same : (a b : List Tick) → AreTicks a → AreTicks b
     → canonical_text a ≡ canonical_text b → a ≡ b
@@ -260,7 +243,7 @@ canonical_text-same a b are bre same =
     let items : Some (map tick a) ≡ Some (map tick b) =
     sym text_a.lines ∙ (ap (λ t. all_items (all_lines t)) same ∙ text_b.lines) in
     let one : map tick a ≡ map tick b = cc in
-    map_tick-same a b one
+    sym (ticks_in-ticks a) ∙ (ap ticks_in one ∙ ticks_in-ticks b)
 
 -- So a text that is the canonical one stands for the ticks.
 pub whole_text : (ticks : List Tick) (text : List ℕ) → text ≡ canonical_text ticks → AreTicks ticks

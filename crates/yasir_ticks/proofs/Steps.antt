@@ -6,6 +6,7 @@ use Rattle.std.specs.List.{list_all}
 use Rattle.std.specs.Option.{option_map_or}
 use Rattle.std.proofs.lemmas.Bool.{both_ways, and_parts}
 use Rattle.std.proofs.lemmas.List.{length-append}
+use Rattle.std.proofs.lemmas.List.Folds.{list_all-append}
 use Rattle.hex.specs.Hex.{decode_of, decode_pairs, is_hex_digit, hex_digit_value}
 use Rattle.yasir_ticks.specs.Ticks.{Item, marks_in}
 use Rattle.yasir_ticks.specs.Ticks.Item.{mark}
@@ -76,15 +77,10 @@ pub plain_half_pair : (bytes digits : List ℕ) (digit high : ℕ) → decode_of
 plain_half_pair bytes digits digit high e v = record {
   apart = refl;
   whole = ends_in_return-none is_hex_digit refl 43 (digits ++ digit ∷ [])
-      (λ e. absurd (omega arith)) (all_more digits (hex_digits digits bytes e) (ap is_some v));
+      (λ e. absurd (omega arith))
+      (list_all-append is_hex_digit digits (digit ∷ [])
+      ∙ rw (hex_digits digits bytes e, ap is_some v) refl);
 }
-  where
-    all_more : (x : List ℕ) → list_all is_hex_digit x ≡ true → is_hex_digit digit ≡ true
-        → list_all is_hex_digit (x ++ digit ∷ []) ≡ true
-    all_more [] h g = rw g refl
-    all_more (c ∷ x) h g =
-        let parts = and_parts (is_hex_digit c) (list_all is_hex_digit x) h in
-        rw (parts.0, all_more x parts.1 g) refl
 
 pub plain_number : (digits : List ℕ) → is_plain_decimal digits ≡ true → IsPlain (45 ∷ digits)
 plain_number [] h = cc

@@ -140,13 +140,9 @@ lanes_greater a b p q = rw (greater_are a b) (HasLanes-zip2 lane_greater a b p q
 
 -- ---- lanes that are raised
 
-raised_by_steps : (a : ℕ) (t : Bool) → cond (top 7 (cond t 255 0)) a 143 ≡ cond t a 143
-raised_by_steps a true = refl
-raised_by_steps a false = refl
-
 raised_one : (a : ℕ) → add8 (min8 a 143) 112 ≡ lane_raised a
 raised_one a =
-    ap (λ m. add8 m 112) (raised_by_steps a (ltb a 143)) ∙ small a (cases_lt a 143)
+    ap (λ m. add8 m 112) (greater_by_steps 143 a (ltb a 143)) ∙ small a (cases_lt a 143)
   where
     small : (a : ℕ) → (a < 143) ⊎ (143 ≤ a) → add8 (cond (ltb a 143) a 143) 112 ≡ lane_raised a
     small a (inl less) = rw (lt-ltb a 143 less)
