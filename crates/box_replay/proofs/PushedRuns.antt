@@ -8,6 +8,7 @@ use Rattle.std.proofs.lemmas.List.{replicate-append-replicate}
 use Rattle.std.specs.Io.KnownBytes.{append_known}
 use Rattle.std.specs.Prelude.{OnOk, OnErr}
 use Rattle.std.proofs.lemmas.Result.{on_ok_weaker, on_err_weaker}
+use Rattle.yasir_io.specs.declared.Failed.{Failed}
 use Rattle.yasir_io.specs.Output.{Buffered, GotPrefix}
 use Rattle.yasir_io.proofs.OutputLemmas.{append_known-twice}
 use Rattle.yasir_ticks.specs.Writer.{HasWritten}
@@ -123,6 +124,14 @@ pushes_as x y w0 w1 s0 s1 run note pushed = record {
     notes_first = elim pushed.pushes.notes_first [ inl s ↦ inl s | inr l ↦ inr l ];
   };
 }
+
+-- what was pushed is the whole run
+pub pushes_whole : (w0 w1 : Waiting) (s0 s1 : SinkTexts) (some all : List Tick) → some ≡ all
+    → PushesTicks {T = Unit {0}} {E = Unit {0}} w0 w1 s0 s1 some [] (Ok tt)
+    → PushesTicks {T = Unit {0}} {E = Failed} w0 w1 s0 s1 all [] (Ok tt)
+pushes_whole w0 w1 s0 s1 some all is pushed =
+    subst (λ x. PushesTicks {T = Unit {0}} {E = Failed} w0 w1 s0 s1 x [] (Ok tt)) is
+    (pushes_as tt tt w0 w1 s0 s1 some [] pushed)
 
 pub pushes_failed : {X T E : Type 0} (e : E) (w0 w1 : Waiting) (s0 s1 : SinkTexts)
     (run : List Tick) (note : List ℕ)

@@ -1,5 +1,6 @@
 use Rattle.std.proofs.Common.{[], length, map, take, drop, Ok, Err, ap, subst}
-use Rattle.std.proofs.Common.{arith}
+use Rattle.std.proofs.Common.{arith, ◌≡◌}
+use Rattle.std.proofs.lemmas.List.{take_all}
 use Rattle.std.proofs.Common.{ℕ, length-drop}
 use Rattle.yasir_io.specs.declared.Failed.{Failed}
 use Rattle.yasir_io.specs.TextBuffer.{waiting_bytes}
@@ -7,6 +8,7 @@ use Rattle.yasir_io.proofs.FlushLaws.{none_flushed, none_flushed_then}
 use Rattle.yasir_ticks.specs.declared.tick.Tick.TheVariants.{Byte}
 use Rattle.box_replay.specs.Sending.{Waiting, SinkTexts, sink_texts, waiting, PushesTicks}
 use Rattle.box_replay.proofs.PushedRuns.{pushes_none, pushes_as, pushes_failed, pushes_then}
+use Rattle.box_replay.proofs.PushedRuns.{pushes_whole}
 use Rattle.box_replay.proofs.PushedRuns.{cause_none, cause_as, cause_then, bytes_on, bytes_whole}
 use Rattle.box_replay.proofs.PushedRuns.{slice_rest}
 use Rattle.box_replay.proofs.runs.push_bytes.Goals as goal
@@ -83,3 +85,9 @@ returns-in-Err-clause-pushes g c =
     (subst (λ x. PushesTicks {T = ℕ} {E = Failed} w1 w2 s1 s2 (map Byte x) []
     (Err c.in-Err.field-0))
     (slice_rest c.args.bytes.now c.loop-done.done) c.in-Err.ensures.err)))
+
+pub returns-clause-pushes : goal.returns-clause-pushes
+returns-clause-pushes g c =
+    let all : take c.loop-done.done c.args.bytes.now ≡ c.args.bytes.now =
+    take_all c.loop-done.done c.args.bytes.now (omega arith) in
+    pushes_whole _ _ _ _ _ _ (ap (map Byte) all) c.loop-done.invariant.pushes

@@ -6,6 +6,7 @@ use Rattle.yasir_io.proofs.FlushLaws.{none_flushed, none_flushed_then}
 use Rattle.yasir_ticks.specs.Ticks.{silent}
 use Rattle.box_replay.specs.Sending.{Waiting, SinkTexts, sink_texts, waiting, PushesTicks}
 use Rattle.box_replay.proofs.PushedRuns.{pushes_none, pushes_as, pushes_failed, pushes_then}
+use Rattle.box_replay.proofs.PushedRuns.{pushes_whole}
 use Rattle.box_replay.proofs.PushedRuns.{cause_none, cause_as, cause_then}
 use Rattle.box_replay.proofs.PushedRuns.{silent_on}
 use Rattle.box_replay.proofs.runs.push_long_silence.Goals as goal
@@ -71,3 +72,8 @@ returns-in-Err-clause-pushes g c =
     (Err c.in-Err.field-0) c.loop-done.invariant.pushes
     (pushes_failed c.in-Err.field-0 w1 w2 s1 s2 (silent (c.args.count - c.loop-done.done)) []
     c.in-Err.ensures.err))
+
+pub returns-clause-pushes : goal.returns-clause-pushes
+returns-clause-pushes g c =
+    let all : c.loop-done.done ≡ c.args.count = omega arith in
+    pushes_whole _ _ _ _ _ _ (ap silent all) c.loop-done.invariant.pushes
