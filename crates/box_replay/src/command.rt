@@ -14,7 +14,7 @@ use hmac_tag::Dir;
 use key_text::{KeyError, read_key};
 use replay_status::{Status, flush_both, status_of};
 use sequence_journal::{Journal, LinkId, LoadError};
-use tick_drive::{End, Stop, drive_to_rest};
+use tick_drive::{Driven, End, Stop, drive_to_rest};
 use yasir_io::{Failed, Sink, SlotDisk, Source};
 
 // Whether a write failed.
@@ -60,7 +60,13 @@ pub fn replay_keyed<B: LineBox, S: Source, O: Sink, L: Sink, D: SlotDisk>(
         Err(LoadError::WrongLink { slot }) => return Status::WrongLink { slot },
     };
     let mut lines = BoxLines::<B>::new(key, dir, journal);
-    let end = drive_to_rest(0, rest, input, &mut lines, out, log, disk);
+    let driven = Driven {
+        consumer: &mut lines,
+        out,
+        log,
+        disk,
+    };
+    let end = drive_to_rest(0, rest, input, driven);
     if is_write_stop(&end) {
         return Status::WriteFault;
     }

@@ -11,7 +11,7 @@ ghost use Rattle.replay_status.specs.Flushes.{FlushesAtEnd};
 use crate::frame_lines::FrameLines;
 use device_model::Device;
 use replay_status::{Status, flush_both, status_of};
-use tick_drive::{End, drive_to_rest};
+use tick_drive::{Driven, End, drive_to_rest};
 use yasir_io::{Failed, Sink, Source, SteadySlots};
 
 /// How many silent ticks stand behind a whole input, so that its last burst ends.
@@ -37,7 +37,13 @@ fn drive_frames<V: Device + Drop, S: Source, O: Sink, L: Sink>(
     ensures flushes { NoneFlushed O.Sink L.Sink out.old out.new log.old log.new }
 {
     let mut no_disk = SteadySlots::new([0; 24], [0; 24]);
-    drive_to_rest(0, REST, input, printer, out, log, &mut no_disk)
+    let driven = Driven {
+        consumer: printer,
+        out,
+        log,
+        disk: &mut no_disk,
+    };
+    drive_to_rest(0, REST, input, driven)
 }
 
 /// Prints a line for each frame that a device reads from the input.

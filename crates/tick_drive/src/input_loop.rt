@@ -2,11 +2,12 @@ ghost use Rattle.std.specs.Prelude.{◌≡◌, ℕ, ◌≤◌, length, IfOk};
 ghost use Rattle.yasir_ticks.specs.Ticks.{items_of_run, ticks_in};
 ghost use Rattle.yasir_ticks.specs.Reader.{items_of_content};
 ghost use Rattle.tick_drive.specs.Input.{IsReadCause, is_read_fault, max_ticks};
-ghost use Rattle.tick_drive.specs.Consumers.{state_of, MayTake, Gives};
+ghost use Rattle.tick_drive.specs.Consumers.{MayTake, Gives};
+ghost use Rattle.tick_drive.specs.Driven.{state_before, state_after};
 ghost use Rattle.tick_drive.specs.Drive.{Drives, IsFresh, HandAnswer};
 
 use crate::intake::Intake;
-use crate::{Consumer, End, Stop, TooMuch};
+use crate::{Consumer, Driven, End, Stop, TooMuch};
 use yasir_io::{Sink, SlotDisk, Source};
 use yasir_ticks::{Content, Run};
 
@@ -31,17 +32,19 @@ fn ticks_of(content: Content, bytes: &[u8]) -> u32
 fn give<O: Sink, L: Sink, D: SlotDisk, C: Consumer<O, L, D>>(
     content: Content,
     bytes: &[u8],
-    consumer: &mut C,
-    out: &mut O,
-    log: &mut L,
-    disk: &mut D,
+    driven: Driven<C, O, L, D>,
 ) -> Result<(), Stop>
-    requires { MayTake C.meaning consumer.old disk.old (items_of_content content bytes.now) }
-    ensures { Gives C.meaning O.Sink L.Sink D.SlotDisk
-        (state_of consumer.old out.old log.old disk.old)
-        (state_of consumer.new out.new log.new disk.new)
-        (items_of_content content bytes.now) result }
+    requires { MayTake C.meaning driven.consumer.now driven.disk.now
+        (items_of_content content bytes.now) }
+    ensures { Gives C.meaning O.Sink L.Sink D.SlotDisk (state_before driven.entry)
+        (state_after driven.exit) (items_of_content content bytes.now) result }
 {
+    let Driven {
+        consumer,
+        out,
+        log,
+        disk,
+    } = driven;
     match content {
         Content::NoTick => Ok(()),
         Content::KeptBytes => consumer.take_bytes(out, log, disk, bytes),
@@ -56,20 +59,16 @@ fn hand_over<O: Sink, L: Sink, D: SlotDisk, C: Consumer<O, L, D>>(
     ticks: u32,
     content: Content,
     bytes: &[u8],
-    consumer: &mut C,
-    out: &mut O,
-    log: &mut L,
-    disk: &mut D,
+    driven: Driven<C, O, L, D>,
 ) -> Result<u32, End>
     requires within { ticks ≤ max_ticks }
     requires short { length bytes.now ≤ 32 }
-    requires taken { C.meaning.taken consumer.old ≡ ticks }
-    requires able { C.meaning.able consumer.old disk.old }
+    requires taken { C.meaning.taken driven.consumer.now ≡ ticks }
+    requires able { C.meaning.able driven.consumer.now driven.disk.now }
     ensures handed { HandAnswer C.meaning O.Sink L.Sink D.SlotDisk
-        (state_of consumer.old out.old log.old disk.old)
-        (state_of consumer.new out.new log.new disk.new) ticks
+        (state_before driven.entry) (state_after driven.exit) ticks
         (items_of_content content bytes.now) result }
-    ensures taken { IfOk result (λ sum. C.meaning.taken consumer.new ≡ sum) }
+    ensures taken { IfOk result (λ sum. C.meaning.taken (state_after driven.exit).consumer ≡ sum) }
 {
     let sum = u64::from(ticks) + u64::from(ticks_of(content, bytes));
     if sum > u64::from(MAX_INPUT_TICKS) {
@@ -78,7 +77,7 @@ fn hand_over<O: Sink, L: Sink, D: SlotDisk, C: Consumer<O, L, D>>(
             count: sum,
         });
     }
-    match give(content, bytes, consumer, out, log, disk) {
+    match give(content, bytes, driven) {
         Ok(()) => Ok(sum as u32),
         Err(stop) => Err(End::Stopped(stop)),
     }
@@ -88,35 +87,19 @@ fn hand_over<O: Sink, L: Sink, D: SlotDisk, C: Consumer<O, L, D>>(
 fn hand_last<O: Sink, L: Sink, D: SlotDisk, C: Consumer<O, L, D>>(
     ticks: u32,
     run: &Run,
-    consumer: &mut C,
-    out: &mut O,
-    log: &mut L,
-    disk: &mut D,
+    driven: Driven<C, O, L, D>,
 ) -> Result<u32, End>
     requires within { ticks ≤ max_ticks }
-    requires taken { C.meaning.taken consumer.old ≡ ticks }
-    requires able { C.meaning.able consumer.old disk.old }
+    requires taken { C.meaning.taken driven.consumer.now ≡ ticks }
+    requires able { C.meaning.able driven.consumer.now driven.disk.now }
     ensures handed { HandAnswer C.meaning O.Sink L.Sink D.SlotDisk
-        (state_of consumer.old out.old log.old disk.old)
-        (state_of consumer.new out.new log.new disk.new) ticks (items_of_run run.now) result }
+        (state_before driven.entry) (state_after driven.exit) ticks (items_of_run run.now) result }
 {
     match run {
-        Run::Nothing => hand_over(ticks, Content::NoTick, &[], consumer, out, log, disk),
-        Run::Bytes(bytes) => {
-            hand_over(ticks, Content::KeptBytes, bytes, consumer, out, log, disk)
-        }
-        Run::Silence(n) => {
-            hand_over(
-                ticks,
-                Content::SilentTicks(*n),
-                &[],
-                consumer,
-                out,
-                log,
-                disk,
-            )
-        }
-        Run::Mark => hand_over(ticks, Content::OneMark, &[], consumer, out, log, disk),
+        Run::Nothing => hand_over(ticks, Content::NoTick, &[], driven),
+        Run::Bytes(bytes) => hand_over(ticks, Content::KeptBytes, bytes, driven),
+        Run::Silence(n) => hand_over(ticks, Content::SilentTicks(*n), &[], driven),
+        Run::Mark => hand_over(ticks, Content::OneMark, &[], driven),
     }
 }
 
@@ -125,18 +108,19 @@ fn hand_last<O: Sink, L: Sink, D: SlotDisk, C: Consumer<O, L, D>>(
 pub fn drive<S: Source, O: Sink, L: Sink, D: SlotDisk, C: Consumer<O, L, D>>(
     marks: u8,
     input: &mut S,
-    consumer: &mut C,
-    out: &mut O,
-    log: &mut L,
-    disk: &mut D,
+    driven: Driven<C, O, L, D>,
 ) -> End
-    requires fresh { IsFresh C.meaning consumer.old disk.old }
+    requires fresh { IsFresh C.meaning driven.consumer.now driven.disk.now }
     ensures driven { Drives C.meaning O.Sink L.Sink D.SlotDisk marks 0 (S.left input.old)
-        (S.left input.new)
-        (state_of consumer.old out.old log.old disk.old)
-        (state_of consumer.new out.new log.new disk.new) result }
+        (S.left input.new) (state_before driven.entry) (state_after driven.exit) result }
     ensures read { IsReadCause (S.faults input.old) (S.faults input.new) (is_read_fault result) }
 {
+    let Driven {
+        consumer,
+        out,
+        log,
+        disk,
+    } = driven;
     let mut intake = Intake::new(marks);
     let mut ticks = 0;
     loop {
@@ -149,7 +133,13 @@ pub fn drive<S: Source, O: Sink, L: Sink, D: SlotDisk, C: Consumer<O, L, D>>(
             continue;
         }
         let bytes = intake.line_bytes();
-        match hand_over(ticks, content, bytes, consumer, out, log, disk) {
+        let driven = Driven {
+            consumer,
+            out,
+            log,
+            disk,
+        };
+        match hand_over(ticks, content, bytes, driven) {
             Ok(sum) => ticks = sum,
             Err(end) => return end,
         }
@@ -158,10 +148,17 @@ pub fn drive<S: Source, O: Sink, L: Sink, D: SlotDisk, C: Consumer<O, L, D>>(
         Ok(run) => run,
         Err(end) => return end,
     };
-    match hand_last(ticks, &last, consumer, out, log, disk) {
-        Ok(_) => End::Whole,
-        Err(end) => end,
+    let driven = Driven {
+        consumer,
+        out,
+        log,
+        disk,
+    };
+    match hand_last(ticks, &last, driven) {
+        Ok(_) => {}
+        Err(end) => return end,
     }
+    End::Whole
 }
 
 /// Drives an input into a consumer, and then so many silent ticks behind an input that was taken
@@ -170,24 +167,32 @@ pub fn drive_to_rest<S: Source, O: Sink, L: Sink, D: SlotDisk, C: Consumer<O, L,
     marks: u8,
     rest: u32,
     input: &mut S,
-    consumer: &mut C,
-    out: &mut O,
-    log: &mut L,
-    disk: &mut D,
+    driven: Driven<C, O, L, D>,
 ) -> End
-    requires fresh { IsFresh C.meaning consumer.old disk.old }
+    requires fresh { IsFresh C.meaning driven.consumer.now driven.disk.now }
     ensures driven { Drives C.meaning O.Sink L.Sink D.SlotDisk marks rest (S.left input.old)
-        (S.left input.new)
-        (state_of consumer.old out.old log.old disk.old)
-        (state_of consumer.new out.new log.new disk.new) result }
+        (S.left input.new) (state_before driven.entry) (state_after driven.exit) result }
     ensures read { IsReadCause (S.faults input.old) (S.faults input.new) (is_read_fault result) }
 {
-    match drive(marks, input, consumer, out, log, disk) {
+    let Driven {
+        consumer,
+        out,
+        log,
+        disk,
+    } = driven;
+    let driven = Driven {
+        consumer,
+        out,
+        log,
+        disk,
+    };
+    match drive(marks, input, driven) {
         End::Whole => {}
         end => return end,
     }
     match consumer.take(out, log, disk, &Run::Silence(rest)) {
-        Ok(()) => End::Whole,
-        Err(stop) => End::Stopped(stop),
+        Ok(()) => {}
+        Err(stop) => return End::Stopped(stop),
     }
+    End::Whole
 }

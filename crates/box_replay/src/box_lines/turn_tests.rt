@@ -11,7 +11,7 @@ use hmac_tag::Dir;
 use sequence_journal::{Journal, JournalFault, LinkId, slot_of};
 use std::alloc::Global;
 use std::test::Fail;
-use tick_drive::{End, drive};
+use tick_drive::{Driven, End, drive};
 use yasir_io::{MemSink, Plan, SlotDisk, SteadySlots, SteadySource};
 use yasir_ticks::Tick;
 
@@ -147,7 +147,13 @@ fn calls_of(alloc: Global, forwards: bool) -> Result<Calls, Fail> {
     let mut input = SteadySource::new(TEXT);
     let mut out = MemSink::with_room(alloc, 200, 512, Plan::new())?;
     let mut log = MemSink::with_room(alloc, 0, 512, Plan::new())?;
-    match drive(0, &mut input, &mut lines, &mut out, &mut log, &mut disk) {
+    let driven = Driven {
+        consumer: &mut lines,
+        out: &mut out,
+        log: &mut log,
+        disk: &mut disk,
+    };
+    match drive(0, &mut input, driven) {
         End::Whole => Ok(lines.line_box.calls),
         _ => Err(Fail::from("the text isn't whole")),
     }

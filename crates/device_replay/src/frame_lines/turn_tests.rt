@@ -5,7 +5,7 @@ use super::FrameLines;
 use device_model::{Device, FrameAt, Heard};
 use std::alloc::Global;
 use std::test::Fail;
-use tick_drive::{End, drive};
+use tick_drive::{Driven, End, drive};
 use yasir_io::{MemSink, Plan, SteadySlots, SteadySource};
 use yasir_ticks::Tick;
 
@@ -80,14 +80,13 @@ fn calls_of(alloc: Global) -> Result<Calls, Fail> {
     let mut out = MemSink::with_room(alloc, 0, 512, Plan::new())?;
     let mut log = MemSink::with_room(alloc, 0, 512, Plan::new())?;
     let mut no_disk = SteadySlots::new([0; 24], [0; 24]);
-    match drive(
-        0,
-        &mut input,
-        &mut printer,
-        &mut out,
-        &mut log,
-        &mut no_disk,
-    ) {
+    let driven = Driven {
+        consumer: &mut printer,
+        out: &mut out,
+        log: &mut log,
+        disk: &mut no_disk,
+    };
+    match drive(0, &mut input, driven) {
         End::Whole => Ok(printer.device.calls),
         _ => Err(Fail::from("the text isn't whole")),
     }

@@ -14,14 +14,14 @@ use Rattle.box_replay.proofs.command.replay_keyed.Goals as goal
 
 pub returns-then-is_write_stop-clause-runs : goal.returns-then-is_write_stop-clause-runs
 returns-then-is_write_stop-clause-runs g c =
+    let driven = c.drive_to_rest-end.new.driven in
     let write : is_write_fault (answer_of c.drive_to_rest-end.result) ≡ true = cc in
     write_stops g.B.LineBox g.S.Source g.O.Sink g.L.Sink g.D.SlotDisk c.args.link.now
     c.args.key.now c.args.dir
     (journal_floor c.in-Ok.journal) c.args.rest
     (around c.args.input.now c.args.out.now c.args.log.now c.args.disk.now)
-    (around c.drive_to_rest-end.new.input c.drive_to_rest-end.new.out c.drive_to_rest-end.new.log
-    c.drive_to_rest-end.new.disk)
-    c.load.new.disk c.new-lines.result c.drive_to_rest-end.new.consumer
+    (around c.drive_to_rest-end.new.input driven.1.0 driven.1.1.0 driven.1.1.1.0)
+    c.load.new.disk c.new-lines.result driven.0
     (g.B.LineBox.is_boxed c.requires.widths (setup_of c.args.key.now c.args.dir
     (journal_floor c.in-Ok.journal)))
     (λ texts. c.new-lines.ensures.drives c.args.link.now texts (g.D.SlotDisk.told c.load.new.disk)
@@ -30,26 +30,25 @@ returns-then-is_write_stop-clause-runs g c =
     c.in-Ok.ensures.loaded c.in-Ok.ensures.crash_safe)
     (keeps_floor g.D.SlotDisk c.args.link.now c.in-Ok.journal c.args.disk.now c.load.new.disk
     c.in-Ok.ensures.loaded c.in-Ok.ensures.crash_safe c.new-lines.result.journal
-    c.drive_to_rest-end.new.consumer.journal c.drive_to_rest-end.new.disk
+    driven.0.journal driven.1.1.1.0
     c.new-lines.ensures.journal c.drive_to_rest-end.ensures.driven.gives.images.is_kept)
     (keeps_from_load g.D.SlotDisk c.args.link.now c.in-Ok.journal c.args.disk.now c.load.new.disk
     c.in-Ok.ensures.loaded c.in-Ok.ensures.crash_safe c.new-lines.result.journal
-    c.drive_to_rest-end.new.disk
+    driven.1.1.1.0
     c.new-lines.ensures.journal c.drive_to_rest-end.ensures.driven.gives.images.any_moment)
-    (around c.drive_to_rest-end.new.input c.drive_to_rest-end.new.out c.drive_to_rest-end.new.log
-    c.drive_to_rest-end.new.disk) refl refl
+    (around c.drive_to_rest-end.new.input driven.1.0 driven.1.1.0 driven.1.1.1.0) refl refl
     c.drive_to_rest-end.result write c.drive_to_rest-end.ensures.driven refl
 
 pub returns-in-Err-clause-runs : goal.returns-in-Err-clause-runs
 returns-in-Err-clause-runs g c =
+    let driven = c.drive_to_rest-end.new.driven in
     let other : is_write_fault (answer_of c.drive_to_rest-end.result) ≡ false = cc in
     finish_fails g.B.LineBox g.S.Source g.O.Sink g.L.Sink g.D.SlotDisk c.args.link.now
     c.args.key.now c.args.dir
     (journal_floor c.in-Ok.journal) c.args.rest
     (around c.args.input.now c.args.out.now c.args.log.now c.args.disk.now)
-    (around c.drive_to_rest-end.new.input c.drive_to_rest-end.new.out c.drive_to_rest-end.new.log
-    c.drive_to_rest-end.new.disk)
-    c.load.new.disk c.new-lines.result c.drive_to_rest-end.new.consumer
+    (around c.drive_to_rest-end.new.input driven.1.0 driven.1.1.0 driven.1.1.1.0)
+    c.load.new.disk c.new-lines.result driven.0
     (g.B.LineBox.is_boxed c.requires.widths (setup_of c.args.key.now c.args.dir
     (journal_floor c.in-Ok.journal)))
     (λ texts. c.new-lines.ensures.drives c.args.link.now texts (g.D.SlotDisk.told c.load.new.disk)
@@ -58,26 +57,26 @@ returns-in-Err-clause-runs g c =
     c.in-Ok.ensures.loaded c.in-Ok.ensures.crash_safe)
     (keeps_floor g.D.SlotDisk c.args.link.now c.in-Ok.journal c.args.disk.now c.load.new.disk
     c.in-Ok.ensures.loaded c.in-Ok.ensures.crash_safe c.new-lines.result.journal
-    c.drive_to_rest-end.new.consumer.journal c.drive_to_rest-end.new.disk
+    driven.0.journal driven.1.1.1.0
     c.new-lines.ensures.journal c.drive_to_rest-end.ensures.driven.gives.images.is_kept)
     (keeps_from_load g.D.SlotDisk c.args.link.now c.in-Ok.journal c.args.disk.now c.load.new.disk
     c.in-Ok.ensures.loaded c.in-Ok.ensures.crash_safe c.new-lines.result.journal
-    c.drive_to_rest-end.new.disk
+    driven.1.1.1.0
     c.new-lines.ensures.journal c.drive_to_rest-end.ensures.driven.gives.images.any_moment)
-    (around c.drive_to_rest-end.new.input c.finish.new.out c.finish.new.log
-    c.drive_to_rest-end.new.disk) refl refl
+    (around c.drive_to_rest-end.new.input c.finish.new.out c.finish.new.log driven.1.1.1.0) refl
+    refl
     c.drive_to_rest-end.result other c.drive_to_rest-end.ensures.driven
     (λ line sends. c.in-Err.ensures.err _ _ line sends)
 
 pub returns-in-Whole-clause-runs : goal.returns-in-Whole-clause-runs
 returns-in-Whole-clause-runs g c =
+    let driven = c.drive_to_rest-end.new.driven in
     whole_runs g.B.LineBox g.S.Source g.O.Sink g.L.Sink g.D.SlotDisk c.args.link.now c.args.key.now
     c.args.dir
     (journal_floor c.in-Ok.journal) c.args.rest
     (around c.args.input.now c.args.out.now c.args.log.now c.args.disk.now)
-    (around c.drive_to_rest-end.new.input c.drive_to_rest-end.new.out c.drive_to_rest-end.new.log
-    c.drive_to_rest-end.new.disk)
-    c.load.new.disk c.new-lines.result c.drive_to_rest-end.new.consumer
+    (around c.drive_to_rest-end.new.input driven.1.0 driven.1.1.0 driven.1.1.1.0)
+    c.load.new.disk c.new-lines.result driven.0
     (g.B.LineBox.is_boxed c.requires.widths (setup_of c.args.key.now c.args.dir
     (journal_floor c.in-Ok.journal)))
     (λ texts. c.new-lines.ensures.drives c.args.link.now texts (g.D.SlotDisk.told c.load.new.disk)
@@ -86,14 +85,14 @@ returns-in-Whole-clause-runs g c =
     c.in-Ok.ensures.loaded c.in-Ok.ensures.crash_safe)
     (keeps_floor g.D.SlotDisk c.args.link.now c.in-Ok.journal c.args.disk.now c.load.new.disk
     c.in-Ok.ensures.loaded c.in-Ok.ensures.crash_safe c.new-lines.result.journal
-    c.drive_to_rest-end.new.consumer.journal c.drive_to_rest-end.new.disk
+    driven.0.journal driven.1.1.1.0
     c.new-lines.ensures.journal c.drive_to_rest-end.ensures.driven.gives.images.is_kept)
     (keeps_from_load g.D.SlotDisk c.args.link.now c.in-Ok.journal c.args.disk.now c.load.new.disk
     c.in-Ok.ensures.loaded c.in-Ok.ensures.crash_safe c.new-lines.result.journal
-    c.drive_to_rest-end.new.disk
+    driven.1.1.1.0
     c.new-lines.ensures.journal c.drive_to_rest-end.ensures.driven.gives.images.any_moment)
-    (around c.drive_to_rest-end.new.input c.flush_both.new.out c.flush_both.new.log
-    c.drive_to_rest-end.new.disk) refl refl
+    (around c.drive_to_rest-end.new.input c.flush_both.new.out c.flush_both.new.log driven.1.1.1.0)
+    refl refl
     c.flush_both.result c.flush_both.ensures.status
     (rw c.in-Whole.is at c.drive_to_rest-end.ensures.driven)
     (λ line sends. rw (c.flush_both.ensures.out, c.flush_both.ensures.log)
@@ -101,6 +100,7 @@ returns-in-Whole-clause-runs g c =
 
 pub returns-in_default : goal.returns-in_default
 returns-in_default g c =
+    let driven = c.drive_to_rest-end.new.driven in
     let other : is_write_fault (answer_of c.drive_to_rest-end.result) ≡ false = cc in
     let gives = c.drive_to_rest-end.ensures.driven.gives in rw c.status_of.ensures (record {
       runs = refusal_runs g.B.LineBox g.S.Source g.O.Sink g.L.Sink g.D.SlotDisk c.args.link.now
@@ -108,9 +108,8 @@ returns-in_default g c =
           c.args.dir
           (journal_floor c.in-Ok.journal) c.args.rest
           (around c.args.input.now c.args.out.now c.args.log.now c.args.disk.now)
-          (around c.drive_to_rest-end.new.input c.drive_to_rest-end.new.out
-          c.drive_to_rest-end.new.log c.drive_to_rest-end.new.disk)
-          c.load.new.disk c.new-lines.result c.drive_to_rest-end.new.consumer
+          (around c.drive_to_rest-end.new.input driven.1.0 driven.1.1.0 driven.1.1.1.0)
+          c.load.new.disk c.new-lines.result driven.0
           (g.B.LineBox.is_boxed c.requires.widths (setup_of c.args.key.now c.args.dir
           (journal_floor c.in-Ok.journal)))
           (λ texts. c.new-lines.ensures.drives c.args.link.now texts (g.D.SlotDisk.told
@@ -120,20 +119,20 @@ returns-in_default g c =
           c.in-Ok.ensures.loaded c.in-Ok.ensures.crash_safe)
           (keeps_floor g.D.SlotDisk c.args.link.now c.in-Ok.journal c.args.disk.now c.load.new.disk
           c.in-Ok.ensures.loaded c.in-Ok.ensures.crash_safe c.new-lines.result.journal
-          c.drive_to_rest-end.new.consumer.journal c.drive_to_rest-end.new.disk
+          driven.0.journal driven.1.1.1.0
           c.new-lines.ensures.journal c.drive_to_rest-end.ensures.driven.gives.images.is_kept)
           (keeps_from_load g.D.SlotDisk c.args.link.now c.in-Ok.journal c.args.disk.now
           c.load.new.disk
           c.in-Ok.ensures.loaded c.in-Ok.ensures.crash_safe c.new-lines.result.journal
-          c.drive_to_rest-end.new.disk
+          driven.1.1.1.0
           c.new-lines.ensures.journal c.drive_to_rest-end.ensures.driven.gives.images.any_moment)
-          (around c.drive_to_rest-end.new.input c.finish.new.out c.finish.new.log
-          c.drive_to_rest-end.new.disk) refl refl
+          (around c.drive_to_rest-end.new.input c.finish.new.out c.finish.new.log driven.1.1.1.0)
+          refl refl
           c.drive_to_rest-end.result other c.in_default.not-Whole c.drive_to_rest-end.ensures.driven
           (λ line sends. c.in-Ok-finish.ensures.ok _ _ line sends);
       any_moment = keeps_throughout g.D.SlotDisk c.args.link.now c.in-Ok.journal c.args.disk.now
           c.load.new.disk c.in-Ok.ensures.loaded c.in-Ok.ensures.crash_safe
-          c.new-lines.result.journal c.drive_to_rest-end.new.disk
+          c.new-lines.result.journal driven.1.1.1.0
           c.new-lines.ensures.journal c.in-Ok.ensures.crash gives.images.any_moment;
       input = input_cause _ _ c.drive_to_rest-end.result c.drive_to_rest-end.ensures.read;
       disk = rw (← c.in-Ok.ensures.same)
@@ -165,21 +164,24 @@ returns-in-Whole-clause-flushes g c =
 
 pub returns-then-is_write_stop-clause-any_moment : goal.returns-then-is_write_stop-clause-any_moment
 returns-then-is_write_stop-clause-any_moment g c =
+    let driven = c.drive_to_rest-end.new.driven in
     keeps_throughout g.D.SlotDisk c.args.link.now c.in-Ok.journal c.args.disk.now c.load.new.disk
     c.in-Ok.ensures.loaded c.in-Ok.ensures.crash_safe c.new-lines.result.journal
-    c.drive_to_rest-end.new.disk c.new-lines.ensures.journal c.in-Ok.ensures.crash
+    driven.1.1.1.0 c.new-lines.ensures.journal c.in-Ok.ensures.crash
     c.drive_to_rest-end.ensures.driven.gives.images.any_moment
 
 pub returns-in-Err-clause-any_moment : goal.returns-in-Err-clause-any_moment
 returns-in-Err-clause-any_moment g c =
+    let driven = c.drive_to_rest-end.new.driven in
     keeps_throughout g.D.SlotDisk c.args.link.now c.in-Ok.journal c.args.disk.now c.load.new.disk
     c.in-Ok.ensures.loaded c.in-Ok.ensures.crash_safe c.new-lines.result.journal
-    c.drive_to_rest-end.new.disk c.new-lines.ensures.journal c.in-Ok.ensures.crash
+    driven.1.1.1.0 c.new-lines.ensures.journal c.in-Ok.ensures.crash
     c.drive_to_rest-end.ensures.driven.gives.images.any_moment
 
 pub returns-in-Whole-clause-any_moment : goal.returns-in-Whole-clause-any_moment
 returns-in-Whole-clause-any_moment g c =
+    let driven = c.drive_to_rest-end.new.driven in
     keeps_throughout g.D.SlotDisk c.args.link.now c.in-Ok.journal c.args.disk.now c.load.new.disk
     c.in-Ok.ensures.loaded c.in-Ok.ensures.crash_safe c.new-lines.result.journal
-    c.drive_to_rest-end.new.disk c.new-lines.ensures.journal c.in-Ok.ensures.crash
+    driven.1.1.1.0 c.new-lines.ensures.journal c.in-Ok.ensures.crash
     c.drive_to_rest-end.ensures.driven.gives.images.any_moment

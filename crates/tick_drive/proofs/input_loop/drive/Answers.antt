@@ -71,8 +71,8 @@ returns-in-Err-finish g c =
           ∙ c.loop-content.invariant.1) ends.1;
     }
 
-pub returns-in-Ok-hand_last-clause-driven : goal.returns-in-Ok-hand_last-clause-driven
-returns-in-Ok-hand_last-clause-driven g c =
+pub returns-clause-driven : goal.returns-clause-driven
+returns-clause-driven g c =
     let progress = c.loop-content.invariant.0 in
     let met = (rw c.in-Ok-None.field-0-is at c.in-Ok-None.ensures.answer) _ _ progress.text
     progress.met in

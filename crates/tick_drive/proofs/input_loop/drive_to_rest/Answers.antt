@@ -28,6 +28,6 @@ pub returns-in-Err-clause-driven : goal.returns-in-Err-clause-driven
 returns-in-Err-clause-driven g c = rest_stops g.C.Consumer.meaning g.O.Sink g.L.Sink g.D.SlotDisk
     _ c.args.rest _ _ _ _ _ _ c.in-Whole.ensures.driven c.in-Err.ensures
 
-pub returns-in-Ok-clause-driven : goal.returns-in-Ok-clause-driven
-returns-in-Ok-clause-driven g c = rest_taken g.C.Consumer.meaning g.O.Sink g.L.Sink g.D.SlotDisk
+pub returns-clause-driven : goal.returns-clause-driven
+returns-clause-driven g c = rest_taken g.C.Consumer.meaning g.O.Sink g.L.Sink g.D.SlotDisk
     _ c.args.rest _ _ _ _ _ c.in-Whole.ensures.driven c.in-Ok.ensures
