@@ -14,7 +14,7 @@ use dnp_link_frame::Dnp;
 use frame_boxes::{CheckNoting, SealNoting, ShownFrames};
 use hmac_tag::{Dir, HmacSha1, HmacSha256};
 use replay_lists::FrameBox;
-use replay_status::Status;
+use replay_status::{Ends, Status};
 use rtu_frame::Rtu;
 use seal_replay::SealBox;
 use sequence_journal::{Journal, LinkId, slot_of};
@@ -470,6 +470,13 @@ fn text_goes_out_by_full_buffers(rt: HostRuntime) -> Result<(), Fail> {
     let mut log = NO_WRITES;
     let served = LinkId::of_no_file();
     let mut disk = SteadySlots::new(slot_of(0, &served), [0; 24]);
+    let ends = Ends {
+        key: &mut key,
+        input: &mut input,
+        out: &mut out,
+        log: &mut log,
+        disk: &mut disk,
+    };
     let status = replay_box::<
         SealBox<Rtu, HmacSha1, 2>,
         SteadySource,
@@ -477,16 +484,7 @@ fn text_goes_out_by_full_buffers(rt: HostRuntime) -> Result<(), Fail> {
         CountedSink,
         CountedSink,
         SteadySlots,
-    >(
-        &served,
-        Dir::Ab,
-        24,
-        &mut key,
-        &mut input,
-        &mut out,
-        &mut log,
-        &mut disk,
-    );
+    >(&served, Dir::Ab, 24, ends);
     assert_eq!(rt; status, Status::Done);
     assert_eq!(rt; out.bytes, REQUESTS * LINK_TEXT);
     assert!(rt;

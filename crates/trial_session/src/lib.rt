@@ -26,7 +26,7 @@ pub use counting_box::{CountedStep, CountingBox, Fate};
 pub use drawn_frames::DrawnFrames;
 pub use draws::{Draws, FrameBytes};
 pub use laws::sessions_tell;
-pub use printing::print_session;
+pub use printing::session_line;
 pub use seal_counting::SealCounting;
 pub use session::try_session;
 pub use summary::Summary;

@@ -19,21 +19,21 @@ returns-then-is_write_stop-clause-runs g c =
     write_stops g.B.LineBox g.S.Source g.O.Sink g.L.Sink g.D.SlotDisk c.args.link.now
     c.args.key.now c.args.dir
     (journal_floor c.in-Ok.journal) c.args.rest
-    (around c.args.input.now c.args.out.now c.args.log.now c.args.disk.now)
+    (around c.args.ends.input.now c.args.ends.out.now c.args.ends.log.now c.args.ends.disk.now)
     (around c.drive_to_rest-end.new.input driven.1.0 driven.1.1.0 driven.1.1.1.0)
     c.load.new.disk c.new-lines.result driven.0
     (g.B.LineBox.is_boxed c.requires.widths (setup_of c.args.key.now c.args.dir
     (journal_floor c.in-Ok.journal)))
     (λ texts. c.new-lines.ensures.drives c.args.link.now texts (g.D.SlotDisk.told c.load.new.disk)
     c.in-Ok.ensures.loaded.link_is c.in-Ok.ensures.fits)
-    (told_before g.D.SlotDisk c.args.link.now c.in-Ok.journal c.args.disk.now c.load.new.disk
+    (told_before g.D.SlotDisk c.args.link.now c.in-Ok.journal c.args.ends.disk.now c.load.new.disk
     c.in-Ok.ensures.loaded c.in-Ok.ensures.crash_safe)
-    (keeps_floor g.D.SlotDisk c.args.link.now c.in-Ok.journal c.args.disk.now c.load.new.disk
+    (keeps_floor g.D.SlotDisk c.args.link.now c.in-Ok.journal c.args.ends.disk.now c.load.new.disk
     c.in-Ok.ensures.loaded c.in-Ok.ensures.crash_safe c.new-lines.result.journal
     driven.0.journal driven.1.1.1.0
     c.new-lines.ensures.journal c.drive_to_rest-end.ensures.driven.gives.images.is_kept)
-    (keeps_from_load g.D.SlotDisk c.args.link.now c.in-Ok.journal c.args.disk.now c.load.new.disk
-    c.in-Ok.ensures.loaded c.in-Ok.ensures.crash_safe c.new-lines.result.journal
+    (keeps_from_load g.D.SlotDisk c.args.link.now c.in-Ok.journal c.args.ends.disk.now
+    c.load.new.disk c.in-Ok.ensures.loaded c.in-Ok.ensures.crash_safe c.new-lines.result.journal
     driven.1.1.1.0
     c.new-lines.ensures.journal c.drive_to_rest-end.ensures.driven.gives.images.any_moment)
     (around c.drive_to_rest-end.new.input driven.1.0 driven.1.1.0 driven.1.1.1.0) refl refl
@@ -46,21 +46,21 @@ returns-in-Err-clause-runs g c =
     finish_fails g.B.LineBox g.S.Source g.O.Sink g.L.Sink g.D.SlotDisk c.args.link.now
     c.args.key.now c.args.dir
     (journal_floor c.in-Ok.journal) c.args.rest
-    (around c.args.input.now c.args.out.now c.args.log.now c.args.disk.now)
+    (around c.args.ends.input.now c.args.ends.out.now c.args.ends.log.now c.args.ends.disk.now)
     (around c.drive_to_rest-end.new.input driven.1.0 driven.1.1.0 driven.1.1.1.0)
     c.load.new.disk c.new-lines.result driven.0
     (g.B.LineBox.is_boxed c.requires.widths (setup_of c.args.key.now c.args.dir
     (journal_floor c.in-Ok.journal)))
     (λ texts. c.new-lines.ensures.drives c.args.link.now texts (g.D.SlotDisk.told c.load.new.disk)
     c.in-Ok.ensures.loaded.link_is c.in-Ok.ensures.fits)
-    (told_before g.D.SlotDisk c.args.link.now c.in-Ok.journal c.args.disk.now c.load.new.disk
+    (told_before g.D.SlotDisk c.args.link.now c.in-Ok.journal c.args.ends.disk.now c.load.new.disk
     c.in-Ok.ensures.loaded c.in-Ok.ensures.crash_safe)
-    (keeps_floor g.D.SlotDisk c.args.link.now c.in-Ok.journal c.args.disk.now c.load.new.disk
+    (keeps_floor g.D.SlotDisk c.args.link.now c.in-Ok.journal c.args.ends.disk.now c.load.new.disk
     c.in-Ok.ensures.loaded c.in-Ok.ensures.crash_safe c.new-lines.result.journal
     driven.0.journal driven.1.1.1.0
     c.new-lines.ensures.journal c.drive_to_rest-end.ensures.driven.gives.images.is_kept)
-    (keeps_from_load g.D.SlotDisk c.args.link.now c.in-Ok.journal c.args.disk.now c.load.new.disk
-    c.in-Ok.ensures.loaded c.in-Ok.ensures.crash_safe c.new-lines.result.journal
+    (keeps_from_load g.D.SlotDisk c.args.link.now c.in-Ok.journal c.args.ends.disk.now
+    c.load.new.disk c.in-Ok.ensures.loaded c.in-Ok.ensures.crash_safe c.new-lines.result.journal
     driven.1.1.1.0
     c.new-lines.ensures.journal c.drive_to_rest-end.ensures.driven.gives.images.any_moment)
     (around c.drive_to_rest-end.new.input c.finish.new.out c.finish.new.log driven.1.1.1.0) refl
@@ -68,27 +68,27 @@ returns-in-Err-clause-runs g c =
     c.drive_to_rest-end.result other c.drive_to_rest-end.ensures.driven
     (λ line sends. c.in-Err.ensures.err _ _ line sends)
 
-pub returns-in-Whole-clause-runs : goal.returns-in-Whole-clause-runs
-returns-in-Whole-clause-runs g c =
+pub returns-clause-runs : goal.returns-clause-runs
+returns-clause-runs g c =
     let driven = c.drive_to_rest-end.new.driven in
     whole_runs g.B.LineBox g.S.Source g.O.Sink g.L.Sink g.D.SlotDisk c.args.link.now c.args.key.now
     c.args.dir
     (journal_floor c.in-Ok.journal) c.args.rest
-    (around c.args.input.now c.args.out.now c.args.log.now c.args.disk.now)
+    (around c.args.ends.input.now c.args.ends.out.now c.args.ends.log.now c.args.ends.disk.now)
     (around c.drive_to_rest-end.new.input driven.1.0 driven.1.1.0 driven.1.1.1.0)
     c.load.new.disk c.new-lines.result driven.0
     (g.B.LineBox.is_boxed c.requires.widths (setup_of c.args.key.now c.args.dir
     (journal_floor c.in-Ok.journal)))
     (λ texts. c.new-lines.ensures.drives c.args.link.now texts (g.D.SlotDisk.told c.load.new.disk)
     c.in-Ok.ensures.loaded.link_is c.in-Ok.ensures.fits)
-    (told_before g.D.SlotDisk c.args.link.now c.in-Ok.journal c.args.disk.now c.load.new.disk
+    (told_before g.D.SlotDisk c.args.link.now c.in-Ok.journal c.args.ends.disk.now c.load.new.disk
     c.in-Ok.ensures.loaded c.in-Ok.ensures.crash_safe)
-    (keeps_floor g.D.SlotDisk c.args.link.now c.in-Ok.journal c.args.disk.now c.load.new.disk
+    (keeps_floor g.D.SlotDisk c.args.link.now c.in-Ok.journal c.args.ends.disk.now c.load.new.disk
     c.in-Ok.ensures.loaded c.in-Ok.ensures.crash_safe c.new-lines.result.journal
     driven.0.journal driven.1.1.1.0
     c.new-lines.ensures.journal c.drive_to_rest-end.ensures.driven.gives.images.is_kept)
-    (keeps_from_load g.D.SlotDisk c.args.link.now c.in-Ok.journal c.args.disk.now c.load.new.disk
-    c.in-Ok.ensures.loaded c.in-Ok.ensures.crash_safe c.new-lines.result.journal
+    (keeps_from_load g.D.SlotDisk c.args.link.now c.in-Ok.journal c.args.ends.disk.now
+    c.load.new.disk c.in-Ok.ensures.loaded c.in-Ok.ensures.crash_safe c.new-lines.result.journal
     driven.1.1.1.0
     c.new-lines.ensures.journal c.drive_to_rest-end.ensures.driven.gives.images.any_moment)
     (around c.drive_to_rest-end.new.input c.flush_both.new.out c.flush_both.new.log driven.1.1.1.0)
@@ -107,7 +107,8 @@ returns-in_default g c =
           c.args.key.now
           c.args.dir
           (journal_floor c.in-Ok.journal) c.args.rest
-          (around c.args.input.now c.args.out.now c.args.log.now c.args.disk.now)
+          (around c.args.ends.input.now c.args.ends.out.now c.args.ends.log.now
+          c.args.ends.disk.now)
           (around c.drive_to_rest-end.new.input driven.1.0 driven.1.1.0 driven.1.1.1.0)
           c.load.new.disk c.new-lines.result driven.0
           (g.B.LineBox.is_boxed c.requires.widths (setup_of c.args.key.now c.args.dir
@@ -115,25 +116,28 @@ returns-in_default g c =
           (λ texts. c.new-lines.ensures.drives c.args.link.now texts (g.D.SlotDisk.told
           c.load.new.disk)
           c.in-Ok.ensures.loaded.link_is c.in-Ok.ensures.fits)
-          (told_before g.D.SlotDisk c.args.link.now c.in-Ok.journal c.args.disk.now c.load.new.disk
-          c.in-Ok.ensures.loaded c.in-Ok.ensures.crash_safe)
-          (keeps_floor g.D.SlotDisk c.args.link.now c.in-Ok.journal c.args.disk.now c.load.new.disk
-          c.in-Ok.ensures.loaded c.in-Ok.ensures.crash_safe c.new-lines.result.journal
+          (told_before g.D.SlotDisk c.args.link.now c.in-Ok.journal c.args.ends.disk.now
+          c.load.new.disk c.in-Ok.ensures.loaded c.in-Ok.ensures.crash_safe)
+          (keeps_floor g.D.SlotDisk c.args.link.now c.in-Ok.journal c.args.ends.disk.now
+          c.load.new.disk c.in-Ok.ensures.loaded c.in-Ok.ensures.crash_safe
+          c.new-lines.result.journal
           driven.0.journal driven.1.1.1.0
           c.new-lines.ensures.journal c.drive_to_rest-end.ensures.driven.gives.images.is_kept)
-          (keeps_from_load g.D.SlotDisk c.args.link.now c.in-Ok.journal c.args.disk.now
-          c.load.new.disk
-          c.in-Ok.ensures.loaded c.in-Ok.ensures.crash_safe c.new-lines.result.journal
+          (keeps_from_load g.D.SlotDisk c.args.link.now c.in-Ok.journal c.args.ends.disk.now
+          c.load.new.disk c.in-Ok.ensures.loaded c.in-Ok.ensures.crash_safe
+          c.new-lines.result.journal
           driven.1.1.1.0
           c.new-lines.ensures.journal c.drive_to_rest-end.ensures.driven.gives.images.any_moment)
           (around c.drive_to_rest-end.new.input c.finish.new.out c.finish.new.log driven.1.1.1.0)
           refl refl
           c.drive_to_rest-end.result other c.in_default.not-Whole c.drive_to_rest-end.ensures.driven
           (λ line sends. c.in-Ok-finish.ensures.ok _ _ line sends);
-      any_moment = keeps_throughout g.D.SlotDisk c.args.link.now c.in-Ok.journal c.args.disk.now
+      any_moment = keeps_throughout g.D.SlotDisk c.args.link.now c.in-Ok.journal
+          c.args.ends.disk.now
           c.load.new.disk c.in-Ok.ensures.loaded c.in-Ok.ensures.crash_safe
           c.new-lines.result.journal driven.1.1.1.0
           c.new-lines.ensures.journal c.in-Ok.ensures.crash gives.images.any_moment;
+      key = refl;
       input = input_cause _ _ c.drive_to_rest-end.result c.drive_to_rest-end.ensures.read;
       disk = rw (← c.in-Ok.ensures.same)
           (disk_cause_of_end _ _ c.drive_to_rest-end.result gives.disk);
@@ -153,8 +157,8 @@ pub returns-in-Err-clause-flushes : goal.returns-in-Err-clause-flushes
 returns-in-Err-clause-flushes g c = inl (none_flushed_then g.O.Sink g.L.Sink _ _ _ _ _ _
     c.drive_to_rest-end.ensures.driven.gives.flushes c.in-Err.ensures.flushes)
 
-pub returns-in-Whole-clause-flushes : goal.returns-in-Whole-clause-flushes
-returns-in-Whole-clause-flushes g c =
+pub returns-clause-flushes : goal.returns-clause-flushes
+returns-clause-flushes g c =
     let other : is_write_fault (answer_of c.drive_to_rest-end.result) ≡ false = cc in
     let gives = c.drive_to_rest-end.ensures.driven.gives in
     flushes_of_whole g.O.Sink g.L.Sink _ _ _ _ _ _
@@ -165,23 +169,23 @@ returns-in-Whole-clause-flushes g c =
 pub returns-then-is_write_stop-clause-any_moment : goal.returns-then-is_write_stop-clause-any_moment
 returns-then-is_write_stop-clause-any_moment g c =
     let driven = c.drive_to_rest-end.new.driven in
-    keeps_throughout g.D.SlotDisk c.args.link.now c.in-Ok.journal c.args.disk.now c.load.new.disk
-    c.in-Ok.ensures.loaded c.in-Ok.ensures.crash_safe c.new-lines.result.journal
+    keeps_throughout g.D.SlotDisk c.args.link.now c.in-Ok.journal c.args.ends.disk.now
+    c.load.new.disk c.in-Ok.ensures.loaded c.in-Ok.ensures.crash_safe c.new-lines.result.journal
     driven.1.1.1.0 c.new-lines.ensures.journal c.in-Ok.ensures.crash
     c.drive_to_rest-end.ensures.driven.gives.images.any_moment
 
 pub returns-in-Err-clause-any_moment : goal.returns-in-Err-clause-any_moment
 returns-in-Err-clause-any_moment g c =
     let driven = c.drive_to_rest-end.new.driven in
-    keeps_throughout g.D.SlotDisk c.args.link.now c.in-Ok.journal c.args.disk.now c.load.new.disk
-    c.in-Ok.ensures.loaded c.in-Ok.ensures.crash_safe c.new-lines.result.journal
+    keeps_throughout g.D.SlotDisk c.args.link.now c.in-Ok.journal c.args.ends.disk.now
+    c.load.new.disk c.in-Ok.ensures.loaded c.in-Ok.ensures.crash_safe c.new-lines.result.journal
     driven.1.1.1.0 c.new-lines.ensures.journal c.in-Ok.ensures.crash
     c.drive_to_rest-end.ensures.driven.gives.images.any_moment
 
-pub returns-in-Whole-clause-any_moment : goal.returns-in-Whole-clause-any_moment
-returns-in-Whole-clause-any_moment g c =
+pub returns-clause-any_moment : goal.returns-clause-any_moment
+returns-clause-any_moment g c =
     let driven = c.drive_to_rest-end.new.driven in
-    keeps_throughout g.D.SlotDisk c.args.link.now c.in-Ok.journal c.args.disk.now c.load.new.disk
-    c.in-Ok.ensures.loaded c.in-Ok.ensures.crash_safe c.new-lines.result.journal
+    keeps_throughout g.D.SlotDisk c.args.link.now c.in-Ok.journal c.args.ends.disk.now
+    c.load.new.disk c.in-Ok.ensures.loaded c.in-Ok.ensures.crash_safe c.new-lines.result.journal
     driven.1.1.1.0 c.new-lines.ensures.journal c.in-Ok.ensures.crash
     c.drive_to_rest-end.ensures.driven.gives.images.any_moment
