@@ -1,6 +1,5 @@
 pub mod Items
 pub mod Consumers
-pub mod Driven
 pub mod Input
 pub mod Intake
 pub mod Drive

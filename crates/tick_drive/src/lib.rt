@@ -3,13 +3,11 @@
 #![tactic(auto)]
 
 mod consumer;
-mod driven;
 mod end;
 mod input_loop;
 mod intake;
 
 pub use consumer::{Consumer, Stop};
-pub use driven::Driven;
 pub use end::{End, TooMuch};
 pub use input_loop::{MAX_INPUT_TICKS, drive, drive_to_rest};
 pub use intake::MAX_INPUT_BYTES;

@@ -23,6 +23,13 @@ module _ {D : Type 0} (moment : D → ℕ) (left_since : D → ℕ → Slots →
         ];
   }
 
+  -- no call yet
+  pub leaves_now : (disk : D) (P : Slots → Type 0)
+      → ((c : Slots) → left_since disk (moment disk) c → P c)
+      → LeavesOnly moment left_since disk disk P
+  leaves_now disk P now =
+      record { later = omega arith; each = now; before = λ t c le left. inl left }
+
   -- some calls, and then some more
   pub leaves_then : (old mid new : D) (P : Slots → Type 0)
       → LeavesOnly moment left_since old mid P → LeavesOnly moment left_since mid new P
