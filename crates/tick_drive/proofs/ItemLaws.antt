@@ -6,6 +6,7 @@ use Rattle.tick_drive.specs.Items.{byte_items}
 use Rattle.yasir_ticks.specs.Ticks.{Item, ticks_in}
 use Rattle.yasir_ticks.specs.Ticks.Item.{tick, mark}
 use Rattle.yasir_ticks.specs.TickRun.{run_ticks, run_items}
+use Rattle.yasir_ticks.specs.declared.tick.Tick.{Tick}
 use Rattle.yasir_ticks.specs.declared.tick.Tick.TheVariants.{Silent, Byte}
 use Rattle.yasir_ticks.specs.declared.tick_run.TickRun.{TickRun}
 use Rattle.yasir_ticks.proofs.TickRuns.{items_of_ticks, ticks_in-ticks}
@@ -58,3 +59,8 @@ pub length-front : (run : TickRun) (n : ℕ) → n ≤ length (run_ticks run)
     → length (ticks_in (take n (run_items run))) ≡ n
 length-front run n within =
     ap length (ticks_in-front run n) ∙ length-take-le n (run_ticks run) within
+
+-- the item of its first tick, and those behind it
+pub run_items-first : (run : TickRun) (t : Tick) (rest : List Tick) → run_ticks run ≡ t ∷ rest
+    → run_items run ≡ tick t ∷ map tick rest
+run_items-first run t rest is = items_of_ticks run ∙ ap (map tick) is

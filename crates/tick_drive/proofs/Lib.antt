@@ -3,3 +3,4 @@ pub mod ItemLaws
 pub mod Moving
 pub mod Driving
 pub mod Causes
+pub mod Fronts

@@ -98,3 +98,13 @@ module _ {C : Type 0} (meaning : Consuming C) where
   abbrev pub GivesSome : C → C → List Item → Result ℕ Stop → Type 0
   GivesSome old new items (Ok count) = GivesFirst old new items count
   GivesSome old new items (Err stop) = Gives old new items (Err stop)
+
+  -- so many of these items were given to it, or none
+  pub record GivesUpTo (old new : C) (items : List Item) (count : ℕ) : Type 0 where
+    pub within : count ≤ length items
+    pub gives : Gives old new (take count items) (Ok tt)
+
+  -- The same, where it may take none of them.
+  abbrev pub GivesFront : C → C → List Item → Result ℕ Stop → Type 0
+  GivesFront old new items (Ok count) = GivesUpTo old new items count
+  GivesFront old new items (Err stop) = Gives old new items (Err stop)
