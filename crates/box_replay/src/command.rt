@@ -10,12 +10,13 @@ ghost use Rattle.replay_status.specs.Ends.{outside_before, outside_after};
 ghost use Rattle.replay_status.specs.StreamCauses.{HasStreamCauses};
 
 use crate::box_lines::BoxLines;
+use crate::driven_box::DrivenBox;
 use crate::line_box::LineBox;
 use hmac_tag::Dir;
 use key_text::{KeyError, read_key};
 use replay_status::{Ends, Status, flush_both, status_of};
 use sequence_journal::{Journal, LinkId, LoadError};
-use tick_drive::{Driven, End, Stop, drive_to_rest};
+use tick_drive::{End, Stop, drive_to_rest};
 use yasir_io::{Failed, Sink, SlotDisk, Source};
 
 // Whether a write failed.
@@ -69,17 +70,13 @@ fn replay_keyed<B: LineBox, K: Source, S: Source, O: Sink, L: Sink, D: SlotDisk>
         Err(LoadError::WrongLink { slot }) => return Status::WrongLink { slot },
     };
     let mut lines = BoxLines::<B>::new(key, dir, journal);
-    let driven = Driven {
-        consumer: &mut lines,
-        out,
-        log,
-        disk,
-    };
-    let end = drive_to_rest(0, rest, input, driven);
+    let mut driven = DrivenBox::new(&mut lines, out, log, disk);
+    let end = drive_to_rest(0, rest, input, &mut driven);
     if is_write_stop(&end) {
         return Status::WriteFault;
     }
-    match lines.finish(out, log) {
+    let BoxLines { texts, .. } = lines;
+    match texts.finish(out, log) {
         Ok(()) => {}
         Err(Failed) => return Status::WriteFault,
     }

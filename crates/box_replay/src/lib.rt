@@ -4,9 +4,11 @@
 
 mod box_lines;
 mod command;
+mod driven_box;
 mod laws;
 mod line_box;
 mod runs;
+mod texts;
 
 pub use command::replay_box;
 pub use laws::runs_are_uptimes;
