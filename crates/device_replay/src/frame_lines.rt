@@ -42,11 +42,7 @@ fn push_frame<O: Sink>(lines: &mut TextBuffer, out: &mut O, frame: &FrameAt) -> 
 
 impl<'a, V, O> FrameLines<'a, V, O> {
     /// Prints to this sink, by way of this text, what this device reads.
-    pub fn new(
-        device: &'a mut V,
-        lines: &'a mut TextBuffer,
-        out: &'a mut O,
-    ) -> FrameLines<'a, V, O>
+    pub fn new(device: &'a mut V, lines: &'a mut TextBuffer, out: &'a mut O) -> FrameLines<'a, V, O>
         ensures device { result.device ≡ device.entry }
         ensures lines { result.lines ≡ lines.entry }
         ensures out { result.out ≡ out.entry }
