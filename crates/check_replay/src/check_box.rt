@@ -11,7 +11,7 @@ use hmac_tag::{Dir, Mac};
 use line_rules::LineRules;
 use sequence_journal::{Journal, JournalFault};
 use yasir_io::SlotDisk;
-use yasir_ticks::Tick;
+use yasir_ticks::{Tick, TickRun};
 
 /// The receiver as a box, with words of `B` bytes and a delay of `D` ticks.
 #[derive(Drop)]
@@ -60,12 +60,10 @@ impl<R: LineRules, M: Mac, const B: usize, const D: usize> LineBox for CheckBox<
     }
 
     #[inline]
-    fn pass_bytes(&mut self, bytes: &[u8], left: &mut RunBytes) -> usize {
-        self.checker.pass_bytes(bytes, left)
-    }
-
-    #[inline]
-    fn pass_silence(&mut self, ticks: u32, left: &mut RunBytes) -> u32 {
-        self.checker.pass_silence(ticks, left)
+    fn pass(&mut self, run: TickRun<'_>, left: &mut RunBytes) -> usize {
+        match run {
+            TickRun::Bytes(bytes) => self.checker.pass_bytes(bytes, left),
+            TickRun::Silence(ticks) => self.checker.pass_silence(ticks, left) as usize,
+        }
     }
 }
