@@ -9,7 +9,6 @@ pub mod Causality
 pub mod Spoiled
 pub mod Apart
 pub mod Passing
-pub mod Places
 pub mod Packets
 pub mod Leavings
 pub mod Flow
