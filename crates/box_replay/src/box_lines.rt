@@ -14,8 +14,9 @@ ghost use Rattle.box_replay.specs.Sending.{SinkTexts, sink_texts, waiting, Sends
 ghost use Rattle.box_replay.specs.Sending.{HasSentFronts, HaveCause, PushesTexts, PushesStep};
 ghost use Rattle.box_replay.specs.BoxLines.{driving, waiting_in, DrivesBox};
 
-use crate::line_box::{LineBox, RunBytes};
+use crate::line_box::LineBox;
 use crate::runs::{push_answered, push_bytes, push_silence};
+use burst_walk::RunBytes;
 use hmac_tag::Dir;
 use sequence_journal::{Journal, JournalFault};
 use tick_drive::{Consumer, Stop};

@@ -8,6 +8,7 @@ mod laws;
 mod line_box;
 mod runs;
 
+pub use burst_walk::{BoxStep, RunBytes};
 pub use command::replay_box;
 pub use laws::runs_are_uptimes;
-pub use line_box::{BoxStep, LineBox, NoteLine, RunBytes};
+pub use line_box::{LineBox, NoteLine};

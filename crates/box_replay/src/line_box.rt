@@ -15,6 +15,7 @@ ghost use Rattle.box_replay.specs.Boxes.{Boxed, IsBoxed, AnswersBox, FailsBox, F
 ghost use Rattle.box_replay.specs.Boxes.{AnswersBoxRun};
 
 use arrayvec::ArrayVec;
+use burst_walk::{BoxStep, RunBytes};
 use hmac_tag::Dir;
 use sequence_journal::{Journal, JournalFault};
 use yasir_io::SlotDisk;
@@ -22,17 +23,6 @@ use yasir_ticks::{MAX_TICKS, Tick};
 
 /// The line of a note, LF included.
 pub type NoteLine = ArrayVec<u8, 80>;
-
-/// The bytes of a run that a box answers to a run.
-pub type RunBytes = ArrayVec<u8, 64>;
-
-/// What a box answers to a tick: the tick of the other line, and the note that falls into the step.
-/// The note's line is written where it is needed, since few steps have one.
-#[derive(Clone, Copy)]
-pub struct BoxStep<N> {
-    pub tick: Tick,
-    pub note: Option<N>,
-}
 
 /// A box between two lines, set up with a key and a direction: it takes one line tick by tick and
 /// answers the other one. The numbers that it uses come from a journal, which is that of the steps

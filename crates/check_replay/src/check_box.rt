@@ -6,7 +6,7 @@ ghost use Rattle.check_replay.specs.CheckBoxedLaws.{checks-boxed, checks-floor};
 
 use crate::note_lines::note_line;
 use box_replay::{BoxStep, LineBox, NoteLine, RunBytes};
-use check_receiver::{CheckNote, CheckStep, Checker};
+use check_receiver::{CheckNote, Checker};
 use hmac_tag::{Dir, Mac};
 use line_rules::LineRules;
 use sequence_journal::{Journal, JournalFault};
@@ -53,10 +53,7 @@ impl<R: LineRules, M: Mac, const B: usize, const D: usize> LineBox for CheckBox<
         journal: &mut Journal,
         disk: &mut S,
     ) -> Result<BoxStep<CheckNote>, JournalFault> {
-        match self.checker.step(t, journal, disk) {
-            Ok(CheckStep { tick, note }) => Ok(BoxStep { tick, note }),
-            Err(JournalFault) => Err(JournalFault),
-        }
+        self.checker.step(t, journal, disk)
     }
 
     #[inline]

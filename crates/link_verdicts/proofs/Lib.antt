@@ -20,6 +20,6 @@ pub mod Growing
 pub mod Rings
 pub mod Beginning
 pub mod Numbers
-pub mod Lives
-pub mod Extras
+pub mod Trailing
+pub mod Opened
 pub mod Begun

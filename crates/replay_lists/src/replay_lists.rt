@@ -8,9 +8,10 @@ ghost use Rattle.replay_lists.specs.FrameList.{Kept, Holds};
 ghost use Rattle.replay_lists.specs.ReplayLists.{KeepsFrames, Listens, StepsInto};
 ghost use Rattle.replay_lists.specs.declared.frame_box.Numbered.{Numbered};
 
-use crate::frame_box::{FrameBox, Numbered, RunBytes};
+use crate::frame_box::{FrameBox, Numbered};
 use crate::frame_list::{FrameList, NoMemory};
 use crate::hearing::hear_answered;
+use burst_walk::RunBytes;
 use device_model::Device;
 use hmac_tag::Dir;
 use std::alloc::Global;

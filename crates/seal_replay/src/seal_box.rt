@@ -9,7 +9,7 @@ use crate::note_lines::note_line;
 use box_replay::{BoxStep, LineBox, NoteLine, RunBytes};
 use hmac_tag::{Dir, Mac};
 use line_rules::LineRules;
-use seal_transmitter::{SealNote, SealStep, Sealer};
+use seal_transmitter::{SealNote, Sealer};
 use sequence_journal::{Journal, JournalFault};
 use yasir_io::SlotDisk;
 use yasir_ticks::Tick;
@@ -54,10 +54,7 @@ impl<R: LineRules, M: Mac, const B: usize> LineBox for SealBox<R, M, B> {
         journal: &mut Journal,
         disk: &mut D,
     ) -> Result<BoxStep<SealNote>, JournalFault> {
-        match self.sealer.step(t, journal, disk) {
-            Ok(SealStep { tick, note }) => Ok(BoxStep { tick, note }),
-            Err(JournalFault) => Err(JournalFault),
-        }
+        self.sealer.step(t, journal, disk)
     }
 
     #[inline]

@@ -1,8 +1,8 @@
 ghost use Rattle.std.specs.Prelude.{◌≡◌, length};
 
 use crate::silence::wait_open;
-use crate::{SealNote, SealStep, UnsealedWhy};
-use arrayvec::ArrayVec;
+use crate::{SealNote, UnsealedWhy};
+use burst_walk::{BoxStep, RunBytes};
 use frame_ending::{BurstCut, Cut};
 use hmac_tag::{Dir, Mac};
 use line_rules::LineRules;
@@ -25,9 +25,6 @@ pub struct Sealer<R, M, const B: usize> {
     earliest_start: u64,
     trailer: Trailer<B>,
 }
-
-/// What is sent of a trailer over a run of ticks.
-pub type RunBytes = ArrayVec<u8, 64>;
 
 // Puts these bytes into `left` in place of what stands there, and says how many they are.
 #[inline]
@@ -94,7 +91,7 @@ impl<R: LineRules, M: Mac, const B: usize> Sealer<R, M, B> {
         t: Tick,
         journal: &mut Journal,
         disk: &mut D,
-    ) -> Result<SealStep, JournalFault>
+    ) -> Result<BoxStep<SealNote>, JournalFault>
         requires room { ticks_taken self.old < MAX_TICKS }
         requires fits { Fits journal.old (D.told disk.old) }
 
@@ -353,12 +350,12 @@ impl<R: LineRules, M: Mac, const B: usize> Sealer<R, M, B> {
 
     // The next byte of the trailer, or silence.
     #[inline]
-    fn send(&mut self) -> SealStep
+    fn send(&mut self) -> BoxStep<SealNote>
         ensures rest { self.new ≡ record self.old { trailer = self.new.trailer } }
         ensures left { bytes_left self.new.trailer ≡ drop 1 (bytes_left self.old.trailer) }
         ensures answer { result ≡ noteless (first_of (bytes_left self.old.trailer)) }
     {
-        SealStep {
+        BoxStep {
             tick: self.trailer.next_tick(),
             note: None,
         }
@@ -366,7 +363,7 @@ impl<R: LineRules, M: Mac, const B: usize> Sealer<R, M, B> {
 
     // A tick that is neither forwarded nor closes a burst.
     #[inline]
-    fn pass(&mut self) -> SealStep
+    fn pass(&mut self) -> BoxStep<SealNote>
         ensures cut { self.new.cut ≡ self.old.cut }
         ensures note { result.note ≡ None }
         ensures step { (last : ℕ) (setup : Setup) (line : List Tick) (t : Tick) (cut : Cut)
@@ -379,7 +376,7 @@ impl<R: LineRules, M: Mac, const B: usize> Sealer<R, M, B> {
 
     // The first byte of a burst.
     #[inline]
-    fn begin(&mut self, byte: u8) -> SealStep
+    fn begin(&mut self, byte: u8) -> BoxStep<SealNote>
         ensures cut { self.new.cut ≡ self.old.cut }
         ensures note { result.note ≡ None }
         ensures step { (last : ℕ) (setup : Setup) (line : List Tick) (t : Tick)
@@ -391,7 +388,7 @@ impl<R: LineRules, M: Mac, const B: usize> Sealer<R, M, B> {
         }
         self.mac.begin();
         self.mac.update(&[R::LABEL, self.direction.number(), byte]);
-        SealStep {
+        BoxStep {
             tick: Tick::Byte(byte),
             note: None,
         }
@@ -399,7 +396,7 @@ impl<R: LineRules, M: Mac, const B: usize> Sealer<R, M, B> {
 
     // A further live byte of it.
     #[inline]
-    fn go_on(&mut self, byte: u8) -> SealStep
+    fn go_on(&mut self, byte: u8) -> BoxStep<SealNote>
         ensures cut { self.new.cut ≡ self.old.cut }
         ensures note { result.note ≡ None }
         ensures step { (last : ℕ) (setup : Setup) (line : List Tick) (t : Tick)
@@ -410,7 +407,7 @@ impl<R: LineRules, M: Mac, const B: usize> Sealer<R, M, B> {
             return self.send();
         }
         self.mac.update(&[byte]);
-        SealStep {
+        BoxStep {
             tick: Tick::Byte(byte),
             note: None,
         }
@@ -444,7 +441,7 @@ impl<R: LineRules, M: Mac, const B: usize> Sealer<R, M, B> {
         &mut self,
         journal: &mut Journal,
         disk: &mut D,
-    ) -> Result<SealStep, JournalFault>
+    ) -> Result<BoxStep<SealNote>, JournalFault>
         requires room { ticks_taken self.old ≤ MAX_TICKS }
         requires fits { Fits journal.old (D.told disk.old) }
 
@@ -474,7 +471,7 @@ impl<R: LineRules, M: Mac, const B: usize> Sealer<R, M, B> {
     }
 
     // Leaves the closed burst without a trailer.
-    fn leave(&mut self, why: UnsealedWhy) -> SealStep
+    fn leave(&mut self, why: UnsealedWhy) -> BoxStep<SealNote>
         ensures cut { self.new.cut ≡ self.old.cut }
         ensures note { IsUnsealedNote why result.note }
         ensures step { (last : ℕ) (setup : Setup) (line : List Tick)
@@ -482,7 +479,7 @@ impl<R: LineRules, M: Mac, const B: usize> Sealer<R, M, B> {
             → Judges R.LineRules M.Mac self.old last setup (line ++ Silent ∷ []) (unsealed why)
             → HasTaken R.LineRules M.Mac self.new last setup line Silent result }
     {
-        SealStep {
+        BoxStep {
             tick: self.trailer.next_tick(),
             note: Some(SealNote::Unsealed {
                 start: self.cut.start(),
@@ -492,7 +489,7 @@ impl<R: LineRules, M: Mac, const B: usize> Sealer<R, M, B> {
     }
 
     // Seals the closed burst with a number that is committed.
-    fn seal(&mut self, number: u64) -> SealStep
+    fn seal(&mut self, number: u64) -> BoxStep<SealNote>
         requires room { ticks_taken self.old ≤ MAX_TICKS }
         ensures cut { self.new.cut ≡ self.old.cut }
         ensures note { IsSealedNote number result.note }
@@ -507,7 +504,7 @@ impl<R: LineRules, M: Mac, const B: usize> Sealer<R, M, B> {
         self.trailer.load(number, &tag);
         // this tick is the trailer's first one
         self.earliest_start = self.cut.ticks() + (B + M::TAG) as u64 + u64::from(T3_5_TICKS - 1);
-        SealStep {
+        BoxStep {
             tick: self.trailer.next_tick(),
             note: Some(SealNote::Sealed {
                 number,

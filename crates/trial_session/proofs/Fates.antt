@@ -12,12 +12,12 @@ use Rattle.seal_transmitter.specs.Sealing.FullNote.{sealed_note, unsealed_note}
 use Rattle.seal_transmitter.specs.Answers.{AnswersTick as SealsTick, brief_note as seal_brief}
 use Rattle.seal_transmitter.specs.declared.note.SealNote.{SealNote}
 use Rattle.seal_transmitter.specs.declared.note.SealNote.TheVariants.{Sealed, Unsealed}
-use Rattle.seal_transmitter.specs.declared.note.SealStep.{SealStep}
+use Rattle.burst_walk.specs.declared.box_step.BoxStep.{BoxStep}
 use Rattle.link_verdicts.specs.Checking.{FullNote as CheckFull, checker, passed_in}
 use Rattle.link_verdicts.specs.Checking.{at_floor as checks_from, brief_note as check_brief}
 use Rattle.link_verdicts.specs.Checking.FullNote.{passed_note, refused_note, dropped_note}
 use Rattle.check_receiver.specs.Checkings.{AnswersTick as ChecksTick}
-use Rattle.check_receiver.specs.declared.step.CheckStep.{CheckStep}
+use Rattle.link_verdicts.specs.declared.note.CheckNote.{CheckNote}
 use Rattle.trial_session.specs.Boxes.{told_by, fate_sealed, is_unsealed, seal_counting}
 use Rattle.trial_session.specs.Boxes.{fate_checked, check_counting}
 use Rattle.trial_session.specs.Boxes.{is_refused as notes_refused, is_dropped as notes_dropped}
@@ -51,7 +51,7 @@ module _ (profile : Profile) (rules : Rules) where
         none_dropped = refl;
       }
 
-  pub seals-step : (line : List Tick) (t : Tick) (step : SealStep)
+  pub seals-step : (line : List Tick) (t : Tick) (step : BoxStep SealNote)
       → SealsTick profile rules 0 line t step
       → CountsStep (seal_counting profile rules) line t
       (record { tick = step.tick; fate = told_by fate_sealed step.note })
@@ -104,7 +104,7 @@ module _ (profile : Profile) (rules : Rules) where
         none_dropped = ap (λ notes. length (filter (λ n. notes_dropped n.note) notes)) none;
       }
 
-  pub checks-step : (line : List Tick) (t : Tick) (step : CheckStep)
+  pub checks-step : (line : List Tick) (t : Tick) (step : BoxStep CheckNote)
       → ChecksTick profile rules 0 line t step
       → CountsStep (check_counting profile rules) line t
       (record { tick = step.tick; fate = told_by fate_checked step.note })

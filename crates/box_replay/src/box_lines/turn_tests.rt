@@ -6,7 +6,8 @@ ghost use Rattle.sequence_journal.specs.Journal.{journal_floor};
 ghost use Rattle.yasir_ticks.specs.declared.TheConstants.{MAX_TICKS};
 
 use super::BoxLines;
-use crate::line_box::{BoxStep, LineBox, NoteLine, RunBytes};
+use crate::line_box::{LineBox, NoteLine};
+use burst_walk::{BoxStep, RunBytes};
 use hmac_tag::Dir;
 use sequence_journal::{Journal, JournalFault, LinkId, slot_of};
 use std::alloc::Global;
