@@ -139,7 +139,8 @@ module _ {R M : Type 0} (proto : LineRules R) (code : Mac M) {B D : ℕ} (new : 
   w = checker (profile_of proto code B LIMIT setup) proto.rules
 
   -- a tick without a note is a run
-  pub one-taken : (t a : Tick) (step : BoxStep CheckNote) → HasTaken proto code new last setup line t step
+  pub one-taken : (t a : Tick) (step : BoxStep CheckNote)
+      → HasTaken proto code new last setup line t step
       → step.note ≡ None → step.tick ≡ a
       → HasTakenRun proto code new last setup line (t ∷ []) (a ∷ [])
   one-taken t a step taken none is =

@@ -46,7 +46,8 @@ use Rattle.link_verdicts.specs.declared.note.CheckNote.{CheckNote}
 use Rattle.check_receiver.proofs.Heads.{head-is-bad, head-isn't-short}
 use Rattle.check_receiver.proofs.Machine.{flow, ring-waits, assembled}
 use Rattle.check_receiver.proofs.OpenBursts.{timely, open-walks}
-use Rattle.link_verdicts.proofs.Opened.{last_of-more, opens-of, may-of, unowed-of, silently, joined, joined-last, still}
+use Rattle.link_verdicts.proofs.Opened.{last_of-more, opens-of, may-of, unowed-of, silently, joined}
+use Rattle.link_verdicts.proofs.Opened.{joined-last, still}
 
 -- ---- the ring is emptied
 

@@ -209,7 +209,8 @@ module _ {R M : Type 0} (proto : LineRules R) (code : Mac M) {B D : ℕ} (old : 
   turn base new answer turned outlet ring until =
       let O : Outlet R → Type 0 = λ x. OutletStandsFor proto x left in
       let U : ℕ → Type 0 = λ n. (n == 0) ≡ false in
-      moved proto base new Silent answer turned left live (subst O (sym outlet) hears.walks.outlet_is)
+      moved proto base new Silent answer turned left live
+      (subst O (sym outlet) hears.walks.outlet_is)
       (ap (λ x. ring_ticks x) ring ∙ hears.walks.ring_is)
       (ap (λ x. owed_by x) outlet ∙ unowed-of it) (subst U (sym until) another) (more-of it)
       (room-of it)

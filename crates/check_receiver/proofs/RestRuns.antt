@@ -114,7 +114,8 @@ module _ {R : Type 0} (proto : LineRules R) (profile : Profile)
   idle-run [] line left walked none =
       runs-none profile rules floor line s passes left [] 0 None walked
   idle-run (t ∷ run) line left walked none =
-      let goes = idle-one line left t walked (comes proto profile timely floor s line t walked.emissions walked.come none.0) in
+      let goes = idle-one line left t walked
+      (comes proto profile timely floor s line t walked.emissions walked.come none.0) in
       runs-first profile rules floor line t run s passes left [] 0 None left [] 0 None Silent
       (silent (length run)) goes
       (idle-run run (line ++ t ∷ []) left goes.walked none.1)
@@ -177,7 +178,8 @@ module _ {R : Type 0} (proto : LineRules R) (profile : Profile)
   flow-run (t ∷ run) line left [] walked none few = absurd (omega arith)
   flow-run (t ∷ run) line left (u ∷ live) walked none few =
       let goes = flow-one line left (u ∷ live) t walked
-      (comes proto profile timely floor s line t walked.emissions walked.come none.0) (omega arith) in
+      (comes proto profile timely floor s line t walked.emissions walked.come none.0)
+      (omega arith) in
       let k : ℕ = length run in
       let next : List ℕ = left ++ bytes_in (u ∷ []) in
       let rest = flow-run run (line ++ t ∷ []) next live goes.walked none.1 (omega arith) in

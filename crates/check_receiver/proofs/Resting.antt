@@ -78,7 +78,8 @@ pub rest-taken : {R M : Type 0} (proto : LineRules R) (code : Mac M) {B D : ℕ}
     (step : BoxStep CheckNote) → Turned proto old new Silent step.tick → step.note ≡ None
     → BeginsNone proto.rules line t → old.waits ≡ false
     → HasTaken proto code new last setup line t step
-rest-taken proto code {B} {D} old last setup line t cut between new step turned noted begins closed =
+rest-taken proto code {B} {D} old last setup line t cut between new step turned noted begins
+    closed =
     let profile : Profile = profile_of proto code B LIMIT setup in
     let state : CheckState = record { floor = last; earliest_start = old.earliest_start } in
     let W : Option Burst → Type 0 = λ o. HasWalked profile proto.rules setup.floor (length line)

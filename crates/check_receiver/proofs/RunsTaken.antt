@@ -148,7 +148,8 @@ module _ {R M : Type 0} (proto : LineRules R) (code : Mac M) {B D : ℕ} (old : 
         outlet = outlet;
         until = until;
       }) last setup line run answer
-  made run answer mac arriving ring outlet until waiting y l cuts runs outlet_is ring_is few until_is
+  made run answer mac arriving ring outlet until waiting y l cuts runs outlet_is ring_is few
+      until_is
       waits_is code_is coded =
       record {
         stands = record {
@@ -267,7 +268,8 @@ module _ {R M : Type 0} (proto : LineRules R) (code : Mac M) {B D : ℕ} (old : 
           outlet = outlet;
           until = until;
         }) last setup line run (answered k x)
-    entered run k arriving waiting passes few less cuts is ring_is until_is room runs passes_is waits
+    entered run k arriving waiting passes few less cuts is ring_is until_is room runs passes_is
+        waits
         coded =
         let count = stands.walks.until_is in
         let most = stands.walks.few in
@@ -294,8 +296,8 @@ module _ {R M : Type 0} (proto : LineRules R) (code : Mac M) {B D : ℕ} (old : 
         (runs-as run passes old.passed (left ++ bytes_in (take k live)) (drop k live) 0
         (owed_by outlet) waiting (take k live) runs passes_is unowed)
         (subst L (sym bytes) (lends left stands.walks.outlet_is
-        (leaving-room rules proto.lawful left live Q (D - length live) k x stands.walks.ring_is leaves
-        room)))
+        (leaving-room rules proto.lawful left live Q (D - length live) k x stands.walks.ring_is
+        leaves room)))
         (ring_is
         ∙ (ap (λ l. drop k (l ++ silent k)) stands.walks.ring_is ∙ ring-rest live D k less most))
         (omega arith) (omega arith) waits stands.walks.code_is coded)

@@ -22,7 +22,8 @@ use Rattle.sequence_journal.specs.declared.numbers.TheConstants.{LIMIT}
 use Rattle.link_verdicts.specs.Emissions.{owed}
 use Rattle.link_verdicts.specs.declared.note.CheckNote.TheVariants.{Refused}
 use Rattle.link_verdicts.specs.declared.note.RefusedWhy.TheVariants.{Trailer}
-use Rattle.link_verdicts.proofs.Opened.{opens-of, last-of, long-of, more-of, unowed-of, room-of, goes-as}
+use Rattle.link_verdicts.proofs.Opened.{opens-of, last-of, long-of, more-of, unowed-of, room-of}
+use Rattle.link_verdicts.proofs.Opened.{goes-as}
 use Rattle.link_verdicts.proofs.Opened.{silent-goes, silent-breaks}
 use Rattle.check_receiver.specs.Between.{IsBetween}
 use Rattle.check_receiver.specs.Stands.{Codes, HasTaken}

@@ -87,7 +87,8 @@ module _ {R M : Type 0} (proto : LineRules R) (code : Mac M) {B D : ℕ} (old : 
       rest setup line (between what is setup line stands)
 
   -- what is told of silence is told of a silent tick
-  pub taken-silence : IsSilence told → (new : Checker R M B D) (number : ℕ) (step : BoxStep CheckNote)
+  pub taken-silence : IsSilence told → (new : Checker R M B D) (number : ℕ)
+      (step : BoxStep CheckNote)
       → ((setup : Setup) (line : List Tick) → Between told setup line Silent
       → HasTaken proto code new number setup line Silent step)
       → (setup : Setup) (line : List Tick) → Before setup line
@@ -101,7 +102,8 @@ module _ {R M : Type 0} (proto : LineRules R) (code : Mac M) {B D : ℕ} (old : 
   -- ---- a step that may fail
 
   module _ (what : Cut) (is : told ≡ what) where
-    pub taken-ok : (new : Checker R M B D) (number : ℕ) (result : Result (BoxStep CheckNote) JournalFault)
+    pub taken-ok : (new : Checker R M B D) (number : ℕ)
+        (result : Result (BoxStep CheckNote) JournalFault)
         → IfOk result (λ step. (setup : Setup) (line : List Tick) (u : Tick)
         → Between what setup line u → HasTaken proto code new number setup line u step)
         → IfOk result (λ step. (setup : Setup) (line : List Tick) → Before setup line

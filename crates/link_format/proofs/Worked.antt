@@ -13,8 +13,8 @@ abbrev pub rtu : Rules
 rtu = headerless 1 256 (λ x. nat_le 4 (length x) && crc 0xA001 0xFFFF x == 0)
     (λ x. nat_le 2 (length x) && crc 0xA001 0xFFFF x == 0)
 
--- so many bytes of the number and the frame. The number goes in modulo a prime, so that numbers with
--- the same word have different tags.
+-- so many bytes of the number and the frame. The number goes in modulo a prime, so that numbers
+-- with the same word have different tags.
 abbrev pub stand_in : ℕ → ℕ → List ℕ → List ℕ
 stand_in size number frame = take size (number % 251 ∷ frame ++ replicate size 0xEE)
 

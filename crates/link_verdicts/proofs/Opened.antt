@@ -1,7 +1,8 @@
 -- A burst whose verdict is open: what is known of it, and what one more tick of the link does. More
 -- than one live tick is still to leave then, and the first of them leaves as it came.
 use Rattle.std.proofs.Common.{◌≡◌, ◌∙◌, ℕ, zero, suc, ◌+◌, ◌-◌, ◌<◌, ◌≤◌, Bool, true, false, List}
-use Rattle.std.proofs.Common.{[], ◌∷◌, ◌++◌, ◌||◌, nat_le, length, length-append, take, drop, get_or}
+use Rattle.std.proofs.Common.{[], ◌∷◌, ◌++◌, ◌||◌, nat_le, length, length-append, take, drop}
+use Rattle.std.proofs.Common.{get_or}
 use Rattle.std.proofs.Common.{refl, sym, ap, subst, arith, append_assoc, Option, Some, None, ⊎_elim}
 use Rattle.std.proofs.lemmas.Bool.{cases_Bool, cases_lt, or_parts, eqb-false}
 use Rattle.std.proofs.lemmas.List.{get_or-drop, take-append-drop}
@@ -95,7 +96,8 @@ goes-as {profile} {rules} {floor} {line} {t} {number} {earliest} {p} {left} {liv
     (subst (λ x. G t answer p owing x) (sym start_is) goes))))
 
 -- The verdict on this burst is open after these ticks.
-pub record IsOpen {R : Type 0} (proto : LineRules R) (profile : Profile) (floor : ℕ) (s : CheckState)
+pub record IsOpen {R : Type 0} (proto : LineRules R) (profile : Profile) (floor : ℕ)
+    (s : CheckState)
     (line : List Tick) (passes : Bool) (left : List ℕ) (live : List Tick) (owing : ℕ) (d : Burst) :
     Type 0 where
   pub timely : IsTimely profile proto.rules
@@ -129,7 +131,8 @@ module _ {R : Type 0} {proto : LineRules R} {profile : Profile} {floor : ℕ} {s
 
   -- how many live ticks are still to leave
   pub long-of : length live + m ≡ live_end rules d + delay profile
-  long-of = live-long profile rules proto.headed it.some m s.earliest_start d left live may-of.after opens-of
+  long-of = live-long profile rules proto.headed it.some m s.earliest_start d left live
+      may-of.after opens-of
 
   pub more-of : 1 < length live
   more-of = let sum = long-of in let near = opens-of.near in omega arith
@@ -165,7 +168,8 @@ module _ {R : Type 0} {proto : LineRules R} {profile : Profile} {floor : ℕ} {s
       ap (λ l. get_or l 0 Silent) opens-of.live_is
       ∙ (get_or-drop k whole 0 Silent ∙ ap (λ j. get_or whole j Silent) here)
 
-  room-next : length (after ++ bytes_in (drop 1 live)) ≤ rules.room (after ++ bytes_in (drop 1 live))
+  room-next : length (after ++ bytes_in (drop 1 live))
+      ≤ rules.room (after ++ bytes_in (drop 1 live))
   room-next =
       let Fits : List ℕ → Type 0 = λ x. length x ≤ rules.room x in
       let same : after ++ bytes_in (drop 1 live) ≡ left ++ bytes_in live =
@@ -188,8 +192,8 @@ module _ {R : Type 0} {proto : LineRules R} {profile : Profile} {floor : ℕ} {s
       let from = opens-of.from in
       open-goes proto profile it.timely floor line Silent s it.walked.emissions d silently
       may-of.contiguous (omega arith) opens-of.near first seen after (drop 1 live)
-      (opens-silent profile rules proto.headed it.some m s.earliest_start d left live may-of.after opens-of
-      few header)
+      (opens-silent profile rules proto.headed it.some m s.earliest_start d left live may-of.after
+      opens-of few header)
       0 refl (λ there. room-next)
 
   -- and behind it
@@ -203,14 +207,16 @@ module _ {R : Type 0} {proto : LineRules R} {profile : Profile} {floor : ℕ} {s
   silent-breaks behind =
       let from = opens-of.from in
       let header = opens-of.not_short (omega arith) in
-      let broken = breaks profile rules m s d opens-of.late header (opens-of.not_bad header) opens-of.end_from
-      opens-of.near
-      (silent-kept profile rules proto.headed it.some m s.earliest_start d left live may-of.after opens-of
-      behind) in
+      let broken = breaks profile rules m s d opens-of.late header (opens-of.not_bad header)
+      opens-of.end_from opens-of.near
+      (silent-kept profile rules proto.headed it.some m s.earliest_start d left live may-of.after
+      opens-of behind) in
       refuse-goes proto profile it.timely floor line Silent s it.walked.emissions d silently
       may-of.contiguous (omega arith) opens-of.near first seen after (drop 1 live)
-      (next-live profile rules proto.headed it.some m s.earliest_start d left live may-of.after opens-of)
-      (next-left profile rules proto.headed it.some m s.earliest_start d left live may-of.after opens-of)
+      (next-live profile rules proto.headed it.some m s.earliest_start d left live may-of.after
+      opens-of)
+      (next-left profile rules proto.headed it.some m s.earliest_start d left live may-of.after
+      opens-of)
       (λ there. room-next) Trailer broken.0 broken.1
 
   -- as many bytes of the trailer have come as ticks behind the pause
@@ -297,8 +303,8 @@ module _ {R : Type 0} {proto : LineRules R} {profile : Profile} {floor : ℕ} {s
           s.earliest_start d left live b may-of opens-of still) in
           let old = length-silent (delay profile) (live_ticks rules d) in
           let new = length-silent (delay profile) (live_ticks rules e) in
-          let sum = length-append (as_it_came profile rules d) (silent (m - end_of d) ++ Byte b ∷ [])
-          in
+          let sum = length-append (as_it_came profile rules d)
+          (silent (m - end_of d) ++ Byte b ∷ []) in
           let tail = length-silent (m - end_of d) (Byte b ∷ []) in
           let end = live-ends in
           let from = opens-of.end_from in
@@ -343,8 +349,8 @@ module _ {R : Type 0} {proto : LineRules R} {profile : Profile} {floor : ℕ} {s
           let Fits : List ℕ → Type 0 = λ x. length x ≤ rules.room x in
           open-goes proto profile it.timely floor line (Byte b) s it.walked.emissions e joined
           contiguous (omega arith) (omega arith) first
-          (seen ∙ sym (open-seen profile rules proto.lawful proto.headed it.some m s.earliest_start d
-          left live b may-of opens-of still))
+          (seen ∙ sym (open-seen profile rules proto.lawful proto.headed it.some m s.earliest_start
+          d left live b may-of opens-of still))
           after entered next 0 refl (λ there. subst Fits (sym all) fits)
 
     -- ---- one that isn't live
@@ -388,16 +394,16 @@ module _ {R : Type 0} {proto : LineRules R} {profile : Profile} {floor : ℕ} {s
 
       sees : first ≡ get_or (as_it_came profile rules e) (m - e.start) Silent
       sees = seen ∙ sym (ap (λ x. get_or x (m - d.start) Silent)
-          (over-whole profile rules proto.lawful proto.headed it.some m s.earliest_start d left live b
-          may-of opens-of over))
+          (over-whole profile rules proto.lawful proto.headed it.some m s.earliest_start d left live
+          b may-of opens-of over))
 
       header : rules.header_len ≤ length (live_bytes rules e)
       header = over-long-header profile rules proto.lawful proto.headed it.some m s.earliest_start d
           left live b may-of opens-of over
 
       good : rules.is_good_header (take rules.header_len (live_bytes rules e)) ≡ true
-      good = over-good profile rules proto.lawful proto.headed it.some m s.earliest_start d left live
-          b may-of opens-of over
+      good = over-good profile rules proto.lawful proto.headed it.some m s.earliest_start d left
+          live b may-of opens-of over
 
       -- of the trailer, not its last one
       pub extra-goes : live_end rules d + 3 ≤ m → m + 2 < live_end rules d + delay profile
@@ -405,8 +411,8 @@ module _ {R : Type 0} {proto : LineRules R} {profile : Profile} {floor : ℕ} {s
       extra-goes behind before =
           open-goes proto profile it.timely floor line (Byte b) s it.walked.emissions e joined
           contiguous from near first sees after (drop 1 live)
-          (opens-over profile rules proto.lawful proto.headed it.some m s.earliest_start d left live b
-          may-of opens-of over behind before)
+          (opens-over profile rules proto.lawful proto.headed it.some m s.earliest_start d left live
+          b may-of opens-of over behind before)
           0 refl (λ there. room-next)
 
       refuses : (why' : RefusedWhy) → checked profile rules s e ≡ refused why'
@@ -420,10 +426,10 @@ module _ {R : Type 0} {proto : LineRules R} {profile : Profile} {floor : ℕ} {s
       refuses why' is' now =
           refuse-goes proto profile it.timely floor line (Byte b) s it.walked.emissions e joined
           contiguous from near first sees after (drop 1 live)
-          (over-live profile rules proto.lawful proto.headed it.some m s.earliest_start d left live b
-          may-of opens-of over)
-          (over-left profile rules proto.lawful proto.headed it.some m s.earliest_start d left live b
-          may-of opens-of over)
+          (over-live profile rules proto.lawful proto.headed it.some m s.earliest_start d left live
+          b may-of opens-of over)
+          (over-left profile rules proto.lawful proto.headed it.some m s.earliest_start d left live
+          b may-of opens-of over)
           (λ there. room-next) why' is' now
 
       -- inside the pause
@@ -438,8 +444,8 @@ module _ {R : Type 0} {proto : LineRules R} {profile : Profile} {floor : ℕ} {s
           let end = extra-end in
           let begun = opens-of.end_from in
           let broken = breaks profile rules m s e opens-of.late header good (omega arith) near
-          (over-breaks profile rules proto.lawful proto.headed it.some m s.earliest_start d left live
-          b may-of opens-of over few) in
+          (over-breaks profile rules proto.lawful proto.headed it.some m s.earliest_start d left
+          live b may-of opens-of over few) in
           refuses Trailer broken.0 broken.1
 
       -- ---- the last byte of a trailer
@@ -481,8 +487,8 @@ module _ {R : Type 0} {proto : LineRules R} {profile : Profile} {floor : ℕ} {s
         whole-passes number verdict =
             pass-goes proto profile it.timely floor line (Byte b) s it.walked.emissions e joined
             contiguous from near first sees after (drop 1 live)
-            (over-live profile rules proto.lawful proto.headed it.some m s.earliest_start d left live
-            b may-of opens-of over)
-            (over-left profile rules proto.lawful proto.headed it.some m s.earliest_start d left live
-            b may-of opens-of over)
+            (over-live profile rules proto.lawful proto.headed it.some m s.earliest_start d left
+            live b may-of opens-of over)
+            (over-left profile rules proto.lawful proto.headed it.some m s.earliest_start d left
+            live b may-of opens-of over)
             (λ there. room-next) number (whole-checked ∙ verdict) whole-tick

@@ -29,7 +29,8 @@ use Rattle.seal_transmitter.proofs.Advancing.{advance-begin, advance-live, advan
 use Rattle.seal_transmitter.proofs.Advancing.{advance-sealed}
 
 -- where the next byte of the trailer was sent, or silence
-pub record HasSent {R M : Type 0} {B : ℕ} (old new : Sealer R M B) (step : BoxStep SealNote) : Type 0 where
+pub record HasSent {R M : Type 0} {B : ℕ} (old new : Sealer R M B) (step : BoxStep SealNote) :
+    Type 0 where
   pub rest : new ≡ record old { trailer = new.trailer }
   pub left : bytes_left new.trailer ≡ drop 1 (bytes_left old.trailer)
   pub answer : step ≡ noteless (first_of (bytes_left old.trailer))
@@ -60,15 +61,16 @@ module _ {R M : Type 0} (proto : LineRules R) (code : Mac M) {B : ℕ} (old : Se
     answers = on.answers;
   }
 
-  sent : (new : Sealer R M B) (step : BoxStep SealNote) (t : Tick) (cut : Cut) → HasSent old new step
+  sent : (new : Sealer R M B) (step : BoxStep SealNote) (t : Tick) (cut : Cut)
+      → HasSent old new step
       → Between t cut
       → On last old.earliest_start (drop 1 (bytes_left old.trailer)) old.mac t
       (noteless (first_of (bytes_left old.trailer)))
       → Taken new last t step
   sent new step t cut has between on =
       let P : Sealer R M B → Type 0 = λ v. Taken v last t step in
-      let Q : BoxStep SealNote → Type 0 = λ s. On last old.earliest_start (drop 1 (bytes_left old.trailer))
-      old.mac t s in
+      let Q : BoxStep SealNote → Type 0 = λ s. On last old.earliest_start
+      (drop 1 (bytes_left old.trailer)) old.mac t s in
       let L : List ℕ → Type 0 = λ l. On last old.earliest_start l old.mac t step in
       subst P (sym has.rest)
       (taken (record old { trailer = new.trailer }) last t step between.direction_is between.cuts

@@ -199,7 +199,8 @@ module _ (profile : Profile) (rules : Rules) (lawful : IsLawful rules) (tags : H
       })
 
   -- what a step answers, by the burst that runs
-  answers : (running now : Option Burst) (so_far : Walked running) (t : Tick) (step : BoxStep SealNote)
+  answers : (running now : Option Burst) (so_far : Walked running) (t : Tick)
+      (step : BoxStep SealNote)
       → Taken running now so_far t
       → or_else (sent_at m left m) (tick_at (emitted walker s (waiting_part now)) m) ≡ step.tick
       → told_notes brief_note (notes_at m (walked walker s (waiting_part now)))
@@ -327,7 +328,8 @@ module _ (profile : Profile) (rules : Rules) (lawful : IsLawful rules) (tags : H
         in_time = left-in_time to_send m next.earliest_start in_time;
       })
 
-  close-answers : (d : Burst) (step : BoxStep SealNote) → Walked (Some d) → m + 1 ≡ end_of d + T3_5_TICKS
+  close-answers : (d : Burst) (step : BoxStep SealNote) → Walked (Some d)
+      → m + 1 ≡ end_of d + T3_5_TICKS
       → or_else (sent_at m left m) (tick_at (emission_by profile rules d (judgement_now d)) m)
       ≡ step.tick
       → Some (brief_note (note_by rules d (judgement_now d))) ≡ step.note

@@ -46,7 +46,8 @@ module _ {R M : Type 0} (proto : LineRules R) (code : Mac M) {B : ℕ} (old : Se
   }
 
   -- what is told of the tick, and then all else has taken it
-  pub taken-then : (what : Cut) → told ≡ what → (new : Sealer R M B) (number : ℕ) (step : BoxStep SealNote)
+  pub taken-then : (what : Cut) → told ≡ what → (new : Sealer R M B) (number : ℕ)
+      (step : BoxStep SealNote)
       → ((setup : Setup) (line : List Tick) → Between what setup line t
       → HasTaken proto code new number setup line t step)
       → (setup : Setup) (line : List Tick) → Before setup line

@@ -77,8 +77,8 @@ spent = row 281474976710655 (on_line READ_TEN_REGISTERS ++ silent 64)
 abbrev high_number : Row FullNote
 high_number = row 65537 (on_line READ_TEN_REGISTERS ++ silent 24)
     (noted_at 11 (sealed_note 65538 0 READ_TEN_REGISTERS) ∷ [])
-    (on_line READ_TEN_REGISTERS ++ silent 3 ++ on_line (0 ∷ 2 ∷ stand_in 12 65538 READ_TEN_REGISTERS)
-    ++ silent 7)
+    (on_line READ_TEN_REGISTERS ++ silent 3
+    ++ on_line (0 ∷ 2 ∷ stand_in 12 65538 READ_TEN_REGISTERS) ++ silent 7)
 
 -- a line that ends before the fourth silent tick after its frame: nothing is noted or sealed yet
 abbrev not_yet : Row FullNote
