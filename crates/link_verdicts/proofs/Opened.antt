@@ -131,8 +131,7 @@ module _ {R : Type 0} {proto : LineRules R} {profile : Profile} {floor : ℕ} {s
 
   -- how many live ticks are still to leave
   pub long-of : length live + m ≡ live_end rules d + delay profile
-  long-of = live-long profile rules proto.headed it.some m s.earliest_start d left live
-      may-of.after opens-of
+  long-of = live-long proto.headed it.some may-of.after opens-of
 
   pub more-of : 1 < length live
   more-of = let sum = long-of in let near = opens-of.near in omega arith
@@ -192,8 +191,7 @@ module _ {R : Type 0} {proto : LineRules R} {profile : Profile} {floor : ℕ} {s
       let from = opens-of.from in
       open-goes proto profile it.timely floor line Silent s it.walked.emissions d silently
       may-of.contiguous (omega arith) opens-of.near first seen after (drop 1 live)
-      (opens-silent profile rules proto.headed it.some m s.earliest_start d left live may-of.after
-      opens-of few header)
+      (opens-silent proto.headed it.some may-of.after opens-of few header)
       0 refl (λ there. room-next)
 
   -- and behind it
@@ -209,14 +207,11 @@ module _ {R : Type 0} {proto : LineRules R} {profile : Profile} {floor : ℕ} {s
       let header = opens-of.not_short (omega arith) in
       let broken = breaks profile rules m s d opens-of.late header (opens-of.not_bad header)
       opens-of.end_from opens-of.near
-      (silent-kept profile rules proto.headed it.some m s.earliest_start d left live may-of.after
-      opens-of behind) in
+      (silent-kept proto.headed it.some may-of.after opens-of behind) in
       refuse-goes proto profile it.timely floor line Silent s it.walked.emissions d silently
       may-of.contiguous (omega arith) opens-of.near first seen after (drop 1 live)
-      (next-live profile rules proto.headed it.some m s.earliest_start d left live may-of.after
-      opens-of)
-      (next-left profile rules proto.headed it.some m s.earliest_start d left live may-of.after
-      opens-of)
+      (next-live proto.headed it.some may-of.after opens-of)
+      (next-left proto.headed it.some may-of.after opens-of)
       (λ there. room-next) Trailer broken.0 broken.1
 
   -- as many bytes of the trailer have come as ticks behind the pause
@@ -269,8 +264,7 @@ module _ {R : Type 0} {proto : LineRules R} {profile : Profile} {floor : ℕ} {s
           let same : on.burst ≡ d = cc in
           let E : Burst → Type 0 = λ x. live_end rules (going_on x m b) ≡ m + 1 in
           let end : E d = subst E same on.end in
-          let kept = over-end profile rules proto.lawful proto.headed it.some m s.earliest_start d
-          left live b may-of opens-of over in
+          let kept = over-end proto.lawful proto.headed it.some b may-of opens-of over in
           let from = opens-of.end_from in
           absurd (omega arith))
           (λ none. none)
@@ -299,8 +293,8 @@ module _ {R : Type 0} {proto : LineRules R} {profile : Profile} {floor : ℕ} {s
       -- so many silent ticks came before it
       pub live-gap : m - end_of d ≡ m - live_end rules d
       live-gap =
-          let size = ap length (open-whole profile rules proto.lawful proto.headed it.some m
-          s.earliest_start d left live b may-of opens-of still) in
+          let size = ap length
+          (open-whole proto.lawful proto.headed it.some b may-of opens-of still) in
           let old = length-silent (delay profile) (live_ticks rules d) in
           let new = length-silent (delay profile) (live_ticks rules e) in
           let sum = length-append (as_it_came profile rules d)
@@ -339,8 +333,7 @@ module _ {R : Type 0} {proto : LineRules R} {profile : Profile} {floor : ℕ} {s
           let near = open-near profile rules proto.lawful proto.headed d m b may-of still in
           let end = live-ends in
           let from = opens-of.from in
-          let next = opens-live profile rules proto.lawful proto.headed it.some m s.earliest_start d
-          left live b may-of opens-of still header in
+          let next = opens-live proto.lawful proto.headed it.some b may-of opens-of still header in
           let all : after ++ bytes_in entered ≡ live_bytes rules e =
           ap (λ x. after ++ bytes_in x) next.live_is
           ∙ (ap (λ x. x ++ bytes_in (drop (m + 1 - e.start) (as_it_came profile rules e)))
@@ -349,8 +342,7 @@ module _ {R : Type 0} {proto : LineRules R} {profile : Profile} {floor : ℕ} {s
           let Fits : List ℕ → Type 0 = λ x. length x ≤ rules.room x in
           open-goes proto profile it.timely floor line (Byte b) s it.walked.emissions e joined
           contiguous (omega arith) (omega arith) first
-          (seen ∙ sym (open-seen profile rules proto.lawful proto.headed it.some m s.earliest_start
-          d left live b may-of opens-of still))
+          (seen ∙ sym (open-seen proto.lawful proto.headed it.some b may-of opens-of still))
           after entered next 0 refl (λ there. subst Fits (sym all) fits)
 
     -- ---- one that isn't live
@@ -370,12 +362,10 @@ module _ {R : Type 0} {proto : LineRules R} {profile : Profile} {floor : ℕ} {s
           (cases_Bool (is_over profile rules proto.lawful proto.headed d m b may-of))
 
       pub extra-end : live_end rules e ≡ live_end rules d
-      extra-end = over-end profile rules proto.lawful proto.headed it.some m s.earliest_start d left
-          live b may-of opens-of over
+      extra-end = over-end proto.lawful proto.headed it.some b may-of opens-of over
 
       pub extra-bytes : live_bytes rules e ≡ live_bytes rules d
-      extra-bytes = over-bytes profile rules proto.lawful proto.headed it.some m s.earliest_start d
-          left live b may-of opens-of over
+      extra-bytes = over-bytes proto.lawful proto.headed it.some b may-of opens-of over
 
       pub extra-adds : live_end rules d + 3 ≤ m
           → trailer_so_far rules e ≡ trailer_so_far rules d ++ b ∷ []
@@ -394,16 +384,13 @@ module _ {R : Type 0} {proto : LineRules R} {profile : Profile} {floor : ℕ} {s
 
       sees : first ≡ get_or (as_it_came profile rules e) (m - e.start) Silent
       sees = seen ∙ sym (ap (λ x. get_or x (m - d.start) Silent)
-          (over-whole profile rules proto.lawful proto.headed it.some m s.earliest_start d left live
-          b may-of opens-of over))
+          (over-whole proto.lawful proto.headed it.some b may-of opens-of over))
 
       header : rules.header_len ≤ length (live_bytes rules e)
-      header = over-long-header profile rules proto.lawful proto.headed it.some m s.earliest_start d
-          left live b may-of opens-of over
+      header = over-long-header proto.lawful proto.headed it.some b may-of opens-of over
 
       good : rules.is_good_header (take rules.header_len (live_bytes rules e)) ≡ true
-      good = over-good profile rules proto.lawful proto.headed it.some m s.earliest_start d left
-          live b may-of opens-of over
+      good = over-good proto.lawful proto.headed it.some b may-of opens-of over
 
       -- of the trailer, not its last one
       pub extra-goes : live_end rules d + 3 ≤ m → m + 2 < live_end rules d + delay profile
@@ -411,8 +398,7 @@ module _ {R : Type 0} {proto : LineRules R} {profile : Profile} {floor : ℕ} {s
       extra-goes behind before =
           open-goes proto profile it.timely floor line (Byte b) s it.walked.emissions e joined
           contiguous from near first sees after (drop 1 live)
-          (opens-over profile rules proto.lawful proto.headed it.some m s.earliest_start d left live
-          b may-of opens-of over behind before)
+          (opens-over proto.lawful proto.headed it.some b may-of opens-of over behind before)
           0 refl (λ there. room-next)
 
       refuses : (why' : RefusedWhy) → checked profile rules s e ≡ refused why'
@@ -426,10 +412,8 @@ module _ {R : Type 0} {proto : LineRules R} {profile : Profile} {floor : ℕ} {s
       refuses why' is' now =
           refuse-goes proto profile it.timely floor line (Byte b) s it.walked.emissions e joined
           contiguous from near first sees after (drop 1 live)
-          (over-live profile rules proto.lawful proto.headed it.some m s.earliest_start d left live
-          b may-of opens-of over)
-          (over-left profile rules proto.lawful proto.headed it.some m s.earliest_start d left live
-          b may-of opens-of over)
+          (over-live proto.lawful proto.headed it.some b may-of opens-of over)
+          (over-left proto.lawful proto.headed it.some b may-of opens-of over)
           (λ there. room-next) why' is' now
 
       -- inside the pause
@@ -444,8 +428,7 @@ module _ {R : Type 0} {proto : LineRules R} {profile : Profile} {floor : ℕ} {s
           let end = extra-end in
           let begun = opens-of.end_from in
           let broken = breaks profile rules m s e opens-of.late header good (omega arith) near
-          (over-breaks profile rules proto.lawful proto.headed it.some m s.earliest_start d left
-          live b may-of opens-of over few) in
+          (over-breaks proto.lawful proto.headed it.some b may-of opens-of over few) in
           refuses Trailer broken.0 broken.1
 
       -- ---- the last byte of a trailer
@@ -454,8 +437,8 @@ module _ {R : Type 0} {proto : LineRules R} {profile : Profile} {floor : ℕ} {s
         whole-kept : pause_len + trailer_len profile ≤ kept_after profile rules e
         whole-kept =
             let end = extra-end in
-            let keeps = over-keeps profile rules proto.lawful proto.headed it.some m
-            s.earliest_start d left live b may-of opens-of over (omega arith) in
+            let keeps = over-keeps proto.lawful proto.headed it.some b may-of opens-of over
+            (omega arith) in
             omega arith
 
         pub whole-checked : checked profile rules s e
@@ -487,8 +470,6 @@ module _ {R : Type 0} {proto : LineRules R} {profile : Profile} {floor : ℕ} {s
         whole-passes number verdict =
             pass-goes proto profile it.timely floor line (Byte b) s it.walked.emissions e joined
             contiguous from near first sees after (drop 1 live)
-            (over-live profile rules proto.lawful proto.headed it.some m s.earliest_start d left
-            live b may-of opens-of over)
-            (over-left profile rules proto.lawful proto.headed it.some m s.earliest_start d left
-            live b may-of opens-of over)
+            (over-live proto.lawful proto.headed it.some b may-of opens-of over)
+            (over-left proto.lawful proto.headed it.some b may-of opens-of over)
             (λ there. room-next) number (whole-checked ∙ verdict) whole-tick
