@@ -12,6 +12,7 @@ pub mod PairLanes
 pub mod WholeLines
 pub mod BurstsOfLaws
 pub mod SilenceLaws
+pub mod TickRuns
 pub mod HexValues
 pub mod Worked
 pub mod TextLaws

@@ -1,4 +1,5 @@
 pub mod Ticks
+pub mod TickRun
 pub mod Bursts
 pub mod BurstsOf
 pub mod Characters

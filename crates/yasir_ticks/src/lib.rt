@@ -15,6 +15,7 @@ mod slices;
 #[cfg(test)]
 mod tests;
 mod tick;
+mod tick_run;
 mod whole_lines;
 mod writer;
 
@@ -25,6 +26,7 @@ pub use reader::TickReader;
 pub use run::{LineBytes, Run};
 pub use slices::Fed;
 pub use tick::Tick;
+pub use tick_run::TickRun;
 pub use whole_lines::FedLine;
 pub use writer::{LineText, TickWriter};
 

@@ -1,4 +1,4 @@
-use crate::{BadTicks, Content, Run, Tick, TickFault, TickReader, TickWriter};
+use crate::{BadTicks, Content, Run, Tick, TickFault, TickReader, TickRun, TickWriter};
 use std::alloc::Global;
 use std::process::Abort;
 use std::test::Fail;
@@ -380,4 +380,17 @@ fn refuses_a_byte_at_each_place_of_a_line(rt: HostRuntime) -> Result<(), Fail> {
         }
     }
     Ok(())
+}
+
+#[test]
+fn cuts_runs_in_two(rt: HostRuntime) {
+    let bytes = TickRun::Bytes(b"\x05\x06\x07");
+    assert_eq!(rt; bytes.len(), 3);
+    assert_eq!(rt; bytes.first(), Tick::Byte(5));
+    assert_eq!(rt; bytes.behind(2).first(), Tick::Byte(7));
+    assert_eq!(rt; bytes.front(2).len(), 2);
+    let silence = TickRun::Silence(4);
+    assert_eq!(rt; silence.first(), Tick::Silent);
+    assert_eq!(rt; silence.behind(1).len(), 3);
+    assert!(rt; silence.front(0).is_empty());
 }
