@@ -3,6 +3,8 @@ use Rattle.std.proofs.Common.{◌≡◌, ◌∙◌, ℕ, ◌≤◌, List, [], �
 use Rattle.std.proofs.Common.{arith}
 use Rattle.std.proofs.lemmas.List.{length-take, length-take-le, take-map, take-replicate, take-take}
 use Rattle.yasir_ticks.specs.Ticks.{silent}
+use Rattle.yasir_ticks.specs.TickRun.{run_ticks}
+use Rattle.yasir_ticks.specs.declared.tick_run.TickRun.{TickRun}
 use Rattle.yasir_ticks.specs.declared.tick.Tick.TheVariants.{Silent, Byte}
 use Rattle.burst_walk.specs.Answered.{answered}
 
@@ -39,3 +41,14 @@ pub front-bytes : (n k : ℕ) (x : List ℕ) → n ≤ length (take k x)
 front-bytes n k x within =
     let fewer : n ≤ k = omega (arith, within, length-take k x) in
     take-map Byte n (take k x) ∙ ap (map Byte) (take-take n k x fewer) ∙ sym (take-map Byte n x)
+
+-- ---- the front of a run
+
+pub run-bytes : (n : ℕ) (run : TickRun) (x : List ℕ) → run_ticks run ≡ map Byte x
+    → map Byte (take n x) ≡ take n (run_ticks run)
+run-bytes n run x is = sym (take-map Byte n x) ∙ ap (take n) (sym is)
+
+pub run-silence : (n : ℕ) (run : TickRun) (ticks : ℕ) → n ≤ ticks → run_ticks run ≡ silent ticks
+    → silent n ≡ take n (run_ticks run)
+run-silence n run ticks within is =
+    sym (take-replicate n ticks Silent within) ∙ ap (take n) (sym is)

@@ -2,6 +2,7 @@
 //! number and a tag.
 #![tactic(auto)]
 
+mod boxed;
 mod laws;
 mod note;
 mod sealer;

@@ -56,12 +56,11 @@ impl<R: LineRules, M: Mac, const B: usize> Sealer<R, M, B> {
     ghost use Rattle.link_format.specs.Profile.{IsWordLen, profile_of};
     ghost use Rattle.link_format.specs.Setup.{Setup, setup_of};
     ghost use Rattle.link_format.specs.Trailers.{bytes_left, first_of};
-    ghost use Rattle.sequence_journal.specs.declared.journal.Journal.{Journal};
     ghost use Rattle.sequence_journal.specs.declared.numbers.TheConstants.{LIMIT};
     ghost use Rattle.sequence_journal.specs.Journal.{journal_floor, Fits};
     ghost use Rattle.seal_transmitter.specs.Sealing.Judgement.{sealed_with, unsealed};
     ghost use Rattle.seal_transmitter.specs.Answers.{SealsWith, KeepsJournal};
-    ghost use Rattle.seal_transmitter.specs.Stands.{StandsFor, HasTaken, ticks_taken};
+    ghost use Rattle.seal_transmitter.specs.Stands.{StandsAt, StandsFor, HasTaken, ticks_taken};
     ghost use Rattle.seal_transmitter.specs.Runs.{HasTakenRun};
     ghost use Rattle.seal_transmitter.specs.Between.{IsBetween, Judges, judgement_of, noteless};
     ghost use Rattle.seal_transmitter.specs.Between.{IsSealedNote, IsUnsealedNote};
@@ -70,8 +69,8 @@ impl<R: LineRules, M: Mac, const B: usize> Sealer<R, M, B> {
     pub fn new(key: &[u8], dir: Dir) -> Sealer<R, M, B>
         requires word { IsWordLen B }
         ensures taken { ticks_taken result ≡ 0 }
-        ensures stands { (journal : Journal) → StandsFor R.LineRules M.Mac result journal
-            (setup_of key.now dir (journal_floor journal)) [] }
+        ensures stands { (floor : ℕ) → StandsAt R.LineRules M.Mac result floor
+            (setup_of key.now dir floor) [] }
     {
         Sealer {
             cut: BurstCut::new(),
@@ -124,9 +123,9 @@ impl<R: LineRules, M: Mac, const B: usize> Sealer<R, M, B> {
         requires { ticks_taken self.old + length bytes.now ≤ MAX_TICKS }
         ensures within { result ≤ length bytes.now }
         ensures taken { ticks_taken self.new ≡ ticks_taken self.old + result }
-        ensures run { (journal : Journal) (setup : Setup) (line : List Tick)
-            → StandsFor R.LineRules M.Mac self.old journal setup line
-            → HasTakenRun R.LineRules M.Mac self.new (journal_floor journal) setup line
+        ensures run { (last : ℕ) (setup : Setup) (line : List Tick)
+            → StandsAt R.LineRules M.Mac self.old last setup line
+            → HasTakenRun R.LineRules M.Mac self.new last setup line
             (map Byte (take result bytes.now)) (map Byte (take result bytes.now)) }
     {
         if self.cut.quiet() < T3_5_TICKS {
@@ -151,9 +150,9 @@ impl<R: LineRules, M: Mac, const B: usize> Sealer<R, M, B> {
         requires { ticks_taken self.old + length bytes.now ≤ MAX_TICKS }
         ensures within { result ≤ length bytes.now }
         ensures taken { ticks_taken self.new ≡ ticks_taken self.old + result }
-        ensures run { (journal : Journal) (setup : Setup) (line : List Tick)
-            → StandsFor R.LineRules M.Mac self.old journal setup line
-            → HasTakenRun R.LineRules M.Mac self.new (journal_floor journal) setup line
+        ensures run { (last : ℕ) (setup : Setup) (line : List Tick)
+            → StandsAt R.LineRules M.Mac self.old last setup line
+            → HasTakenRun R.LineRules M.Mac self.new last setup line
             (map Byte (take result bytes.now)) (map Byte (take result bytes.now)) }
     {
         if self.is_early() {
@@ -175,9 +174,9 @@ impl<R: LineRules, M: Mac, const B: usize> Sealer<R, M, B> {
         requires { ticks_taken self.old + length bytes.now ≤ MAX_TICKS }
         ensures within { result ≤ length bytes.now }
         ensures taken { ticks_taken self.new ≡ ticks_taken self.old + result }
-        ensures run { (journal : Journal) (setup : Setup) (line : List Tick)
-            → StandsFor R.LineRules M.Mac self.old journal setup line
-            → HasTakenRun R.LineRules M.Mac self.new (journal_floor journal) setup line
+        ensures run { (last : ℕ) (setup : Setup) (line : List Tick)
+            → StandsAt R.LineRules M.Mac self.old last setup line
+            → HasTakenRun R.LineRules M.Mac self.new last setup line
             (map Byte (take result bytes.now)) (map Byte (take result bytes.now)) }
     {
         let begun = self.begin_some(bytes);
@@ -193,9 +192,9 @@ impl<R: LineRules, M: Mac, const B: usize> Sealer<R, M, B> {
         requires { ticks_taken self.old + length bytes.now ≤ MAX_TICKS }
         ensures within { result ≤ length bytes.now }
         ensures taken { ticks_taken self.new ≡ ticks_taken self.old + result }
-        ensures run { (journal : Journal) (setup : Setup) (line : List Tick)
-            → StandsFor R.LineRules M.Mac self.old journal setup line
-            → HasTakenRun R.LineRules M.Mac self.new (journal_floor journal) setup line
+        ensures run { (last : ℕ) (setup : Setup) (line : List Tick)
+            → StandsAt R.LineRules M.Mac self.old last setup line
+            → HasTakenRun R.LineRules M.Mac self.new last setup line
             (map Byte (take result bytes.now)) (silent result) }
     {
         if self.trailer.left().len() > 0 {
@@ -215,9 +214,9 @@ impl<R: LineRules, M: Mac, const B: usize> Sealer<R, M, B> {
         requires { ticks_taken self.old + length bytes.now ≤ MAX_TICKS }
         ensures within { result ≤ length bytes.now }
         ensures taken { ticks_taken self.new ≡ ticks_taken self.old + result }
-        ensures run { (journal : Journal) (setup : Setup) (line : List Tick)
-            → StandsFor R.LineRules M.Mac self.old journal setup line
-            → HasTakenRun R.LineRules M.Mac self.new (journal_floor journal) setup line
+        ensures run { (last : ℕ) (setup : Setup) (line : List Tick)
+            → StandsAt R.LineRules M.Mac self.old last setup line
+            → HasTakenRun R.LineRules M.Mac self.new last setup line
             (map Byte (take result bytes.now)) (silent result) }
     {
         if self.trailer.left().len() > 0 {
@@ -234,9 +233,9 @@ impl<R: LineRules, M: Mac, const B: usize> Sealer<R, M, B> {
         requires { ticks_taken self.old + length bytes.now ≤ MAX_TICKS }
         ensures within { length result.items ≤ length bytes.now }
         ensures taken { ticks_taken self.new ≡ ticks_taken self.old + length result.items }
-        ensures run { (journal : Journal) (setup : Setup) (line : List Tick)
-            → StandsFor R.LineRules M.Mac self.old journal setup line
-            → HasTakenRun R.LineRules M.Mac self.new (journal_floor journal) setup line
+        ensures run { (last : ℕ) (setup : Setup) (line : List Tick)
+            → StandsAt R.LineRules M.Mac self.old last setup line
+            → HasTakenRun R.LineRules M.Mac self.new last setup line
             (map Byte (take (length result.items) bytes.now)) (map Byte result.items) }
     {
         if !self.is_early() {
@@ -255,9 +254,9 @@ impl<R: LineRules, M: Mac, const B: usize> Sealer<R, M, B> {
         requires { ticks_taken self.old + ticks ≤ MAX_TICKS }
         ensures within { result ≤ ticks }
         ensures taken { ticks_taken self.new ≡ ticks_taken self.old + result }
-        ensures run { (journal : Journal) (setup : Setup) (line : List Tick)
-            → StandsFor R.LineRules M.Mac self.old journal setup line
-            → HasTakenRun R.LineRules M.Mac self.new (journal_floor journal) setup line
+        ensures run { (last : ℕ) (setup : Setup) (line : List Tick)
+            → StandsAt R.LineRules M.Mac self.old last setup line
+            → HasTakenRun R.LineRules M.Mac self.new last setup line
             (silent result) (silent result) }
     {
         if self.trailer.left().len() > 0 {
@@ -274,9 +273,9 @@ impl<R: LineRules, M: Mac, const B: usize> Sealer<R, M, B> {
         requires { ticks_taken self.old + ticks ≤ MAX_TICKS }
         ensures within { length result.items ≤ ticks }
         ensures taken { ticks_taken self.new ≡ ticks_taken self.old + length result.items }
-        ensures run { (journal : Journal) (setup : Setup) (line : List Tick)
-            → StandsFor R.LineRules M.Mac self.old journal setup line
-            → HasTakenRun R.LineRules M.Mac self.new (journal_floor journal) setup line
+        ensures run { (last : ℕ) (setup : Setup) (line : List Tick)
+            → StandsAt R.LineRules M.Mac self.old last setup line
+            → HasTakenRun R.LineRules M.Mac self.new last setup line
             (silent (length result.items)) (map Byte result.items) }
     {
         let most = ticks.min(self.trailer.left().len() as u32);
@@ -290,9 +289,9 @@ impl<R: LineRules, M: Mac, const B: usize> Sealer<R, M, B> {
         requires { ticks_taken self.old + length bytes.now ≤ MAX_TICKS }
         ensures within { result ≤ length bytes.now }
         ensures taken { ticks_taken self.new ≡ ticks_taken self.old + result }
-        ensures run { (journal : Journal) (setup : Setup) (line : List Tick)
-            → StandsFor R.LineRules M.Mac self.old journal setup line
-            → HasTakenRun R.LineRules M.Mac self.new (journal_floor journal) setup line
+        ensures run { (last : ℕ) (setup : Setup) (line : List Tick)
+            → StandsAt R.LineRules M.Mac self.old last setup line
+            → HasTakenRun R.LineRules M.Mac self.new last setup line
             (map Byte (take result bytes.now)) (silent result) }
     {
         let held = self.hold(bytes);
@@ -311,9 +310,9 @@ impl<R: LineRules, M: Mac, const B: usize> Sealer<R, M, B> {
         requires { ticks_taken self.old + length bytes.now ≤ MAX_TICKS }
         ensures within { result ≤ length bytes.now }
         ensures taken { ticks_taken self.new ≡ ticks_taken self.old + result }
-        ensures run { (journal : Journal) (setup : Setup) (line : List Tick)
-            → StandsFor R.LineRules M.Mac self.old journal setup line
-            → HasTakenRun R.LineRules M.Mac self.new (journal_floor journal) setup line
+        ensures run { (last : ℕ) (setup : Setup) (line : List Tick)
+            → StandsAt R.LineRules M.Mac self.old last setup line
+            → HasTakenRun R.LineRules M.Mac self.new last setup line
             (map Byte (take result bytes.now)) (answered result left.new.items) }
     {
         let held = self.hold_some(bytes);
@@ -330,9 +329,9 @@ impl<R: LineRules, M: Mac, const B: usize> Sealer<R, M, B> {
         requires { ticks_taken self.old + ticks ≤ MAX_TICKS }
         ensures within { result ≤ ticks }
         ensures taken { ticks_taken self.new ≡ ticks_taken self.old + result }
-        ensures run { (journal : Journal) (setup : Setup) (line : List Tick)
-            → StandsFor R.LineRules M.Mac self.old journal setup line
-            → HasTakenRun R.LineRules M.Mac self.new (journal_floor journal) setup line
+        ensures run { (last : ℕ) (setup : Setup) (line : List Tick)
+            → StandsAt R.LineRules M.Mac self.old last setup line
+            → HasTakenRun R.LineRules M.Mac self.new last setup line
             (silent result) (answered result left.new.items) }
     {
         if self.trailer.left().len() == 0 {
@@ -520,8 +519,8 @@ impl<R: LineRules, M: Mac, const B: usize> Sealer<R, M, B> {
     /// The live bytes of the burst that is running or was the last.
     #[inline]
     pub fn live_bytes(&self) -> &R
-        ensures { (journal : Journal) (setup : Setup) (line : List Tick)
-            → StandsFor R.LineRules M.Mac self.now journal setup line
+        ensures { (last : ℕ) (setup : Setup) (line : List Tick)
+            → StandsAt R.LineRules M.Mac self.now last setup line
             → R.stands result.now (live_bytes_so_far R.rules line) }
     {
         self.cut.rules()
