@@ -23,3 +23,4 @@ pub mod RunsTaken
 pub mod Lending
 pub mod Beginnings
 pub mod Uptimes
+pub mod Keeping

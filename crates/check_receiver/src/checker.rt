@@ -53,7 +53,6 @@ impl<R: LineRules, M: Mac, const B: usize, const D: usize> Checker<R, M, B, D> {
     ghost use Rattle.delay_ring.specs.DelayRing.{ring_ticks};
     ghost use Rattle.link_format.specs.Profile.{IsWordLen, profile_of};
     ghost use Rattle.link_format.specs.Setup.{Setup, setup_of};
-    ghost use Rattle.sequence_journal.specs.declared.journal.Journal.{Journal};
     ghost use Rattle.sequence_journal.specs.declared.numbers.TheConstants.{LIMIT};
     ghost use Rattle.sequence_journal.specs.Commits.{HasFailed};
     ghost use Rattle.sequence_journal.specs.Journal.{journal_floor, Fits};
@@ -94,8 +93,8 @@ impl<R: LineRules, M: Mac, const B: usize, const D: usize> Checker<R, M, B, D> {
         requires wide { 2 ≤ B }
         requires delay { D ≡ 4 + B + M.TAG }
         ensures taken { ticks_taken result ≡ 0 }
-        ensures stands { (journal : Journal) → StandsFor R.LineRules M.Mac result journal
-            (setup_of key.now dir (journal_floor journal)) [] }
+        ensures stands { (floor : ℕ) → StandsAt R.LineRules M.Mac result floor
+            (setup_of key.now dir floor) [] }
     {
         Checker {
             cut: BurstCut::new(),
@@ -773,8 +772,8 @@ impl<R: LineRules, M: Mac, const B: usize, const D: usize> Checker<R, M, B, D> {
     /// The live bytes of the burst of the link that is running or was the last.
     #[inline]
     pub fn live_bytes(&self) -> &R
-        ensures { (journal : Journal) (setup : Setup) (link : List Tick)
-            → StandsFor R.LineRules M.Mac self.now journal setup link
+        ensures { (last : ℕ) (setup : Setup) (link : List Tick)
+            → StandsAt R.LineRules M.Mac self.now last setup link
             → R.stands result.now (live_bytes_so_far R.rules link) }
     {
         self.cut.rules()

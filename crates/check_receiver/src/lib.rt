@@ -3,6 +3,7 @@
 #![tactic(auto)]
 
 mod arriving;
+mod boxed;
 mod checker;
 mod laws;
 mod runs;
