@@ -9,14 +9,16 @@ use crate::over_boxes::KEY;
 use crate::packets::{self, DNP_PACKET, LINKS, Link, RTU_PACKET, packet_of};
 use crate::receiver_runs::{alike, link_of};
 use box_replay::{LineBox, replay_box};
+use check_receiver::Checker;
 use check_replay::CheckBox;
 use dnp_link_frame::Dnp;
-use frame_boxes::{CheckNoting, SealNoting, ShownFrames};
+use frame_boxes::ShownFrames;
 use hmac_tag::{Dir, HmacSha1, HmacSha256};
 use replay_lists::FrameBox;
 use replay_status::Status;
 use rtu_frame::Rtu;
 use seal_replay::SealBox;
+use seal_transmitter::Sealer;
 use sequence_journal::{Journal, LinkId, slot_of};
 use std::alloc::Global;
 use std::process::Abort;
@@ -386,9 +388,9 @@ fn bursts_that_do_not_pass_take_few_turns(rt: HostRuntime) -> Result<(), Fail> {
     Ok(())
 }
 
-type ShownSealer<R> = ShownFrames<SealNoting<R, HmacSha1, 2>, R, SteadySlots>;
+type ShownSealer<R> = ShownFrames<Sealer<R, HmacSha1, 2>, R, SteadySlots>;
 
-type ShownChecker<R> = ShownFrames<CheckNoting<R, HmacSha1, 2, 18>, R, SteadySlots>;
+type ShownChecker<R> = ShownFrames<Checker<R, HmacSha1, 2, 18>, R, SteadySlots>;
 
 // The boxes of `replay` take as many.
 #[test]

@@ -5,13 +5,15 @@ ghost use Rattle.recordings_replay.specs.Keyed.{ReadsKeyFirst, LeavesAll};
 ghost use Rattle.link_replay.specs.ReplayCommand.{ReplaysWith};
 
 use crate::{Profile, Proto};
+use check_receiver::Checker;
 use device_model::{DnpDevice, RtuDevice};
 use dnp_link_frame::Dnp;
-use frame_boxes::{CheckNoting, SealNoting, ShownFrames};
+use frame_boxes::ShownFrames;
 use hmac_tag::{Dir, HmacSha1, HmacSha256};
 use recordings_replay::replay_recordings;
 use replay_status::Status;
 use rtu_frame::Rtu;
+use seal_transmitter::Sealer;
 use std::alloc::Global;
 use yasir_io::{Sink, Source, SteadySlots};
 
@@ -21,21 +23,21 @@ const Y18_REST: u32 = 24;
 
 const Y24_REST: u32 = 30;
 
-type RtuSealer18 = ShownFrames<SealNoting<Rtu, HmacSha1, 2>, Rtu, SteadySlots>;
+type RtuSealer18 = ShownFrames<Sealer<Rtu, HmacSha1, 2>, Rtu, SteadySlots>;
 
-type RtuChecker18 = ShownFrames<CheckNoting<Rtu, HmacSha1, 2, 18>, Rtu, SteadySlots>;
+type RtuChecker18 = ShownFrames<Checker<Rtu, HmacSha1, 2, 18>, Rtu, SteadySlots>;
 
-type DnpSealer18 = ShownFrames<SealNoting<Dnp, HmacSha1, 2>, Dnp, SteadySlots>;
+type DnpSealer18 = ShownFrames<Sealer<Dnp, HmacSha1, 2>, Dnp, SteadySlots>;
 
-type DnpChecker18 = ShownFrames<CheckNoting<Dnp, HmacSha1, 2, 18>, Dnp, SteadySlots>;
+type DnpChecker18 = ShownFrames<Checker<Dnp, HmacSha1, 2, 18>, Dnp, SteadySlots>;
 
-type RtuSealer24 = ShownFrames<SealNoting<Rtu, HmacSha256, 4>, Rtu, SteadySlots>;
+type RtuSealer24 = ShownFrames<Sealer<Rtu, HmacSha256, 4>, Rtu, SteadySlots>;
 
-type RtuChecker24 = ShownFrames<CheckNoting<Rtu, HmacSha256, 4, 24>, Rtu, SteadySlots>;
+type RtuChecker24 = ShownFrames<Checker<Rtu, HmacSha256, 4, 24>, Rtu, SteadySlots>;
 
-type DnpSealer24 = ShownFrames<SealNoting<Dnp, HmacSha256, 4>, Dnp, SteadySlots>;
+type DnpSealer24 = ShownFrames<Sealer<Dnp, HmacSha256, 4>, Dnp, SteadySlots>;
 
-type DnpChecker24 = ShownFrames<CheckNoting<Dnp, HmacSha256, 4, 24>, Dnp, SteadySlots>;
+type DnpChecker24 = ShownFrames<Checker<Dnp, HmacSha256, 4, 24>, Dnp, SteadySlots>;
 
 /// Takes the line of a device through the transmitter and a link through the receiver, and prints
 /// what was sealed, passed, read and forged.

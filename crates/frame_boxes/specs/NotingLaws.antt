@@ -15,8 +15,7 @@ use Rattle.link_verdicts.specs.Checking.{checker, passed_in, brief_note as check
 use Rattle.link_verdicts.specs.Checking.{FullNote as CheckFull, note_by as check_note_by}
 use Rattle.link_verdicts.specs.Checking.FullNote.{passed_note, refused_note, dropped_note}
 use Rattle.frame_boxes.specs.FramesOf.{HasFrames, numbered}
-use Rattle.frame_boxes.specs.SealNoting.{sealed_told}
-use Rattle.frame_boxes.specs.CheckNoting.{passed_told}
+use Rattle.frame_boxes.specs.NotesTold.{sealed_told, passed_told}
 
 module _ (profile : Profile) (rules : Rules) where
   live-sealed : (d : Burst) (j : Judgement)
