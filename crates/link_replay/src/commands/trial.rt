@@ -7,12 +7,14 @@ ghost use Rattle.link_replay.specs.TrialCommand.{trial_counts};
 ghost use Rattle.link_replay.specs.Words.{link_word};
 
 use crate::{Profile, Proto};
+use check_receiver::Checker;
 use device_model::{DnpDevice, RtuDevice};
 use dnp_link_frame::Dnp;
 use hmac_tag::{HmacSha1, HmacSha256};
 use replay_status::Status;
 use rtu_frame::Rtu;
-use trial_session::{CheckCounting, SealCounting, print_session};
+use seal_transmitter::Sealer;
+use trial_session::print_session;
 use yasir_io::Sink;
 
 /// How many ticks follow a frame in its packet, by each profile: the pause and the trailer, one
@@ -21,13 +23,13 @@ const Y18_BEHIND: usize = 17;
 
 const Y24_BEHIND: usize = 23;
 
-type Y18Sealer<R> = SealCounting<R, HmacSha1, 2>;
+type Y18Sealer<R> = Sealer<R, HmacSha1, 2>;
 
-type Y18Checker<R> = CheckCounting<R, HmacSha1, 2, 18>;
+type Y18Checker<R> = Checker<R, HmacSha1, 2, 18>;
 
-type Y24Sealer<R> = SealCounting<R, HmacSha256, 4>;
+type Y24Sealer<R> = Sealer<R, HmacSha256, 4>;
 
-type Y24Checker<R> = CheckCounting<R, HmacSha256, 4, 24>;
+type Y24Checker<R> = Checker<R, HmacSha256, 4, 24>;
 
 // The word of a protocol and a profile.
 fn link_word(proto: Proto, profile: Profile) -> &'static [u8]
