@@ -72,10 +72,11 @@ module _ {R M : Type 0} (proto : LineRules R) (code : Mac M) {B D : ℕ}
   pub takes-run : (run answer front told : List Tick) → run ≡ front → answer ≡ told
       → ((last : ℕ) (setup : Setup) (line : List Tick) → StandsAt proto code old last setup line
       → HasTakenRun proto code new last setup line run answer)
-      → TakesRun (check_walking proto code B) (λ value. StandsAt proto code value) old new front told
+      → TakesRun (check_walking proto code B) (λ value. StandsAt proto code value) old new front
+      told
   takes-run run answer front told run_is answer_is takes =
-      takes-as (check_walking proto code B) (λ value. StandsAt proto code value) old new run answer front
-      told run_is answer_is
+      takes-as (check_walking proto code B) (λ value. StandsAt proto code value) old new run answer
+      front told run_is answer_is
       (λ last setup line stands.
       let taken = takes last setup line stands in
       record { stands = taken.stands; answers = taken.answers })

@@ -53,8 +53,9 @@ pub trait LinkBox: Drop {
     ) -> Result<BoxStep<Self::Note>, JournalFault>
         requires { MayStep (taken self.old) journal.old (D.told disk.old) }
         ensures taken { OnOk result (taken self.new ≡ taken self.old + 1) }
-        ensures steps { IfOk result (λ step. Steps walking stands self.old (journal_floor journal.old)
-            self.new (journal_floor journal.new) t step.tick step.note) }
+        ensures steps { IfOk result (λ step. Steps walking stands
+            self.old (journal_floor journal.old) self.new (journal_floor journal.new)
+            t step.tick step.note) }
         ensures fails { OnErr result (FailsStep walking stands self.old journal.old journal.new t
             (D.told disk.old) (D.told disk.new)) }
         ensures journal { KeepsJournal D.SlotDisk journal.old journal.new disk.old disk.new

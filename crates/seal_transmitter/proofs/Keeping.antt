@@ -72,8 +72,8 @@ module _ {R M : Type 0} (proto : LineRules R) (code : Mac M) {B : ℕ}
       → HasTakenRun proto code new last setup line run answer)
       → TakesRun (seal_walking proto code B) (λ value. StandsAt proto code value) old new front told
   takes-run run answer front told run_is answer_is takes =
-      takes-as (seal_walking proto code B) (λ value. StandsAt proto code value) old new run answer front
-      told run_is answer_is
+      takes-as (seal_walking proto code B) (λ value. StandsAt proto code value) old new run answer
+      front told run_is answer_is
       (λ last setup line stands.
       let taken = takes last setup line stands in
       record { stands = taken.stands; answers = taken.answers })

@@ -13,7 +13,8 @@ returns-in-Bytes-clause-run g c =
 
 pub returns-in-Silence-clause-run : goal.returns-in-Silence-clause-run
 returns-in-Silence-clause-run g c =
-    let same = run-silence c.pass_silence.result c.args.run c.in-Silence.ticks c.pass_silence.ensures.within
+    let same = run-silence c.pass_silence.result c.args.run c.in-Silence.ticks
+    c.pass_silence.ensures.within
     (ap run_ticks c.in-Silence.is) in
     takes-run g.R.LineRules g.M.Mac c.args.self.now c.pass_silence.new.self _ _ _ _ same
     refl c.pass_silence.ensures.run

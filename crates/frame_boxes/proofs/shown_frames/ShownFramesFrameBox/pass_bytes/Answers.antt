@@ -15,8 +15,8 @@ returns-clause-stands g c = λ setup line before.
     let last = journal_floor c.args.self.now.journal in
     let ran = c.take_alike-count.ensures.run last setup line before.notes in
     record {
-      notes = subst (λ (l : List Tick). g.X.LinkBox.stands c.take_alike-count.new.line_box last setup
-          (line ++ l)) (take-map Byte count c.args.bytes.now) ran.stands;
+      notes = subst (λ (l : List Tick). g.X.LinkBox.stands c.take_alike-count.new.line_box last
+          setup (line ++ l)) (take-map Byte count c.args.bytes.now) ran.stands;
       burst = c.hear_bytes.ensures line before.burst;
       room = before.room;
     }
