@@ -1,7 +1,9 @@
 pub mod Sending
 pub mod PushedRuns
 pub mod Begun
+pub mod RunFronts
 pub mod Fronts
+pub mod Behind
 pub mod Floors
 pub mod Outcomes
 pub mod Replayable

@@ -1,23 +1,25 @@
 -- How runs of ticks go to the text of the other line, a line after the other.
 use Rattle.std.proofs.Common.{◌≡◌, ◌∙◌, ℕ, inl, inr, List, [], ◌∷◌, ◌++◌, Option, Result, Ok, Err}
-use Rattle.std.proofs.Common.{refl, sym, ap, subst, append_assoc, append-nil, arith, length, map}
-use Rattle.std.proofs.Common.{take, drop, get_or, ◌+◌, ◌-◌, ◌<◌, length-drop}
-use Rattle.std.proofs.Math.Seq.{take-add}
-use Rattle.std.proofs.lemmas.List.{map-append, take_more, take-append-drop, take_all}
-use Rattle.std.proofs.lemmas.List.{replicate-append-replicate}
+use Rattle.std.proofs.Common.{refl, sym, ap, subst, append_assoc, append-nil, arith, length}
+use Rattle.std.proofs.Common.{take, drop}
+use Rattle.std.proofs.Math.Seq.{take-length}
+use Rattle.std.proofs.lemmas.List.{take-append-drop}
 use Rattle.std.specs.Io.KnownBytes.{append_known}
 use Rattle.std.specs.Prelude.{OnOk, OnErr}
 use Rattle.std.proofs.lemmas.Result.{on_ok_weaker, on_err_weaker}
+use Rattle.yasir_io.specs.declared.Failed.{Failed}
 use Rattle.yasir_io.specs.Output.{Buffered, GotPrefix}
 use Rattle.yasir_io.proofs.OutputLemmas.{append_known-twice}
+use Rattle.yasir_io.proofs.FlushLaws.{none_flushed, none_flushed_then}
+use Rattle.yasir_io.specs.declared.sink.Sink.{Ghosts as Sink}
 use Rattle.yasir_ticks.specs.Writer.{HasWritten}
 use Rattle.yasir_ticks.specs.declared.tick.Tick.{Tick}
-use Rattle.yasir_ticks.specs.Ticks.{silent}
-use Rattle.yasir_ticks.specs.declared.tick.Tick.TheVariants.{Silent, Byte}
 use Rattle.yasir_ticks.specs.declared.writer.TickWriter.{TickWriter}
 use Rattle.replay_status.proofs.Printing.{append_known-nil}
 use Rattle.box_replay.specs.Runs.{TakesRun}
 use Rattle.box_replay.specs.Sending.{SinkTexts, Waiting, PushesTexts, PushesTicks, HaveCause}
+use Rattle.box_replay.specs.Texts.{Writing, texts_held, waiting_in, Writes, PushesLine}
+use Rattle.box_replay.specs.Texts.{Pushes, PushesFirst}
 use Rattle.box_replay.proofs.Sending.{nothing_gone, part_before, buffered_then, part_then}
 use Rattle.box_replay.proofs.Sending.{buffered_on, part_on}
 
@@ -107,39 +109,6 @@ pushes_none x waits texts = record {
   };
 }
 
--- what is answered beside it is of no matter
-pub pushes_as : {X T E F : Type 0} (x : X) (y : T) (w0 w1 : Waiting) (s0 s1 : SinkTexts)
-    (run : List Tick) (note : List ℕ)
-    → PushesTicks {T = X} {E = E} w0 w1 s0 s1 run note (Ok x)
-    → PushesTicks {T = T} {E = F} w0 w1 s0 s1 run note (Ok y)
-pushes_as x y w0 w1 s0 s1 run note pushed = record {
-  line = pushed.line;
-  written = pushed.written;
-  pushes = record {
-    text_goes = pushed.pushes.text_goes;
-    text_stops = tt;
-    notes_go = pushed.pushes.notes_go;
-    notes_stop = tt;
-    notes_first = elim pushed.pushes.notes_first [ inl s ↦ inl s | inr l ↦ inr l ];
-  };
-}
-
-pub pushes_failed : {X T E : Type 0} (e : E) (w0 w1 : Waiting) (s0 s1 : SinkTexts)
-    (run : List Tick) (note : List ℕ)
-    → PushesTicks {T = X} {E = E} w0 w1 s0 s1 run note (Err e)
-    → PushesTicks {T = T} {E = E} w0 w1 s0 s1 run note (Err e)
-pushes_failed e w0 w1 s0 s1 run note pushed = record {
-  line = pushed.line;
-  written = pushed.written;
-  pushes = record {
-    text_goes = tt;
-    text_stops = pushed.pushes.text_stops;
-    notes_go = tt;
-    notes_stop = pushed.pushes.notes_stop;
-    notes_first = elim pushed.pushes.notes_first [ inl s ↦ inl s | inr l ↦ inr l ];
-  };
-}
-
 -- ticks that complete no line
 pub pushes_extend : {T E : Type 0} (x : T) (w0 w1 : Waiting) (s0 s1 : SinkTexts)
     (run more : List Tick) (writer : TickWriter)
@@ -219,94 +188,49 @@ pushes_lost e w0 w1 s0 s1 run more writer pushed takes = record {
 
 -- ---- the writer's runs
 
-pub takes_none : (writer : TickWriter) → TakesRun writer writer []
-takes_none writer = record {
-  line = [];
-  written = λ ticks answered has.
-      subst (λ l. HasWritten writer l (answered ++ [])) (sym (append-nil ticks))
-      (subst (HasWritten writer ticks) (sym (append-nil answered)) has);
+-- A writer has taken these of all ticks, and these are left.
+pub record HasSkipped (start now : TickWriter) (all left : List Tick) : Type 0 where
+  pub done : List Tick
+  pub all_are : all ≡ done ++ left
+  pub takes : TakesRun start now done
+
+pub skipped_none : (writer : TickWriter) (all : List Tick) → HasSkipped writer writer all all
+skipped_none writer all = record {
+  done = [];
+  all_are = refl;
+  takes = record {
+    line = [];
+    written = λ ticks answered has.
+        subst (λ l. HasWritten writer l (answered ++ [])) (sym (append-nil ticks))
+        (subst (HasWritten writer ticks) (sym (append-nil answered)) has);
+  };
 }
 
-pub takes_tick : (w0 w1 w2 : TickWriter) (run all : List Tick) (t : Tick) (line : List ℕ)
-    → run ++ t ∷ [] ≡ all → TakesRun w0 w1 run
+pub skipped_tick : (w0 w1 w2 : TickWriter) (all left rest : List Tick) (t : Tick) (line : List ℕ)
+    → left ≡ t ∷ rest → HasSkipped w0 w1 all left
     → ((ticks : List Tick) (answered : List ℕ) → HasWritten w1 ticks answered
     → HasWritten w2 (ticks ++ t ∷ []) (answered ++ line))
-    → TakesRun w0 w2 all
-takes_tick w0 w1 w2 run all t line is takes goes = record {
-  line = takes.line ++ line;
-  written = λ ticks answered has.
-      subst (λ l. HasWritten w2 (ticks ++ l) (answered ++ (takes.line ++ line))) is
-      (subst (λ l. HasWritten w2 l (answered ++ (takes.line ++ line)))
-      (append_assoc ticks run (t ∷ []))
-      (subst (HasWritten w2 ((ticks ++ run) ++ t ∷ [])) (append_assoc answered takes.line line)
-      (goes (ticks ++ run) (answered ++ takes.line) (takes.written ticks answered has))));
+    → HasSkipped w0 w2 all rest
+skipped_tick w0 w1 w2 all left rest t line is has goes = record {
+  done = has.done ++ t ∷ [];
+  all_are = has.all_are ∙ ap (λ l. has.done ++ l) is ∙ sym (append_assoc has.done (t ∷ []) rest);
+  takes = record {
+    line = has.takes.line ++ line;
+    written = λ ticks answered before.
+        subst (λ l. HasWritten w2 l (answered ++ (has.takes.line ++ line)))
+        (append_assoc ticks has.done (t ∷ []))
+        (subst (HasWritten w2 ((ticks ++ has.done) ++ t ∷ []))
+        (append_assoc answered has.takes.line line)
+        (goes (ticks ++ has.done) (answered ++ has.takes.line)
+        (has.takes.written ticks answered before)));
+  };
 }
 
--- ---- the counts of faults
-
-pub cause_none : {T E : Type 0} (x : T) (out log : ℕ) → HaveCause {T = T} {E = E} out out log log
-    (Ok x)
-cause_none x out log = record {
-  out_never_falls = omega arith;
-  log_never_falls = omega arith;
-  failed = tt;
-  out_same = refl;
-  log_same = refl;
-}
-
-pub cause_as : {X T E F : Type 0} (x : X) (y : T) (o0 o1 l0 l1 : ℕ)
-    → HaveCause {T = X} {E = E} o0 o1 l0 l1 (Ok x) → HaveCause {T = T} {E = F} o0 o1 l0 l1 (Ok y)
-cause_as x y o0 o1 l0 l1 cause = record {
-  out_never_falls = cause.out_never_falls;
-  log_never_falls = cause.log_never_falls;
-  failed = tt;
-  out_same = cause.out_same;
-  log_same = cause.log_same;
-}
-
-pub cause_then : {X F T E : Type 0} (x : X) (o0 o1 o2 l0 l1 l2 : ℕ) (result : Result T E)
-    → HaveCause {T = X} {E = F} o0 o1 l0 l1 (Ok x) → HaveCause o1 o2 l1 l2 result
-    → HaveCause o0 o2 l0 l2 result
-cause_then x o0 o1 o2 l0 l1 l2 result first then =
-    subst (λ n. HaveCause n o2 l0 l2 result) first.out_same
-    (subst (λ n. HaveCause o1 o2 n l2 result) first.log_same then)
-
--- ---- bytes in their order
-
--- one byte more
-pub bytes_more : (bytes : List ℕ) (i : ℕ) → i < length bytes
-    → map Byte (take i bytes) ++ Byte (get_or bytes i 0) ∷ [] ≡ map Byte (take (i + 1) bytes)
-bytes_more bytes i within =
-    sym (ap (λ l. map Byte l) (take_more bytes i 0 within)
-    ∙ map-append (λ b. Byte b) (take i bytes) (get_or bytes i 0 ∷ []))
-
--- some bytes more
-pub bytes_on : (bytes : List ℕ) (i n : ℕ)
-    → map Byte (take i bytes) ++ map Byte (take n (drop i bytes))
-    ≡ map Byte (take (i + n) bytes)
-bytes_on bytes i n =
-    sym (map-append (λ b. Byte b) (take i bytes) (take n (drop i bytes)))
-    ∙ ap (λ l. map Byte l) (sym (take-add i n bytes))
-
-pub bytes_whole : (bytes : List ℕ) (i : ℕ)
-    → map Byte (take i bytes) ++ map Byte (drop i bytes) ≡ map Byte bytes
-bytes_whole bytes i =
-    sym (map-append (λ b. Byte b) (take i bytes) (drop i bytes))
-    ∙ ap (λ l. map Byte l) (take-append-drop i bytes)
-
--- what stands behind a place of a list, as a slice has it
-pub slice_rest : (bytes : List ℕ) (i : ℕ)
-    → take (length bytes - i) (drop i bytes) ≡ drop i bytes
-slice_rest bytes i =
-    let long = length-drop i bytes in
-    take_all (length bytes - i) (drop i bytes) (omega arith)
-
--- one silent tick more
-pub silent_more : (n : ℕ) → silent n ++ Silent ∷ [] ≡ silent (n + 1)
-silent_more n = replicate-append-replicate n 1 Silent
-
-pub silent_on : (n m : ℕ) → silent n ++ silent m ≡ silent (n + m)
-silent_on n m = replicate-append-replicate n m Silent
+pub skipped_all : (w0 w1 : TickWriter) (all left : List Tick) → left ≡ []
+    → HasSkipped w0 w1 all left → TakesRun w0 w1 all
+skipped_all w0 w1 all left none has =
+    subst (TakesRun w0 w1)
+    (sym (has.all_are ∙ ap (λ l. has.done ++ l) none ∙ append-nil has.done)) has.takes
 
 -- Ticks that complete no line, and one that does.
 pub completed : (w0 w1 w2 : TickWriter) (run all : List Tick) (t : Tick) (line : List ℕ)
@@ -322,31 +246,153 @@ completed w0 w1 w2 run all t line is extends completes = λ ticks answered has.
     (subst (λ l. HasWritten w2 l (answered ++ line)) (append_assoc ticks run (t ∷ []))
     (completes (ticks ++ run) answered (extends ticks answered has)))
 
--- ---- the first ticks of a run, up to one that completes a line
+-- ---- the texts, and the two sinks
 
-module _ (w0 w2 : Waiting) (s0 s2 : SinkTexts) (writer : TickWriter) (run : List Tick)
-    (line : List ℕ)
-    (goes : (ticks : List Tick) (answered : List ℕ) → HasWritten w0.writer ticks answered
-    → HasWritten w2.writer (ticks ++ run) (answered ++ line)) where
-  pub line_pushed : {X T E F : Type 0} (x : X) (y : T)
-      → PushesTexts {T = X} {E = E} s0 s2 w2.ticks w2.notes (w0.ticks ++ line) w0.notes (Ok x)
-      → PushesTicks {T = T} {E = F} w0 w2 s0 s2 run [] (Ok y)
-  line_pushed {X} {T} {E} {F} x y then =
-      pushes_as x y w0 w2 s0 s2 run []
-      (pushes_line {F = Unit {0}} (tt {0}) w0 w0 w2 s0 s0 s2 [] run line (Ok x)
-      (pushes_none (tt {0}) w0 s0)
-      goes then)
+module _ {O L : Type 0} (o : Sink O) (l : Sink L) where
+  writes_none : (at : Writing O L) → Writes o l at at (Ok tt)
+  writes_none at = record {
+    cause = record {
+      out_never_falls = omega arith;
+      log_never_falls = omega arith;
+      failed = tt;
+      out_same = refl;
+      log_same = refl;
+    };
+    flushes = none_flushed o l at.out at.log;
+  }
 
-  pub line_failed : {X T E : Type 0} (e : E) (rest all : List Tick) → run ++ rest ≡ all
-      → PushesTexts {T = X} {E = E} s0 s2 w2.ticks w2.notes (w0.ticks ++ line) w0.notes (Err e)
-      → TakesRun w2.writer writer rest
-      → PushesTicks {T = T} {E = E} w0 (record w2 { writer = writer }) s0 s2 all [] (Err e)
-  line_failed {X} {T} {E} e rest all is then takes =
-      subst (λ l. PushesTicks {T = T} {E = E} w0 (record w2 { writer = writer }) s0 s2 l [] (Err e))
-      is
-      (pushes_lost e w0 w2 s0 s2 run rest writer
-      (pushes_failed e w0 w2 s0 s2 run []
-      (pushes_line {F = Unit {0}} (tt {0}) w0 w0 w2 s0 s0 s2 [] run line (Err e)
-      (pushes_none (tt {0}) w0 s0)
-      goes then))
-      takes)
+  writes_then : (a b c : Writing O L) (result : Result (Unit {0}) Failed)
+      → Writes o l a b (Ok tt) → Writes o l b c result → Writes o l a c result
+  writes_then a b c result first second = record {
+    cause = subst (λ n. HaveCause n (o.faults c.out) (l.faults a.log) (l.faults c.log) result)
+        first.cause.out_same
+        (subst (λ n. HaveCause (o.faults b.out) (o.faults c.out) n (l.faults c.log) result)
+        first.cause.log_same second.cause);
+    flushes = none_flushed_then o l a.out b.out c.out a.log b.log c.log first.flushes
+        second.flushes;
+  }
+
+  -- no tick
+  pub pushed_none : (at : Writing O L) → Pushes o l at at [] [] (Ok tt)
+  pushed_none at = record {
+    adds = pushes_none tt (waiting_in at.texts) (texts_held o l at);
+    writes = writes_none at;
+  }
+
+  -- one run after the other
+  pub pushed_then : (a b c : Writing O L) (run more : List Tick)
+      (result : Result (Unit {0}) Failed)
+      → Pushes o l a b run [] (Ok tt) → Pushes o l b c more [] result
+      → Pushes o l a c (run ++ more) [] result
+  pushed_then a b c run more result first second = record {
+    adds = pushes_then tt (waiting_in a.texts) (waiting_in b.texts) (waiting_in c.texts)
+        (texts_held o l a) (texts_held o l b) (texts_held o l c) run more result first.adds
+        second.adds;
+    writes = writes_then a b c result first.writes second.writes;
+  }
+
+  -- ticks that complete no line
+  pub pushed_extend : (at : Writing O L) (writer : TickWriter) (run : List Tick)
+      → ((ticks : List Tick) (answered : List ℕ) → HasWritten at.texts.writer ticks answered
+      → HasWritten writer (ticks ++ run) answered)
+      → Pushes o l at (record at { texts = record at.texts { writer = writer } }) run [] (Ok tt)
+  pushed_extend at writer run goes = record {
+    adds = pushes_extend tt (waiting_in at.texts) (waiting_in at.texts) (texts_held o l at)
+        (texts_held o l at) [] run writer
+        (pushes_none tt (waiting_in at.texts) (texts_held o l at)) goes;
+    writes = let none = writes_none at in record { cause = none.cause; flushes = none.flushes };
+  }
+
+  -- ticks that complete a line, which is added to the text of the ticks
+  pub pushed_line : (at : Writing O L) (writer : TickWriter) (next : Writing O L)
+      (run : List Tick) (line : List ℕ) (result : Result (Unit {0}) Failed)
+      → ((ticks : List Tick) (answered : List ℕ) → HasWritten at.texts.writer ticks answered
+      → HasWritten writer (ticks ++ run) (answered ++ line))
+      → PushesLine o l (record at { texts = record at.texts { writer = writer } }) next line result
+      → Pushes o l at next run [] result
+  pushed_line at writer next run line result goes pushed = record {
+    adds = pushes_line {F = Failed} (tt {0}) (waiting_in at.texts) (waiting_in at.texts)
+        (waiting_in next.texts) (texts_held o l at) (texts_held o l at) (texts_held o l next) [] run
+        line result (pushes_none (tt {0}) (waiting_in at.texts) (texts_held o l at))
+        (subst (λ w. (ticks : List Tick) (answered : List ℕ)
+        → HasWritten at.texts.writer ticks answered
+        → HasWritten w (ticks ++ run) (answered ++ line)) (sym pushed.writer) goes)
+        pushed.adds;
+    writes = record { cause = pushed.writes.cause; flushes = pushed.writes.flushes };
+  }
+
+  -- after a failed write the writer alone goes on
+  pub pushed_lost : (a b : Writing O L) (writer : TickWriter) (run more all : List Tick)
+      (e : Failed) → run ++ more ≡ all → Pushes o l a b run [] (Err e)
+      → TakesRun b.texts.writer writer more
+      → Pushes o l a (record b { texts = record b.texts { writer = writer } }) all [] (Err e)
+  pushed_lost a b writer run more all e is pushed takes = subst
+      (λ l1. Pushes o l a (record b { texts = record b.texts { writer = writer } }) l1 [] (Err e))
+      is (record {
+        adds = pushes_lost e (waiting_in a.texts) (waiting_in b.texts) (texts_held o l a)
+            (texts_held o l b) run more writer pushed.adds takes;
+        writes = record { cause = pushed.writes.cause; flushes = pushed.writes.flushes };
+      })
+
+  pub pushed_as : (a b : Writing O L) (run all : List Tick) (result : Result (Unit {0}) Failed)
+      → run ≡ all → Pushes o l a b run [] result → Pushes o l a b all [] result
+  pushed_as a b run all result is pushed = subst (λ r. Pushes o l a b r [] result) is pushed
+
+  -- so many ticks of a run complete no line, and then come the others
+  pub pushed_behind : (at : Writing O L) (writer : TickWriter) (next : Writing O L)
+      (run rest : List Tick) (n : ℕ) (result : Result (Unit {0}) Failed) → rest ≡ drop n run
+      → ((ticks : List Tick) (answered : List ℕ) → HasWritten at.texts.writer ticks answered
+      → HasWritten writer (ticks ++ take n run) answered)
+      → Pushes o l (record at { texts = record at.texts { writer = writer } }) next rest [] result
+      → Pushes o l at next run [] result
+  pushed_behind at writer next run rest n result is goes then =
+      pushed_as at next (take n run ++ rest) run result
+      (ap (λ r. take n run ++ r) is ∙ take-append-drop n run)
+      (pushed_then at (record at { texts = record at.texts { writer = writer } }) next
+      (take n run) rest result (pushed_extend at writer (take n run) goes) then)
+
+  -- all ticks of a run complete no line
+  pub pushed_whole : (at : Writing O L) (writer : TickWriter) (run : List Tick) (n : ℕ)
+      → n ≡ length run
+      → ((ticks : List Tick) (answered : List ℕ) → HasWritten at.texts.writer ticks answered
+      → HasWritten writer (ticks ++ take n run) answered)
+      → Pushes o l at (record at { texts = record at.texts { writer = writer } }) run [] (Ok tt)
+  pushed_whole at writer run n all goes =
+      pushed_as at (record at { texts = record at.texts { writer = writer } }) (take n run) run
+      (Ok tt) (ap (λ k. take k run) all ∙ take-length run)
+      (pushed_extend at writer (take n run) goes)
+
+  -- ---- a run in parts
+
+  -- As far as these ticks are left of all, they were added.
+  pub record HasPushed (start now : Writing O L) (all left : List Tick) : Type 0 where
+    pub done : List Tick
+    pub all_are : all ≡ done ++ left
+    pub pushes : Pushes o l start now done [] (Ok tt)
+
+  pub run_begun : (at : Writing O L) (all : List Tick) → HasPushed at at all all
+  run_begun at all = record { done = []; all_are = refl; pushes = pushed_none at }
+
+  pub run_goes_on : (start now next : Writing O L) (all left rest : List Tick) (count : ℕ)
+      → rest ≡ drop count left → HasPushed start now all left
+      → PushesFirst o l now next left count → HasPushed start next all rest
+  run_goes_on start now next all left rest count is has first = record {
+    done = has.done ++ take count left;
+    all_are = has.all_are ∙ ap (λ r. has.done ++ r) (sym (take-append-drop count left))
+        ∙ sym (append_assoc has.done (take count left) (drop count left))
+        ∙ ap (λ r. (has.done ++ take count left) ++ r) (sym is);
+    pushes = pushed_then start now next has.done (take count left) (Ok tt) has.pushes first.pushes;
+  }
+
+  pub run_ends : (start now next : Writing O L) (all left : List Tick)
+      (result : Result (Unit {0}) Failed) → HasPushed start now all left
+      → Pushes o l now next left [] result → Pushes o l start next all [] result
+  run_ends start now next all left result has then =
+      pushed_as start next (has.done ++ left) all result (sym has.all_are)
+      (pushed_then start now next has.done left result has.pushes then)
+
+  pub run_pushed : (start now : Writing O L) (all left : List Tick) → left ≡ []
+      → HasPushed start now all left → Pushes o l start now all [] (Ok tt)
+  run_pushed start now all left none has =
+      pushed_as start now has.done all (Ok tt)
+      (sym (has.all_are ∙ ap (λ r. has.done ++ r) none ∙ append-nil has.done)) has.pushes

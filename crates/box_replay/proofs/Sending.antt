@@ -1,6 +1,6 @@
 -- How what a box makes of its line goes on to the two sinks, by one tick, and how it ends.
 use Rattle.std.proofs.Common.{◌≡◌, ◌∙◌, ℕ, inl, inr, List, [], ◌∷◌, ◌++◌, Option}
-use Rattle.std.proofs.Common.{Result, Ok, Err, true, false, refl, sym}
+use Rattle.std.proofs.Common.{Result, Ok, Err, refl, sym}
 use Rattle.std.proofs.Common.{ap, subst, append_assoc, append-nil}
 use Rattle.std.specs.Io.KnownBytes.{append_known}
 use Rattle.yasir_io.specs.Output.{Buffered, GotPrefix}
@@ -8,14 +8,10 @@ use Rattle.std.specs.Prelude.{OnOk, OnErr}
 use Rattle.std.proofs.lemmas.Result.{on_ok_weaker, on_err_weaker}
 use Rattle.yasir_io.proofs.OutputLemmas.{append_known-twice, always_on_err}
 use Rattle.yasir_ticks.specs.Ticks.{AreTicks}
-use Rattle.yasir_ticks.specs.CanonicalText.{byte_line, silence_line, canonical_text}
-use Rattle.yasir_ticks.specs.Line.{is_unfilled}
-use Rattle.yasir_ticks.specs.Writer.{HasWritten}
-use Rattle.yasir_ticks.specs.declared.run.Run.{Run}
-use Rattle.yasir_ticks.specs.declared.run.Run.TheVariants.{Nothing, Bytes, Silence, Mark}
+use Rattle.yasir_ticks.specs.CanonicalText.{canonical_text}
+use Rattle.yasir_ticks.specs.Writer.{HasWritten, line_ticks}
 use Rattle.yasir_ticks.specs.declared.tick.Tick.{Tick}
 use Rattle.yasir_ticks.specs.declared.writer.TickWriter.{TickWriter}
-use Rattle.yasir_ticks.proofs.Writers.{finished_bytes, finished_silence, finished_nothing}
 use Rattle.replay_status.proofs.Printing.{append_known-nil, printed}
 use Rattle.box_replay.specs.Boxes.{Boxed, AnswersBox, AnswersBoxRun}
 use Rattle.box_replay.specs.Sending.{SinkTexts, sink_texts, Waiting, NotesFirst}
@@ -162,20 +158,10 @@ run_noted box line run answer answers = record {
 pub answered-begins : (writer : TickWriter) (ticks : List Tick) (answered : List ℕ)
     → HasWritten writer ticks answered
     → (rest : List ℕ) × (answered ++ rest ≡ canonical_text ticks)
-answered-begins writer ticks answered has = by_line writer.unfilled refl
-  where
-    by_line : (line : Run) → writer.unfilled ≡ line
-        → (rest : List ℕ) × (answered ++ rest ≡ canonical_text ticks)
-    by_line Nothing is = ([], finished_nothing writer [] is refl ticks answered has)
-    by_line (Bytes line) is = (
-      byte_line line.items,
-      finished_bytes writer line _ is writer.room refl ticks answered has,
-    )
-    by_line (Silence n) is = (
-      silence_line n,
-      finished_silence writer n _ is writer.room refl ticks answered has,
-    )
-    by_line Mark is = let both : false ≡ true = sym (ap is_unfilled is) ∙ writer.room in cc
+answered-begins writer ticks answered has = (
+  canonical_text (line_ticks writer.unfilled ++ []),
+  has.text [] ∙ ap canonical_text (append-nil ticks),
+)
 
 -- ---- the notes go first
 

@@ -1,8 +1,9 @@
 -- What is said of a consumer that drives a box over its journal.
-use Rattle.std.specs.Prelude.{◌≡◌, ℕ, List, [], ◌∷◌, ◌++◌, Option, Some, IfSome}
-use Rattle.yasir_io.specs.Disks.{Slots}
-use Rattle.yasir_io.specs.TextBuffer.{waiting_bytes}
+use Rattle.std.specs.Prelude.{◌≡◌, ℕ, ◌≤◌, List, [], ◌∷◌, ◌++◌, Option, Some, IfSome, Result}
+use Rattle.yasir_io.specs.Disks.{Slots, LeavesOnly}
+use Rattle.yasir_io.specs.Flushed.{NoneFlushed}
 use Rattle.yasir_io.specs.declared.disk.SlotDisk.{Ghosts as SlotDisk}
+use Rattle.yasir_io.specs.declared.sink.Sink.{Ghosts as Sink}
 use Rattle.yasir_ticks.specs.Ticks.{Item, ticks_in}
 use Rattle.yasir_ticks.specs.Ticks.Item.{tick}
 use Rattle.yasir_ticks.specs.declared.tick.Tick.{Tick}
@@ -11,13 +12,14 @@ use Rattle.sequence_journal.specs.Journal.{journal_link, journal_floor, Fits, Is
 use Rattle.sequence_journal.specs.Journal.{HasFloorFrom}
 use Rattle.sequence_journal.specs.Slots.{floor_of}
 use Rattle.link_format.specs.Setup.{Setup}
-use Rattle.tick_drive.specs.Consumers.{Consuming, Outputs}
+use Rattle.tick_drive.specs.Consumers.{Consuming, IsDiskCause, IsSinkCause, is_journal_fault}
+use Rattle.tick_drive.specs.Consumers.{is_write_fault}
 use Rattle.tick_drive.specs.declared.consumer.Stop.{Stop}
 use Rattle.tick_drive.specs.declared.consumer.Stop.TheVariants.{WriteFault, JournalFault}
 use Rattle.tick_drive.specs.declared.consumer.Stop.TheVariants.{NoMemory}
 use Rattle.box_replay.specs.Boxes.{FailsBox}
-use Rattle.box_replay.specs.Sending.{SinkTexts, sink_texts, Waiting, waiting, SendsBoxed}
-use Rattle.box_replay.specs.Sending.{HasSentFronts}
+use Rattle.box_replay.specs.Sending.{SinkTexts, sink_texts, SendsBoxed, HasSentFronts}
+use Rattle.box_replay.specs.Texts.{waiting_in, Writing, writing}
 use Rattle.box_replay.specs.declared.line_box.LineBox.{Ghosts as LineBox}
 use Rattle.box_replay.specs.declared.box_lines.BoxLines.{BoxLines}
 
@@ -27,6 +29,12 @@ pub record BoxOrigin : Type 0 where
   pub setup : Setup
   pub texts : SinkTexts
 
+-- what the sinks hold and the slots read as, each where it is told
+pub record Outputs : Type 0 where
+  pub out : Option (List ℕ)
+  pub log : Option (List ℕ)
+  pub slots : Option Slots
+
 -- the slots, where told, have this floor for a link
 abbrev pub ToldFloor : LinkId → ℕ → Option Slots → Type 0
 ToldFloor link n told = IfSome told (λ slots. floor_of link slots ≡ Some n)
@@ -34,16 +42,27 @@ ToldFloor link n told = IfSome told (λ slots. floor_of link slots ≡ Some n)
 abbrev pub texts_in : Outputs → SinkTexts
 texts_in outputs = sink_texts outputs.out outputs.log
 
-abbrev pub waiting_in : {B : Type 0} → BoxLines B → Waiting
-waiting_in lines = waiting lines.writer (waiting_bytes lines.ticks) (waiting_bytes lines.notes)
+-- what a call changes: a box with its journal and its texts, the two sinks that these go to, and
+-- the disk
+pub record State (B O L D : Type 0) : Type 0 where
+  pub lines : BoxLines B
+  pub out : O
+  pub log : L
+  pub disk : D
+
+abbrev pub state_of : {B O L D : Type 0} → BoxLines B → O → L → D → State B O L D
+state_of lines out log disk = record { lines = lines; out = out; log = log; disk = disk }
+
+abbrev pub writing_at : {B O L D : Type 0} → State B O L D → Writing O L
+writing_at state = writing state.lines.texts state.out state.log
 
 module _ {B N : Type 0} (b : LineBox B N) where
   -- The box and its journal have taken these items' ticks, and what it makes of them is on its way.
   pub record DrivesBox (lines : BoxLines B) (origin : BoxOrigin) (outputs : Outputs)
       (items : List Item) : Type 0 where
     pub steps : b.stands lines.line_box lines.journal origin.setup (ticks_in items)
-    pub sends : SendsBoxed (b.boxed origin.setup) (waiting_in lines) origin.texts (texts_in outputs)
-        (ticks_in items)
+    pub sends : SendsBoxed (b.boxed origin.setup) (waiting_in lines.texts) origin.texts
+        (texts_in outputs) (ticks_in items)
     pub link_is : journal_link lines.journal ≡ origin.link
     pub floor_told : ToldFloor origin.link (journal_floor lines.journal) outputs.slots
 
@@ -54,8 +73,8 @@ module _ {B N : Type 0} (b : LineBox B N) where
     pub front : List Item
     pub last : Tick
     pub is : items ≡ front ++ tick last ∷ []
-    pub sends : SendsBoxed (b.boxed origin.setup) (waiting_in lines) origin.texts (texts_in outputs)
-        (ticks_in front)
+    pub sends : SendsBoxed (b.boxed origin.setup) (waiting_in lines.texts) origin.texts
+        (texts_in outputs) (ticks_in front)
     pub link_is : journal_link lines.journal ≡ origin.link
     pub fails : FailsBox origin.link (b.boxed origin.setup) (ticks_in front) last outputs.slots
     pub floor : journal_floor lines.journal ≡ (b.boxed origin.setup).number (ticks_in front)
@@ -74,13 +93,40 @@ module _ {B N : Type 0} (b : LineBox B N) where
   StopsBox lines WriteFault origin outputs items = StopsAtWrite lines origin outputs items
   StopsBox lines NoMemory origin outputs items = ⊥
 
-  abbrev pub driving : {D : Type 0} → SlotDisk D → Consuming (BoxLines B) D
-  driving d = record {
+module _ {B O L D : Type 0} (o : Sink O) (l : Sink L) (d : SlotDisk D) where
+  abbrev pub outputs_of : State B O L D → Outputs
+  outputs_of state = record {
+    out = o.held state.out;
+    log = l.held state.log;
+    slots = d.told state.disk;
+  }
+
+  -- The disk's images, at any moment of a call and after it, whether the box stopped or not: no
+  -- image has a floor below the journal's, which serves the same link and doesn't fall.
+  pub record KeepsImages (old new : State B O L D) : Type 0 where
+    pub link : journal_link new.lines.journal ≡ journal_link old.lines.journal
+    pub rises : journal_floor old.lines.journal ≤ journal_floor new.lines.journal
+    pub is_kept : IsCrashSafe old.lines.journal (d.told old.disk) (d.may_leave old.disk)
+        → IsCrashSafe new.lines.journal (d.told new.disk) (d.may_leave new.disk)
+    pub any_moment : IsCrashSafe old.lines.journal (d.told old.disk) (d.may_leave old.disk)
+        → LeavesOnly d.moment d.left_since old.disk new.disk (HasFloorFrom old.lines.journal)
+
+  -- What calls do beside, the last of which answered so: the images are kept, each fault has its
+  -- cause, and no sink is flushed.
+  pub record GoesOn (old new : State B O L D) (result : Result (Unit {0}) Stop) : Type 0 where
+    pub images : KeepsImages old new
+    pub disk : IsDiskCause (d.faults old.disk) (d.faults new.disk) (is_journal_fault result)
+    pub sinks : IsSinkCause (o.faults old.out) (o.faults new.out) (l.faults old.log)
+        (l.faults new.log) (is_write_fault result)
+    pub flushes : NoneFlushed o l old.out new.out old.log new.log
+
+module _ {B N O L D : Type 0} (b : LineBox B N) (o : Sink O) (l : Sink L) (d : SlotDisk D) where
+  abbrev pub driving : Consuming (State B O L D)
+  driving = record {
     Origin = BoxOrigin;
-    stands = DrivesBox;
-    stopped = StopsBox;
-    taken = λ lines. b.taken lines.line_box;
-    able = λ lines disk. Fits lines.journal (d.told disk);
-    kept = λ lines disk. IsCrashSafe lines.journal (d.told disk) (d.may_leave disk);
-    safe = λ lines image. HasFloorFrom lines.journal image;
+    stands = λ state origin. DrivesBox b state.lines origin (outputs_of o l d state);
+    stopped = λ state stop origin. StopsBox b state.lines stop origin (outputs_of o l d state);
+    taken = λ state. b.taken state.lines.line_box;
+    able = λ state. Fits state.lines.journal (d.told state.disk);
+    went = GoesOn o l d;
   }

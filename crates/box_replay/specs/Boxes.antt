@@ -53,10 +53,3 @@ pub record AnswersBoxRun (box : Boxed) (line run answer : List Tick) : Type 0 wh
   pub ticks : box.other_line (line ++ run) ≡ box.other_line line ++ answer
   pub notes : box.note_lines (line ++ run) ≡ box.note_lines line
   pub number : box.number (line ++ run) ≡ box.number line
-
--- A run of ticks of a line goes on as it is: the box answers each with itself, notes nothing and
--- uses no number.
-pub record Forwards (box : Boxed) (line run : List Tick) : Type 0 where
-  pub ticks : box.other_line (line ++ run) ≡ box.other_line line ++ run
-  pub notes : box.note_lines (line ++ run) ≡ box.note_lines line
-  pub number : box.number (line ++ run) ≡ box.number line

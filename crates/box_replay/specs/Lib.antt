@@ -1,7 +1,9 @@
 pub mod Boxes
 pub mod Sending
+pub mod Texts
 pub mod Runs
 pub mod BoxLines
-pub mod Fronts
+pub mod BoxLinesLaws
+pub mod DrivenBox
 pub mod ReplaysBox
 pub mod Uptimes

@@ -1,6 +1,6 @@
 -- The texts that a box makes: its other line goes to `out`, and the lines of its notes go to the
 -- log.
-use Rattle.std.specs.Prelude.{◌≡◌, ℕ, ◌≤◌, ◌⊎◌, List, [], ◌∷◌, ◌++◌, Option, Result, OnOk, OnErr}
+use Rattle.std.specs.Prelude.{◌≡◌, ℕ, ◌≤◌, ◌⊎◌, List, [], ◌++◌, Option, Result, OnOk, OnErr}
 use Rattle.std.specs.Io.KnownBytes.{append_known}
 use Rattle.yasir_io.specs.Causes.{Rose}
 use Rattle.yasir_io.specs.Output.{Buffered, GotPrefix}
@@ -100,9 +100,3 @@ pub record PushesTicks {T E : Type 0} (old new : Waiting) (before now : SinkText
       → HasWritten new.writer (ticks ++ run) (answered ++ line)
   pub pushes : PushesTexts before now new.ticks new.notes (old.ticks ++ line) (old.notes ++ note)
       result
-
--- a step's tick and its note were added
-abbrev pub PushesStep : {T E : Type 0} → Waiting → Waiting → SinkTexts → SinkTexts → Tick → List ℕ
-    → Result T E → Type 0
-PushesStep old new before now tick note result =
-    PushesTicks old new before now (tick ∷ []) note result

@@ -1,18 +1,20 @@
 ghost use Rattle.std.specs.Prelude.{◌≡◌, List};
 ghost use Rattle.tick_drive.specs.Consumers.{is_write_fault};
 ghost use Rattle.tick_drive.specs.Drive.{answer_of};
-ghost use Rattle.box_replay.specs.ReplaysBox.{around, boxed_with, RunsBox, ReplaysBox};
+ghost use Rattle.box_replay.specs.ReplaysBox.{around_of, boxed_with, RunsBox, ReplaysBox};
 ghost use Rattle.box_replay.specs.ReplaysBox.{KeepsFloorThroughout, BoxDiskCause};
 ghost use Rattle.sequence_journal.specs.Links.{IsLink};
-ghost use Rattle.replay_status.specs.Causes.{InputCause, ReadsCause, SinkCause};
+ghost use Rattle.replay_status.specs.Causes.{InputCause, SinkCause};
 ghost use Rattle.replay_status.specs.Flushes.{FlushesAtEnd};
-ghost use Rattle.replay_status.specs.Outside.{outside};
+ghost use Rattle.replay_status.specs.Ends.{outside_before, outside_after};
+ghost use Rattle.replay_status.specs.StreamCauses.{HasStreamCauses};
 
 use crate::box_lines::BoxLines;
+use crate::driven_box::DrivenBox;
 use crate::line_box::LineBox;
 use hmac_tag::Dir;
 use key_text::{KeyError, read_key};
-use replay_status::{Status, flush_both, status_of};
+use replay_status::{Ends, Status, flush_both, status_of};
 use sequence_journal::{Journal, LinkId, LoadError};
 use tick_drive::{End, Stop, drive_to_rest};
 use yasir_io::{Failed, Sink, SlotDisk, Source};
@@ -28,31 +30,39 @@ fn is_write_stop(end: &End) -> bool
     }
 }
 
-/// Replays the input through a box with this key, over the journal of this link that the disk
-/// holds.
-pub fn replay_keyed<B: LineBox, S: Source, O: Sink, L: Sink, D: SlotDisk>(
+// Replays the input through a box with this key, over the journal of this link that the disk holds.
+fn replay_keyed<B: LineBox, K: Source, S: Source, O: Sink, L: Sink, D: SlotDisk>(
     key: &[u8],
     link: &LinkId,
     dir: Dir,
     rest: u32,
-    input: &mut S,
-    out: &mut O,
-    log: &mut L,
-    disk: &mut D,
+    ends: Ends<K, S, O, L, D>,
 ) -> Status
     requires widths { B.widths_fit }
     requires link { IsLink link.now }
     ensures runs { RunsBox S.Source O.Sink L.Sink D.SlotDisk link.now
-        (boxed_with B.boxed key.now dir) rest
-        (around input.old out.old log.old disk.old) (around input.new out.new log.new disk.new)
-        result }
-    ensures any_moment { KeepsFloorThroughout D.SlotDisk link.now disk.old disk.new }
-    ensures input { InputCause (S.faults input.old) (S.faults input.new) result }
-    ensures disk { BoxDiskCause (D.faults disk.old) (D.faults disk.new) result }
-    ensures sinks { SinkCause (O.faults out.old) (O.faults out.new) (L.faults log.old)
-        (L.faults log.new) result }
-    ensures flushes { FlushesAtEnd O.Sink L.Sink out.old out.new log.old log.new result }
+        (boxed_with B.boxed key.now dir) rest (around_of (outside_before ends.entry))
+        (around_of (outside_after ends.exit)) result }
+    ensures any_moment { KeepsFloorThroughout D.SlotDisk link.now ends.entry.disk.now
+        (outside_after ends.exit).disk }
+    ensures key { (outside_after ends.exit).key ≡ ends.entry.key.now }
+    ensures input { InputCause (S.faults ends.entry.input.now)
+        (S.faults (outside_after ends.exit).input) result }
+    ensures disk { BoxDiskCause (D.faults ends.entry.disk.now)
+        (D.faults (outside_after ends.exit).disk) result }
+    ensures sinks { SinkCause (O.faults ends.entry.out.now)
+        (O.faults (outside_after ends.exit).out) (L.faults ends.entry.log.now)
+        (L.faults (outside_after ends.exit).log) result }
+    ensures flushes { FlushesAtEnd O.Sink L.Sink ends.entry.out.now
+        (outside_after ends.exit).out ends.entry.log.now (outside_after ends.exit).log result }
 {
+    let Ends {
+        input,
+        out,
+        log,
+        disk,
+        ..
+    } = ends;
     let journal = match Journal::load(disk, link) {
         Ok(journal) => journal,
         Err(LoadError::Fault) => return Status::JournalFault,
@@ -60,18 +70,21 @@ pub fn replay_keyed<B: LineBox, S: Source, O: Sink, L: Sink, D: SlotDisk>(
         Err(LoadError::WrongLink { slot }) => return Status::WrongLink { slot },
     };
     let mut lines = BoxLines::<B>::new(key, dir, journal);
-    let end = drive_to_rest(0, rest, input, &mut lines, out, log, disk);
+    let mut driven = DrivenBox::new(&mut lines, out, log, disk);
+    let end = drive_to_rest(0, rest, input, &mut driven);
     if is_write_stop(&end) {
         return Status::WriteFault;
     }
-    match lines.finish(out, log) {
+    let BoxLines { texts, .. } = lines;
+    match texts.finish(out, log) {
         Ok(()) => {}
         Err(Failed) => return Status::WriteFault,
     }
     match end {
-        End::Whole => flush_both(out, log),
-        _ => status_of(end),
+        End::Whole => {}
+        _ => return status_of(end),
     }
+    flush_both(out, log)
 }
 
 /// Reads a key, loads the journal of this link that the disk holds, and replays the input through a
@@ -81,29 +94,21 @@ pub fn replay_box<B: LineBox, K: Source, S: Source, O: Sink, L: Sink, D: SlotDis
     link: &LinkId,
     dir: Dir,
     rest: u32,
-    key: &mut K,
-    input: &mut S,
-    out: &mut O,
-    log: &mut L,
-    disk: &mut D,
+    ends: Ends<K, S, O, L, D>,
 ) -> Status
     requires widths { B.widths_fit }
     requires link { IsLink link.now }
     ensures replays { ReplaysBox K.Source S.Source O.Sink L.Sink D.SlotDisk B.boxed link.now dir
-        rest (outside key.old input.old out.old log.old disk.old)
-        (outside key.new input.new out.new log.new disk.new) result }
-    ensures any_moment { KeepsFloorThroughout D.SlotDisk link.now disk.old disk.new }
-    ensures reads { ReadsCause (K.faults key.old) (K.faults key.new) (S.faults input.old)
-        (S.faults input.new) result }
-    ensures disk { BoxDiskCause (D.faults disk.old) (D.faults disk.new) result }
-    ensures sinks { SinkCause (O.faults out.old) (O.faults out.new) (L.faults log.old)
-        (L.faults log.new) result }
-    ensures flushes { FlushesAtEnd O.Sink L.Sink out.old out.new log.old log.new result }
+        rest (outside_before ends.entry) (outside_after ends.exit) result }
+    ensures any_moment { KeepsFloorThroughout D.SlotDisk link.now ends.entry.disk.now
+        (outside_after ends.exit).disk }
+    ensures causes { HasStreamCauses K.Source S.Source O.Sink L.Sink (outside_before ends.entry)
+        (outside_after ends.exit) result }
+    ensures disk { BoxDiskCause (D.faults ends.entry.disk.now)
+        (D.faults (outside_after ends.exit).disk) result }
 {
-    match read_key(key) {
-        Ok(key) => {
-            replay_keyed::<B, S, O, L, D>(key.as_slice(), link, dir, rest, input, out, log, disk)
-        }
+    match read_key(ends.key) {
+        Ok(key) => replay_keyed::<B, K, S, O, L, D>(key.as_slice(), link, dir, rest, ends),
         Err(KeyError::Fault) => Status::ReadFault,
         Err(KeyError::Bad { place }) => Status::BadKey { place },
     }

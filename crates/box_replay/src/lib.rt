@@ -4,10 +4,13 @@
 
 mod box_lines;
 mod command;
+mod driven_box;
 mod laws;
 mod line_box;
 mod runs;
+mod texts;
 
+pub use burst_walk::{BoxStep, RunBytes};
 pub use command::replay_box;
 pub use laws::runs_are_uptimes;
-pub use line_box::{BoxStep, LineBox, NoteLine, RunBytes};
+pub use line_box::{LineBox, NoteLine};

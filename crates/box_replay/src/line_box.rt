@@ -1,38 +1,27 @@
 ghost use Rattle.std.specs.Prelude.{◌≡◌, ℕ, ◌+◌, ◌<◌, ◌≤◌, List, [], ◌∷◌, ◌++◌};
-ghost use Rattle.std.specs.Prelude.{length, map, take, OnOk, OnErr, IfOk};
+ghost use Rattle.std.specs.Prelude.{length, take, OnOk, OnErr, IfOk};
 ghost use Rattle.yasir_io.specs.Causes.{HasCause};
 ghost use Rattle.yasir_io.specs.Disks.{Slots, LeavesOnly};
-ghost use Rattle.yasir_ticks.specs.Ticks.{silent};
+ghost use Rattle.yasir_ticks.specs.TickRun.{run_ticks};
 ghost use Rattle.yasir_ticks.specs.declared.tick.Tick.{Tick};
-ghost use Rattle.yasir_ticks.specs.declared.tick.Tick.TheVariants.{Byte};
 ghost use Rattle.link_format.specs.Setup.{Setup, setup_of};
 ghost use Rattle.sequence_journal.specs.declared.journal.Journal.{Journal};
 ghost use Rattle.sequence_journal.specs.Journal.{journal_link, journal_floor, Fits, IsCrashSafe};
 ghost use Rattle.sequence_journal.specs.Journal.{HasFloorFrom};
 ghost use Rattle.burst_walk.specs.Answered.{answered};
 ghost use Rattle.box_replay.specs.Boxes.{line_of_note};
-ghost use Rattle.box_replay.specs.Boxes.{Boxed, IsBoxed, AnswersBox, FailsBox, Forwards};
+ghost use Rattle.box_replay.specs.Boxes.{Boxed, IsBoxed, AnswersBox, FailsBox};
 ghost use Rattle.box_replay.specs.Boxes.{AnswersBoxRun};
 
 use arrayvec::ArrayVec;
+use burst_walk::{BoxStep, RunBytes};
 use hmac_tag::Dir;
 use sequence_journal::{Journal, JournalFault};
 use yasir_io::SlotDisk;
-use yasir_ticks::{MAX_TICKS, Tick};
+use yasir_ticks::{MAX_TICKS, Tick, TickRun};
 
 /// The line of a note, LF included.
 pub type NoteLine = ArrayVec<u8, 80>;
-
-/// The bytes of a run that a box answers to a run.
-pub type RunBytes = ArrayVec<u8, 64>;
-
-/// What a box answers to a tick: the tick of the other line, and the note that falls into the step.
-/// The note's line is written where it is needed, since few steps have one.
-#[derive(Clone, Copy)]
-pub struct BoxStep<N> {
-    pub tick: Tick,
-    pub note: Option<N>,
-}
 
 /// A box between two lines, set up with a key and a direction: it takes one line tick by tick and
 /// answers the other one. The numbers that it uses come from a journal, which is that of the steps
@@ -101,68 +90,38 @@ pub trait LineBox: Drop {
             → LeavesOnly D.moment D.left_since disk.old disk.new (HasFloorFrom journal.old) }
         ensures cause { HasCause (D.faults disk.old) (D.faults disk.new) result };
 
-    /// Takes the first of these bytes, one a tick, as far as the box answers each with itself,
-    /// without a note and without a number, and answers how many. With 0 the caller goes on by
+    /// Takes the first ticks of this run, as far as the box answers each with itself, without a note
+    /// and without a number, and answers how many. With 0 the caller goes on by `pass`.
+    fn forward(&mut self, _run: TickRun<'_>) -> usize
+        requires { taken self.old + length (run_ticks _run) ≤ MAX_TICKS }
+        ensures within { result ≤ length (run_ticks _run.entry) }
+        ensures taken { taken self.new ≡ taken self.old + result }
+        ensures stands { (journal : Journal) (setup : Setup) (line : List Tick)
+            → stands self.old journal setup line
+            → stands self.new journal setup (line ++ take result (run_ticks _run.entry)) }
+        ensures answers { (journal : Journal) (setup : Setup) (line : List Tick)
+            → stands self.old journal setup line
+            → AnswersBoxRun (boxed setup) line (take result (run_ticks _run.entry))
+            (take result (run_ticks _run.entry)) }
+    {
+        0
+    }
+
+    /// Takes the first ticks of this run, as far as the box answers all of them with silence or all
+    /// of them with bytes, without a note and without a number, and answers how many it took. Puts
+    /// the bytes of the answer into `left`, or none for silence. With 0 the caller goes on by
     /// `step`.
-    fn forward_bytes(&mut self, _bytes: &[u8]) -> usize
-        requires { taken self.old + length _bytes.now ≤ MAX_TICKS }
-        ensures within { result ≤ length _bytes.now }
+    fn pass(&mut self, _run: TickRun<'_>, left: &mut RunBytes) -> usize
+        requires { taken self.old + length (run_ticks _run) ≤ MAX_TICKS }
+        ensures within { result ≤ length (run_ticks _run.entry) }
         ensures taken { taken self.new ≡ taken self.old + result }
         ensures stands { (journal : Journal) (setup : Setup) (line : List Tick)
             → stands self.old journal setup line
-            → stands self.new journal setup (line ++ map Byte (take result _bytes.now)) }
-        ensures forwards { (journal : Journal) (setup : Setup) (line : List Tick)
-            → stands self.old journal setup line
-            → Forwards (boxed setup) line (map Byte (take result _bytes.now)) }
-    {
-        0
-    }
-
-    /// The same of so many silent ticks.
-    fn forward_silence(&mut self, _ticks: u32) -> u32
-        requires { taken self.old + _ticks ≤ MAX_TICKS }
-        ensures within { result ≤ _ticks }
-        ensures taken { taken self.new ≡ taken self.old + result }
-        ensures stands { (journal : Journal) (setup : Setup) (line : List Tick)
-            → stands self.old journal setup line
-            → stands self.new journal setup (line ++ silent result) }
-        ensures forwards { (journal : Journal) (setup : Setup) (line : List Tick)
-            → stands self.old journal setup line → Forwards (boxed setup) line (silent result) }
-    {
-        0
-    }
-
-    /// Takes the first of these bytes, one a tick, as far as the box answers all of them with
-    /// silence or all of them with bytes, without a note and without a number, and answers how many
-    /// it took. Puts the bytes of the answer into `left`, or none for silence. With 0 the caller
-    /// goes on by `step`.
-    fn pass_bytes(&mut self, _bytes: &[u8], left: &mut RunBytes) -> usize
-        requires { taken self.old + length _bytes.now ≤ MAX_TICKS }
-        ensures within { result ≤ length _bytes.now }
-        ensures taken { taken self.new ≡ taken self.old + result }
-        ensures stands { (journal : Journal) (setup : Setup) (line : List Tick)
-            → stands self.old journal setup line
-            → stands self.new journal setup (line ++ map Byte (take result _bytes.now)) }
+            → stands self.new journal setup (line ++ take result (run_ticks _run.entry)) }
         ensures answers { (journal : Journal) (setup : Setup) (line : List Tick)
             → stands self.old journal setup line
-            → AnswersBoxRun (boxed setup) line (map Byte (take result _bytes.now))
+            → AnswersBoxRun (boxed setup) line (take result (run_ticks _run.entry))
             (answered result left.new.items) }
-    {
-        left.clear();
-        0
-    }
-
-    /// The same of so many silent ticks.
-    fn pass_silence(&mut self, _ticks: u32, left: &mut RunBytes) -> u32
-        requires { taken self.old + _ticks ≤ MAX_TICKS }
-        ensures within { result ≤ _ticks }
-        ensures taken { taken self.new ≡ taken self.old + result }
-        ensures stands { (journal : Journal) (setup : Setup) (line : List Tick)
-            → stands self.old journal setup line
-            → stands self.new journal setup (line ++ silent result) }
-        ensures answers { (journal : Journal) (setup : Setup) (line : List Tick)
-            → stands self.old journal setup line
-            → AnswersBoxRun (boxed setup) line (silent result) (answered result left.new.items) }
     {
         left.clear();
         0

@@ -5,3 +5,4 @@ pub mod Longer
 pub mod Coming
 pub mod Runs
 pub mod LaidBursts
+pub mod Rows

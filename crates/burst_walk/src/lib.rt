@@ -1,5 +1,5 @@
-//! The walk over the bursts of a line that transmitter and receiver share: definitions and laws
-//! alone, and no code.
+//! The walk over the bursts of a line that transmitter and receiver share: definitions and laws,
+//! and the record of what a step answers.
 //!
 //! A box judges each burst of a line in turn. It keeps a state from burst to burst, writes one note
 //! of each burst, and emits at most one burst for it on the other line. `specs/` has such a walk
@@ -7,3 +7,7 @@
 //! has the law that notes and line of a longer list of ticks begin with those of the list, and what
 //! one more tick adds.
 #![tactic(auto)]
+
+mod box_step;
+
+pub use box_step::{BoxStep, RunBytes};

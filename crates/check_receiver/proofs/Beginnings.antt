@@ -31,7 +31,7 @@ use Rattle.link_verdicts.specs.declared.note.CheckNote.{CheckNote}
 use Rattle.check_receiver.specs.Runs.{HasTakenRun, IsFront, KeepsHeader}
 use Rattle.check_receiver.specs.Stands.{StandsAt, HasTaken}
 use Rattle.check_receiver.specs.declared.checker.Checker.{Checker}
-use Rattle.check_receiver.specs.declared.step.CheckStep.{CheckStep}
+use Rattle.burst_walk.specs.declared.box_step.BoxStep.{BoxStep}
 use Rattle.check_receiver.proofs.Heads.{head-is-good, head-is-bad, head-isn't-short}
 
 -- ---- what a byte is
@@ -139,7 +139,8 @@ module _ {R M : Type 0} (proto : LineRules R) (code : Mac M) {B D : ℕ} (new : 
   w = checker (profile_of proto code B LIMIT setup) proto.rules
 
   -- a tick without a note is a run
-  pub one-taken : (t a : Tick) (step : CheckStep) → HasTaken proto code new last setup line t step
+  pub one-taken : (t a : Tick) (step : BoxStep CheckNote)
+      → HasTaken proto code new last setup line t step
       → step.note ≡ None → step.tick ≡ a
       → HasTakenRun proto code new last setup line (t ∷ []) (a ∷ [])
   one-taken t a step taken none is =

@@ -1,6 +1,6 @@
 -- Two lists of bytes that are compared by gathering the bits in which they differ.
 use Rattle.std.proofs.Common.{◌≡◌, ℕ, ◌+◌, ◌<◌, ◌≤◌, inl, inr, List, length, get_or, nat_eq}
-use Rattle.std.proofs.Common.{bytes_eq, refl, sym, ◌∙◌, ap, subst, arith}
+use Rattle.std.proofs.Common.{bytes_eq, sym, ◌∙◌, ap, subst, arith}
 use Rattle.std.proofs.lemmas.Bool.{cases_lt}
 use Rattle.std.proofs.lemmas.Bool.Decides.{same_from_decides}
 use Rattle.std.proofs.lemmas.Grind.{same_number_lists}
@@ -20,12 +20,6 @@ same_without_bits a b none =
 pub record IsGathered (left right : List ℕ) (n differing : ℕ) : Type 0 where
   pub none : left ≡ right → differing ≡ 0
   pub same : differing ≡ 0 → (k : ℕ) → k < n → get_or left k 0 ≡ get_or right k 0
-
-pub gathered_none : (left right : List ℕ) → IsGathered left right 0 0
-gathered_none left right = record {
-  none = λ same. refl;
-  same = λ none k within. absurd (omega arith);
-}
 
 pub gathered_more : (left right : List ℕ) (n more differing a b : ℕ) → more ≡ n + 1
     → a ≡ get_or left n 0 → b ≡ get_or right n 0

@@ -24,7 +24,8 @@ use Rattle.check_receiver.specs.Checkings.{PassesWith}
 use Rattle.check_receiver.specs.Stands.{Codes, HasTaken}
 use Rattle.check_receiver.specs.Turning.{Turned, closed_at}
 use Rattle.check_receiver.specs.declared.checker.Checker.{Checker}
-use Rattle.check_receiver.specs.declared.step.CheckStep.{CheckStep}
+use Rattle.burst_walk.specs.declared.box_step.BoxStep.{BoxStep}
+use Rattle.link_verdicts.specs.declared.note.CheckNote.{CheckNote}
 use Rattle.check_receiver.proofs.Hearing.{Hears, hears-whole, next-last, whole-long, whole-trailer}
 use Rattle.check_receiver.proofs.Hearing.{refuse-taken, pass-taken, passes-with}
 
@@ -95,7 +96,7 @@ module _ {R M : Type 0} (proto : LineRules R) (code : Mac M) {B D : ℕ} (old : 
       (whole-long proto code old last setup line t whole.byte hears whole.last_place))
 
   pub decide-refuses : (why : RefusedWhy) → Judges proto code old last (Err why)
-      → (new : Checker R M B D) (step : CheckStep)
+      → (new : Checker R M B D) (step : BoxStep CheckNote)
       → Turned proto (closed_at new.earliest_start told) new Silent step.tick
       → ((link : List Tick) → CutStandsFor proto told.cut link
       → new.earliest_start ≡ length link + told.until
@@ -116,7 +117,7 @@ module _ {R M : Type 0} (proto : LineRules R) (code : Mac M) {B D : ℕ} (old : 
       (subst N rest (noted link) whole.cuts) whole.last_place (judged (Err why) judges)
 
   pub decide-passes : (number : ℕ) → Judges proto code old last (Ok number)
-      → (new : Checker R M B D) (step : CheckStep)
+      → (new : Checker R M B D) (step : BoxStep CheckNote)
       → Turned proto (record told {
         waits = false;
         passed = true;

@@ -22,37 +22,37 @@ use Rattle.delay_ring.specs.DelayRing.{ring_ticks}
 use Rattle.spoiler.specs.Outlet.{StandsFor as OutletStandsFor, owed_by}
 use Rattle.burst_walk.specs.Causal.{MayGoOn, going_on}
 use Rattle.burst_walk.specs.HasCome.{HasCome}
-use Rattle.burst_walk.proofs.Coming.{come-silent, come-joined, waiting-may}
 use Rattle.hmac_tag.specs.declared.tag.Mac.{Ghosts as Mac}
 use Rattle.hmac_tag.specs.Tag.{direction_number}
-use Rattle.link_format.specs.Profile.{Profile, profile_of, IsWordLen, trailer_len}
+use Rattle.link_format.specs.Profile.{Profile, profile_of, IsWordLen}
 use Rattle.link_format.specs.Setup.{Setup}
 use Rattle.sequence_journal.specs.declared.numbers.TheConstants.{LIMIT}
 use Rattle.link_verdicts.specs.Verdicts.{CheckState, checked}
 use Rattle.link_verdicts.specs.Verdicts.Verdict.{dropped as dropped_for}
 use Rattle.link_verdicts.specs.Checking.{checker, at_floor, head_tick, note_tick}
-use Rattle.link_verdicts.specs.Holding.{HasWalked, Rests}
+use Rattle.link_verdicts.specs.Holding.{Rests}
 use Rattle.link_verdicts.specs.declared.note.CheckNote.TheVariants.{Dropped}
 use Rattle.link_verdicts.specs.declared.note.DroppedWhy.TheVariants.{Head as NoHead}
 use Rattle.link_verdicts.proofs.Judging.{head-short, checked-short, checked-bad}
 use Rattle.link_verdicts.proofs.Settling.{is_over, open-bytes, open-end, long-header}
-use Rattle.link_verdicts.proofs.Growing.{live-long}
 use Rattle.link_verdicts.proofs.Opening.{short-same, come-rests}
-use Rattle.link_verdicts.proofs.Resting.{causal, rest-drops}
+use Rattle.link_verdicts.proofs.Resting.{rest-drops}
 use Rattle.check_receiver.specs.Between.{IsBetween}
 use Rattle.check_receiver.specs.Stands.{HasTaken}
 use Rattle.check_receiver.specs.Turning.{TurnedClear, dropped}
 use Rattle.check_receiver.specs.declared.checker.Checker.{Checker}
-use Rattle.check_receiver.specs.declared.step.CheckStep.{CheckStep}
+use Rattle.burst_walk.specs.declared.box_step.BoxStep.{BoxStep}
+use Rattle.link_verdicts.specs.declared.note.CheckNote.{CheckNote}
 use Rattle.check_receiver.proofs.Heads.{head-is-bad, head-isn't-short}
-use Rattle.check_receiver.proofs.Machine.{last_of-more, flow, ring-waits, assembled}
-use Rattle.check_receiver.proofs.Silences.{timely, waits-long}
-use Rattle.check_receiver.proofs.Entering.{live-open}
+use Rattle.check_receiver.proofs.Machine.{flow, ring-waits, assembled}
+use Rattle.check_receiver.proofs.OpenBursts.{timely, open-walks}
+use Rattle.link_verdicts.proofs.Opened.{last_of-more, opens-of, may-of, unowed-of, silently, joined}
+use Rattle.link_verdicts.proofs.Opened.{joined-last, still}
 
 -- ---- the ring is emptied
 
 module _ {R M : Type 0} (proto : LineRules R) (code : Mac M) {B D : ℕ} (setup : Setup)
-    (line : List Tick) (t : Tick) (base new : Checker R M B D) (step : CheckStep)
+    (line : List Tick) (t : Tick) (base new : Checker R M B D) (step : BoxStep CheckNote)
     (clear : TurnedClear proto base new step.tick) (word_is : IsWordLen B) (wide : 2 ≤ B)
     (delay_is : D ≡ 4 + B + code.TAG)
     (direction_is : direction_number base.direction ≡ setup.direction)
@@ -104,7 +104,7 @@ module _ {R M : Type 0} (proto : LineRules R) (code : Mac M) {B D : ℕ} (setup 
 module _ {R M : Type 0} (proto : LineRules R) (code : Mac M) {B D : ℕ} (old : Checker R M B D)
     (last : ℕ) (setup : Setup) (line : List Tick) (cut : Cut)
     (between : IsBetween proto code old last setup line Silent cut) (new : Checker R M B D)
-    (step : CheckStep) (clear : TurnedClear proto old new step.tick)
+    (step : BoxStep CheckNote) (clear : TurnedClear proto old new step.tick)
     (noted : step.note ≡ Some (Dropped (start_so_far (line ++ Silent ∷ [])) NoHead)) where
   -- the second silent tick in a row comes after it
   pub drop-silent : (d : Burst) → between.walks.waiting ≡ Some d
@@ -115,29 +115,17 @@ module _ {R M : Type 0} (proto : LineRules R) (code : Mac M) {B D : ℕ} (old : 
       let profile : Profile = profile_of proto code B LIMIT setup in
       let state : CheckState = record { floor = last; earliest_start = old.earliest_start } in
       let m : ℕ = length line in
-      let W : Option Burst → Type 0 = λ o. HasWalked profile proto.rules setup.floor m
-      (bursts line) state old.passed between.walks.left between.walks.live (owed_by old.outlet)
-      o in
-      let walked : W (Some d) = subst W is between.walks.walked in
-      let opens = walked.opens.0 in
-      let time = timely proto code B setup between.wide in
-      let long = waits-long proto code old last setup line cut between d is in
-      let near = opens.near in
-      let late = opens.late in
-      let from = opens.from in
-      let delay_is = between.delay_is in
-      let none : owed_by old.outlet ≡ 0 = walked.unowed (omega arith) in
-      let come = come-silent (checker profile proto.rules)
-      (causal proto profile time setup.floor line Silent) (at_floor setup.floor) line state
-      walked.emissions (Some d) walked.come in
+      let it = open-walks between.walks between.wide d is in
+      let late = (opens-of it).late in
+      let from = (opens-of it).from in
       let same = short-same proto.rules proto.headed d short in
       let tick = ap (λ h. head_tick proto.rules d h)
       (head-short proto.rules (live_bytes proto.rules d) short) in
       let now : note_tick profile proto.rules d (dropped_for NoHead) ≡ m = omega arith in
       drops proto code setup line Silent old new step clear between.word_is between.wide
       between.delay_is between.direction_is between.cuts last between.walks.left
-      between.walks.outlet_is none between.walks.code_is walked.emissions d come (omega arith)
-      (checked-short profile proto.rules state d late short) now noted
+      between.walks.outlet_is (unowed-of it) between.walks.code_is it.walked.emissions d
+      (silently it) (omega arith) (checked-short profile proto.rules state d late short) now noted
 
 -- ---- a header that isn't good
 
@@ -172,7 +160,7 @@ bad-now profile rules lawful headed d m b may begun open' good bad =
 module _ {R M : Type 0} (proto : LineRules R) (code : Mac M) {B D : ℕ} (old : Checker R M B D)
     (last : ℕ) (setup : Setup) (line : List Tick) (b : ℕ)
     (between : IsBetween proto code old last setup line (Byte b) (Live b)) (mac : M)
-    (new : Checker R M B D) (step : CheckStep)
+    (new : Checker R M B D) (step : BoxStep CheckNote)
     (clear : TurnedClear proto (record old { mac = mac }) new step.tick)
     (noted : step.note ≡ Some (Dropped (start_so_far (line ++ Byte b ∷ [])) NoHead))
     (bad : head_of proto.rules (live_bytes_so_far proto.rules (line ++ Byte b ∷ [])) ≡ Bad)
@@ -186,37 +174,19 @@ module _ {R M : Type 0} (proto : LineRules R) (code : Mac M) {B D : ℕ} (old : 
       let state : CheckState = record { floor = last; earliest_start = old.earliest_start } in
       let m : ℕ = length line in
       let e : Burst = going_on d m b in
-      let W : Option Burst → Type 0 = λ o. HasWalked profile rules setup.floor m (bursts line) state
-      old.passed between.walks.left between.walks.live (owed_by old.outlet) o in
-      let walked : W (Some d) = subst W is between.walks.walked in
-      let opens = walked.opens.0 in
-      let left : List ℕ = between.walks.left in
-      let live : List Tick = between.walks.live in
-      let time = timely proto code B setup between.wide in
-      let wide = between.wide in
-      let some : 1 ≤ trailer_len profile = omega arith in
-      let why = causal proto profile time setup.floor line (Byte b) in
-      let may : MayGoOn d m = waiting-may (checker profile rules) why (at_floor setup.floor) line
-      state walked.emissions d walked.come in
-      let whose = ap (λ x. last_of x) walked.come.is ∙ last_of-more walked.come.settled d in
-      let open' = live-open proto profile some line old.earliest_start d left live b may opens whose
-      between.is_cut in
-      let come = come-joined (checker profile rules) why (at_floor setup.floor) line state
-      walked.emissions b d walked.come in
-      let next = ap (λ x. last_of x) come.is ∙ last_of-more come.settled e in
+      let it = open-walks between.walks between.wide d is in
+      let opens = opens-of it in
       let H : Option Burst → Type 0 = λ o. head_of rules (live_bytes_in rules o) ≡ Bad in
-      let now : head_of rules (live_bytes rules e) ≡ Bad = subst H next bad in
-      let long = live-long profile rules proto.headed some m old.earliest_start d left live
-      may.after opens in
-      let near = opens.near in
+      let now : head_of rules (live_bytes rules e) ≡ Bad = subst H (joined-last it b) bad in
       let late = opens.late in
       let from = opens.from in
-      let none : owed_by old.outlet ≡ 0 = walked.unowed (omega arith) in
       drops proto code setup line (Byte b) (record old { mac = mac }) new step clear between.word_is
-      between.wide between.delay_is between.direction_is between.cuts last left
-      between.walks.outlet_is none code_is walked.emissions e come (omega arith)
+      between.wide between.delay_is between.direction_is between.cuts last between.walks.left
+      between.walks.outlet_is (unowed-of it) code_is it.walked.emissions e (joined it b)
+      (omega arith)
       (checked-bad profile rules state e late
       (head-isn't-short rules (live_bytes rules e) (λ short. cc))
       (head-is-bad rules (live_bytes rules e) now))
-      (bad-now profile rules proto.lawful proto.headed d m b may from open' opens.not_bad now)
+      (bad-now profile rules proto.lawful proto.headed d m b (may-of it) from
+      (still it b between.is_cut) opens.not_bad now)
       noted

@@ -8,7 +8,7 @@ use Rattle.link_verdicts.specs.declared.note.CheckNote.{CheckNote}
 use Rattle.link_verdicts.specs.declared.note.CheckNote.TheVariants.{Passed, Refused, Dropped}
 use Rattle.check_receiver.specs.Between.{IsNoPass}
 use Rattle.check_receiver.specs.Checkings.{CommitsNoted, KeepsJournal}
-use Rattle.check_receiver.specs.declared.step.CheckStep.{CheckStep}
+use Rattle.burst_walk.specs.declared.box_step.BoxStep.{BoxStep}
 
 module _ {S : Type 0} (d : SlotDisk S) (journal : Journal) (disk : S) where
   commits-none : (note : Option CheckNote) → IsNoPass note
@@ -20,7 +20,7 @@ module _ {S : Type 0} (d : SlotDisk S) (journal : Journal) (disk : S) where
 
   -- A step in which no burst passes leaves both as they were.
   pub journal-kept : ((c : Slots) → d.left_since disk (d.moment disk) c → d.may_leave disk c)
-      → Fits journal (d.told disk) → (step : CheckStep) → IsNoPass step.note
+      → Fits journal (d.told disk) → (step : BoxStep CheckNote) → IsNoPass step.note
       → KeepsJournal d journal journal disk disk (Ok step)
   journal-kept only_now fits step none = record {
     commits = commits-none step.note none;

@@ -1,6 +1,7 @@
 pub mod Comparing
 pub mod Words
 pub mod Machine
+pub mod OpenBursts
 pub mod Heads
 pub mod Silences
 pub mod Resting
@@ -8,7 +9,6 @@ pub mod Entering
 pub mod Dropping
 pub mod Starting
 pub mod Weighing
-pub mod Trailing
 pub mod Hearing
 pub mod Deciding
 pub mod Taking
@@ -23,3 +23,4 @@ pub mod RunsTaken
 pub mod Lending
 pub mod Beginnings
 pub mod Uptimes
+pub mod Keeping

@@ -1,15 +1,13 @@
 -- How the machine's parts stand together after a step.
-use Rattle.std.proofs.Common.{◌≡◌, ◌∙◌, ℕ, ◌+◌, ◌-◌, ◌<◌, ◌≤◌, ◌==◌, true, false}
-use Rattle.std.proofs.Common.{List, [], ◌∷◌}
-use Rattle.std.proofs.Common.{◌++◌, length, drop, get_or, refl, sym, ap, subst, arith, Option}
-use Rattle.std.proofs.Common.{Some, None, IfSome, is_some}
+use Rattle.std.proofs.Common.{◌≡◌, ◌∙◌, ℕ, ◌+◌, ◌-◌, ◌<◌, ◌≤◌, ◌==◌, true, false, List, [], ◌∷◌}
+use Rattle.std.proofs.Common.{◌++◌, length, drop, get_or, refl, sym, ap, subst, arith, Option, Some}
+use Rattle.std.proofs.Common.{None, IfSome, is_some}
 use Rattle.std.proofs.lemmas.Bool.{ne_eqb}
 use Rattle.yasir_ticks.specs.Ticks.{silent, bytes_in}
 use Rattle.yasir_ticks.specs.Bursts.{Burst}
 use Rattle.yasir_ticks.specs.declared.tick.Tick.{Tick}
 use Rattle.yasir_ticks.specs.declared.tick.Tick.TheVariants.{Silent}
 use Rattle.line_rules.specs.declared.line_rules.LineRules.{Ghosts as LineRules}
-use Rattle.frame_ending.specs.SoFar.{last_of}
 use Rattle.frame_ending.specs.Stands.{StandsFor as CutStandsFor}
 use Rattle.delay_ring.specs.DelayRing.{ring_ticks}
 use Rattle.spoiler.specs.Outlet.{StandsFor as OutletStandsFor, owed_by}
@@ -30,13 +28,7 @@ use Rattle.link_verdicts.proofs.Numbers.{walked-number}
 use Rattle.check_receiver.specs.Stands.{Codes, HasTaken}
 use Rattle.check_receiver.specs.Turning.{Turned}
 use Rattle.check_receiver.specs.declared.checker.Checker.{Checker}
-use Rattle.check_receiver.specs.declared.step.CheckStep.{CheckStep}
-
-pub last_of-more : (ds : List Burst) (d : Burst) → last_of (ds ++ d ∷ []) ≡ Some d
-unfolding last_of
-last_of-more [] d = refl
-last_of-more (e ∷ []) d = refl
-last_of-more (e ∷ f ∷ ds) d = last_of-more (f ∷ ds) d
+use Rattle.burst_walk.specs.declared.box_step.BoxStep.{BoxStep}
 
 pub waiting-none : (o : Option Burst) → is_some o ≡ false → o ≡ None
 waiting-none None never = refl
@@ -88,7 +80,7 @@ module _ {R M : Type 0} (proto : LineRules R) (code : Mac M) {B D : ℕ} where
 
   module _ (setup : Setup) (line : List Tick) (t : Tick) where
     -- the machine's parts after a step
-    pub assembled : (base new : Checker R M B D) (entering : Tick) (step : CheckStep)
+    pub assembled : (base new : Checker R M B D) (entering : Tick) (step : BoxStep CheckNote)
         → Turned proto base new entering step.tick
         → IsWordLen B → 2 ≤ B → D ≡ 4 + B + code.TAG
         → direction_number base.direction ≡ setup.direction

@@ -15,7 +15,6 @@ use Rattle.frame_ending.specs.declared.cut.Cut.TheVariants.{Live, Extra, Quiet}
 use Rattle.burst_walk.specs.HasCome.{HasCome}
 use Rattle.burst_walk.specs.Laid.{tick_at}
 use Rattle.burst_walk.specs.Walk.{Walker}
-use Rattle.burst_walk.proofs.Coming.{come-silent, come-runs_on}
 use Rattle.link_format.specs.Profile.{Profile}
 use Rattle.link_verdicts.specs.Verdicts.{CheckState}
 use Rattle.link_verdicts.specs.Checking.{FullNote, checker, at_floor}
@@ -24,9 +23,9 @@ use Rattle.link_verdicts.specs.Holding.{HasWalked}
 use Rattle.link_verdicts.specs.Leaving.{leaves}
 use Rattle.link_verdicts.specs.Timely.{IsTimely}
 use Rattle.link_verdicts.proofs.Leavings.{leaves-none, leaves-silent, leaves-byte, fill_out-zero}
-use Rattle.link_verdicts.proofs.Resting.{causal, goes-at, still-come, still-answers}
-use Rattle.check_receiver.specs.Runs.{BeginsNone, BeginNone}
-use Rattle.check_receiver.proofs.Resting.{runs-on}
+use Rattle.link_verdicts.proofs.Resting.{goes-at, still-come, still-answers}
+use Rattle.check_receiver.specs.Runs.{BeginNone}
+use Rattle.check_receiver.proofs.Resting.{comes}
 use Rattle.check_receiver.proofs.RunTicks.{RunsTo, runs-none, runs-first}
 
 -- ---- ticks that begin no burst
@@ -81,16 +80,6 @@ module _ {R : Type 0} (proto : LineRules R) (profile : Profile)
   Comes line t emissions = HasCome w (at_floor floor) (length line) (bursts (line ++ t ∷ [])) s
       emissions None
 
-  comes : (line : List Tick) (t : Tick) (emissions : List Burst)
-      → HasCome w (at_floor floor) (length line) (bursts line) s emissions None
-      → BeginsNone rules line t → Comes line t emissions
-  comes line Silent emissions come none =
-      come-silent w (causal proto profile timely floor line Silent) (at_floor floor) line s
-      emissions None come
-  comes line (Byte b) emissions come none =
-      come-runs_on w (causal proto profile timely floor line (Byte b)) (at_floor floor) line s
-      emissions b come (runs-on rules proto.lawful line b none)
-
   -- ---- nothing is to leave
 
   idle-one : (line : List Tick) (left : List ℕ) (t : Tick) (walked : Walked line left [])
@@ -125,7 +114,8 @@ module _ {R : Type 0} (proto : LineRules R) (profile : Profile)
   idle-run [] line left walked none =
       runs-none profile rules floor line s passes left [] 0 None walked
   idle-run (t ∷ run) line left walked none =
-      let goes = idle-one line left t walked (comes line t walked.emissions walked.come none.0) in
+      let goes = idle-one line left t walked
+      (comes proto profile timely floor s line t walked.emissions walked.come none.0) in
       runs-first profile rules floor line t run s passes left [] 0 None left [] 0 None Silent
       (silent (length run)) goes
       (idle-run run (line ++ t ∷ []) left goes.walked none.1)
@@ -188,7 +178,8 @@ module _ {R : Type 0} (proto : LineRules R) (profile : Profile)
   flow-run (t ∷ run) line left [] walked none few = absurd (omega arith)
   flow-run (t ∷ run) line left (u ∷ live) walked none few =
       let goes = flow-one line left (u ∷ live) t walked
-      (comes line t walked.emissions walked.come none.0) (omega arith) in
+      (comes proto profile timely floor s line t walked.emissions walked.come none.0)
+      (omega arith) in
       let k : ℕ = length run in
       let next : List ℕ = left ++ bytes_in (u ∷ []) in
       let rest = flow-run run (line ++ t ∷ []) next live goes.walked none.1 (omega arith) in

@@ -1,7 +1,6 @@
--- A byte where no verdict is open, of a burst that is noted.
-use Rattle.std.proofs.Common.{◌≡◌, ◌∙◌, ◌⊎◌, ⊎_elim, ℕ, ◌-◌, false, List}
-use Rattle.std.proofs.Common.{[], ◌∷◌}
-use Rattle.std.proofs.Common.{◌++◌, length, drop, sym, ap, subst, arith, Option, None}
+-- A tick that begins no burst, where no verdict is open.
+use Rattle.std.proofs.Common.{◌≡◌, ◌∙◌, ◌⊎◌, ⊎_elim, ℕ, ◌-◌, false, List, [], ◌∷◌, ◌++◌, length}
+use Rattle.std.proofs.Common.{drop, sym, ap, subst, arith, Option, None}
 use Rattle.std.proofs.lemmas.List.{length-drop, append-nil}
 use Rattle.yasir_ticks.specs.Bursts.{Burst, bursts}
 use Rattle.yasir_ticks.specs.declared.tick.Tick.{Tick}
@@ -15,7 +14,7 @@ use Rattle.frame_ending.specs.declared.cut.Cut.TheVariants.{Live, Extra}
 use Rattle.frame_ending.proofs.Running.{divided-running, byte-lives, byte-over}
 use Rattle.spoiler.specs.Outlet.{owed_by}
 use Rattle.burst_walk.specs.HasCome.{HasCome}
-use Rattle.burst_walk.proofs.Coming.{RunsOn, closed-or-runs_on, come-runs_on}
+use Rattle.burst_walk.proofs.Coming.{RunsOn, closed-or-runs_on, come-runs_on, come-silent}
 use Rattle.hmac_tag.specs.declared.tag.Mac.{Ghosts as Mac}
 use Rattle.link_format.specs.Profile.{Profile, profile_of}
 use Rattle.link_format.specs.Setup.{Setup}
@@ -28,12 +27,15 @@ use Rattle.check_receiver.specs.Between.{IsBetween}
 use Rattle.check_receiver.specs.Stands.{HasTaken}
 use Rattle.check_receiver.specs.Turning.{Turned}
 use Rattle.check_receiver.specs.declared.checker.Checker.{Checker}
-use Rattle.check_receiver.specs.declared.step.CheckStep.{CheckStep}
+use Rattle.burst_walk.specs.declared.box_step.BoxStep.{BoxStep}
+use Rattle.link_verdicts.specs.declared.note.CheckNote.{CheckNote}
 use Rattle.check_receiver.proofs.Machine.{waiting-none, until-last, flow, ring-waits, assembled}
-use Rattle.check_receiver.proofs.Silences.{timely}
+use Rattle.check_receiver.proofs.OpenBursts.{timely}
+use Rattle.link_verdicts.specs.Timely.{IsTimely}
+use Rattle.check_receiver.specs.Runs.{BeginsNone}
 
 -- a byte that begins no burst comes while one runs
-pub runs-on : (rules : Rules) (lawful : IsLawful rules) (line : List Tick) (b : ℕ)
+runs-on : (rules : Rules) (lawful : IsLawful rules) (line : List Tick) (b : ℕ)
     → (cut_of rules line (Byte b) ≡ Live b) ⊎ (cut_of rules line (Byte b) ≡ Extra b)
     → RunsOn (length line) (bursts line)
 runs-on rules lawful line b which =
@@ -47,48 +49,61 @@ runs-on rules lawful line b which =
     (λ on. on)
     (closed-or-runs_on line)
 
-module _ {R M : Type 0} (proto : LineRules R) (code : Mac M) {B D : ℕ} (old : Checker R M B D)
-    (last : ℕ) (setup : Setup) (line : List Tick) (t : Tick) (cut : Cut)
-    (between : IsBetween proto code old last setup line t cut)
-    (new : Checker R M B D) (step : CheckStep)
-    (turned : Turned proto old new Silent step.tick) (noted : step.note ≡ None) where
-  abbrev profile : Profile
-  profile = profile_of proto code B LIMIT setup
+pub begins-none : (rules : Rules) (line : List Tick) (t : Tick) (b : ℕ) → t ≡ Byte b
+    → (cut_of rules line t ≡ Live b) ⊎ (cut_of rules line t ≡ Extra b) → BeginsNone rules line t
+begins-none rules line t b is which =
+    let C : Tick → Type 0 = λ u. (cut_of rules line u ≡ Live b) ⊎ (cut_of rules line u ≡ Extra b) in
+    let P : Tick → Type 0 = λ u. BeginsNone rules line u in
+    subst P (sym is) (subst C is which)
 
-  abbrev state : CheckState
-  state = record { floor = last; earliest_start = old.earliest_start }
+-- the walk over the bursts waits for no note after it
+pub comes : {R : Type 0} (proto : LineRules R) (profile : Profile)
+    (timely : IsTimely profile proto.rules) (floor : ℕ) (s : CheckState) (line : List Tick)
+    (t : Tick) (emissions : List Burst)
+    → HasCome (checker profile proto.rules) (at_floor floor) (length line) (bursts line) s emissions
+    None
+    → BeginsNone proto.rules line t
+    → HasCome (checker profile proto.rules) (at_floor floor) (length line)
+    (bursts (line ++ t ∷ [])) s emissions None
+comes proto profile timely floor s line Silent emissions come none =
+    come-silent (checker profile proto.rules) (causal proto profile timely floor line Silent)
+    (at_floor floor) line s emissions None come
+comes proto profile timely floor s line (Byte b) emissions come none =
+    come-runs_on (checker profile proto.rules) (causal proto profile timely floor line (Byte b))
+    (at_floor floor) line s emissions b come (runs-on proto.rules proto.lawful line b none)
 
-  -- no verdict is open before it
-  pub rest-byte : (b : ℕ) → t ≡ Byte b
-      → (cut_of proto.rules line (Byte b) ≡ Live b) ⊎ (cut_of proto.rules line (Byte b) ≡ Extra b)
-      → old.waits ≡ false → HasTaken proto code new last setup line t step
-  rest-byte b is which closed =
-      let W : Option Burst → Type 0 = λ o. HasWalked profile proto.rules setup.floor (length line)
-      (bursts line) state old.passed between.walks.left between.walks.live (owed_by old.outlet) o in
-      let none = waiting-none between.walks.waiting (sym between.walks.waits_is ∙ closed) in
-      let walked : W None = subst W none between.walks.walked in
-      let time = timely proto code B setup between.wide in
-      let until = between.one_less ∙ ap (λ k. k - 1) between.walks.until_is in
-      let flows = flow proto code old new Silent step.tick turned between.walks.left
-      between.walks.live between.walks.outlet_is between.walks.ring_is walked.unowed
-      (λ there. until-last between.walks.live old.until until there) walked.room in
-      let C : Tick → Type 0 = λ u. HasCome (checker profile proto.rules) (at_floor setup.floor)
-      (length line) (bursts (line ++ u ∷ [])) state walked.emissions None in
-      let come : C t = subst C (sym is) (come-runs_on (checker profile proto.rules)
-      (causal proto profile time setup.floor line (Byte b)) (at_floor setup.floor) line state
-      walked.emissions b walked.come (runs-on proto.rules proto.lawful line b which)) in
-      let less = length-drop 1 between.walks.live in
-      let one = between.one_less in
-      let until_is = between.walks.until_is in
-      let few = between.walks.few in
-      let delay_is = between.delay_is in
-      assembled proto code setup line t old new Silent step turned between.word_is between.wide
-      between.delay_is between.direction_is between.cuts last flows.after
-      (drop 1 between.walks.live) None None
-      (rest-goes proto profile time setup.floor line t state walked.emissions old.passed
-      between.walks.left between.walks.live (owed_by old.outlet) new.outlet step.tick flows
-      walked.rests walked.room come)
-      noted flows.stands
-      (ring-waits proto code old new step.tick turned between.walks.live between.walks.ring_is
-      (omega arith) between.walks.few)
-      (omega arith) (omega arith) closed between.walks.code_is tt
+pub rest-taken : {R M : Type 0} (proto : LineRules R) (code : Mac M) {B D : ℕ}
+    (old : Checker R M B D) (last : ℕ) (setup : Setup) (line : List Tick) (t : Tick) (cut : Cut)
+    (between : IsBetween proto code old last setup line t cut) (new : Checker R M B D)
+    (step : BoxStep CheckNote) → Turned proto old new Silent step.tick → step.note ≡ None
+    → BeginsNone proto.rules line t → old.waits ≡ false
+    → HasTaken proto code new last setup line t step
+rest-taken proto code {B} {D} old last setup line t cut between new step turned noted begins
+    closed =
+    let profile : Profile = profile_of proto code B LIMIT setup in
+    let state : CheckState = record { floor = last; earliest_start = old.earliest_start } in
+    let W : Option Burst → Type 0 = λ o. HasWalked profile proto.rules setup.floor (length line)
+    (bursts line) state old.passed between.walks.left between.walks.live (owed_by old.outlet) o in
+    let none = waiting-none between.walks.waiting (sym between.walks.waits_is ∙ closed) in
+    let walked : W None = subst W none between.walks.walked in
+    let time = timely proto code B setup between.wide in
+    let until = between.one_less ∙ ap (λ k. k - 1) between.walks.until_is in
+    let flows = flow proto code old new Silent step.tick turned between.walks.left
+    between.walks.live between.walks.outlet_is between.walks.ring_is walked.unowed
+    (λ there. until-last between.walks.live old.until until there) walked.room in
+    let less = length-drop 1 between.walks.live in
+    let one = between.one_less in
+    let until_is = between.walks.until_is in
+    let few = between.walks.few in
+    let delay_is = between.delay_is in
+    assembled proto code setup line t old new Silent step turned between.word_is between.wide
+    between.delay_is between.direction_is between.cuts last flows.after
+    (drop 1 between.walks.live) None None
+    (rest-goes proto profile time setup.floor line t state walked.emissions old.passed
+    between.walks.left between.walks.live (owed_by old.outlet) new.outlet step.tick flows
+    walked.rests walked.room
+    (comes proto profile time setup.floor state line t walked.emissions walked.come begins))
+    noted flows.stands
+    (ring-waits proto code old new step.tick turned between.walks.live between.walks.ring_is
+    (omega arith) between.walks.few)
+    (omega arith) (omega arith) closed between.walks.code_is tt

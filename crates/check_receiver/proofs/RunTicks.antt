@@ -1,9 +1,8 @@
 -- Runs of ticks without a note, joined from single ticks, and what they make of a ring.
 use Rattle.std.proofs.Common.{◌≡◌, ◌∙◌, ℕ, zero, suc, ◌+◌, ◌<◌, ◌≤◌, Bool, List, [], ◌∷◌, ◌++◌}
-use Rattle.std.proofs.Common.{length, take, drop, get_or, map, refl, sym, ap, subst}
-use Rattle.std.proofs.Common.{arith, append_assoc, ⊎_elim, Option, None, ◌⊎◌}
-use Rattle.std.proofs.lemmas.List.{append-nil}
-use Rattle.std.proofs.lemmas.List.{length-take-le, get_or-take}
+use Rattle.std.proofs.Common.{length, take, drop, get_or, map, refl, sym, ap, subst, arith}
+use Rattle.std.proofs.Common.{append_assoc, ⊎_elim, Option, None, ◌⊎◌}
+use Rattle.std.proofs.lemmas.List.{append-nil, length-take-le, get_or-take}
 use Rattle.std.proofs.lemmas.Bool.{cases_lt}
 use Rattle.yasir_ticks.specs.Ticks.{silent, bytes_in}
 use Rattle.yasir_ticks.specs.Bursts.{Burst, bursts}
@@ -89,10 +88,6 @@ front-silence (q ∷ Q) (suc c) k (b ∷ x) few within is front =
     let byte : Byte b ≡ q = ap (λ l. get_or l 0 Silent) front.bytes in
     let both : Byte b ≡ Silent = byte ∙ first in
     absurd cc
-
-nothing : (x : List ℕ) → length x ≡ 0 → x ≡ []
-nothing [] none = refl
-nothing (b ∷ x) none = absurd (omega arith)
 
 answered-whole : (x : List ℕ) → map (λ b. Byte b) x ≡ answered (length x) x
 answered-whole [] = refl

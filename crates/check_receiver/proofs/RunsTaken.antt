@@ -1,11 +1,10 @@
 -- The receiver after a run of ticks.
-use Rattle.std.proofs.Common.{◌≡◌, ◌∙◌, ℕ, zero, suc, ◌+◌, ◌-◌, ◌<◌, ◌≤◌, Bool, true, false}
-use Rattle.std.proofs.Common.{List, [], ◌∷◌, ◌++◌, inr}
-use Rattle.std.proofs.Common.{length, length-append, take, drop, map, refl, sym, ap, subst}
-use Rattle.std.proofs.Common.{arith, append_assoc, Option, Some, None, IfSome, ⊎_elim}
+use Rattle.std.proofs.Common.{◌≡◌, ◌∙◌, ℕ, zero, suc, ◌+◌, ◌-◌, ◌<◌, ◌≤◌, Bool, true, false, List}
+use Rattle.std.proofs.Common.{[], ◌∷◌, ◌++◌, inr, length, take, drop, map, refl, sym, ap, subst}
+use Rattle.std.proofs.Common.{arith, append_assoc, Option, Some, None, IfSome, ⊎_elim, is_some}
 use Rattle.std.proofs.lemmas.Bool.{cases_lt}
 use Rattle.std.proofs.lemmas.List.{append-nil, length-drop, take-append-le, drop-append-le}
-use Rattle.std.proofs.lemmas.List.{take-append-drop, replicate-append-replicate, length-replicate}
+use Rattle.std.proofs.lemmas.List.{take-append-drop, replicate-append-replicate}
 use Rattle.yasir_ticks.specs.Ticks.{silent, bytes_in}
 use Rattle.yasir_ticks.specs.Bursts.{Burst, bursts}
 use Rattle.yasir_ticks.specs.declared.tick.Tick.{Tick}
@@ -16,8 +15,8 @@ use Rattle.line_rules.specs.RulesLaws.{IsLawful}
 use Rattle.line_rules.specs.declared.head.Head.TheVariants.{Good, Short}
 use Rattle.line_rules.specs.declared.line_rules.LineRules.{Ghosts as LineRules}
 use Rattle.frame_ending.specs.Cuts.{cuts_after}
-use Rattle.frame_ending.specs.LiveBytes.{live_bytes, live_end}
-use Rattle.frame_ending.specs.SoFar.{last_of, live_bytes_in, live_bytes_so_far}
+use Rattle.frame_ending.specs.LiveBytes.{live_bytes}
+use Rattle.frame_ending.specs.SoFar.{live_bytes_in, live_bytes_so_far}
 use Rattle.frame_ending.specs.Stands.{StandsFor as CutStandsFor}
 use Rattle.frame_ending.specs.declared.burst_cut.BurstCut.{BurstCut}
 use Rattle.frame_ending.specs.declared.cut.Cut.TheVariants.{Live, Extra}
@@ -26,35 +25,31 @@ use Rattle.delay_ring.specs.declared.delay_ring.DelayRing.{DelayRing}
 use Rattle.spoiler.specs.Outlet.{StandsFor as OutletStandsFor, owed_by}
 use Rattle.spoiler.specs.declared.outlet.Outlet.{Outlet}
 use Rattle.burst_walk.specs.Answered.{answered}
-use Rattle.burst_walk.specs.Causal.{MayGoOn}
-use Rattle.burst_walk.specs.Walk.{Walker}
-use Rattle.burst_walk.proofs.Coming.{waiting-may}
 use Rattle.hmac_tag.specs.declared.tag.Mac.{Ghosts as Mac}
-use Rattle.link_format.specs.Profile.{Profile, profile_of, delay, trailer_len}
+use Rattle.link_format.specs.Profile.{Profile, profile_of, delay}
 use Rattle.link_format.specs.Setup.{Setup}
 use Rattle.sequence_journal.specs.declared.numbers.TheConstants.{LIMIT}
 use Rattle.link_verdicts.specs.Verdicts.{CheckState, after_live}
-use Rattle.link_verdicts.specs.Checking.{FullNote, checker, at_floor}
 use Rattle.link_verdicts.specs.Holding.{HasWalked, trailer_so_far}
 use Rattle.link_verdicts.specs.Timely.{IsTimely}
 use Rattle.link_verdicts.proofs.Flow.{room-before}
-use Rattle.link_verdicts.proofs.Growing.{live-long}
 use Rattle.link_verdicts.proofs.Judging.{head-short}
-use Rattle.link_verdicts.proofs.Resting.{causal}
 use Rattle.link_verdicts.proofs.Settling.{after-long}
 use Rattle.check_receiver.specs.Arrivals.{bytes_come}
 use Rattle.check_receiver.specs.Runs.{HasTakenRun, BeginNone, IsFront, HaveRoom, KeepsHeader}
 use Rattle.check_receiver.specs.Stands.{Codes, StandsAt}
 use Rattle.check_receiver.specs.declared.checker.Checker.{Checker}
-use Rattle.check_receiver.proofs.Entering.{nothing-after}
 use Rattle.check_receiver.proofs.LiveRuns.{LiveRun, live-run}
-use Rattle.check_receiver.proofs.Machine.{last_of-more, waiting-none, waiting-some}
+use Rattle.check_receiver.proofs.Machine.{waiting-none, waiting-some}
 use Rattle.check_receiver.proofs.PauseRuns.{pause-run}
 use Rattle.check_receiver.proofs.RestRuns.{idle-run, flow-run}
-use Rattle.check_receiver.proofs.RunTicks.{front-answered, answered-bytes}
-use Rattle.check_receiver.proofs.Silences.{timely}
-use Rattle.check_receiver.proofs.TrailerRuns.{trailer-run, trailer-long}
+use Rattle.check_receiver.proofs.RunTicks.{RunsTo, front-answered, answered-bytes}
+use Rattle.check_receiver.proofs.OpenBursts.{timely, open-walks}
+use Rattle.check_receiver.proofs.TrailerRuns.{trailer-run}
 use Rattle.check_receiver.specs.declared.arriving.Arriving.{Arriving}
+use Rattle.link_verdicts.proofs.Opened.{IsOpen, last-of, may-of, long-of, room-of, bare-of}
+use Rattle.link_verdicts.proofs.Opened.{trailer-long, nothing-after}
+use Rattle.check_receiver.proofs.Lending.{ring-whole}
 
 no-ticks : (x : List Tick) → length x ≡ 0 → x ≡ []
 no-ticks [] none = refl
@@ -115,9 +110,6 @@ module _ {R M : Type 0} (proto : LineRules R) (code : Mac M) {B D : ℕ} (old : 
   abbrev state : CheckState
   state = record { floor = last; earliest_start = old.earliest_start }
 
-  abbrev w : Walker CheckState FullNote
-  w = checker profile rules
-
   abbrev left : List ℕ
   left = stands.walks.left
 
@@ -127,117 +119,38 @@ module _ {R M : Type 0} (proto : LineRules R) (code : Mac M) {B D : ℕ} (old : 
   abbrev Q : List Tick
   Q = ring_ticks old.ring
 
-  abbrev Walked : Bool → List Tick → ℕ → Option Burst → Type 0
-  Walked passes ticks owed waiting = HasWalked profile rules setup.floor (length line)
-      (bursts line) state passes left ticks owed waiting
+  -- a run that the walk has gone on by, with what of the burst is still to leave
+  abbrev Runs : List Tick → Bool → List ℕ → List Tick → ℕ → Option Burst → List Tick → Type 0
+  Runs run passes y l owing waiting answer =
+      RunsTo profile rules setup.floor line run state passes y l owing waiting answer
 
-  time : IsTimely profile rules
-  time = timely proto code B setup stands.wide
+  runs-as : (run : List Tick) (p q : Bool) (y : List ℕ) (l : List Tick) (k n : ℕ)
+      (waiting : Option Burst) (answer : List Tick) → Runs run p y l k waiting answer → q ≡ p
+      → n ≡ k → Runs run q y l n waiting answer
+  runs-as run p q y l k n waiting answer runs passes_is owing_is =
+      subst (λ j. Runs run q y l j waiting answer) (sym owing_is)
+      (subst (λ r. Runs run r y l k waiting answer) (sym passes_is) runs)
 
-  some : 1 ≤ trailer_len profile
-  some = let wide = stands.wide in omega arith
-
-  ring-long : length Q ≡ D
-  ring-long =
-      let size = ap length stands.walks.ring_is in
-      let sum = length-append live (silent (D - length live)) in
-      let none = length-replicate (D - length live) Silent in
-      let few = stands.walks.few in
-      omega arith
-
-  walked-rests : old.waits ≡ false → owed_by old.outlet ≡ 0 → Walked old.passed live 0 None
-  walked-rests rests unowed =
-      let waiting = waiting-none stands.walks.waiting (sym stands.walks.waits_is ∙ rests) in
-      let P : ℕ → Type 0 = λ k. Walked old.passed live k None in
-      let O : Option Burst → Type 0 = λ o. Walked old.passed live (owed_by old.outlet) o in
-      subst P unowed (subst O waiting stands.walks.walked)
-
-  -- ---- a verdict is open
-
-  opened : old.waits ≡ true → (d : Burst) × (stands.walks.waiting ≡ Some d)
-  opened waits = waiting-some stands.walks.waiting (sym stands.walks.waits_is ∙ waits)
-
-  walked-opened : (waits : old.waits ≡ true)
-      → Walked old.passed live (owed_by old.outlet) (Some (opened waits).0)
-  walked-opened waits =
-      let O : Option Burst → Type 0 = λ o. Walked old.passed live (owed_by old.outlet) o in
-      subst O (opened waits).1 stands.walks.walked
-
-  -- how many live ticks are still to leave of its burst
-  long-opened : (waits : old.waits ≡ true)
-      → length live + length line ≡ live_end rules (opened waits).0 + delay profile
-  long-opened waits =
-      let d : Burst = (opened waits).0 in
-      let walked = walked-opened waits in
-      let may : MayGoOn d (length line) = waiting-may w
-      (causal proto profile time setup.floor line Silent) (at_floor setup.floor) line state
-      walked.emissions d walked.come in
-      live-long profile rules proto.headed some (length line) old.earliest_start d left live
-      may.after walked.opens.0
-
-  more-opened : (waits : old.waits ≡ true) → 1 < length live
-  more-opened waits =
-      let opens = (walked-opened waits).opens.0 in
-      let long = long-opened waits in
-      let near = opens.near in
-      omega arith
-
-  live-opened : (waits : old.waits ≡ true) → Walked false live 0 (Some (opened waits).0)
-  live-opened waits =
-      let d : Burst = (opened waits).0 in
-      let walked = walked-opened waits in
-      let more = more-opened waits in
-      let P : Bool → Type 0 = λ p. Walked p live (owed_by old.outlet) (Some d) in
-      let N : ℕ → Type 0 = λ n. Walked false live n (Some d) in
-      subst N (walked.unowed (omega arith)) (subst P walked.opens.1 walked)
-
-  last-opened : (waits : old.waits ≡ true) → last_of (bursts line) ≡ Some (opened waits).0
-  last-opened waits =
-      let come = (walked-opened waits).come in
-      ap (λ y. last_of y) come.is ∙ last_of-more come.settled (opened waits).0
-
-  head-opened : (waits : old.waits ≡ true)
-      → head_of rules (live_bytes_so_far rules line) ≡ Good
-      → rules.header_len ≤ length (live_bytes rules (opened waits).0)
-  head-opened waits good =
-      let d : Burst = (opened waits).0 in
-      let G : Option Burst → Type 0 = λ o. head_of rules (live_bytes_in rules o) ≡ Good in
-      let here : head_of rules (live_bytes rules d) ≡ Good = subst G (last-opened waits) good in
-      ⊎_elim
-      (λ short.
-      let other : Short ≡ Good = sym (head-short rules (live_bytes rules d) short) ∙ here in
-      absurd cc)
-      (λ there. there)
-      (cases_lt (length (live_bytes rules d)) rules.header_len)
-
-  fits-opened : (waits : old.waits ≡ true)
-      → length (live_bytes rules (opened waits).0)
-      ≤ rules.room (live_bytes rules (opened waits).0)
-  fits-opened waits =
-      let F : Option Burst → Type 0 = λ o. length (live_bytes_in rules o)
-      ≤ rules.room (live_bytes_in rules o) in
-      subst F (last-opened waits) (proto.within _ _ stands.cuts.bytes)
-
-  coded-opened : (waits : old.waits ≡ true)
-      → Codes proto code setup old.mac old.arriving (opened waits).0
-  coded-opened waits =
-      let C : Option Burst → Type 0 = λ o. IfSome o
-      (λ e. Codes proto code setup old.mac old.arriving e) in
-      subst C (opened waits).1 stands.walks.coded
-
-  -- ---- no verdict is open, and nothing is to leave
-
-  pub idle-taken : (run : List Tick) → old.waits ≡ false → owed_by old.outlet ≡ 0
-      → old.until ≡ 0 → CutStandsFor proto cut (line ++ run) → BeginNone rules line run
-      → HasTakenRun proto code (record old { cut = cut }) last setup line run
-      (silent (length run))
-  idle-taken run rests unowed none cuts begin =
-      let empty : live ≡ [] = no-ticks live (sym stands.walks.until_is ∙ none) in
-      let Y : List Tick → Type 0 = λ l. Walked old.passed l 0 None in
-      let runs = idle-run proto profile time setup.floor state old.passed run line left
-      (subst Y empty (walked-rests rests unowed)) begin in
-      let Z : ℕ → Type 0 = λ k. HasWalked profile rules setup.floor (length (line ++ run))
-      (bursts (line ++ run)) state old.passed left [] k None in
+  -- The receiver has taken a run, by what has changed in it.
+  made : (run answer : List Tick) (mac : M) (arriving : Arriving B) (ring : DelayRing D)
+      (outlet : Outlet R) (until : ℕ) (waiting : Option Burst) (y : List ℕ) (l : List Tick)
+      → CutStandsFor proto cut (line ++ run)
+      → Runs run old.passed y l (owed_by outlet) waiting answer → OutletStandsFor proto outlet y
+      → ring_ticks ring ≡ l ++ silent (D - length l) → length l ≤ D → until ≡ length l
+      → old.waits ≡ is_some waiting → ((text : List ℕ) × code.stands mac setup.key text)
+      → IfSome waiting (λ d. Codes proto code setup mac arriving d)
+      → HasTakenRun proto code
+      (record old {
+        cut = cut;
+        mac = mac;
+        arriving = arriving;
+        ring = ring;
+        outlet = outlet;
+        until = until;
+      }) last setup line run answer
+  made run answer mac arriving ring outlet until waiting y l cuts runs outlet_is ring_is few
+      until_is
+      waits_is code_is coded =
       record {
         stands = record {
           word_is = stands.word_is;
@@ -246,99 +159,151 @@ module _ {R M : Type 0} (proto : LineRules R) (code : Mac M) {B D : ℕ} (old : 
           direction_is = stands.direction_is;
           cuts = cuts;
           walks = record {
-            waiting = None;
-            left = left;
-            live = [];
-            walked = subst Z (sym unowed) runs.walked;
-            outlet_is = stands.walks.outlet_is;
-            ring_is = stands.walks.ring_is
-                ∙ ap (λ l. l ++ silent (D - length l)) empty;
-            few = omega arith;
-            until_is = none;
-            waits_is = rests;
-            code_is = stands.walks.code_is;
-            coded = tt;
+            waiting = waiting;
+            left = y;
+            live = l;
+            walked = runs.walked;
+            outlet_is = outlet_is;
+            ring_is = ring_is;
+            few = few;
+            until_is = until_is;
+            waits_is = waits_is;
+            code_is = code_is;
+            coded = coded;
           };
         };
         answers = runs.answers;
       }
+
+  -- ---- a verdict is open
+
+  opened : old.waits ≡ true → (d : Burst) × (stands.walks.waiting ≡ Some d)
+  opened waits = waiting-some stands.walks.waiting (sym stands.walks.waits_is ∙ waits)
+
+  open-burst : (waits : old.waits ≡ true)
+      → IsOpen proto profile setup.floor state line old.passed left live (owed_by old.outlet)
+      (opened waits).0
+  open-burst waits = open-walks stands.walks stands.wide (opened waits).0 (opened waits).1
+
+  open-bare : (waits : old.waits ≡ true)
+      → IsOpen proto profile setup.floor state line false left live 0 (opened waits).0
+  open-bare waits =
+      let it = open-burst waits in
+      record { timely = it.timely; some = it.some; walked = bare-of it }
+
+  coded-opened : (waits : old.waits ≡ true)
+      → Codes proto code setup old.mac old.arriving (opened waits).0
+  coded-opened waits =
+      let C : Option Burst → Type 0 = λ o. IfSome o
+      (λ e. Codes proto code setup old.mac old.arriving e) in
+      subst C (opened waits).1 stands.walks.coded
+
+  head-opened : (waits : old.waits ≡ true)
+      → head_of rules (live_bytes_so_far rules line) ≡ Good
+      → rules.header_len ≤ length (live_bytes rules (opened waits).0)
+  head-opened waits good =
+      let d : Burst = (opened waits).0 in
+      let G : Option Burst → Type 0 = λ o. head_of rules (live_bytes_in rules o) ≡ Good in
+      let here : head_of rules (live_bytes rules d) ≡ Good =
+      subst G (last-of (open-burst waits)) good in
+      ⊎_elim
+      (λ short.
+      let other : Short ≡ Good = sym (head-short rules (live_bytes rules d) short) ∙ here in
+      absurd cc)
+      (λ there. there)
+      (cases_lt (length (live_bytes rules d)) rules.header_len)
+
+  -- ---- no verdict is open
+
+  abbrev Walked : List Tick → ℕ → Option Burst → Type 0
+  Walked ticks owing waiting = HasWalked profile rules setup.floor (length line) (bursts line) state
+      old.passed left ticks owing waiting
+
+  walked-rests : old.waits ≡ false → owed_by old.outlet ≡ 0 → Walked live 0 None
+  walked-rests rests unowed =
+      let waiting = waiting-none stands.walks.waiting (sym stands.walks.waits_is ∙ rests) in
+      subst (λ k. Walked live k None) unowed
+      (subst (λ o. Walked live (owed_by old.outlet) o) waiting stands.walks.walked)
+
+  time : IsTimely profile rules
+  time = timely proto code B setup stands.wide
+
+  -- nothing is to leave
+  pub idle-taken : (run : List Tick) → old.waits ≡ false → owed_by old.outlet ≡ 0
+      → old.until ≡ 0 → CutStandsFor proto cut (line ++ run) → BeginNone rules line run
+      → HasTakenRun proto code (record old { cut = cut }) last setup line run
+      (silent (length run))
+  idle-taken run rests unowed none cuts begin =
+      let empty : live ≡ [] = no-ticks live (sym stands.walks.until_is ∙ none) in
+      let walked : Walked [] 0 None =
+      subst (λ l. Walked l 0 None) empty (walked-rests rests unowed) in
+      made run (silent (length run)) old.mac old.arriving old.ring old.outlet old.until None left []
+      cuts
+      (runs-as run old.passed old.passed left [] 0 (owed_by old.outlet) None (silent (length run))
+      (idle-run proto profile time setup.floor state old.passed run line left walked begin) refl
+      unowed)
+      stands.walks.outlet_is
+      (stands.walks.ring_is ∙ ap (λ l. l ++ silent (D - length l)) empty)
+      (omega arith) none rests stands.walks.code_is tt
 
   module _ (ring : DelayRing D) (outlet : Outlet R) (c : ℕ) (x : List ℕ) (until : ℕ)
       (within : c ≤ D) (alike : AreAlike (take c (ring_ticks old.ring)))
       (lends : (y : List ℕ) → OutletStandsFor proto old.outlet y → HaveRoom proto.rules y x
       → OutletStandsFor proto outlet (y ++ x))
       (unowed : owed_by outlet ≡ 0) where
-    -- what leaves in so many ticks, and what then has left
-    front : (k : ℕ) → k ≤ c → IsFront (ring_ticks old.ring) k x → take k Q ≡ answered k x
-    front k few is =
-        let long = ring-long in front-answered Q c k x few (omega arith) alike is
-
-    has-left : (k : ℕ) → take k Q ≡ answered k x
+    -- So many silent ticks have entered the ring, and as many of its live ticks have left.
+    entered : (run : List Tick) (k : ℕ) (arriving : Arriving B) (waiting : Option Burst)
+        (passes : Bool) → k ≤ c → k ≤ length live → CutStandsFor proto cut (line ++ run)
+        → IsFront (ring_ticks old.ring) k x
+        → ring_ticks ring ≡ drop k (ring_ticks old.ring ++ silent k) → until ≡ old.until - k
         → length (left ++ bytes_in live) ≤ rules.room (left ++ bytes_in live)
-        → OutletStandsFor proto outlet (left ++ bytes_in (take k Q))
-    has-left k is room =
-        let P : List ℕ → Type 0 = λ y. OutletStandsFor proto outlet (left ++ y) in
-        subst P (sym (ap (λ l. bytes_in l) is ∙ answered-bytes k x))
-        (lends left stands.walks.outlet_is
-        (leaving-room rules proto.lawful left live Q (D - length live) k x stands.walks.ring_is is
-        room))
+        → Runs run passes (left ++ bytes_in (take k live)) (drop k live) 0 waiting (take k live)
+        → old.passed ≡ passes → old.waits ≡ is_some waiting
+        → IfSome waiting (λ d. Codes proto code setup old.mac arriving d)
+        → HasTakenRun proto code
+        (record old {
+          cut = cut;
+          arriving = arriving;
+          ring = ring;
+          outlet = outlet;
+          until = until;
+        }) last setup line run (answered k x)
+    entered run k arriving waiting passes few less cuts is ring_is until_is room runs passes_is
+        waits
+        coded =
+        let count = stands.walks.until_is in
+        let most = stands.walks.few in
+        let size = ring-whole old.ring in
+        let first : take k live ≡ take k Q =
+        sym (ap (λ l. take k l) stands.walks.ring_is
+        ∙ take-append-le k live (silent (D - length live)) less) in
+        let leaves : take k Q ≡ answered k x = front-answered Q c k x few (omega arith) alike is in
+        let bytes : bytes_in (take k live) ≡ x =
+        ap (λ l. bytes_in l) (first ∙ leaves) ∙ answered-bytes k x in
+        let fewer = length-drop k live in
+        let L : List ℕ → Type 0 = λ y. OutletStandsFor proto outlet (left ++ y) in
+        let A : List Tick → Type 0 = λ l. HasTakenRun proto code
+        (record old {
+          cut = cut;
+          arriving = arriving;
+          ring = ring;
+          outlet = outlet;
+          until = until;
+        }) last setup line run l in
+        subst A (first ∙ leaves)
+        (made run (take k live) old.mac arriving ring outlet until waiting
+        (left ++ bytes_in (take k live)) (drop k live) cuts
+        (runs-as run passes old.passed (left ++ bytes_in (take k live)) (drop k live) 0
+        (owed_by outlet) waiting (take k live) runs passes_is unowed)
+        (subst L (sym bytes) (lends left stands.walks.outlet_is
+        (leaving-room rules proto.lawful left live Q (D - length live) k x stands.walks.ring_is
+        leaves room)))
+        (ring_is
+        ∙ (ap (λ l. drop k (l ++ silent k)) stands.walks.ring_is ∙ ring-rest live D k less most))
+        (omega arith) (omega arith) waits stands.walks.code_is coded)
 
     -- ---- no verdict is open, and live ticks are still to leave
 
-    pub flow-taken : (run : List Tick) → old.waits ≡ false → owed_by old.outlet ≡ 0
-        → length run < old.until → length run ≤ c → CutStandsFor proto cut (line ++ run)
-        → BeginNone rules line run → IsFront (ring_ticks old.ring) (length run) x
-        → ring_ticks ring ≡ drop (length run) (ring_ticks old.ring ++ silent (length run))
-        → until ≡ old.until - length run
-        → HasTakenRun proto code
-        (record old { cut = cut; ring = ring; outlet = outlet; until = until }) last setup line run
-        (answered (length run) x)
-    flow-taken run rests owes less few cuts begin is ring_is until_is =
-        let k : ℕ = length run in
-        let walked = walked-rests rests owes in
-        let count = stands.walks.until_is in
-        let first : take k live ≡ take k Q =
-        sym (ap (λ l. take k l) stands.walks.ring_is
-        ∙ take-append-le k live (silent (D - length live)) (omega arith)) in
-        let leaves = front k few is in
-        let runs = flow-run proto profile time setup.floor state old.passed run line left live
-        walked begin (omega arith) in
-        let fewer = length-drop k live in
-        let most = stands.walks.few in
-        let Z : ℕ → Type 0 = λ n. HasWalked profile rules setup.floor (length (line ++ run))
-        (bursts (line ++ run)) state old.passed (left ++ bytes_in (take k live)) (drop k live) n
-        None in
-        let L : List Tick → Type 0 = λ l. OutletStandsFor proto outlet (left ++ bytes_in l) in
-        let A : List Tick → Type 0 = λ l. HasTakenRun proto code
-        (record old { cut = cut; ring = ring; outlet = outlet; until = until }) last setup line run
-        l in
-        subst A (first ∙ leaves) (record {
-          stands = record {
-            word_is = stands.word_is;
-            wide = stands.wide;
-            delay_is = stands.delay_is;
-            direction_is = stands.direction_is;
-            cuts = cuts;
-            walks = record {
-              waiting = None;
-              left = left ++ bytes_in (take k live);
-              live = drop k live;
-              walked = subst Z (sym unowed) runs.walked;
-              outlet_is = subst L (sym first) (has-left k leaves (walked.room (omega arith)));
-              ring_is = ring_is
-                  ∙ (ap (λ l. drop k (l ++ silent k)) stands.walks.ring_is
-                  ∙ ring-rest live D k (omega arith) most);
-              few = omega arith;
-              until_is = omega arith;
-              waits_is = rests;
-              code_is = stands.walks.code_is;
-              coded = tt;
-            };
-          };
-          answers = runs.answers;
-        })
-
-    -- the same by the number of its ticks
     pub flow-counted : (run : List Tick) (k : ℕ) → length run ≡ k → old.waits ≡ false
         → owed_by old.outlet ≡ 0 → k < old.until → k ≤ c → CutStandsFor proto cut (line ++ run)
         → BeginNone rules line run → IsFront (ring_ticks old.ring) k x
@@ -347,13 +312,15 @@ module _ {R M : Type 0} (proto : LineRules R) (code : Mac M) {B D : ℕ} (old : 
         (record old { cut = cut; ring = ring; outlet = outlet; until = until }) last setup line run
         (answered k x)
     flow-counted run k long rests owes less few cuts begin is ring_is until_is =
-        let F : ℕ → Type 0 = λ j. IsFront (ring_ticks old.ring) j x in
-        let G : ℕ → Type 0 = λ j. ring_ticks ring ≡ drop j (ring_ticks old.ring ++ silent j) in
-        let A : ℕ → Type 0 = λ j. HasTakenRun proto code
-        (record old { cut = cut; ring = ring; outlet = outlet; until = until }) last setup line run
-        (answered j x) in
-        subst A long (flow-taken run rests owes (omega arith) (omega arith) cuts begin
-        (subst F (sym long) is) (subst G (sym long) ring_is) (omega arith))
+        let walked = walked-rests rests owes in
+        let count = stands.walks.until_is in
+        let T : ℕ → Type 0 = λ j. Runs run old.passed (left ++ bytes_in (take j live)) (drop j live)
+        0 None (take j live) in
+        entered run k old.arriving None old.passed few (omega arith) cuts is ring_is until_is
+        (walked.room (omega arith))
+        (subst T long (flow-run proto profile time setup.floor state old.passed run line left live
+        walked begin (omega arith)))
+        refl rests tt
 
     -- ---- silence comes in the pause behind the live bytes of the burst that is open
 
@@ -365,57 +332,16 @@ module _ {R M : Type 0} (proto : LineRules R) (code : Mac M) {B D : ℕ} (old : 
         (record old { cut = cut; ring = ring; outlet = outlet; until = until }) last setup line
         (silent n) (answered n x)
     pause-taken n waits good few within_pause cuts is ring_is until_is =
-        let d : Burst = (opened waits).0 in
-        let walked = live-opened waits in
-        let long = long-opened waits in
+        let it = open-burst waits in
+        let long = long-of it in
         let count = stands.walks.until_is in
         let delay_is = stands.delay_is in
         let wide = stands.wide in
-        let most = stands.walks.few in
-        let first : take n live ≡ take n Q =
-        sym (ap (λ l. take n l) stands.walks.ring_is
-        ∙ take-append-le n live (silent (D - length live)) (omega arith)) in
-        let leaves = front n few is in
-        let runs = pause-run proto profile time some setup.floor state d (head-opened waits good) n
-        line left live walked (omega arith) (omega arith) in
-        let fewer = length-drop n live in
-        let more = more-opened waits in
-        let Z : ℕ → Type 0 = λ k. HasWalked profile rules setup.floor (length (line ++ silent n))
-        (bursts (line ++ silent n)) state false (left ++ bytes_in (take n live)) (drop n live) k
-        (Some d) in
-        let P : Bool → Type 0 = λ p. HasWalked profile rules setup.floor
-        (length (line ++ silent n)) (bursts (line ++ silent n)) state p
-        (left ++ bytes_in (take n live)) (drop n live) (owed_by outlet) (Some d) in
-        let L : List Tick → Type 0 = λ l. OutletStandsFor proto outlet (left ++ bytes_in l) in
-        let A : List Tick → Type 0 = λ l. HasTakenRun proto code
-        (record old { cut = cut; ring = ring; outlet = outlet; until = until }) last setup line
-        (silent n) l in
-        subst A (first ∙ leaves) (record {
-          stands = record {
-            word_is = stands.word_is;
-            wide = stands.wide;
-            delay_is = stands.delay_is;
-            direction_is = stands.direction_is;
-            cuts = cuts;
-            walks = record {
-              waiting = Some d;
-              left = left ++ bytes_in (take n live);
-              live = drop n live;
-              walked = subst P (sym (walked-opened waits).opens.1)
-                  (subst Z (sym unowed) runs.walked);
-              outlet_is = subst L (sym first) (has-left n leaves (walked.room (omega arith)));
-              ring_is = ring_is
-                  ∙ (ap (λ l. drop n (l ++ silent n)) stands.walks.ring_is
-                  ∙ ring-rest live D n (omega arith) most);
-              few = omega arith;
-              until_is = omega arith;
-              waits_is = waits;
-              code_is = stands.walks.code_is;
-              coded = coded-opened waits;
-            };
-          };
-          answers = runs.answers;
-        })
+        entered (silent n) n old.arriving (Some (opened waits).0) false few (omega arith) cuts is
+        ring_is until_is (room-of it)
+        (pause-run proto profile setup.floor state (opened waits).0 (head-opened waits good) n line
+        left live (open-bare waits) (omega arith) (omega arith))
+        it.walked.opens.1 waits (coded-opened waits)
 
     -- ---- bytes of the trailer come of the burst whose verdict is open
 
@@ -439,75 +365,26 @@ module _ {R M : Type 0} (proto : LineRules R) (code : Mac M) {B D : ℕ} (old : 
     trailer-taken bytes arriving waits few behind left_over cuts are_extra takes is ring_is
         until_is =
         let d : Burst = (opened waits).0 in
-        let n : ℕ = length bytes in
-        let run : List Tick = map (λ b. Byte b) bytes in
-        let walked = live-opened waits in
-        let long = long-opened waits in
+        let it = open-burst waits in
+        let long = long-of it in
         let count = stands.walks.until_is in
         let delay_is = stands.delay_is in
         let wide = stands.wide in
-        let most = stands.walks.few in
-        let first : take n live ≡ take n Q =
-        sym (ap (λ l. take n l) stands.walks.ring_is
-        ∙ take-append-le n live (silent (D - length live)) (omega arith)) in
-        let leaves = front n few is in
-        let after = trailer-run proto profile time some setup.floor state bytes line left live d
-        walked (omega arith) (omega arith) (omega arith) are_extra in
-        let e : Burst = after.burst in
+        let after = trailer-run proto profile setup.floor state bytes line left live d
+        (open-bare waits) (omega arith) (omega arith) (omega arith) are_extra in
         let before = coded-opened waits in
-        let size = trailer-long proto profile time some setup.floor state line left live d walked in
+        let size = trailer-long it in
         let come = ap length before.come in
         let short = stands.word_is.1 in
-        let room : length (bytes_come old.arriving) + n ≤ 20 =
+        let room : length (bytes_come old.arriving) + length bytes ≤ 20 =
         ⊎_elim (λ twelve. omega arith) (λ sixteen. omega arith) code.tag_size in
         let C : List ℕ → Type 0 = λ y. code.stands old.mac setup.key
         (rules.label ∷ setup.direction ∷ y) in
-        let coded : Codes proto code setup old.mac arriving e = record {
+        entered (map (λ b. Byte b) bytes) (length bytes) arriving (Some after.burst) false few
+        (omega arith) cuts is ring_is until_is (room-of it) after.runs it.walked.opens.1 waits
+        (record {
           codes = subst C (sym after.bytes) before.codes;
           come = takes room ∙ (ap (λ y. y ++ bytes) before.come ∙ sym after.trailer);
-        } in
-        let fewer = length-drop n live in
-        let more = more-opened waits in
-        let Z : ℕ → Type 0 = λ k. HasWalked profile rules setup.floor (length (line ++ run))
-        (bursts (line ++ run)) state false (left ++ bytes_in (take n live)) (drop n live) k
-        (Some e) in
-        let P : Bool → Type 0 = λ p. HasWalked profile rules setup.floor
-        (length (line ++ run)) (bursts (line ++ run)) state p
-        (left ++ bytes_in (take n live)) (drop n live) (owed_by outlet) (Some e) in
-        let L : List Tick → Type 0 = λ l. OutletStandsFor proto outlet (left ++ bytes_in l) in
-        let A : List Tick → Type 0 = λ l. HasTakenRun proto code
-        (record old {
-          cut = cut;
-          arriving = arriving;
-          ring = ring;
-          outlet = outlet;
-          until = until;
-        }) last setup line run l in
-        subst A (first ∙ leaves) (record {
-          stands = record {
-            word_is = stands.word_is;
-            wide = stands.wide;
-            delay_is = stands.delay_is;
-            direction_is = stands.direction_is;
-            cuts = cuts;
-            walks = record {
-              waiting = Some e;
-              left = left ++ bytes_in (take n live);
-              live = drop n live;
-              walked = subst P (sym (walked-opened waits).opens.1)
-                  (subst Z (sym unowed) after.runs.walked);
-              outlet_is = subst L (sym first) (has-left n leaves (walked.room (omega arith)));
-              ring_is = ring_is
-                  ∙ (ap (λ l. drop n (l ++ silent n)) stands.walks.ring_is
-                  ∙ ring-rest live D n (omega arith) most);
-              few = omega arith;
-              until_is = omega arith;
-              waits_is = waits;
-              code_is = stands.walks.code_is;
-              coded = coded;
-            };
-          };
-          answers = after.runs.answers;
         })
 
   -- ---- live bytes come of the burst whose verdict is open
@@ -541,53 +418,47 @@ module _ {R M : Type 0} (proto : LineRules R) (code : Mac M) {B D : ℕ} (old : 
       abbrev d : Burst
       d = (opened waits).0
 
-      walked-open : Walked old.passed live (owed_by old.outlet) (Some d)
-      walked-open = walked-opened waits
-
-      has-more : 1 < length live
-      has-more = more-opened waits
-
-      walked-live : Walked false live 0 (Some d)
-      walked-live = live-opened waits
+      it : IsOpen proto profile setup.floor state line old.passed left live (owed_by old.outlet) d
+      it = open-burst waits
 
       headed : KeepsHeader rules (live_bytes rules d) bytes
       headed =
           let K : Option Burst → Type 0 = λ o. KeepsHeader rules (live_bytes_in rules o) bytes in
-          subst K (last-opened waits) keeps
+          subst K (last-of it) keeps
 
       fits : length (live_bytes rules d) ≤ rules.room (live_bytes rules d)
-      fits = fits-opened waits
+      fits =
+          let F : Option Burst → Type 0 = λ o. length (live_bytes_in rules o)
+          ≤ rules.room (live_bytes_in rules o) in
+          subst F (last-of it) (proto.within _ _ stands.cuts.bytes)
 
       delay-is : D ≡ delay profile
       delay-is = let is = stands.delay_is in omega arith
 
-      live-runs : LiveRun proto profile time some setup.floor state line left live Q d bytes
+      live-runs : LiveRun proto profile setup.floor state line left live Q d bytes
       live-runs =
           let most = stands.walks.few in
-          let long = ring-long in
+          let long = ring-whole old.ring in
           let size = delay-is in
           let delay_is = stands.delay_is in
-          live-run proto profile time some setup.floor state bytes line left live Q d
+          live-run proto profile setup.floor state bytes line left live Q d
           (stands.walks.ring_is ∙ ap (λ n. live ++ silent (n - length live)) delay-is)
-          (omega arith) walked-live headed fits are_live (omega arith)
-
-      coded-before : Codes proto code setup old.mac old.arriving d
-      coded-before = coded-opened waits
+          (omega arith) (open-bare waits) headed fits are_live (omega arith)
 
       none-after : trailer_so_far rules live-runs.burst ≡ []
       none-after =
           let e : Burst = live-runs.burst in
-          let may : MayGoOn e (length (line ++ run)) = waiting-may w
-          (causal proto profile time setup.floor (line ++ run) Silent) (at_floor setup.floor)
-          (line ++ run) state live-runs.runs.walked.emissions e live-runs.runs.walked.come in
-          let after = may.after in
+          let after : IsOpen proto profile setup.floor state (line ++ run) false
+          (left ++ bytes_in (take k (Q ++ run))) live-runs.ticks 0 e =
+          record { timely = it.timely; some = it.some; walked = live-runs.runs.walked } in
+          let ends = (may-of after).after in
           let end = live-runs.end (inr any) in
           let long = after-long rules e in
           nothing-after (after_live rules e) (omega arith)
 
       coded-after : Codes proto code setup mac old.arriving live-runs.burst
       coded-after =
-          let before = coded-before in
+          let before = coded-opened waits in
           let none = live-runs.none any in
           let C : List ℕ → Type 0 = λ y. code.stands mac setup.key
           (rules.label ∷ setup.direction ∷ y) in
@@ -618,43 +489,19 @@ module _ {R M : Type 0} (proto : LineRules R) (code : Mac M) {B D : ℕ} (old : 
           let lent : Left (bytes_in (take k (Q ++ run))) = subst Left (sym bytes_left)
           (lends left stands.walks.outlet_is
           (rooms rules proto.lawful x left rest fits_still)) in
-          let Z : ℕ → Type 0 = λ n. HasWalked profile rules setup.floor (length (line ++ run))
-          (bursts (line ++ run)) state false (left ++ bytes_in (take k (Q ++ run)))
-          after.ticks n
-          (Some after.burst) in
-          let P : Bool → Type 0 = λ p. HasWalked profile rules setup.floor (length (line ++ run))
-          (bursts (line ++ run)) state p (left ++ bytes_in (take k (Q ++ run)))
-          after.ticks
-          (owed_by outlet) (Some after.burst) in
           let A : List Tick → Type 0 = λ l. HasTakenRun proto code
           (record old { cut = cut; mac = mac; ring = ring; outlet = outlet; until = until }) last
           setup line run l in
-          subst A leaves (record {
-            stands = record {
-              word_is = stands.word_is;
-              wide = stands.wide;
-              delay_is = stands.delay_is;
-              direction_is = stands.direction_is;
-              cuts = cuts;
-              walks = record {
-                waiting = Some after.burst;
-                left = left ++ bytes_in (take k (Q ++ run));
-                live = after.ticks;
-                walked = subst P (sym walked-open.opens.1)
-                    (subst Z (sym unowed) after.runs.walked);
-                outlet_is = lent;
-                ring_is = ring_is
-                    ∙ (sym after.ring
-                    ∙ ap (λ n. after.ticks ++ silent (n - length after.ticks)) (sym delay-is));
-                few = let within' = after.few in omega arith;
-                until_is = omega arith;
-                waits_is = waits;
-                code_is = (
-                  rules.label ∷ setup.direction ∷ live_bytes rules after.burst,
-                  coded-after.codes,
-                );
-                coded = coded-after;
-              };
-            };
-            answers = after.runs.answers;
-          })
+          subst A leaves
+          (made run (take k (Q ++ run)) mac old.arriving ring outlet until (Some after.burst)
+          (left ++ bytes_in (take k (Q ++ run))) after.ticks cuts
+          (runs-as run false old.passed (left ++ bytes_in (take k (Q ++ run))) after.ticks 0
+          (owed_by outlet) (Some after.burst) (take k (Q ++ run)) after.runs it.walked.opens.1
+          unowed)
+          lent
+          (ring_is
+          ∙ (sym after.ring
+          ∙ ap (λ n. after.ticks ++ silent (n - length after.ticks)) (sym delay-is)))
+          (let within' = after.few in omega arith) (omega arith) waits
+          (rules.label ∷ setup.direction ∷ live_bytes rules after.burst, coded-after.codes)
+          coded-after)

@@ -1,6 +1,5 @@
 -- The first byte of a burst.
-use Rattle.std.proofs.Common.{◌≡◌, ◌∙◌, ℕ, ◌+◌, ◌-◌, ◌<◌, ◌≤◌, ◌==◌, true, false, List}
-use Rattle.std.proofs.Common.{[], ◌∷◌}
+use Rattle.std.proofs.Common.{◌≡◌, ◌∙◌, ℕ, ◌+◌, ◌-◌, ◌<◌, ◌≤◌, ◌==◌, true, false, List, [], ◌∷◌}
 use Rattle.std.proofs.Common.{◌++◌, length, take, drop, get_or, refl, sym, ap, subst, arith, ⊎_elim}
 use Rattle.std.proofs.Common.{Option, Some, None, is_some}
 use Rattle.std.proofs.lemmas.Bool.{cases_Bool}
@@ -42,7 +41,7 @@ use Rattle.link_verdicts.specs.declared.note.DroppedWhy.TheVariants.{Busy, Head 
 use Rattle.link_verdicts.proofs.Beginning.{rests-none, live-none, begun-end, begun-seen}
 use Rattle.link_verdicts.proofs.Beginning.{opens-begun}
 use Rattle.link_verdicts.proofs.Judging.{head-bad, checked-busy, checked-bad}
-use Rattle.link_verdicts.proofs.Lives.{whole-bytes}
+use Rattle.link_verdicts.proofs.Opened.{whole-bytes, nothing-after, last_of-more}
 use Rattle.link_verdicts.proofs.Opening.{open-goes, length-silent}
 use Rattle.link_verdicts.proofs.Resting.{causal, rest-drops}
 use Rattle.link_verdicts.proofs.Rings.{ring-first, ring-begun}
@@ -53,11 +52,11 @@ use Rattle.check_receiver.specs.Stands.{Codes, HasTaken}
 use Rattle.check_receiver.specs.Turning.{Turned, TurnedClear, with_until}
 use Rattle.check_receiver.specs.declared.arriving.Arriving.{Arriving}
 use Rattle.check_receiver.specs.declared.checker.Checker.{Checker}
-use Rattle.check_receiver.specs.declared.step.CheckStep.{CheckStep}
+use Rattle.burst_walk.specs.declared.box_step.BoxStep.{BoxStep}
+use Rattle.link_verdicts.specs.declared.note.CheckNote.{CheckNote}
 use Rattle.check_receiver.proofs.Heads.{head-is-bad, head-isn't-short}
-use Rattle.check_receiver.proofs.Machine.{last_of-more, until-last, flow, ring-waits, assembled}
-use Rattle.check_receiver.proofs.Silences.{timely}
-use Rattle.check_receiver.proofs.Entering.{nothing-after}
+use Rattle.check_receiver.proofs.Machine.{until-last, flow, ring-waits, assembled}
+use Rattle.check_receiver.proofs.OpenBursts.{timely}
 use Rattle.check_receiver.proofs.Dropping.{drops}
 use Rattle.check_receiver.proofs.Beginnings.{ring-still}
 
@@ -133,7 +132,7 @@ module _ {R M : Type 0} (proto : LineRules R) (code : Mac M) {B D : ℕ} (old : 
 
   -- ---- others still leave
 
-  module _ (new : Checker R M B D) (step : CheckStep)
+  module _ (new : Checker R M B D) (step : BoxStep CheckNote)
       (turned : Turned proto old new Silent step.tick)
       (noted : step.note ≡ Some (Dropped (start_so_far (line ++ Byte b ∷ [])) Busy)) where
     pub start-busy : m < old.earliest_start → HasTaken proto code new last setup line (Byte b) step
@@ -174,7 +173,7 @@ module _ {R M : Type 0} (proto : LineRules R) (code : Mac M) {B D : ℕ} (old : 
 
   module _ (mac : M) (arriving : Arriving B) (outlet : Outlet R)
       (begun : OutletStandsFor proto outlet []) (unowed : owed_by outlet ≡ 0)
-      (free : old.earliest_start ≤ m) (new : Checker R M B D) (step : CheckStep) where
+      (free : old.earliest_start ≤ m) (new : Checker R M B D) (step : BoxStep CheckNote) where
     -- another burst begins
     abbrev base : Checker R M B D
     base = record old {

@@ -10,16 +10,16 @@ use Rattle.frame_ending.specs.declared.cut.Cut.TheVariants.{Extra}
 use Rattle.frame_ending.specs.LiveBytes.{live_end}
 use Rattle.burst_walk.specs.Causal.{going_on}
 use Rattle.hmac_tag.specs.declared.tag.Mac.{Ghosts as Mac}
-use Rattle.link_format.specs.Profile.{Profile, profile_of, pause_len}
+use Rattle.link_format.specs.Profile.{pause_len}
 use Rattle.link_format.specs.Setup.{Setup}
-use Rattle.sequence_journal.specs.declared.numbers.TheConstants.{LIMIT}
 use Rattle.check_receiver.specs.Arrivals.{bytes_come}
 use Rattle.check_receiver.specs.Between.{IsBetween, IsWhole}
 use Rattle.check_receiver.specs.Stands.{Codes, HasTaken}
 use Rattle.check_receiver.specs.Turning.{Turned}
 use Rattle.check_receiver.specs.declared.arriving.Arriving.{Arriving}
 use Rattle.check_receiver.specs.declared.checker.Checker.{Checker}
-use Rattle.check_receiver.specs.declared.step.CheckStep.{CheckStep}
+use Rattle.burst_walk.specs.declared.box_step.BoxStep.{BoxStep}
+use Rattle.link_verdicts.specs.declared.note.CheckNote.{CheckNote}
 use Rattle.check_receiver.proofs.Hearing.{Hears, hears-between, next-last, until-long, until-some}
 use Rattle.check_receiver.proofs.Hearing.{coded, next-coded, trailer-long, trailer-taken}
 
@@ -31,9 +31,6 @@ module _ {R M : Type 0} (proto : LineRules R) (code : Mac M) {B D : ℕ} (old : 
     → bytes_come arriving ≡ bytes_come old.arriving ++ b ∷ []) where
   abbrev rules : Rules
   rules = proto.rules
-
-  abbrev profile : Profile
-  profile = profile_of proto code B LIMIT setup
 
   -- before the byte is kept, and after
   abbrev hears : Hears proto code old last setup line t b
@@ -75,7 +72,7 @@ module _ {R M : Type 0} (proto : LineRules R) (code : Mac M) {B D : ℕ} (old : 
       between.walks.code_is
 
   -- more bytes of the trailer are to come
-  pub more-taken : 1 < old.until → (new : Checker R M B D) (step : CheckStep)
+  pub more-taken : 1 < old.until → (new : Checker R M B D) (step : BoxStep CheckNote)
       → Turned proto after new Silent step.tick → step.note ≡ None
       → HasTaken proto code new last setup line t step
   more-taken more new step turned noted =

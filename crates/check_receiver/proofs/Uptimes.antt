@@ -7,7 +7,7 @@ use Rattle.sequence_journal.specs.Uptimes.{CommitsAnswered}
 use Rattle.link_verdicts.specs.declared.note.CheckNote.{CheckNote}
 use Rattle.link_verdicts.specs.declared.note.CheckNote.TheVariants.{Passed, Refused, Dropped}
 use Rattle.check_receiver.specs.Checkings.{CommitsNoted, KeepsJournal, numbers_noted}
-use Rattle.check_receiver.specs.declared.step.CheckStep.{CheckStep}
+use Rattle.burst_walk.specs.declared.box_step.BoxStep.{BoxStep}
 
 module _ {S : Type 0} (d : SlotDisk S) (old new : Journal) (before after : S) where
   answered : (note : Option CheckNote) → CommitsNoted d old new before after note
@@ -17,7 +17,7 @@ module _ {S : Type 0} (d : SlotDisk S) (old new : Journal) (before after : S) wh
   answered (Some (Dropped start why)) kept = kept
   answered (Some (Passed number start len)) commits = commits
 
-  pub commits-answered : (result : Result CheckStep JournalFault)
+  pub commits-answered : (result : Result (BoxStep CheckNote) JournalFault)
       → KeepsJournal d old new before after result
       → IfOk result (λ step. CommitsAnswered d old new before after (numbers_noted step.note))
   commits-answered (Ok step) keeps = answered step.note keeps.commits

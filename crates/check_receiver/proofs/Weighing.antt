@@ -1,6 +1,7 @@
 -- What has come of a whole trailer gives the verdict.
-use Rattle.std.proofs.Common.{◌≡◌, ◌∙◌, ℕ, ◌^◌, ◌<◌, ◌≤◌, Bool, true, false, List, length}
-use Rattle.std.proofs.Common.{sym, ap, subst, Option, Some, None, bytes_eq}
+use Rattle.std.proofs.Common.{◌≡◌, ◌∙◌, ℕ, ◌+◌, ◌^◌, ◌<◌, ◌≤◌, Bool, true, false, List, ◌∷◌, ◌++◌}
+use Rattle.std.proofs.Common.{length, drop, sym, ap, subst, arith, Option, Some, None, bytes_eq}
+use Rattle.std.specs.Int.{w64, to_be_bytes}
 use Rattle.std.proofs.lemmas.Bool.{cond-true, cond-false}
 use Rattle.byteorder.specs.Endian.{big_number}
 use Rattle.yasir_ticks.specs.Bursts.{Burst}
@@ -16,8 +17,12 @@ use Rattle.sequence_journal.specs.declared.numbers.TheConstants.{LIMIT}
 use Rattle.sequence_journal.specs.Numbers.{full_of}
 use Rattle.link_verdicts.specs.Verdicts.{number_of, tag_in, verdict_by_number, whole_verdict}
 use Rattle.link_verdicts.specs.Verdicts.Verdict.{passed_with, refused}
+use Rattle.link_verdicts.specs.Holding.{trailer_so_far}
 use Rattle.link_verdicts.specs.declared.note.RefusedWhy.TheVariants.{Tag, Number}
 use Rattle.link_verdicts.proofs.Passing.{number-within}
+use Rattle.check_receiver.specs.Arrivals.{bytes_come}
+use Rattle.check_receiver.specs.Stands.{Codes}
+use Rattle.check_receiver.specs.declared.arriving.Arriving.{Arriving}
 
 -- the live bytes of the last burst are a frame
 pub last-frame : (rules : Rules) (line : List Tick) (d : Burst) (good : Bool)
@@ -26,26 +31,33 @@ pub last-frame : (rules : Rules) (line : List Tick) (d : Burst) (good : Bool)
 last-frame rules line d good is last whole =
     sym (ap (λ o. rules.is_frame (live_bytes_in rules o)) last) ∙ (sym is ∙ whole)
 
--- the number that is read of the bytes that have come is that of the trailer's bytes
-pub number-come : {R M : Type 0} (proto : LineRules R) (code : Mac M) (B : ℕ) (setup : Setup)
-    (floor told : ℕ) (come bytes : List ℕ) (o : Option ℕ)
-    → (B ≤ length come → o ≡ full_of LIMIT (256 ^ B) told (big_number B come))
-    → come ≡ bytes → told ≡ floor → B ≤ length bytes
-    → o ≡ number_of (profile_of proto code B LIMIT setup) floor bytes
-number-come proto code B setup floor told come bytes o read same still whole =
-    let W : List ℕ → Type 0 = λ y. B ≤ length y in
-    read (subst W (sym same) whole)
-    ∙ (ap (λ y. full_of LIMIT (256 ^ B) told (big_number B y)) same
-    ∙ ap (λ n. full_of LIMIT (256 ^ B) n (big_number B bytes)) still)
-
-module _ {R M : Type 0} (proto : LineRules R) (code : Mac M) (B : ℕ) (setup : Setup) (floor : ℕ)
-    (frame bytes : List ℕ) (o : Option ℕ)
-    (numbered : o ≡ number_of (profile_of proto code B LIMIT setup) floor bytes) where
+-- Above this floor, as it was told, this is read of the bytes of the word.
+module _ {R M : Type 0} (proto : LineRules R) (code : Mac M) {B : ℕ} (setup : Setup) {mac : M}
+    {arriving : Arriving B} (d : Burst) (codes : Codes proto code setup mac arriving d)
+    (long : length (trailer_so_far proto.rules d) ≡ B + code.TAG) (floor told : ℕ)
+    (still : told ≡ floor) (o : Option ℕ)
+    (read : B ≤ length (bytes_come arriving)
+    → o ≡ full_of LIMIT (256 ^ B) told (big_number B (bytes_come arriving))) where
   abbrev profile : Profile
   profile = profile_of proto code B LIMIT setup
 
   abbrev rules : Rules
   rules = proto.rules
+
+  abbrev frame : List ℕ
+  frame = live_bytes rules d
+
+  abbrev bytes : List ℕ
+  bytes = trailer_so_far rules d
+
+  whole : B ≤ length (bytes_come arriving)
+  whole = let size = ap length codes.come in omega arith
+
+  -- the number that is read is that of the trailer's bytes
+  numbered : o ≡ number_of profile floor bytes
+  numbered = read whole
+      ∙ (ap (λ y. full_of LIMIT (256 ^ B) told (big_number B y)) codes.come
+      ∙ ap (λ n. full_of LIMIT (256 ^ B) n (big_number B bytes)) still)
 
   framed : rules.is_frame frame ≡ true
       → whole_verdict profile rules floor frame bytes ≡ verdict_by_number profile frame bytes o
@@ -65,15 +77,24 @@ module _ {R M : Type 0} (proto : LineRules R) (code : Mac M) (B : ℕ) (setup : 
       (lies.1, lies.2)
 
   module _ (good : rules.is_frame frame ≡ true) (n : ℕ) (is : o ≡ Some n) (same : Bool)
-      (compared : same ≡ bytes_eq (tag_in profile bytes) (profile.tag n frame)) where
+      (compared : (key text : List ℕ) → code.stands mac key text → B ≤ length (bytes_come arriving)
+      → same ≡ bytes_eq (drop B (bytes_come arriving))
+      (code.tag_of key (text ++ to_be_bytes w64 n))) where
+    weighed : same ≡ bytes_eq (tag_in profile bytes) (profile.tag n frame)
+    weighed =
+        let text : List ℕ = rules.label ∷ setup.direction ∷ frame in
+        compared setup.key text codes.codes whole
+        ∙ ap (λ x. bytes_eq (drop B x) (code.tag_of setup.key (text ++ to_be_bytes w64 n)))
+        codes.come
+
     pub wrong-tag : same ≡ false → refused Tag ≡ whole_verdict profile rules floor frame bytes
     wrong-tag other =
         sym (framed good ∙ (ap (λ k. verdict_by_number profile frame bytes k) is
         ∙ cond-false (bytes_eq (tag_in profile bytes) (profile.tag n frame)) _ _
-        (sym compared ∙ other)))
+        (sym weighed ∙ other)))
 
     pub right-tag : same ≡ true → passed_with n ≡ whole_verdict profile rules floor frame bytes
     right-tag all =
         sym (framed good ∙ (ap (λ k. verdict_by_number profile frame bytes k) is
         ∙ cond-true (bytes_eq (tag_in profile bytes) (profile.tag n frame)) _ _
-        (sym compared ∙ all)))
+        (sym weighed ∙ all)))

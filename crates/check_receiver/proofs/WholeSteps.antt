@@ -1,8 +1,7 @@
 -- A whole step of a receiver: the value that cuts the link takes the tick, one step fewer is left
 -- until the last live byte leaves, and then all else takes it.
-use Rattle.std.proofs.Common.{◌≡◌, ◌∙◌, ◌⊎◌, ⊎_elim, ℕ, ◌-◌, List, [], ◌∷◌, ◌++◌, refl}
-use Rattle.std.proofs.Common.{sym}
-use Rattle.std.proofs.Common.{subst, Result, Ok, Err, IfOk, OnErr}
+use Rattle.std.proofs.Common.{◌≡◌, ◌∙◌, ◌⊎◌, ⊎_elim, ℕ, ◌-◌, List, [], ◌∷◌, ◌++◌, refl, sym, subst}
+use Rattle.std.proofs.Common.{Result, Ok, Err, IfOk, OnErr}
 use Rattle.yasir_ticks.specs.declared.tick.Tick.{Tick}
 use Rattle.yasir_ticks.specs.declared.tick.Tick.TheVariants.{Silent, Byte}
 use Rattle.line_rules.specs.Rules.{Rules}
@@ -23,7 +22,8 @@ use Rattle.check_receiver.specs.Checkings.{PassesWith}
 use Rattle.check_receiver.specs.Stands.{StandsAt, HasTaken}
 use Rattle.check_receiver.specs.Between.{IsBetween, IsSilence}
 use Rattle.check_receiver.specs.declared.checker.Checker.{Checker}
-use Rattle.check_receiver.specs.declared.step.CheckStep.{CheckStep}
+use Rattle.burst_walk.specs.declared.box_step.BoxStep.{BoxStep}
+use Rattle.link_verdicts.specs.declared.note.CheckNote.{CheckNote}
 
 -- ---- what is told of silence
 
@@ -78,7 +78,7 @@ module _ {R M : Type 0} (proto : LineRules R) (code : Mac M) {B D : ℕ} (old : 
 
   -- what is told of the tick, and then all else has taken it
   pub taken-then : (what : Cut) → told ≡ what → (new : Checker R M B D) (number : ℕ)
-      (step : CheckStep)
+      (step : BoxStep CheckNote)
       → ((setup : Setup) (line : List Tick) → Between what setup line t
       → HasTaken proto code new number setup line t step)
       → (setup : Setup) (line : List Tick) → Before setup line
@@ -87,7 +87,8 @@ module _ {R M : Type 0} (proto : LineRules R) (code : Mac M) {B D : ℕ} (old : 
       rest setup line (between what is setup line stands)
 
   -- what is told of silence is told of a silent tick
-  pub taken-silence : IsSilence told → (new : Checker R M B D) (number : ℕ) (step : CheckStep)
+  pub taken-silence : IsSilence told → (new : Checker R M B D) (number : ℕ)
+      (step : BoxStep CheckNote)
       → ((setup : Setup) (line : List Tick) → Between told setup line Silent
       → HasTaken proto code new number setup line Silent step)
       → (setup : Setup) (line : List Tick) → Before setup line
@@ -101,7 +102,8 @@ module _ {R M : Type 0} (proto : LineRules R) (code : Mac M) {B D : ℕ} (old : 
   -- ---- a step that may fail
 
   module _ (what : Cut) (is : told ≡ what) where
-    pub taken-ok : (new : Checker R M B D) (number : ℕ) (result : Result CheckStep JournalFault)
+    pub taken-ok : (new : Checker R M B D) (number : ℕ)
+        (result : Result (BoxStep CheckNote) JournalFault)
         → IfOk result (λ step. (setup : Setup) (line : List Tick) (u : Tick)
         → Between what setup line u → HasTaken proto code new number setup line u step)
         → IfOk result (λ step. (setup : Setup) (line : List Tick) → Before setup line
@@ -114,7 +116,7 @@ module _ {R M : Type 0} (proto : LineRules R) (code : Mac M) {B D : ℕ} (old : 
     Passes setup line u number = PassesWith (profile_of proto code B LIMIT setup) proto.rules
         setup.floor line u number
 
-    pub passes-err : (Failed : ℕ → Type 0) (result : Result CheckStep JournalFault)
+    pub passes-err : (Failed : ℕ → Type 0) (result : Result (BoxStep CheckNote) JournalFault)
         → OnErr result ((number : ℕ) × Failed number
         × ((setup : Setup) (line : List Tick) (u : Tick) → Between what setup line u
         → Passes setup line u number))

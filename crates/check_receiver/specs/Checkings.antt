@@ -16,11 +16,11 @@ use Rattle.link_verdicts.specs.Checking.{checker, at_floor, check_notes, brief_n
 use Rattle.link_verdicts.specs.Checking.FullNote.{passed_note}
 use Rattle.link_verdicts.specs.declared.note.CheckNote.{CheckNote}
 use Rattle.link_verdicts.specs.declared.note.CheckNote.TheVariants.{Passed, Refused, Dropped}
-use Rattle.check_receiver.specs.declared.step.CheckStep.{CheckStep}
+use Rattle.burst_walk.specs.declared.box_step.BoxStep.{BoxStep}
 
 -- A step answers, after these ticks of the link and with one tick more, the tick of the device's
 -- line and the note that the definitions add.
-abbrev pub AnswersTick : Profile → Rules → ℕ → List Tick → Tick → CheckStep → Type 0
+abbrev pub AnswersTick : Profile → Rules → ℕ → List Tick → Tick → BoxStep CheckNote → Type 0
 AnswersTick profile rules floor line t step =
     AnswersTickOf (checker profile rules) brief_note (at_floor floor) line t step.tick step.note
 
@@ -54,7 +54,7 @@ numbers_noted None = []
 
 -- What a step does to the journal and its disk.
 pub record KeepsJournal {S : Type 0} (d : SlotDisk S) (old new : Journal) (disk_old disk_new : S)
-    (result : Result CheckStep JournalFault) : Type 0 where
+    (result : Result (BoxStep CheckNote) JournalFault) : Type 0 where
   pub commits : IfOk result (λ step. CommitsNoted d old new disk_old disk_new step.note)
   pub link : journal_link new ≡ journal_link old
   pub fits : OnOk result (Fits new (d.told disk_new))

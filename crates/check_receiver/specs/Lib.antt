@@ -4,3 +4,4 @@ pub mod Stands
 pub mod Turning
 pub mod Between
 pub mod Runs
+pub mod Boxed

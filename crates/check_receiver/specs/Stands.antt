@@ -25,7 +25,8 @@ use Rattle.check_receiver.specs.Checkings.{AnswersTick}
 use Rattle.link_verdicts.specs.Holding.{HasWalked, trailer_so_far}
 use Rattle.check_receiver.specs.declared.arriving.Arriving.{Arriving}
 use Rattle.check_receiver.specs.declared.checker.Checker.{Checker}
-use Rattle.check_receiver.specs.declared.step.CheckStep.{CheckStep}
+use Rattle.burst_walk.specs.declared.box_step.BoxStep.{BoxStep}
+use Rattle.link_verdicts.specs.declared.note.CheckNote.{CheckNote}
 
 module _ {R M : Type 0} (proto : LineRules R) (code : Mac M) where
   -- Of a burst whose verdict is open the code has taken the live bytes, and the bytes of the
@@ -74,7 +75,7 @@ module _ {R M : Type 0} (proto : LineRules R) (code : Mac M) where
   -- After these ticks the receiver has taken one more: it then stands for this, the last number
   -- is that of the last frame that passed, and it answers as the definitions say.
   pub record HasTaken {B D : ℕ} (value : Checker R M B D) (last : ℕ) (setup : Setup)
-      (line : List Tick) (t : Tick) (step : CheckStep) : Type 0 where
+      (line : List Tick) (t : Tick) (step : BoxStep CheckNote) : Type 0 where
     pub stands : StandsAt value last setup (line ++ t ∷ [])
     pub floor : last ≡ last_number setup.floor
         (passed (profile_of proto code B LIMIT setup) proto.rules setup.floor (line ++ t ∷ []))

@@ -3,7 +3,8 @@ ghost use Rattle.sequence_journal.specs.declared.journal.Journal.{Journal};
 ghost use Rattle.sequence_journal.specs.declared.journal.JournalFault.{JournalFault};
 ghost use Rattle.sequence_journal.specs.Journal.{journal_floor, IsCrashSafe};
 ghost use Rattle.sequence_journal.specs.Uptimes.{IsStepOf, last_from, numbers_answered};
-ghost use Rattle.check_receiver.specs.declared.step.CheckStep.{CheckStep};
+ghost use Rattle.burst_walk.specs.declared.box_step.BoxStep.{BoxStep};
+ghost use Rattle.link_verdicts.specs.declared.note.CheckNote.{CheckNote};
 ghost use Rattle.check_receiver.specs.Checkings.{KeepsJournal, numbers_noted};
 
 use yasir_io::SlotDisk;
@@ -13,7 +14,7 @@ use yasir_io::SlotDisk;
 /// the last number answered. The calls that take runs have no disk.
 pub fn steps_are_of_an_uptime<D: SlotDisk>()
     ensures is_step { (old new : Journal) (before after : D)
-        (result : Result CheckStep JournalFault)
+        (result : Result (BoxStep CheckNote) JournalFault)
         → KeepsJournal D.SlotDisk old new before after result
         → IsCrashSafe old (D.told before) (D.may_leave before)
         → IsStepOf D.SlotDisk old before (record {
@@ -21,7 +22,7 @@ pub fn steps_are_of_an_uptime<D: SlotDisk>()
           after = after;
         }) }
     ensures goes_on { (old new : Journal) (before after : D)
-        (result : Result CheckStep JournalFault)
+        (result : Result (BoxStep CheckNote) JournalFault)
         → KeepsJournal D.SlotDisk old new before after result
         → last_from (journal_floor old) (numbers_answered (λ step. numbers_noted step.note) result)
         ≡ journal_floor new }

@@ -3,14 +3,13 @@
 #![tactic(auto)]
 
 mod arriving;
+mod boxed;
 mod checker;
 mod laws;
 mod runs;
-mod step;
 
+pub use burst_walk::{BoxStep, RunBytes};
 pub use checker::Checker;
 pub use hmac_tag::Dir;
 pub use laws::steps_are_of_an_uptime;
 pub use link_verdicts::{CheckNote, DroppedWhy, RefusedWhy};
-pub use runs::RunBytes;
-pub use step::CheckStep;

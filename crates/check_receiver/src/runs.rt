@@ -12,14 +12,11 @@ ghost use Rattle.frame_ending.specs.declared.cut.Cut.TheVariants.{Start};
 ghost use Rattle.line_rules.specs.Rules.{head_of};
 ghost use Rattle.line_rules.specs.declared.head.Head.TheVariants.{Good};
 
-use arrayvec::ArrayVec;
+use burst_walk::RunBytes;
 use delay_ring::DelayRing;
 use frame_ending::BurstCut;
 use line_rules::{Head, LineRules};
 use spoiler::Outlet;
-
-/// The bytes that leave in a run of ticks, one in each; none where silence leaves.
-pub type RunBytes = ArrayVec<u8, 64>;
 
 // Takes the first of these bytes, one a tick, as far as they are alike, all live or none, and begin
 // no burst. Answers how many.

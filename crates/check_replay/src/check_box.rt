@@ -6,12 +6,12 @@ ghost use Rattle.check_replay.specs.CheckBoxedLaws.{checks-boxed, checks-floor};
 
 use crate::note_lines::note_line;
 use box_replay::{BoxStep, LineBox, NoteLine, RunBytes};
-use check_receiver::{CheckNote, CheckStep, Checker};
+use check_receiver::{CheckNote, Checker};
 use hmac_tag::{Dir, Mac};
 use line_rules::LineRules;
 use sequence_journal::{Journal, JournalFault};
 use yasir_io::SlotDisk;
-use yasir_ticks::Tick;
+use yasir_ticks::{Tick, TickRun};
 
 /// The receiver as a box, with words of `B` bytes and a delay of `D` ticks.
 #[derive(Drop)]
@@ -53,19 +53,14 @@ impl<R: LineRules, M: Mac, const B: usize, const D: usize> LineBox for CheckBox<
         journal: &mut Journal,
         disk: &mut S,
     ) -> Result<BoxStep<CheckNote>, JournalFault> {
-        match self.checker.step(t, journal, disk) {
-            Ok(CheckStep { tick, note }) => Ok(BoxStep { tick, note }),
-            Err(JournalFault) => Err(JournalFault),
+        self.checker.step(t, journal, disk)
+    }
+
+    #[inline]
+    fn pass(&mut self, run: TickRun<'_>, left: &mut RunBytes) -> usize {
+        match run {
+            TickRun::Bytes(bytes) => self.checker.pass_bytes(bytes, left),
+            TickRun::Silence(ticks) => self.checker.pass_silence(ticks, left) as usize,
         }
-    }
-
-    #[inline]
-    fn pass_bytes(&mut self, bytes: &[u8], left: &mut RunBytes) -> usize {
-        self.checker.pass_bytes(bytes, left)
-    }
-
-    #[inline]
-    fn pass_silence(&mut self, ticks: u32, left: &mut RunBytes) -> u32 {
-        self.checker.pass_silence(ticks, left)
     }
 }

@@ -9,6 +9,7 @@ mod hunting_family;
 mod laws;
 mod rtu;
 mod rtu_family;
+mod run;
 mod silence;
 
 pub use device::{Device, FrameAt, Heard};
@@ -19,6 +20,7 @@ pub use hunting_family::HuntingFamily;
 pub use laws::{forwarded_frames_are_read, hunts_by_cases, stated_devices_are_members};
 pub use rtu::RtuDevice;
 pub use rtu_family::RtuFamily;
+pub use run::hear_run;
 
 #[cfg(test)]
 mod family_tests;

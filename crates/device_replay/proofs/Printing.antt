@@ -1,45 +1,42 @@
 -- How the lines of a device's frames go on by some ticks.
-use Rattle.std.proofs.Common.{zero, suc, map, ◌+◌, take, drop}
-use Rattle.std.proofs.Math.Seq.{take-add}
-use Rattle.std.proofs.lemmas.List.{map-append, take-append-drop, replicate-append-replicate}
-use Rattle.std.proofs.Common.{◌≡◌, ℕ, List, [], ◌∷◌, ◌++◌, subst, sym, ap, refl, ◌∙◌, append-nil}
+use Rattle.std.proofs.Common.{◌≡◌, ◌∙◌, ℕ, ◌+◌, ◌-◌, ◌<◌, ◌≤◌, List, [], ◌∷◌, ◌++◌, length, take}
+use Rattle.std.proofs.Common.{Option, Ok, Err, subst, sym, ap, refl, append-nil, arith}
 use Rattle.std.proofs.lemmas.Grind.{flat_map-append}
 use Rattle.yasir_io.specs.Output.{Buffered, GotPrefix}
 use Rattle.yasir_io.specs.TextBuffer.{waiting_bytes}
-use Rattle.yasir_io.specs.declared.text_buffer.TextBuffer.{TextBuffer}
-use Rattle.yasir_ticks.specs.Ticks.{Item, ticks_in, silent}
-use Rattle.yasir_ticks.specs.Ticks.Item.{tick, mark}
+use Rattle.yasir_io.specs.declared.sink.Sink.{Ghosts as Sink}
+use Rattle.yasir_ticks.specs.Ticks.{Item, ticks_in}
+use Rattle.yasir_ticks.specs.Ticks.Item.{mark}
+use Rattle.yasir_ticks.specs.TickRun.{run_ticks, run_items}
 use Rattle.yasir_ticks.specs.declared.tick.Tick.{Tick}
-use Rattle.yasir_ticks.specs.declared.tick.Tick.TheVariants.{Silent, Byte}
+use Rattle.yasir_ticks.specs.declared.tick_run.TickRun.{TickRun}
+use Rattle.yasir_ticks.proofs.TickRuns.{length-run_items}
 use Rattle.device_model.specs.Frames.{FrameRead}
 use Rattle.device_model.specs.declared.device.Device.{Ghosts as Device}
-use Rattle.tick_drive.specs.Consumers.{Outputs}
+use Rattle.tick_drive.specs.Consumers.{Gives, GivesFirst}
 use Rattle.tick_drive.specs.declared.consumer.Stop.TheVariants.{WriteFault}
-use Rattle.tick_drive.specs.Items.{byte_items, silent_items}
-use Rattle.tick_drive.proofs.ItemLaws.{ticks_in-append, ticks_in-mark}
+use Rattle.tick_drive.proofs.ItemLaws.{ticks_in-append, ticks_in-mark, ticks_in-front, length-front}
 use Rattle.device_replay.specs.Lines.{frame_line, frame_lines}
-use Rattle.device_replay.specs.FrameLines.{Began, PrintsReads, StopsPrinting}
+use Rattle.device_replay.specs.FrameLines.{PrintsReads, StopsPrinting, KeepsHeld, printing}
 use Rattle.device_replay.specs.declared.frame_lines.FrameLines.{FrameLines}
 
 -- a mark is no tick of the line
-pub prints_at_mark : {V : Type 0} (device : Device V) (printer : FrameLines V) (began : Began)
-    (outputs : Outputs) (items : List Item) → PrintsReads device printer began outputs items
-    → PrintsReads device printer began outputs (items ++ mark ∷ [])
-prints_at_mark device printer began outputs items before = record {
+pub prints_at_mark : {V O : Type 0} (device : Device V) (o : Sink O) (printer : FrameLines V O)
+    (start : Option (List ℕ)) (items : List Item) → PrintsReads device o printer start items
+    → PrintsReads device o printer start (items ++ mark ∷ [])
+prints_at_mark device o printer start items before = record {
   hears = rw (ticks_in-mark items) before.hears;
   lines = rw (ticks_in-mark items) before.lines;
-  quiet = before.quiet;
 }
 
-abbrev printer_of : {V : Type 0} → V → TextBuffer → FrameLines V
-printer_of device lines = record { device = device; lines = lines }
-
-module _ {V : Type 0} (device : Device V) (old new : V) (next : List Item) (more : List FrameRead)
-    (step : (line : List Tick) → device.stands old line → device.stands new (line ++ ticks_in next))
-    (answer : (line : List Tick) → device.stands old line
+module _ {V O : Type 0} (device : Device V) (o : Sink O) (old new : FrameLines V O)
+    (next : List Item) (more : List FrameRead)
+    (step : (line : List Tick) → device.stands old.device.now line
+    → device.stands new.device.now (line ++ ticks_in next))
+    (answer : (line : List Tick) → device.stands old.device.now line
     → device.reads (line ++ ticks_in next) ≡ device.reads line ++ more)
-    (began : Began) (lines : TextBuffer) (outputs : Outputs) (items : List Item)
-    (before : PrintsReads device (printer_of old lines) began outputs items) where
+    (start : Option (List ℕ)) (items : List Item)
+    (before : PrintsReads device o old start items) where
   -- what is read with some more, as lines
   lines_then : frame_lines (device.reads (ticks_in (items ++ next)))
       ≡ frame_lines (device.reads (ticks_in items)) ++ frame_lines more
@@ -48,21 +45,26 @@ module _ {V : Type 0} (device : Device V) (old new : V) (next : List Item) (more
       ∙ ap frame_lines (answer (ticks_in items) before.hears)
       ∙ flat_map-append frame_line (device.reads (ticks_in items)) more
 
-  hears_then : device.stands new (ticks_in (items ++ next))
-  hears_then = subst (device.stands new) (sym (ticks_in-append items next))
+  hears_then : device.stands new.device.now (ticks_in (items ++ next))
+  hears_then = subst (device.stands new.device.now) (sym (ticks_in-append items next))
       (step (ticks_in items) before.hears)
 
   -- in which nothing is read
-  pub prints_nothing : more ≡ []
-      → PrintsReads device (printer_of new lines) began outputs (items ++ next)
-  prints_nothing none = record {
-    hears = hears_then;
-    lines = subst (Buffered began.out outputs.out (waiting_bytes lines))
-        (sym (lines_then ∙ ap (λ l. frame_lines (device.reads (ticks_in items)) ++ frame_lines l)
-        none
-        ∙ append-nil _)) before.lines;
-    quiet = before.quiet;
-  }
+  prints_nothing : more ≡ [] → new.lines.now ≡ old.lines.now → new.out.now ≡ old.out.now
+      → PrintsReads device o new start (items ++ next)
+  prints_nothing none lines_are out_is =
+      let all : frame_lines (device.reads (ticks_in items))
+      ≡ frame_lines (device.reads (ticks_in (items ++ next))) =
+      sym (lines_then ∙ ap (λ l. frame_lines (device.reads (ticks_in items)) ++ frame_lines l) none
+      ∙ append-nil _) in record {
+        hears = hears_then;
+        lines = subst (λ out. Buffered start (o.held out) (waiting_bytes new.lines.now)
+            (frame_lines (device.reads (ticks_in (items ++ next))))) (sym out_is)
+            (subst (λ lines. Buffered start (o.held old.out.now) (waiting_bytes lines)
+            (frame_lines (device.reads (ticks_in (items ++ next))))) (sym lines_are)
+            (subst (Buffered start (o.held old.out.now) (waiting_bytes old.lines.now)) all
+            before.lines));
+      }
 
   -- in which a frame is read
   module _ (read : FrameRead) (one : more ≡ read ∷ []) where
@@ -73,81 +75,101 @@ module _ {V : Type 0} (device : Device V) (old new : V) (next : List Item) (more
         ∙ ap (λ l. frame_lines (device.reads (ticks_in items)) ++ l) (append-nil (frame_line read)))
 
     -- its line is pushed
-    pub prints_line : (left : TextBuffer) (after : Outputs)
-        → ((text : List ℕ) → Buffered began.out outputs.out (waiting_bytes lines) text
-        → Buffered began.out after.out (waiting_bytes left) (text ++ frame_line read))
-        → after.log ≡ outputs.log
-        → PrintsReads device (printer_of new left) began after (items ++ next)
-    prints_line left after push log = record {
+    prints_line : ((text : List ℕ)
+        → Buffered start (o.held old.out.now) (waiting_bytes old.lines.now) text
+        → Buffered start (o.held new.out.now) (waiting_bytes new.lines.now)
+        (text ++ frame_line read))
+        → PrintsReads device o new start (items ++ next)
+    prints_line push = record {
       hears = hears_then;
-      lines = subst (Buffered began.out after.out (waiting_bytes left)) line_then
+      lines = subst (Buffered start (o.held new.out.now) (waiting_bytes new.lines.now)) line_then
           (push _ before.lines);
-      quiet = log ∙ before.quiet;
     }
 
     -- its line fails
-    pub stops_at_line : (after : Outputs)
-        → ((text : List ℕ) → Buffered began.out outputs.out (waiting_bytes lines) text
-        → GotPrefix began.out after.out (text ++ frame_line read))
-        → after.log ≡ outputs.log
-        → StopsPrinting device WriteFault began after (items ++ next)
-    stops_at_line after push log = record {
+    stops_at_line : ((text : List ℕ)
+        → Buffered start (o.held old.out.now) (waiting_bytes old.lines.now) text
+        → GotPrefix start (o.held new.out.now) (text ++ frame_line read))
+        → StopsPrinting device o new WriteFault start (items ++ next)
+    stops_at_line push = record {
       why = refl;
-      lines = subst (GotPrefix began.out after.out) line_then (push _ before.lines);
-      quiet = log ∙ before.quiet;
+      lines = subst (GotPrefix start (o.held new.out.now)) line_then (push _ before.lines);
     }
 
--- ---- items of a run
+-- The device has heard so many first ticks of a run, and read this in them.
+module _ {V O : Type 0} (device : Device V) (o : Sink O) (old new : FrameLines V O)
+    (run : TickRun) (n : ℕ) (more : List FrameRead)
+    (some : 0 < n) (within : n ≤ length (run_ticks run))
+    (counts : device.taken new.device.now ≡ device.taken old.device.now + n)
+    (stands : (line : List Tick) → device.stands old.device.now line
+    → device.stands new.device.now (line ++ take n (run_ticks run)))
+    (answer : (line : List Tick) → device.stands old.device.now line
+    → device.reads (line ++ take n (run_ticks run)) ≡ device.reads line ++ more) where
+  abbrev front : List Item
+  front = take n (run_items run)
 
-pub ticks_in-bytes : (y : List ℕ) → map (λ b. Byte b) y ≡ ticks_in (byte_items y)
-ticks_in-bytes [] = refl
-ticks_in-bytes (b ∷ y) = ap (λ l. Byte b ∷ l) (ticks_in-bytes y)
+  stands_front : (line : List Tick) → device.stands old.device.now line
+      → device.stands new.device.now (line ++ ticks_in front)
+  stands_front line before = subst (λ l. device.stands new.device.now (line ++ l))
+      (sym (ticks_in-front run n)) (stands line before)
 
-pub ticks_in-silence : (n : ℕ) → silent n ≡ ticks_in (silent_items n)
-ticks_in-silence zero = refl
-ticks_in-silence (suc n) = ap (λ l. Silent ∷ l) (ticks_in-silence n)
+  answer_front : (line : List Tick) → device.stands old.device.now line
+      → device.reads (line ++ ticks_in front) ≡ device.reads line ++ more
+  answer_front line before = subst (λ l. device.reads (line ++ l) ≡ device.reads line ++ more)
+      (sym (ticks_in-front run n)) (answer line before)
 
--- what a device does of ticks it does of items that have them
-module _ {V : Type 0} (device : Device V) (old new : V) (ticks : List Tick) (next : List Item)
-    (same : ticks ≡ ticks_in next) where
-  pub stands_by : ((line : List Tick) → device.stands old line → device.stands new (line ++ ticks))
-      → (line : List Tick) → device.stands old line → device.stands new (line ++ ticks_in next)
-  stands_by step = subst (λ l. (line : List Tick) → device.stands old line
-      → device.stands new (line ++ l)) same step
+  gives_heard : ((start : Option (List ℕ)) (items : List Item)
+      → PrintsReads device o old start items → PrintsReads device o new start (items ++ front))
+      → KeepsHeld o old new (Ok tt) → GivesFirst (printing device o) old new (run_items run) n
+  gives_heard moved keeps = record {
+    some = some;
+    within = omega (arith, within, length-run_items run);
+    gives = record {
+      moved = moved;
+      stopped = tt;
+      counted = counts ∙ ap (λ k. device.taken old.device.now + k) (sym (length-front run n
+          within));
+      is_able = tt;
+      went = keeps;
+    };
+  }
 
-  pub reads_by : (more : List FrameRead) → ((line : List Tick) → device.stands old line
-      → device.reads (line ++ ticks) ≡ device.reads line ++ more)
-      → (line : List Tick) → device.stands old line
-      → device.reads (line ++ ticks_in next) ≡ device.reads line ++ more
-  reads_by more answer = subst (λ l. (line : List Tick) → device.stands old line
-      → device.reads (line ++ l) ≡ device.reads line ++ more) same answer
+  pub none_read : more ≡ [] → new.lines.now ≡ old.lines.now → new.out.now ≡ old.out.now
+      → KeepsHeld o old new (Ok tt) → GivesFirst (printing device o) old new (run_items run) n
+  none_read none lines_are out_is keeps = gives_heard
+      (λ start items before. prints_nothing device o old new front more stands_front answer_front
+      start items before none lines_are out_is) keeps
 
--- a stop at the same items
-pub stops_by : {V : Type 0} (device : Device V) (began : Began) (after : Outputs)
-    (items a b : List Item) → a ≡ b → StopsPrinting device WriteFault began after (items ++ a)
-    → StopsPrinting device WriteFault began after (items ++ b)
-stops_by device began after items a b same stopped =
-    subst (λ next. StopsPrinting device WriteFault began after (items ++ next)) same stopped
+  pub one_read : (read : FrameRead) → more ≡ read ∷ []
+      → ((start : Option (List ℕ)) (text : List ℕ)
+      → Buffered start (o.held old.out.now) (waiting_bytes old.lines.now) text
+      → Buffered start (o.held new.out.now) (waiting_bytes new.lines.now) (text ++ frame_line read))
+      → KeepsHeld o old new (Ok tt) → GivesFirst (printing device o) old new (run_items run) n
+  one_read read one push keeps = gives_heard
+      (λ start items before. prints_line device o old new front more stands_front answer_front
+      start items before read one (push start)) keeps
 
--- ---- a run in parts
-
--- the first n bytes, and then the first k of those behind them
-pub bytes_then : (bytes rest : List ℕ) (n k : ℕ) → rest ≡ drop n bytes
-    → byte_items (take n bytes) ++ byte_items (take k rest) ≡ byte_items (take (n + k) bytes)
-bytes_then bytes rest n k is =
-    sym (map-append (λ b. tick (Byte b)) (take n bytes) (take k rest))
-    ∙ ap byte_items (ap (λ y. take n bytes ++ take k y) is ∙ sym (take-add n k bytes))
-
-pub bytes_all : (bytes rest : List ℕ) (n : ℕ) → rest ≡ drop n bytes
-    → byte_items bytes ≡ (byte_items (take n bytes) ++ byte_items rest) ++ []
-bytes_all bytes rest n is =
-    ap byte_items (sym (take-append-drop n bytes) ∙ ap (λ y. take n bytes ++ y) (sym is))
-    ∙ (map-append (λ b. tick (Byte b)) (take n bytes) rest
-    ∙ sym (append-nil (byte_items (take n bytes) ++ byte_items rest)))
-
-pub silence_all : (all n rest : ℕ) → n + rest ≡ all
-    → silent_items all ≡ (silent_items n ++ silent_items rest) ++ []
-silence_all all n rest is =
-    ap silent_items (sym is)
-    ∙ (sym (replicate-append-replicate n rest (tick Silent))
-    ∙ sym (append-nil (silent_items n ++ silent_items rest)))
+  -- its line failed
+  pub one_failed : (read : FrameRead) → more ≡ read ∷ []
+      → ((start : Option (List ℕ)) (text : List ℕ)
+      → Buffered start (o.held old.out.now) (waiting_bytes old.lines.now) text
+      → GotPrefix start (o.held new.out.now) (text ++ frame_line read))
+      → KeepsHeld o old new (Err WriteFault)
+      → Gives (printing device o) old new (run_items run) (Err WriteFault)
+  one_failed read one push keeps =
+      let last : n - 1 + 1 ≡ n = omega arith in record {
+        moved = tt;
+        stopped = record {
+          place = n - 1;
+          within = omega (arith, within, some, length-run_items run);
+          at = λ start items before. subst
+              (λ k. StopsPrinting device o new WriteFault start (items ++ take k (run_items run)))
+              (sym last)
+              (stops_at_line device o old new front more stands_front answer_front start items
+              before
+              read one (push start));
+        };
+        counted = tt;
+        is_able = tt;
+        went = keeps;
+      }

@@ -5,19 +5,19 @@ use Rattle.std.proofs.Math.Seq.{take-length}
 use Rattle.yasir_io.specs.Output.{Buffered, GotPrefix}
 use Rattle.yasir_io.specs.TextBuffer.{waiting_bytes}
 use Rattle.yasir_io.specs.declared.sink.Sink.{Ghosts as Sink}
-use Rattle.yasir_io.specs.declared.disk.SlotDisk.{Ghosts as SlotDisk}
+use Rattle.yasir_io.specs.Causes.{HasCause}
 use Rattle.yasir_ticks.specs.Ticks.{Item, ticks_in}
 use Rattle.yasir_ticks.specs.declared.tick.Tick.{Tick}
 use Rattle.device_model.specs.Frames.{FrameRead}
 use Rattle.device_model.specs.declared.device.Device.{Ghosts as Device}
-use Rattle.tick_drive.specs.Consumers.{State, IsSinkCause, is_write_fault}
+use Rattle.tick_drive.specs.Consumers.{is_write_fault}
 use Rattle.tick_drive.specs.Drive.{Drives, answer_of}
 use Rattle.tick_drive.specs.declared.consumer.Stop.{Stop}
 use Rattle.tick_drive.specs.declared.end.End.{End}
 use Rattle.tick_drive.specs.declared.end.End.TheVariants.{Whole, Refused, TooLong, ReadFault}
 use Rattle.tick_drive.specs.declared.end.End.TheVariants.{Stopped}
 use Rattle.device_replay.specs.Lines.{frame_lines}
-use Rattle.device_replay.specs.FrameLines.{Began, PrintsReads, printing}
+use Rattle.device_replay.specs.FrameLines.{PrintsReads, printing}
 use Rattle.device_replay.specs.PrintsFrames.{DrivesFrames, PrintsFrames, LinesAtEnd, read_rest}
 use Rattle.device_replay.specs.declared.frame_lines.FrameLines.{FrameLines}
 use Rattle.replay_status.specs.Endings.{status_of}
@@ -25,50 +25,42 @@ use Rattle.replay_status.proofs.Printing.{printed, append_known-nil}
 use Rattle.replay_status.specs.declared.status.Status.{Status}
 use Rattle.replay_status.specs.declared.status.Status.TheVariants.{Done, WriteFault}
 
-module _ {V O L D : Type 0} (device : Device V) (o : Sink O) (l : Sink L) (d : SlotDisk D)
-    (before now : Option (List ℕ)) (old new : State (FrameLines V) O L D)
-    (hears : device.stands old.consumer.device []) (nothing : device.reads [] ≡ [])
-    (empty : waiting_bytes old.consumer.lines ≡ []) where
-  began : Began
-  began = record { out = o.held old.out; log = l.held old.log }
-
-  start : PrintsReads device old.consumer (record { out = o.held old.out; log = l.held old.log })
-      (record { out = o.held old.out; log = l.held old.log; slots = d.told old.disk }) []
+module _ {V O : Type 0} (device : Device V) (o : Sink O)
+    (before now : Option (List ℕ)) (old new : FrameLines V O)
+    (hears : device.stands old.device.now []) (nothing : device.reads [] ≡ [])
+    (empty : waiting_bytes old.lines.now ≡ []) where
+  start : PrintsReads device o old (o.held old.out.now) []
   start = record {
     hears = hears;
     lines = record {
       front = [];
-      got = append_known-nil (o.held old.out);
+      got = append_known-nil (o.held old.out.now);
       all = ap frame_lines nothing ∙ sym empty;
     };
-    quiet = refl;
   }
 
   pub drives_frames : (end : End)
-      → Drives (printing device) o l d 0 read_rest before now old new end
-      → DrivesFrames device.reads before now (o.held old.out) (o.held new.out)
-      (waiting_bytes new.consumer.lines) end × (l.held new.log ≡ l.held old.log)
+      → Drives (printing device o) 0 read_rest before now old new end
+      → DrivesFrames device.reads before now (o.held old.out.now) (o.held new.out.now)
+      (waiting_bytes new.lines.now) end
   drives_frames (Stopped stop) driven =
-      let at = driven.gives.stopped.at _ [] start in (
-        record {
-          items = driven.items;
-          takes = driven.takes;
-          lines = record { why = at.why; place = driven.gives.stopped.place; lines = at.lines };
-        },
-        at.quiet,
-      )
+      let at = driven.gives.stopped.at _ [] start in record {
+        items = driven.items;
+        takes = driven.takes;
+        lines = record { why = at.why; place = driven.gives.stopped.place; lines = at.lines };
+      }
   drives_frames Whole driven =
       let at = driven.gives.moved _ [] start in
-      (record { items = driven.items; takes = driven.takes; lines = at.lines }, at.quiet)
+      record { items = driven.items; takes = driven.takes; lines = at.lines }
   drives_frames (Refused bad) driven =
       let at = driven.gives.moved _ [] start in
-      (record { items = driven.items; takes = driven.takes; lines = at.lines }, at.quiet)
+      record { items = driven.items; takes = driven.takes; lines = at.lines }
   drives_frames (TooLong what count) driven =
       let at = driven.gives.moved _ [] start in
-      (record { items = driven.items; takes = driven.takes; lines = at.lines }, at.quiet)
+      record { items = driven.items; takes = driven.takes; lines = at.lines }
   drives_frames ReadFault driven =
       let at = driven.gives.moved _ [] start in
-      (record { items = driven.items; takes = driven.takes; lines = at.lines }, at.quiet)
+      record { items = driven.items; takes = driven.takes; lines = at.lines }
 
 module _ (reads : List Tick → List FrameRead)
     (before now out_before out_now out_last : Option (List ℕ))
@@ -148,17 +140,11 @@ module _ (reads : List Tick → List FrameRead)
       })
 
 -- no write had failed as the input ended
-pub no_write_failed : (out_before out_now log_before log_now : ℕ) (end : End)
-    → ((stop : Stop) → end ≡ Stopped stop → ⊥)
-    → IsSinkCause out_before out_now log_before log_now (is_write_fault (answer_of end))
-    → (is_write_fault (answer_of end) ≡ false) × (out_now ≡ out_before) × (log_now ≡ log_before)
-no_write_failed out_before out_now log_before log_now Whole other h =
-    (refl, h.out_same refl, h.log_same refl)
-no_write_failed out_before out_now log_before log_now (Refused bad) other h =
-    (refl, h.out_same refl, h.log_same refl)
-no_write_failed out_before out_now log_before log_now (TooLong what count) other h =
-    (refl, h.out_same refl, h.log_same refl)
-no_write_failed out_before out_now log_before log_now ReadFault other h =
-    (refl, h.out_same refl, h.log_same refl)
-no_write_failed out_before out_now log_before log_now (Stopped stop) other h =
-    absurd (other stop refl)
+pub no_write_failed : (out_before out_now : ℕ) (end : End)
+    → ((stop : Stop) → end ≡ Stopped stop → ⊥) → HasCause out_before out_now (answer_of end)
+    → (is_write_fault (answer_of end) ≡ false) × (out_now ≡ out_before)
+no_write_failed out_before out_now Whole other h = (refl, h.same)
+no_write_failed out_before out_now (Refused bad) other h = (refl, h.same)
+no_write_failed out_before out_now (TooLong what count) other h = (refl, h.same)
+no_write_failed out_before out_now ReadFault other h = (refl, h.same)
+no_write_failed out_before out_now (Stopped stop) other h = absurd (other stop refl)

@@ -1,3 +1,4 @@
 pub mod Lines
 pub mod FrameLines
+pub mod FrameLinesLaws
 pub mod PrintsFrames

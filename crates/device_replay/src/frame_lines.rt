@@ -1,25 +1,25 @@
-ghost use Rattle.std.specs.Prelude.{◌≡◌, ℕ, ◌+◌, ◌≤◌, List, [], ◌∷◌, ◌++◌, length, Option, OnOk};
-ghost use Rattle.std.specs.Prelude.{OnErr};
+ghost use Rattle.std.specs.Prelude.{◌≡◌, ℕ, List, ◌++◌, Option, OnOk, OnErr};
 ghost use Rattle.yasir_io.specs.Causes.{HasCause};
 ghost use Rattle.yasir_io.specs.Output.{Buffered, GotPrefix};
 ghost use Rattle.yasir_io.specs.TextBuffer.{waiting_bytes};
 ghost use Rattle.device_replay.specs.Lines.{frame_line, read_at};
 
 use crate::text::write_read_line;
-use device_model::{Device, FrameAt, Heard};
+use device_model::{Device, FrameAt, Heard, hear_run};
 use replay_status::Line;
 use tick_drive::{Consumer, Stop};
-use yasir_io::{Failed, Sink, SlotDisk, TextBuffer};
-use yasir_ticks::{MAX_TICKS, Tick};
+use yasir_io::{Failed, Sink, TextBuffer};
+use yasir_ticks::TickRun;
 
 #[cfg(test)]
 mod turn_tests;
 
-/// Prints a line for each frame that a device reads.
+/// Prints a line for each frame that a device reads to a sink.
 #[derive(Drop)]
-pub struct FrameLines<V> {
-    device: V,
-    lines: TextBuffer,
+pub struct FrameLines<'a, V, O> {
+    device: &'a mut V,
+    lines: &'a mut TextBuffer,
+    out: &'a mut O,
 }
 
 // Adds the line of a frame. It stands apart from a step, since few ticks end a frame.
@@ -40,164 +40,42 @@ fn push_frame<O: Sink>(lines: &mut TextBuffer, out: &mut O, frame: &FrameAt) -> 
     lines.push(out, line.as_slice())
 }
 
-impl<V: Device + Drop> FrameLines<V> {
-    ghost use Rattle.std.specs.Prelude.{◌<◌, take, IfOk, IfErr};
-    ghost use Rattle.tick_drive.specs.Consumers.{Gives, state_of};
-    ghost use Rattle.tick_drive.specs.Items.{byte_items, silent_items};
-    ghost use Rattle.device_replay.specs.FrameLines.{printing, all_taken};
-
-    /// A device that has heard nothing, and no line yet.
-    pub fn new() -> FrameLines<V>
-        ensures stands { V.stands result.device [] }
-        ensures nothing { V.reads [] ≡ [] }
-        ensures taken { V.taken result.device ≡ 0 }
-        ensures waits { waiting_bytes result.lines ≡ [] }
+impl<'a, V, O> FrameLines<'a, V, O> {
+    /// Prints to this sink, by way of this text, what this device reads.
+    pub fn new(device: &'a mut V, lines: &'a mut TextBuffer, out: &'a mut O) -> FrameLines<'a, V, O>
+        ensures device { result.device ≡ device.entry }
+        ensures lines { result.lines ≡ lines.entry }
+        ensures out { result.out ≡ out.entry }
     {
-        FrameLines {
-            device: V::fresh(),
-            lines: TextBuffer::new(),
-        }
-    }
-
-    // Hears the first of these bytes, up to one with which a frame is read, and adds its line. Says
-    // how many it has heard.
-    #[inline]
-    fn hear_part<O: Sink, L: Sink, D: SlotDisk>(
-        &mut self,
-        out: &mut O,
-        log: &L,
-        disk: &D,
-        bytes: &[u8],
-    ) -> Result<usize, Stop>
-        requires room { V.taken self.old.device + length bytes.now ≤ MAX_TICKS }
-        requires some { 0 < length bytes.now }
-        ensures part { IfOk result (λ n. (0 < n) × (n ≤ length bytes.now)) }
-        ensures gives { IfOk result (λ n. Gives (printing V.Device) O.Sink L.Sink D.SlotDisk
-            (state_of self.old out.old log.now disk.now)
-            (state_of self.new out.new log.now disk.now)
-            (byte_items (take n bytes.now)) (all_taken result)) }
-        ensures stops { IfErr result (λ stop. Gives (printing V.Device) O.Sink L.Sink D.SlotDisk
-            (state_of self.old out.old log.now disk.now)
-            (state_of self.new out.new log.now disk.now)
-            (byte_items bytes.now) (all_taken result)) }
-    {
-        let Heard { taken, frame } = self.device.hear_some(bytes);
-        let Some(frame) = frame else {
-            return Ok(taken);
-        };
-        let Ok(()) = push_frame(&mut self.lines, out, &frame) else {
-            return Err(Stop::WriteFault);
-        };
-        Ok(taken)
-    }
-
-    // Waits through the first of so many silent ticks, up to one in which a frame is read, and adds
-    // its line. Says through how many.
-    #[inline]
-    fn wait_part<O: Sink, L: Sink, D: SlotDisk>(
-        &mut self,
-        out: &mut O,
-        log: &L,
-        disk: &D,
-        ticks: usize,
-    ) -> Result<usize, Stop>
-        requires room { V.taken self.old.device + ticks ≤ MAX_TICKS }
-        requires some { 0 < ticks }
-        ensures part { IfOk result (λ n. (0 < n) × (n ≤ ticks)) }
-        ensures gives { IfOk result (λ n. Gives (printing V.Device) O.Sink L.Sink D.SlotDisk
-            (state_of self.old out.old log.now disk.now)
-            (state_of self.new out.new log.now disk.now)
-            (silent_items n) (all_taken result)) }
-        ensures stops { IfErr result (λ stop. Gives (printing V.Device) O.Sink L.Sink D.SlotDisk
-            (state_of self.old out.old log.now disk.now)
-            (state_of self.new out.new log.now disk.now)
-            (silent_items ticks) (all_taken result)) }
-    {
-        let Heard { taken, frame } = self.device.wait_some(ticks);
-        let Some(frame) = frame else {
-            return Ok(taken);
-        };
-        let Ok(()) = push_frame(&mut self.lines, out, &frame) else {
-            return Err(Stop::WriteFault);
-        };
-        Ok(taken)
-    }
-
-    /// Writes the lines that wait.
-    pub fn drain<O: Sink>(&mut self, out: &mut O) -> Result<(), Failed>
-        ensures ok { OnOk result ((start : Option (List ℕ)) (text : List ℕ)
-            → Buffered start (O.held out.old) (waiting_bytes self.old.lines) text
-            → Buffered start (O.held out.new) [] text) }
-        ensures err { OnErr result ((start : Option (List ℕ)) (text : List ℕ)
-            → Buffered start (O.held out.old) (waiting_bytes self.old.lines) text
-            → GotPrefix start (O.held out.new) text) }
-        ensures cause { HasCause (O.faults out.old) (O.faults out.new) result }
-        ensures flushes { O.flushes out.new ≡ O.flushes out.old }
-    {
-        self.lines.drain(out)
+        FrameLines { device, lines, out }
     }
 }
 
-impl<V: Device + Drop, O: Sink, L: Sink, D: SlotDisk> Consumer<O, L, D> for FrameLines<V> {
+impl<'a, V: Device, O: Sink> Consumer for FrameLines<'a, V, O> {
     ghost use Rattle.device_replay.specs.FrameLines.{printing};
+    ghost use Rattle.device_replay.specs.FrameLinesLaws.{holds-none, holds-then};
 
-    ghost meaning = { printing V.Device };
+    ghost meaning = { printing V.Device O.Sink };
 
-    fn take_tick(
-        &mut self,
-        out: &mut O,
-        _log: &mut L,
-        _disk: &mut D,
-        tick: Tick,
-    ) -> Result<(), Stop> {
-        let frame = match self.device.step(tick) {
-            Some(frame) => frame,
-            None => return Ok(()),
+    // Takes a run up to a tick in which a frame is read, and adds its line.
+    #[inline]
+    fn take_some(&mut self, run: TickRun<'_>) -> Result<usize, Stop> {
+        let Heard { taken, frame } = hear_run(self.device, run);
+        let Some(frame) = frame else {
+            return Ok(taken);
         };
-        match push_frame(&mut self.lines, out, &frame) {
-            Ok(()) => Ok(()),
+        match push_frame(self.lines, self.out, &frame) {
+            Ok(()) => Ok(taken),
             Err(Failed) => Err(Stop::WriteFault),
         }
     }
 
-    fn take_bytes(
-        &mut self,
-        out: &mut O,
-        log: &mut L,
-        disk: &mut D,
-        bytes: &[u8],
-    ) -> Result<(), Stop> {
-        let mut taken = 0;
-        while taken < bytes.len() {
-            match self.hear_part(out, log, disk, &bytes[taken..]) {
-                Ok(n) => taken += n,
-                Err(stop) => return Err(stop),
-            }
-        }
-        Ok(())
-    }
-
-    fn take_silence(
-        &mut self,
-        out: &mut O,
-        log: &mut L,
-        disk: &mut D,
-        ticks: u32,
-    ) -> Result<(), Stop> {
-        let mut left = ticks as usize;
-        while left > 0 {
-            match self.wait_part(out, log, disk, left) {
-                Ok(n) => left -= n,
-                Err(stop) => return Err(stop),
-            }
-        }
-        Ok(())
-    }
-
     // A mark is no tick of the line.
-    fn take_mark(&mut self, _out: &mut O, _log: &mut L, _disk: &mut D) -> Result<(), Stop> {
+    fn take_mark(&mut self) -> Result<(), Stop> {
         Ok(())
     }
 
-    ghost safe_now = { λ consumer disk image kept left. tt };
+    ghost went_none = { holds-none V.Device O.Sink };
+
+    ghost went_then = { holds-then V.Device O.Sink };
 }

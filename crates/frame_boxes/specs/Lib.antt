@@ -1,5 +1,5 @@
 pub mod BurstBytes
 pub mod FramesOf
 pub mod ShownFrames
-pub mod SealNoting
-pub mod CheckNoting
+pub mod NotesTold
+pub mod NotingLaws

@@ -11,8 +11,6 @@ mod shown_frames;
 mod steady_disk;
 
 pub use burst_bytes::BurstBytes;
-pub use check_noting::CheckNoting;
 pub use noting_box::NotingBox;
-pub use seal_noting::SealNoting;
 pub use shown_frames::ShownFrames;
 pub use steady_disk::SteadyDisk;

@@ -237,15 +237,7 @@ module _ {R : Type 0} (proto : LineRules R) where
     pub stands-pass : (full : Bool) (b : ℕ) → v.quiet < 4
         → full ≡ fills_room rules (live_bytes_so_far rules line) → (v.paused || full) ≡ true
         → StandsFor proto
-        (record {
-          taken = v.taken + 1;
-          quiet = 0;
-          start = v.start;
-          last_live = v.last_live;
-          extra = true;
-          paused = v.paused;
-          rules = v.rules;
-        })
+        (record v { taken = v.taken + 1; quiet = 0; extra = true })
         (line ++ Byte b ∷ [])
     stands-pass full b quiet full_is over =
         let run = is_running quiet in
@@ -295,15 +287,7 @@ module _ {R : Type 0} (proto : LineRules R) where
         → v.paused ≡ false → full ≡ false
         → ((x : List ℕ) → stands v.rules x → stands r (x ++ b ∷ []))
         → StandsFor proto
-        (record {
-          taken = v.taken + 1;
-          quiet = 0;
-          start = v.start;
-          last_live = v.taken;
-          extra = v.extra;
-          paused = v.paused;
-          rules = r;
-        })
+        (record v { taken = v.taken + 1; quiet = 0; last_live = v.taken; rules = r })
         (line ++ Byte b ∷ [])
     stands-go_on full r b quiet full_is open' room takes =
         let run = is_running quiet in
@@ -355,15 +339,7 @@ module _ {R : Type 0} (proto : LineRules R) where
     -- silence after silence
     pub stands-rest : 4 ≤ v.quiet
         → StandsFor proto
-        (record {
-          taken = v.taken + 1;
-          quiet = v.quiet;
-          start = v.start;
-          last_live = v.last_live;
-          extra = v.extra;
-          paused = v.paused;
-          rules = v.rules;
-        })
+        (record v { taken = v.taken + 1 })
         (line ++ Silent ∷ [])
     stands-rest quiet =
         let n = longer-line line Silent in
@@ -393,14 +369,10 @@ module _ {R : Type 0} (proto : LineRules R) where
     -- silence after a byte
     pub stands-wait : v.quiet < 4
         → StandsFor proto
-        (record {
+        (record v {
           taken = v.taken + 1;
           quiet = v.quiet + 1;
-          start = v.start;
-          last_live = v.last_live;
-          extra = v.extra;
           paused = v.paused || nat_le 2 (v.quiet + 1);
-          rules = v.rules;
         })
         (line ++ Silent ∷ [])
     stands-wait quiet =

@@ -5,7 +5,7 @@ use Rattle.std.proofs.Common.{None, IfSome}
 use Rattle.std.proofs.lemmas.List.{append-nil, length-replicate}
 use Rattle.std.proofs.Math.Seq.{get_or-append_seam}
 use Rattle.yasir_ticks.specs.Ticks.{silent}
-use Rattle.yasir_ticks.specs.Bursts.{Burst, bursts, bursts_from, end_of, AreClosed}
+use Rattle.yasir_ticks.specs.Bursts.{Burst, bursts, end_of, AreClosed}
 use Rattle.yasir_ticks.specs.BurstsOf.{IsContiguous, one}
 use Rattle.yasir_ticks.specs.declared.tick.Tick.{Tick}
 use Rattle.yasir_ticks.specs.declared.tick.Tick.TheVariants.{Silent, Byte}
@@ -21,10 +21,6 @@ use Rattle.frame_ending.proofs.Running.{with_byte_at, divided-running}
 -- a line that is longer by one tick
 pub longer-line : (line : List Tick) (t : Tick) → length (line ++ t ∷ []) ≡ length line + 1
 longer-line line t = length-append line (t ∷ [])
-
-pub divided-nothing : IsDivided [] [] None
-unfolding bursts_from
-divided-nothing = record { is = refl; are_closed = tt; is_running = tt }
 
 module _ (line : List Tick) (closed : List Burst) where
   closed-later : (t : Tick) → AreClosed 4 (length line) closed

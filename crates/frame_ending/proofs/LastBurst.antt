@@ -18,10 +18,6 @@ abbrev pub grown : ℕ → ℕ → Option Burst → Burst
 grown m b None = alone m b
 grown m b (Some d) = cond (nat_lt m (end_of d + 4)) (with_last d m b) (alone m b)
 
-last_of-one : (d : Burst) → last_of (d ∷ []) ≡ Some d
-unfolding last_of
-last_of-one d = refl
-
 last_of-cons : (d : Burst) (ds : List Burst) (e : Burst) → last_of ds ≡ Some e
     → last_of (d ∷ ds) ≡ Some e
 unfolding last_of

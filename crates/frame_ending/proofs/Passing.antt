@@ -30,15 +30,7 @@ module _ {R : Type 0} (proto : LineRules R) where
   rules = proto.rules
 
   abbrev pub passed_over : BurstCut R → ℕ → BurstCut R
-  passed_over v t = record {
-    taken = t;
-    quiet = 0;
-    start = v.start;
-    last_live = v.last_live;
-    extra = true;
-    paused = v.paused;
-    rules = v.rules;
-  }
+  passed_over v t = record v { taken = t; quiet = 0; extra = true }
 
   -- These bytes aren't live, and the value has taken t ticks after them.
   pub record PassesOver (v : BurstCut R) (line : List Tick) (x : List ℕ) : Type 0 where
@@ -100,24 +92,8 @@ module _ {R : Type 0} (proto : LineRules R) where
 
   pub stands-waited : (v : BurstCut R) (line : List Tick) (w n t : ℕ) → w ≤ n
       → StandsFor proto v (line ++ silent w) → 4 ≤ v.quiet → v.taken + (n - w) ≡ t
-      → StandsFor proto (record {
-        taken = t;
-        quiet = v.quiet;
-        start = v.start;
-        last_live = v.last_live;
-        extra = v.extra;
-        paused = v.paused;
-        rules = v.rules;
-      }) (line ++ silent n)
+      → StandsFor proto (record v { taken = t }) (line ++ silent n)
   stands-waited v line w n t less old quiet is =
-      let P : List Tick → Type 0 = λ l. StandsFor proto (record {
-        taken = t;
-        quiet = v.quiet;
-        start = v.start;
-        last_live = v.last_live;
-        extra = v.extra;
-        paused = v.paused;
-        rules = v.rules;
-      }) l in
+      let P : List Tick → Type 0 = λ l. StandsFor proto (record v { taken = t }) l in
       subst P (silence-joined line w n less)
       (stands-silence proto (n - w) v (line ++ silent w) t old quiet is)

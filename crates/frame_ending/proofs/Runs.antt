@@ -125,15 +125,7 @@ module _ {R : Type 0} (proto : LineRules R) where
   -- ---- live bytes
 
   abbrev after_bytes : BurstCut (List ℕ) → List ℕ → ℕ → ℕ → BurstCut (List ℕ)
-  after_bytes v x t l = record {
-    taken = t;
-    quiet = 0;
-    start = v.start;
-    last_live = l;
-    extra = v.extra;
-    paused = v.paused;
-    rules = v.rules ++ x;
-  }
+  after_bytes v x t l = record v { taken = t; quiet = 0; last_live = l; rules = v.rules ++ x }
 
   -- These bytes are live, and the value has taken t ticks after them, the last of them at tick l.
   record GoesOn (v : BurstCut (List ℕ)) (line : List Tick) (x : List ℕ) : Type 0 where
@@ -204,13 +196,10 @@ module _ {R : Type 0} (proto : LineRules R) where
           let end : v.taken ≡ l = omega arith in
           subst P at (subst Q end next)
       more (d ∷ x) t l is last next rest =
-          let P : List ℕ → Type 0 = λ y. StandsFor listed (record {
+          let P : List ℕ → Type 0 = λ y. StandsFor listed (record v {
             taken = t;
             quiet = 0;
-            start = v.start;
             last_live = l;
-            extra = v.extra;
-            paused = v.paused;
             rules = y;
           }) ((line ++ Byte b ∷ []) ++ map Byte (d ∷ x)) in
           let Q : List Tick → Type 0 = λ z. StandsFor listed (after_bytes v (b ∷ d ∷ x) t l) z in
@@ -220,15 +209,7 @@ module _ {R : Type 0} (proto : LineRules R) where
 
   -- The value after a run of live bytes, whose rules have taken them.
   abbrev went_on : BurstCut R → R → ℕ → ℕ → BurstCut R
-  went_on v r t l = record {
-    taken = t;
-    quiet = 0;
-    start = v.start;
-    last_live = l;
-    extra = v.extra;
-    paused = v.paused;
-    rules = r;
-  }
+  went_on v r t l = record v { taken = t; quiet = 0; last_live = l; rules = r }
 
   module _ (v : BurstCut R) (r : R) (part : List ℕ) (taken : ℕ) (quiet : v.quiet < 4)
       (open' : v.paused ≡ false) (within : taken ≤ length part)
@@ -280,15 +261,7 @@ module _ {R : Type 0} (proto : LineRules R) where
   -- ---- silence
 
   abbrev after_silence : BurstCut R → ℕ → BurstCut R
-  after_silence v t = record {
-    taken = t;
-    quiet = v.quiet;
-    start = v.start;
-    last_live = v.last_live;
-    extra = v.extra;
-    paused = v.paused;
-    rules = v.rules;
-  }
+  after_silence v t = record v { taken = t }
 
   pub stands-silence : (n : ℕ) (v : BurstCut R) (line : List Tick) (t : ℕ)
       → StandsFor proto v line → 4 ≤ v.quiet → v.taken + n ≡ t

@@ -1,9 +1,22 @@
--- What a flush of both sinks leaves of them.
-use Rattle.std.proofs.Common.{◌≡◌, ◌⊎◌, inl, inr, subst, sym}
+-- A command that ends by a flush of both sinks, or by a write that failed: what it leaves of them,
+-- and the causes of its status where neither key nor disk was reached.
+use Rattle.std.proofs.Common.{◌≡◌, ◌⊎◌, ℕ, List, [], Option, inl, inr, refl, subst, sym}
+use Rattle.std.proofs.Common.{append-nil, arith}
+use Rattle.std.specs.Io.KnownBytes.{append_known}
+use Rattle.yasir_ticks.specs.declared.tick.Tick.{Tick}
+use Rattle.yasir_io.specs.Disks.{Slots}
+use Rattle.yasir_io.specs.Output.{GotPrefix}
 use Rattle.yasir_io.specs.declared.sink.Sink.{Ghosts as Sink}
+use Rattle.sequence_journal.specs.declared.link.LinkId.{LinkId}
+use Rattle.device_model.specs.Frames.{FrameRead}
+use Rattle.device_replay.specs.PrintsFrames.{PrintsFrames}
+use Rattle.replay_status.specs.Causes.{InputCause, ReadsCause, DiskCause}
 use Rattle.replay_status.specs.declared.status.Status.{Status}
-use Rattle.replay_status.specs.declared.status.Status.TheVariants.{Done, WriteFault}
-use Rattle.link_replay.specs.InitCommand.{LeavesSinks}
+use Rattle.replay_status.specs.declared.status.Status.TheVariants.{Done, ReadFault, WriteFault}
+use Rattle.replay_status.specs.declared.status.Status.TheVariants.{JournalFault}
+use Rattle.trial_session.specs.TrialLine.{PrintsLine}
+use Rattle.link_replay.specs.InitCommand.{LeavesSinks, MakesJournal, IsNewJournal}
+use Rattle.link_replay.specs.VectorsCommand.{PrintsTables, table_lines}
 
 module _ {O L : Type 0} (o : Sink O) (l : Sink L) (out_before out_now : O)
     (log_before log_now : L) where
@@ -14,3 +27,72 @@ module _ {O L : Type 0} (o : Sink O) (l : Sink L) (out_before out_now : O)
       subst (LeavesSinks o l out_before out_now log_before log_now) (sym done) (out, log)
   flush-leaves status (inr fault) out log =
       subst (LeavesSinks o l out_before out_now log_before log_now) (sym fault) (out, log)
+
+pub journal-made : (link : LinkId) (old new : Option Slots) (may_old may_new : Slots → Type 0)
+    (status : Status) → (status ≡ Done) ⊎ (status ≡ WriteFault)
+    → IsNewJournal link old new may_new → MakesJournal link old new may_old may_new status
+journal-made link old new may_old may_new status (inl done) made =
+    subst (MakesJournal link old new may_old may_new) (sym done) made
+journal-made link old new may_old may_new status (inr fault) made =
+    subst (MakesJournal link old new may_old may_new) (sym fault) made
+
+-- a text that was written whole
+got-whole : (before now : Option (List ℕ)) (text : List ℕ) → now ≡ append_known before text
+    → GotPrefix before now text
+got-whole before now text is =
+    record { front = text; rest = []; got = is; all = sym (append-nil text) }
+
+pub line-printed : (before now : Option (List ℕ)) (line : List ℕ) (status : Status)
+    → (status ≡ Done) ⊎ (status ≡ WriteFault) → now ≡ append_known before line
+    → PrintsLine before now line status
+line-printed before now line status (inl done) is =
+    subst (PrintsLine before now line) (sym done) is
+line-printed before now line status (inr fault) is =
+    subst (PrintsLine before now line) (sym fault) (got-whole before now line is)
+
+pub tables-printed : (before now : Option (List ℕ)) (status : Status)
+    → (status ≡ Done) ⊎ (status ≡ WriteFault) → now ≡ append_known before table_lines
+    → PrintsTables before now status
+tables-printed before now status (inl done) is = subst (PrintsTables before now) (sym done) is
+tables-printed before now status (inr fault) is =
+    subst (PrintsTables before now) (sym fault) (got-whole before now table_lines is)
+
+-- where neither key nor input was read, no cause is one of theirs
+pub reads-unread : (key input : ℕ) (status : Status) → (status ≡ Done) ⊎ (status ≡ WriteFault)
+    → ReadsCause key key input input status
+reads-unread key input status (inl done) =
+    subst (ReadsCause key key input input) (sym done) (refl, refl)
+reads-unread key input status (inr fault) =
+    subst (ReadsCause key key input input) (sym fault) (refl, omega arith)
+
+input-unread : (input : ℕ) (status : Status) → (status ≡ Done) ⊎ (status ≡ WriteFault)
+    → InputCause input input status
+input-unread input status (inl done) = subst (InputCause input input) (sym done) refl
+input-unread input status (inr fault) = subst (InputCause input input) (sym fault) (omega arith)
+
+disk-same : (before now : ℕ) (status : Status) → (status ≡ Done) ⊎ (status ≡ WriteFault)
+    → now ≡ before → DiskCause before now status
+disk-same before now status (inl done) same = subst (DiskCause before now) (sym done) same
+disk-same before now status (inr fault) same = subst (DiskCause before now) (sym fault) same
+
+-- the causes of a command's own where no input was read, and no call on the disk failed
+pub own-unread : (input before now : ℕ) (status : Status)
+    → (status ≡ Done) ⊎ (status ≡ WriteFault) → now ≡ before
+    → InputCause input input status × DiskCause before now status
+own-unread input before now status ends same =
+    (input-unread input status ends, disk-same before now status ends same)
+
+-- a command that reads its input, and not its key
+pub reads-input : (key before now : ℕ) (status : Status) → InputCause before now status
+    → ReadsCause key key before now status
+reads-input key before now ReadFault h = (inr h.0, omega arith, h.1)
+reads-input key before now WriteFault h = (refl, h)
+reads-input key before now status h = (refl, h)
+
+-- a command that prints frames has no cause of the disk
+pub disk-of-frames : (reads : List Tick → List FrameRead)
+    (left_before left_now out_before out_now : Option (List ℕ)) (disk : ℕ) (status : Status)
+    → PrintsFrames reads left_before left_now out_before out_now status
+    → DiskCause disk disk status
+disk-of-frames reads left_before left_now out_before out_now disk JournalFault h = absurd h
+disk-of-frames reads left_before left_now out_before out_now disk status h = refl

@@ -92,13 +92,15 @@ module _ {K S O L D : Type 0} (k : Source K) (s : Source S) (o : Sink O) (l : Si
       → IsNotFlushed l noted after.log
       → HasCauses k s o l d asked before after status
   causes_after asked before after noted status h rises same not_flushed = record {
-    reads = h.reads;
-    sinks = sinks_after (o.faults before.out) (o.faults after.out) (l.faults before.log)
-        (l.faults noted) (l.faults after.log) status h.sinks rises
-        (λ empty. ap l.faults (same empty));
+    streams = record {
+      reads = h.streams.reads;
+      sinks = sinks_after (o.faults before.out) (o.faults after.out) (l.faults before.log)
+          (l.faults noted) (l.faults after.log) status h.streams.sinks rises
+          (λ empty. ap l.faults (same empty));
+      flushes = flushes_after o l before.out after.out before.log noted after.log status
+          h.streams.flushes same not_flushed;
+    };
     own = own-after asked before after noted status h.own;
-    flushes = flushes_after o l before.out after.out before.log noted after.log status h.flushes
-        same not_flushed;
   }
 
   -- no count had risen before the fault line
@@ -120,23 +122,23 @@ module _ {K S O L D : Type 0} (k : Source K) (s : Source S) (o : Sink O) (l : Si
       → EndsWell asked status
   asked_done None before after status may calm does causes = absurd may
   asked_done (Some (Init proto profile dir)) before after status may calm does causes =
-      journal_done _ _ _ _ _ _ _ _ _ _ calm _ _ _ _ _ status may does.journal causes.sinks
+      journal_done _ _ _ _ _ _ _ _ _ _ calm _ _ _ _ _ status may does.journal causes.streams.sinks
       causes.own.1
   asked_done (Some (Read proto)) before after status may calm does causes =
       readable_done (device_reads proto) _ _ _ _ _ _ _ _ _ _ _ _ _ _ may calm status
-      does.frames causes.own.0 causes.sinks
+      does.frames causes.own.0 causes.streams.sinks
   asked_done (Some Vectors) before after status may calm does causes =
-      tables_done _ _ _ _ _ _ _ _ _ _ calm _ _ status does.tables causes.sinks
+      tables_done _ _ _ _ _ _ _ _ _ _ calm _ _ status does.tables causes.streams.sinks
   asked_done (Some (Seal proto profile dir)) before after status may calm does causes =
       replayable_done k s o l d (seal_boxed proto profile) (link_of proto profile dir)
       (link-right proto profile dir) dir (seal_rest profile) before after may calm status does
-      causes.reads causes.own causes.sinks
+      causes.streams.reads causes.own causes.streams.sinks
   asked_done (Some (Check proto profile dir)) before after status may calm does causes =
       replayable_done k s o l d (check_boxed proto profile) (link_of proto profile dir)
       (link-right proto profile dir) dir check_rest before after may calm status
-      does causes.reads causes.own causes.sinks
+      does causes.streams.reads causes.own causes.streams.sinks
   asked_done (Some (Trial proto profile seed count)) before after status may calm does causes =
-      line_done _ _ _ _ _ _ _ _ _ _ calm _ _ _ status does.line causes.sinks
+      line_done _ _ _ _ _ _ _ _ _ _ calm _ _ _ status does.line causes.streams.sinks
   asked_done (Some (Replay proto profile dir)) before after status may calm does causes =
-      listable_done k s o l d proto profile dir before after may calm status does causes.reads
-      causes.sinks
+      listable_done k s o l d proto profile dir before after may calm status does
+      causes.streams.reads causes.streams.sinks

@@ -7,9 +7,8 @@ use Rattle.yasir_io.specs.declared.disk.Slot.TheVariants.{A}
 use Rattle.yasir_io.specs.Disks.{LeavesOnly}
 use Rattle.sequence_journal.specs.Journal.{IsBut}
 use Rattle.replay_status.specs.Outside.{Outside}
-use Rattle.replay_status.specs.Causes.{InputCause, ReadsCause, SinkCause, DiskCause, LogsFault}
-use Rattle.replay_status.specs.Causes.{NoneRose}
-use Rattle.replay_status.specs.Flushes.{FlushesAtEnd}
+use Rattle.replay_status.specs.Causes.{InputCause, DiskCause, LogsFault, NoneRose}
+use Rattle.replay_status.specs.StreamCauses.{HasStreamCauses}
 use Rattle.link_replay.specs.InitCommand.{Inits, IsBlank}
 use Rattle.replay_status.specs.Readable.{IsReadable}
 use Rattle.link_replay.specs.ReadCommand.{Reads}
@@ -108,9 +107,5 @@ module _ {K S O L D : Type 0} (k : Source K) (s : Source S) (o : Sink O) (l : Si
   -- flushed on the way to Done, once each, behind all that was written, and nowhere else.
   pub record HasCauses (asked : Option Command) (before after : Outside K S O L D)
       (status : Status) : Type 0 where
-    pub reads : ReadsCause (k.faults before.key) (k.faults after.key)
-        (s.faults before.input) (s.faults after.input) status
-    pub sinks : SinkCause (o.faults before.out) (o.faults after.out)
-        (l.faults before.log) (l.faults after.log) status
+    pub streams : HasStreamCauses k s o l before after status
     pub own : HasOwnCauses asked before after status
-    pub flushes : FlushesAtEnd o l before.out after.out before.log after.log status

@@ -1,5 +1,6 @@
 ghost use Rattle.std.specs.Prelude.{◌≡◌, ◌↔◌, Option, Some, None, map};
 ghost use Rattle.std.specs.String.{string_bytes};
+ghost use Rattle.replay_status.specs.Ends.{outside_before, outside_after};
 ghost use Rattle.replay_status.specs.Outside.{outside};
 ghost use Rattle.link_replay.specs.declared.words.Command.{Command};
 ghost use Rattle.link_replay.specs.Words.{Asks};
@@ -14,7 +15,7 @@ use crate::commands::seal::seal;
 use crate::commands::tables::print_tables;
 use crate::commands::trial::try_link;
 use crate::{Command, read_words};
-use replay_status::{Status, write_fault};
+use replay_status::{Ends, Status, write_fault};
 use std::alloc::Global;
 use yasir_io::{Sink, SlotDisk, Source};
 
@@ -22,36 +23,25 @@ use yasir_io::{Sink, SlotDisk, Source};
 fn perform<K: Source, S: Source, O: Sink, L: Sink, D: SlotDisk>(
     alloc: Global,
     command: Command,
-    key: &mut K,
-    input: &mut S,
-    out: &mut O,
-    log: &mut L,
-    disk: &mut D,
+    ends: Ends<K, S, O, L, D>,
 ) -> Status
     ensures used { result ≡ Status.Usage → ⊥ }
     ensures does { Does K.Source S.Source O.Sink L.Sink D.SlotDisk (Some command)
-        (outside key.old input.old out.old log.old disk.old)
-        (outside key.new input.new out.new log.new disk.new) result }
-    ensures any_moment { KeepsDisk D.SlotDisk (Some command) disk.old disk.new }
+        (outside_before ends.entry) (outside_after ends.exit) result }
+    ensures any_moment { KeepsDisk D.SlotDisk (Some command) ends.entry.disk.now
+        (outside_after ends.exit).disk }
     ensures causes { HasCauses K.Source S.Source O.Sink L.Sink D.SlotDisk (Some command)
-        (outside key.old input.old out.old log.old disk.old)
-        (outside key.new input.new out.new log.new disk.new) result }
+        (outside_before ends.entry) (outside_after ends.exit) result }
 {
     match command {
-        Command::Init(proto, profile, dir) => make_journal(proto, profile, dir, out, log, disk),
-        Command::Read(proto) => read_line(proto, input, out, log),
-        Command::Vectors => print_tables(out, log),
-        Command::Seal(proto, profile, dir) => {
-            seal(proto, profile, dir, key, input, out, log, disk)
-        }
-        Command::Check(proto, profile, dir) => {
-            check(proto, profile, dir, key, input, out, log, disk)
-        }
-        Command::Replay(proto, profile, dir) => {
-            replay(alloc, proto, profile, dir, key, input, out, log)
-        }
+        Command::Init(proto, profile, dir) => make_journal(proto, profile, dir, ends),
+        Command::Read(proto) => read_line(proto, ends),
+        Command::Vectors => print_tables(ends),
+        Command::Seal(proto, profile, dir) => seal(proto, profile, dir, ends),
+        Command::Check(proto, profile, dir) => check(proto, profile, dir, ends),
+        Command::Replay(proto, profile, dir) => replay(alloc, proto, profile, dir, ends),
         Command::Trial(proto, profile, seed, count) => {
-            try_link(proto, profile, seed, count, out, log)
+            try_link(proto, profile, seed, count, ends)
         }
     }
 }
@@ -60,23 +50,18 @@ fn perform<K: Source, S: Source, O: Sink, L: Sink, D: SlotDisk>(
 fn answer<K: Source, S: Source, O: Sink, L: Sink, D: SlotDisk>(
     alloc: Global,
     asked: Option<Command>,
-    key: &mut K,
-    input: &mut S,
-    out: &mut O,
-    log: &mut L,
-    disk: &mut D,
+    ends: Ends<K, S, O, L, D>,
 ) -> Status
     ensures usage { (result ≡ Status.Usage) ↔ (asked ≡ None) }
     ensures does { Does K.Source S.Source O.Sink L.Sink D.SlotDisk asked
-        (outside key.old input.old out.old log.old disk.old)
-        (outside key.new input.new out.new log.new disk.new) result }
-    ensures any_moment { KeepsDisk D.SlotDisk asked disk.old disk.new }
+        (outside_before ends.entry) (outside_after ends.exit) result }
+    ensures any_moment { KeepsDisk D.SlotDisk asked ends.entry.disk.now
+        (outside_after ends.exit).disk }
     ensures causes { HasCauses K.Source S.Source O.Sink L.Sink D.SlotDisk asked
-        (outside key.old input.old out.old log.old disk.old)
-        (outside key.new input.new out.new log.new disk.new) result }
+        (outside_before ends.entry) (outside_after ends.exit) result }
 {
     match asked {
-        Some(command) => perform(alloc, command, key, input, out, log, disk),
+        Some(command) => perform(alloc, command, ends),
         None => Status::Usage,
     }
 }
@@ -132,7 +117,14 @@ pub fn run<K: Source, S: Source, O: Sink, L: Sink, D: SlotDisk>(
         (outside key.new input.new out.new log.new disk.new) result }
 {
     let asked = asked_by(words);
-    let status = answer(alloc, asked, key, input, out, log, disk);
+    let ends = Ends {
+        key,
+        input,
+        out,
+        log,
+        disk,
+    };
+    let status = answer(alloc, asked, ends);
     write_fault(log, &status);
     status
 }

@@ -1,7 +1,6 @@
 -- What leaves of one burst and what leaves of the next stand as far apart as the receiver is late.
 use Rattle.std.proofs.Common.{ℕ, ◌+◌, ◌≤◌, List, [], ◌∷◌, ◌++◌, length}
-use Rattle.std.proofs.Common.{subst, arith, ⊎_elim}
-use Rattle.std.proofs.lemmas.Bool.{cases_lt}
+use Rattle.std.proofs.Common.{arith}
 use Rattle.yasir_ticks.specs.Bursts.{Burst, end_of}
 use Rattle.yasir_ticks.specs.BurstsOf.{IsContiguous}
 use Rattle.line_rules.specs.Rules.{Rules}
@@ -15,20 +14,12 @@ use Rattle.link_verdicts.specs.Verdicts.{CheckState, Verdict, checked}
 use Rattle.link_verdicts.specs.Verdicts.Verdict.{passed_with, refused, dropped}
 use Rattle.link_verdicts.specs.Emissions.{spoiled, filled_ticks, emission_by}
 use Rattle.link_verdicts.specs.Checking.{state_by, checker}
-use Rattle.link_verdicts.proofs.Judging.{IsJudged, checked-busy}
+use Rattle.link_verdicts.proofs.Judging.{IsJudged}
+use Rattle.link_verdicts.proofs.Past.{judged-late}
 use Rattle.link_verdicts.proofs.Spoiled.{contiguous-wider, spoiled-contiguous, spoiled-length}
 use Rattle.link_verdicts.proofs.Spoiled.{filled-contiguous, filled-length}
 
 module _ (profile : Profile) (rules : Rules) (lawful : IsLawful rules) where
-  -- A burst that isn't dropped starts late enough.
-  pub judged-late : (s : CheckState) (d : Burst) → IsJudged (checked profile rules s d)
-      → s.earliest_start ≤ d.start
-  judged-late s d judged =
-      ⊎_elim
-      (λ busy. absurd (subst IsJudged (checked-busy profile rules s d busy) judged))
-      (λ late. late)
-      (cases_lt d.start s.earliest_start)
-
   module _ (cut : ℕ) (some : 2 ≤ cut) (few : cut ≤ delay profile) where
     -- one emission before others that begin late enough after it
     spread-by : (s : CheckState) (d : Burst) (v : Verdict) (m : ℕ) (es : List Burst)
@@ -65,6 +56,6 @@ module _ (profile : Profile) (rules : Rules) (lawful : IsLawful rules) where
     emissions-spread s n m (d ∷ ds) spread from =
         let v : Verdict = checked profile rules s d in
         spread-by s d v m (emitted (checker profile rules) (state_by profile rules s d v) ds)
-        spread.1 (judged-late s d) from
+        spread.1 (judged-late profile rules s d) from
         (λ k within. emissions-spread (state_by profile rules s d v) (end_of d + 4) k ds spread.2
         within)

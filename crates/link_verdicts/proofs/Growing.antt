@@ -56,9 +56,9 @@ live-fewer x live k is = ap (λ l. drop 1 l) is ∙ drop-drop 1 k x
 
 -- ---- silence
 
-module _ (profile : Profile) (rules : Rules) (headed : IsHeaded rules)
-    (some : 1 ≤ trailer_len profile)
-    (m earliest : ℕ) (d : Burst) (left : List ℕ) (live : List Tick) (ends : end_of d ≤ m)
+module _ {profile : Profile} {rules : Rules} (headed : IsHeaded rules)
+    (some : 1 ≤ trailer_len profile) {m earliest : ℕ} {d : Burst} {left : List ℕ}
+    {live : List Tick} (ends : end_of d ≤ m)
     (opens : Opens profile rules m earliest d left live) where
   abbrev whole : List Tick
   whole = as_it_came profile rules d
@@ -135,9 +135,9 @@ breaks profile rules m s d late long good from near keeps = (
 
 -- ---- a byte
 
-module _ (profile : Profile) (rules : Rules) (lawful : IsLawful rules) (headed : IsHeaded rules)
-    (some : 1 ≤ trailer_len profile) (m earliest : ℕ) (d : Burst) (left : List ℕ)
-    (live : List Tick) (b : ℕ) (may : MayGoOn d m)
+module _ {profile : Profile} {rules : Rules} (lawful : IsLawful rules) (headed : IsHeaded rules)
+    (some : 1 ≤ trailer_len profile) {m earliest : ℕ} {d : Burst} {left : List ℕ}
+    {live : List Tick} (b : ℕ) (may : MayGoOn d m)
     (opens : Opens profile rules m earliest d left live) where
   abbrev e : Burst
   e = going_on d m b
@@ -234,11 +234,11 @@ module _ (profile : Profile) (rules : Rules) (lawful : IsLawful rules) (headed :
 
     pub over-left : left ++ bytes_in (take 1 live)
         ≡ bytes_in (take (m + 1 - e.start) (as_it_came profile rules e))
-    over-left = next-left profile rules headed some m earliest d left live ends opens
+    over-left = next-left headed some ends opens
         ∙ ap (λ x. bytes_in (take (m + 1 - d.start) x)) (sym over-whole)
 
     pub over-live : drop 1 live ≡ drop (m + 1 - e.start) (as_it_came profile rules e)
-    over-live = next-live profile rules headed some m earliest d left live ends opens
+    over-live = next-live headed some ends opens
         ∙ ap (λ x. drop (m + 1 - d.start) x) (sym over-whole)
 
     pub over-good : rules.is_good_header (take rules.header_len (live_bytes rules e)) ≡ true
@@ -297,7 +297,7 @@ module _ (profile : Profile) (rules : Rules) (lawful : IsLawful rules) (headed :
     open-left =
         let from = opens.from in
         let within' = open-within in
-        next-left profile rules headed some m earliest d left live ends opens
+        next-left headed some ends opens
         ∙ (ap (λ x. bytes_in x) (sym (take-append-le (m + 1 - d.start) (as_it_came profile rules d)
         (silent gap ++ Byte b ∷ []) (omega arith)))
         ∙ ap (λ x. bytes_in (take (m + 1 - d.start) x)) (sym open-whole))
@@ -309,7 +309,7 @@ module _ (profile : Profile) (rules : Rules) (lawful : IsLawful rules) (headed :
         let from = opens.from in
         let within' = open-within in
         ap (λ x. x ++ (silent gap ++ Byte b ∷ []))
-        (next-live profile rules headed some m earliest d left live ends opens)
+        (next-live headed some ends opens)
         ∙ (sym (drop-append-le (m + 1 - d.start) (as_it_came profile rules d)
         (silent gap ++ Byte b ∷ []) (omega arith))
         ∙ ap (λ x. drop (m + 1 - d.start) x) (sym open-whole))

@@ -9,7 +9,6 @@ pub mod Causality
 pub mod Spoiled
 pub mod Apart
 pub mod Passing
-pub mod Places
 pub mod Packets
 pub mod Leavings
 pub mod Flow
@@ -21,6 +20,6 @@ pub mod Growing
 pub mod Rings
 pub mod Beginning
 pub mod Numbers
-pub mod Lives
-pub mod Extras
+pub mod Trailing
+pub mod Opened
 pub mod Begun

@@ -2,10 +2,9 @@
 -- last byte alone.
 use Rattle.std.proofs.Common.{◌≡◌, ◌∙◌, ℕ, zero, suc, ◌+◌, ◌<◌, ◌≤◌, false, List, [], ◌∷◌, ◌++◌}
 use Rattle.std.proofs.Common.{length}
-use Rattle.std.proofs.Common.{take, drop, replicate, refl, sym, ap, subst, arith, append_assoc}
+use Rattle.std.proofs.Common.{replicate, refl, sym, ap, subst, arith, append_assoc}
 use Rattle.std.proofs.Common.{length-append}
 use Rattle.std.proofs.lemmas.List.{append-nil, length-replicate}
-use Rattle.std.proofs.Math.Seq.{drop-nil}
 use Rattle.yasir_ticks.specs.Ticks.{bytes_in, silent}
 use Rattle.yasir_ticks.specs.Bursts.{Burst}
 use Rattle.yasir_ticks.specs.BurstsOf.{IsContiguous, one, more}
@@ -66,28 +65,6 @@ module _ (rules : Rules) where
   unfolding spoiled
   spoiled-next h Silent u x = ap (λ y. Silent ∷ spoiled rules y (u ∷ x)) (sym (append-nil h))
   spoiled-next h (Byte b) u x = refl
-
-  no_more : (k : ℕ) (h : List ℕ) → [] ≡ spoiled rules h (drop k [])
-  no_more k h = sym (ap (λ y. spoiled rules h y) (drop-nil k) ∙ spoiled-nil h)
-
-  -- what is still to come of them, after the first ones
-  pub spoiled-drop : (k : ℕ) (h : List ℕ) (x : List Tick)
-      → drop k (spoiled rules h x) ≡ spoiled rules (h ++ bytes_in (take k x)) (drop k x)
-  spoiled-drop zero h x = ap (λ y. spoiled rules y x) (sym (append-nil h))
-  spoiled-drop (suc k) h [] = ap (λ y. drop (suc k) y) (spoiled-nil h)
-      ∙ sym (spoiled-nil (h ++ bytes_in (take (suc k) [])))
-  spoiled-drop (suc k) h (Silent ∷ []) =
-      ap (λ y. drop (suc k) y) (spoiled-silence h)
-      ∙ (drop-nil k ∙ no_more k (h ++ bytes_in (take k [])))
-  spoiled-drop (suc k) h (Byte b ∷ []) =
-      ap (λ y. drop (suc k) y) (spoiled-last h b)
-      ∙ (drop-nil k ∙ no_more k (h ++ b ∷ bytes_in (take k [])))
-  spoiled-drop (suc k) h (t ∷ u ∷ x) =
-      ap (λ y. drop (suc k) y) (spoiled-next h t u x)
-      ∙ (spoiled-drop k (h ++ bytes_in (t ∷ [])) (u ∷ x)
-      ∙ ap (λ y. spoiled rules y (drop k (u ∷ x)))
-      (append_assoc h (bytes_in (t ∷ [])) (bytes_in (take k (u ∷ x)))
-      ∙ ap (λ y. h ++ y) (sym (bytes_in-append (t ∷ []) (take k (u ∷ x))))))
 
   -- The last byte alone differs.
   pub spoiled-ended : (h : List ℕ) (w : List Tick) (a : ℕ)

@@ -1,17 +1,17 @@
 -- The definitions of the receiver on small links of a protocol with headers: a frame is 5, its
 -- size, and bytes up to a last one of 0.
 use Rattle.std.proofs.Common.{◌≡◌, ℕ, ◌==◌, ◌&&◌, ◌-◌, nat_le, Bool, List, [], ◌∷◌, ◌++◌, length}
-use Rattle.std.proofs.Common.{map, get_or, cond, refl}
+use Rattle.std.proofs.Common.{get_or, cond, refl}
 use Rattle.yasir_ticks.specs.Ticks.{silent}
 use Rattle.yasir_ticks.specs.Bursts.{bursts_from, with_byte}
 use Rattle.yasir_ticks.specs.declared.tick.Tick.{Tick}
-use Rattle.yasir_ticks.specs.declared.tick.Tick.TheVariants.{Byte}
 use Rattle.line_rules.specs.Rules.{Rules}
 use Rattle.line_rules.specs.Spoiling.{spoil_by}
 use Rattle.frame_ending.specs.LiveBytes.{before_pause, up_to_byte}
 use Rattle.burst_walk.specs.Laid.{tick_at}
-use Rattle.burst_walk.specs.Walk.{Noted}
+use Rattle.burst_walk.proofs.Rows.{Row, row, noted_at, AreNotes, AreOthers}
 use Rattle.link_format.specs.Profile.{Profile}
+use Rattle.link_format.proofs.Worked.{on_line}
 use Rattle.link_verdicts.specs.Shapes.{kept}
 use Rattle.link_verdicts.specs.Verdicts.{verdict_of, checked}
 use Rattle.link_verdicts.specs.Emissions.{spoiled}
@@ -49,12 +49,6 @@ profile = record {
   limit = 1000;
 }
 
-abbrev on_line : List ℕ → List Tick
-on_line x = map (λ b. Byte b) x
-
-abbrev noted_at : ℕ → FullNote → Noted FullNote
-noted_at tick entry = record { tick = tick; note = entry }
-
 -- a frame of four bytes, and its packet with number 1
 abbrev FRAME : List ℕ
 FRAME = 0x05 ∷ 0x04 ∷ 0x09 ∷ 0x00 ∷ []
@@ -62,170 +56,81 @@ FRAME = 0x05 ∷ 0x04 ∷ 0x09 ∷ 0x00 ∷ []
 abbrev PACKET : List Tick
 PACKET = on_line FRAME ++ silent 3 ++ on_line (0x01 ∷ 0x40 ∷ 0x01 ∷ [])
 
--- ---- a whole packet
+-- a whole packet
+abbrev one_packet : Row FullNote
+one_packet = row 0 (PACKET ++ silent 8) (noted_at 9 (passed_note 1 0 FRAME) ∷ [])
+    (silent 7 ++ on_line FRAME ++ silent 7)
 
-abbrev one_packet : List Tick
-one_packet = PACKET ++ silent 8
+-- a wrong tag
+abbrev wrong_tag : Row FullNote
+wrong_tag = row 0 (on_line FRAME ++ silent 3 ++ on_line (0x01 ∷ 0x40 ∷ 0x00 ∷ []) ++ silent 8)
+    (noted_at 9 (refused_note 0 Tag) ∷ [])
+    (silent 7 ++ on_line (0x05 ∷ 0x04 ∷ 0x09 ∷ 0x01 ∷ []) ++ silent 7)
 
-one_packet-notes : check_notes profile rules 0 one_packet
-    ≡ noted_at 9 (passed_note 1 0 FRAME) ∷ []
+-- as many bytes as the header says that are no frame
+abbrev wrong_form : Row FullNote
+wrong_form = row 0
+    (on_line (0x05 ∷ 0x04 ∷ 0x09 ∷ 0x02 ∷ []) ++ silent 3 ++ on_line (0x01 ∷ 0x40 ∷ 0x01 ∷ [])
+    ++ silent 8) (noted_at 9 (refused_note 0 Form) ∷ [])
+    (silent 7 ++ on_line (0x05 ∷ 0x04 ∷ 0x09 ∷ 0x02 ∷ []) ++ silent 7)
+
+-- a byte more than the header says stands where the pause is to be
+abbrev one_more : Row FullNote
+one_more = row 0 (on_line (0x05 ∷ 0x04 ∷ 0x09 ∷ 0x00 ∷ 0x00 ∷ []) ++ silent 8)
+    (noted_at 4 (refused_note 0 Trailer) ∷ [])
+    (silent 7 ++ on_line (0x05 ∷ 0x04 ∷ 0x09 ∷ 0x01 ∷ []) ++ silent 2)
+
+-- a header alone: it is filled, and the last byte of the fill is spoiled
+abbrev cut_frame : Row FullNote
+cut_frame = row 0 (on_line (0x05 ∷ 0x04 ∷ []) ++ silent 12)
+    (noted_at 5 (refused_note 0 Trailer) ∷ [])
+    (silent 7 ++ on_line (0x05 ∷ 0x04 ∷ 0x00 ∷ 0x01 ∷ []) ++ silent 3)
+
+-- with silence between its bytes
+abbrev slow_cut_frame : Row FullNote
+slow_cut_frame = row 0
+    (on_line (0x05 ∷ []) ++ silent 1 ++ on_line (0x04 ∷ []) ++ silent 1 ++ on_line (0x07 ∷ [])
+    ++ silent 12) (noted_at 8 (refused_note 0 Trailer) ∷ [])
+    (silent 7 ++ on_line (0x05 ∷ []) ++ silent 1 ++ on_line (0x04 ∷ []) ++ silent 1 ++ on_line (0x07
+    ∷ 0x01 ∷ []) ++ silent 4)
+
+-- the receiver is busy until the fill has left
+abbrev busy_with_fill : Row FullNote
+busy_with_fill = row 0 (on_line (0x05 ∷ 0x04 ∷ []) ++ silent 8 ++ PACKET ++ silent 8)
+    (noted_at 5 (refused_note 0 Trailer) ∷ noted_at 10 (dropped_note 10 Busy) ∷ [])
+    (silent 7 ++ on_line (0x05 ∷ 0x04 ∷ 0x00 ∷ 0x01 ∷ []) ++ silent 17)
+
+-- and one tick later
+abbrev free_again : Row FullNote
+free_again = row 0 (on_line (0x05 ∷ 0x04 ∷ []) ++ silent 9 ++ PACKET ++ silent 8)
+    (noted_at 5 (refused_note 0 Trailer) ∷ noted_at 20 (passed_note 1 11 FRAME) ∷ [])
+    (silent 7 ++ on_line (0x05 ∷ 0x04 ∷ 0x00 ∷ 0x01 ∷ []) ++ silent 7 ++ on_line FRAME ++ silent 7)
+
+-- a header that is too short
+abbrev short_header : Row FullNote
+short_header = row 0 (on_line (0x05 ∷ []) ++ silent 12) (noted_at 2 (dropped_note 0 Head) ∷ [])
+    (silent 13)
+
+-- or is cut by two silent ticks
+abbrev parted_header : Row FullNote
+parted_header = row 0 (on_line (0x05 ∷ []) ++ silent 2 ++ on_line (0x04 ∷ []) ++ silent 12)
+    (noted_at 2 (dropped_note 0 Head) ∷ []) (silent 16)
+
+-- a bad header, and a packet that starts soon after it: a dropped burst keeps nobody busy
+abbrev bad_header : Row FullNote
+bad_header = row 0 (on_line (0x06 ∷ 0x04 ∷ 0x00 ∷ []) ++ silent 4 ++ PACKET ++ silent 8)
+    (noted_at 1 (dropped_note 0 Head) ∷ noted_at 16 (passed_note 1 7 FRAME) ∷ [])
+    (silent 14 ++ on_line FRAME ++ silent 7)
+
+abbrev rows : List (Row FullNote)
+rows =
+    one_packet ∷ wrong_tag ∷ wrong_form ∷ one_more ∷ cut_frame ∷ slow_cut_frame ∷ busy_with_fill
+    ∷ free_again ∷ short_header ∷ parted_header ∷ bad_header ∷ []
+
+notes-are : AreNotes (check_notes profile rules) rows
 unfolding bursts_from with_byte before_pause up_to_byte tick_at kept spoiled verdict_of checked
-one_packet-notes = refl
+notes-are = refl
 
-one_packet-line : received_line profile rules 0 one_packet
-    ≡ silent 7 ++ on_line FRAME ++ silent 7
+others-are : AreOthers (received_line profile rules) rows
 unfolding bursts_from with_byte before_pause up_to_byte tick_at kept spoiled verdict_of checked
-one_packet-line = refl
-
--- ---- a wrong tag
-
-abbrev wrong_tag : List Tick
-wrong_tag = on_line FRAME ++ silent 3 ++ on_line (0x01 ∷ 0x40 ∷ 0x00 ∷ []) ++ silent 8
-
-wrong_tag-notes : check_notes profile rules 0 wrong_tag
-    ≡ noted_at 9 (refused_note 0 Tag) ∷ []
-unfolding bursts_from with_byte before_pause up_to_byte tick_at kept spoiled verdict_of checked
-wrong_tag-notes = refl
-
-wrong_tag-line : received_line profile rules 0 wrong_tag
-    ≡ silent 7 ++ on_line (0x05 ∷ 0x04 ∷ 0x09 ∷ 0x01 ∷ []) ++ silent 7
-unfolding bursts_from with_byte before_pause up_to_byte tick_at kept spoiled verdict_of checked
-wrong_tag-line = refl
-
--- ---- as many bytes as the header says that are no frame
-
-abbrev wrong_form : List Tick
-wrong_form = on_line (0x05 ∷ 0x04 ∷ 0x09 ∷ 0x02 ∷ []) ++ silent 3
-    ++ on_line (0x01 ∷ 0x40 ∷ 0x01 ∷ []) ++ silent 8
-
-wrong_form-notes : check_notes profile rules 0 wrong_form
-    ≡ noted_at 9 (refused_note 0 Form) ∷ []
-unfolding bursts_from with_byte before_pause up_to_byte tick_at kept spoiled verdict_of checked
-wrong_form-notes = refl
-
-wrong_form-line : received_line profile rules 0 wrong_form
-    ≡ silent 7 ++ on_line (0x05 ∷ 0x04 ∷ 0x09 ∷ 0x02 ∷ []) ++ silent 7
-unfolding bursts_from with_byte before_pause up_to_byte tick_at kept spoiled verdict_of checked
-wrong_form-line = refl
-
--- ---- a byte more than the header says stands where the pause is to be
-
-abbrev one_more : List Tick
-one_more = on_line (0x05 ∷ 0x04 ∷ 0x09 ∷ 0x00 ∷ 0x00 ∷ []) ++ silent 8
-
-one_more-notes : check_notes profile rules 0 one_more
-    ≡ noted_at 4 (refused_note 0 Trailer) ∷ []
-unfolding bursts_from with_byte before_pause up_to_byte tick_at kept spoiled verdict_of checked
-one_more-notes = refl
-
-one_more-line : received_line profile rules 0 one_more
-    ≡ silent 7 ++ on_line (0x05 ∷ 0x04 ∷ 0x09 ∷ 0x01 ∷ []) ++ silent 2
-unfolding bursts_from with_byte before_pause up_to_byte tick_at kept spoiled verdict_of checked
-one_more-line = refl
-
--- ---- a header alone: it is filled, and the last byte of the fill is spoiled
-
-abbrev cut_frame : List Tick
-cut_frame = on_line (0x05 ∷ 0x04 ∷ []) ++ silent 12
-
-cut_frame-notes : check_notes profile rules 0 cut_frame
-    ≡ noted_at 5 (refused_note 0 Trailer) ∷ []
-unfolding bursts_from with_byte before_pause up_to_byte tick_at kept spoiled verdict_of checked
-cut_frame-notes = refl
-
-cut_frame-line : received_line profile rules 0 cut_frame
-    ≡ silent 7 ++ on_line (0x05 ∷ 0x04 ∷ 0x00 ∷ 0x01 ∷ []) ++ silent 3
-unfolding bursts_from with_byte before_pause up_to_byte tick_at kept spoiled verdict_of checked
-cut_frame-line = refl
-
--- ---- with silence between its bytes
-
-abbrev slow_cut_frame : List Tick
-slow_cut_frame = on_line (0x05 ∷ []) ++ silent 1 ++ on_line (0x04 ∷ []) ++ silent 1
-    ++ on_line (0x07 ∷ []) ++ silent 12
-
-slow_cut_frame-notes : check_notes profile rules 0 slow_cut_frame
-    ≡ noted_at 8 (refused_note 0 Trailer) ∷ []
-unfolding bursts_from with_byte before_pause up_to_byte tick_at kept spoiled verdict_of checked
-slow_cut_frame-notes = refl
-
-slow_cut_frame-line : received_line profile rules 0 slow_cut_frame
-    ≡ silent 7 ++ on_line (0x05 ∷ []) ++ silent 1 ++ on_line (0x04 ∷ []) ++ silent 1
-    ++ on_line (0x07 ∷ 0x01 ∷ []) ++ silent 4
-unfolding bursts_from with_byte before_pause up_to_byte tick_at kept spoiled verdict_of checked
-slow_cut_frame-line = refl
-
--- ---- the receiver is busy until the fill has left
-
-abbrev busy_with_fill : List Tick
-busy_with_fill = on_line (0x05 ∷ 0x04 ∷ []) ++ silent 8 ++ PACKET ++ silent 8
-
-busy_with_fill-notes : check_notes profile rules 0 busy_with_fill
-    ≡ noted_at 5 (refused_note 0 Trailer) ∷ noted_at 10 (dropped_note 10 Busy) ∷ []
-unfolding bursts_from with_byte before_pause up_to_byte tick_at kept spoiled verdict_of checked
-busy_with_fill-notes = refl
-
-busy_with_fill-line : received_line profile rules 0 busy_with_fill
-    ≡ silent 7 ++ on_line (0x05 ∷ 0x04 ∷ 0x00 ∷ 0x01 ∷ []) ++ silent 17
-unfolding bursts_from with_byte before_pause up_to_byte tick_at kept spoiled verdict_of checked
-busy_with_fill-line = refl
-
--- ---- and one tick later
-
-abbrev free_again : List Tick
-free_again = on_line (0x05 ∷ 0x04 ∷ []) ++ silent 9 ++ PACKET ++ silent 8
-
-free_again-notes : check_notes profile rules 0 free_again
-    ≡ noted_at 5 (refused_note 0 Trailer) ∷ noted_at 20 (passed_note 1 11 FRAME) ∷ []
-unfolding bursts_from with_byte before_pause up_to_byte tick_at kept spoiled verdict_of checked
-free_again-notes = refl
-
-free_again-line : received_line profile rules 0 free_again
-    ≡ silent 7 ++ on_line (0x05 ∷ 0x04 ∷ 0x00 ∷ 0x01 ∷ []) ++ silent 7 ++ on_line FRAME ++ silent 7
-unfolding bursts_from with_byte before_pause up_to_byte tick_at kept spoiled verdict_of checked
-free_again-line = refl
-
--- ---- a header that is too short
-
-abbrev short_header : List Tick
-short_header = on_line (0x05 ∷ []) ++ silent 12
-
-short_header-notes : check_notes profile rules 0 short_header
-    ≡ noted_at 2 (dropped_note 0 Head) ∷ []
-unfolding bursts_from with_byte before_pause up_to_byte tick_at kept spoiled verdict_of checked
-short_header-notes = refl
-
-short_header-line : received_line profile rules 0 short_header
-    ≡ silent 13
-unfolding bursts_from with_byte before_pause up_to_byte tick_at kept spoiled verdict_of checked
-short_header-line = refl
-
--- ---- or is cut by two silent ticks
-
-abbrev parted_header : List Tick
-parted_header = on_line (0x05 ∷ []) ++ silent 2 ++ on_line (0x04 ∷ []) ++ silent 12
-
-parted_header-notes : check_notes profile rules 0 parted_header
-    ≡ noted_at 2 (dropped_note 0 Head) ∷ []
-unfolding bursts_from with_byte before_pause up_to_byte tick_at kept spoiled verdict_of checked
-parted_header-notes = refl
-
-parted_header-line : received_line profile rules 0 parted_header
-    ≡ silent 16
-unfolding bursts_from with_byte before_pause up_to_byte tick_at kept spoiled verdict_of checked
-parted_header-line = refl
-
--- ---- a bad header, and a packet that starts soon after it: a dropped burst keeps nobody busy
-
-abbrev bad_header : List Tick
-bad_header = on_line (0x06 ∷ 0x04 ∷ 0x00 ∷ []) ++ silent 4 ++ PACKET ++ silent 8
-
-bad_header-notes : check_notes profile rules 0 bad_header
-    ≡ noted_at 1 (dropped_note 0 Head) ∷ noted_at 16 (passed_note 1 7 FRAME) ∷ []
-unfolding bursts_from with_byte before_pause up_to_byte tick_at kept spoiled verdict_of checked
-bad_header-notes = refl
-
-bad_header-line : received_line profile rules 0 bad_header
-    ≡ silent 14 ++ on_line FRAME ++ silent 7
-unfolding bursts_from with_byte before_pause up_to_byte tick_at kept spoiled verdict_of checked
-bad_header-line = refl
+others-are = refl

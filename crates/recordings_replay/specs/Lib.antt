@@ -3,3 +3,4 @@ pub mod TellsOf
 pub mod Printing
 pub mod Recorded
 pub mod Keyed
+pub mod PrintsKeyed

@@ -1,10 +1,12 @@
 -- A device that hears a run of ticks.
 use Rattle.std.proofs.Common.{◌≡◌, ◌∙◌, ℕ, List, [], ◌∷◌, ◌++◌, Some, None, Option}
 use Rattle.std.proofs.Common.{ap, sym, subst, append-nil, arith, length, map, take, min, ◌-◌, ◌≤◌}
-use Rattle.std.proofs.lemmas.List.{map-append, length-map, take_all}
+use Rattle.std.proofs.Common.{◌+◌, drop, append_assoc, length-drop}
+use Rattle.std.proofs.Math.Seq.{take-add}
+use Rattle.std.proofs.lemmas.List.{map-append, length-map, take_all, replicate-append-replicate}
 use Rattle.yasir_ticks.specs.Ticks.{silent}
 use Rattle.yasir_ticks.specs.declared.tick.Tick.{Tick}
-use Rattle.yasir_ticks.specs.declared.tick.Tick.TheVariants.{Byte}
+use Rattle.yasir_ticks.specs.declared.tick.Tick.TheVariants.{Silent, Byte}
 use Rattle.burst_walk.specs.Answered.{answered}
 use Rattle.device_model.specs.Frames.{frames_of}
 use Rattle.device_model.specs.declared.device.Device.{Ghosts as Device}
@@ -66,3 +68,27 @@ answered-heard line count (b ∷ x) heard is long =
     ap (λ n. (line ++ map Byte (take heard (b ∷ x))) ++ silent n) none
     ∙ (append-nil (line ++ map Byte (take heard (b ∷ x)))
     ∙ ap (λ l. line ++ map Byte l) (take_all heard (b ∷ x) all))
+
+-- ---- ticks in their order
+
+-- what stands behind a place of a list, as a slice has it
+pub slice_rest : (bytes : List ℕ) (i : ℕ)
+    → take (length bytes - i) (drop i bytes) ≡ drop i bytes
+slice_rest bytes i =
+    let long = length-drop i bytes in
+    take_all (length bytes - i) (drop i bytes) (omega arith)
+
+-- some bytes more
+pub bytes_on : (line : List Tick) (bytes : List ℕ) (i n : ℕ)
+    → (line ++ map Byte (take i bytes)) ++ map Byte (take n (drop i bytes))
+    ≡ line ++ map Byte (take (i + n) bytes)
+bytes_on line bytes i n =
+    append_assoc line (map Byte (take i bytes)) (map Byte (take n (drop i bytes)))
+    ∙ ap (λ l. line ++ l)
+    (sym (map-append (λ b. Byte b) (take i bytes) (take n (drop i bytes)))
+    ∙ ap (λ l. map Byte l) (sym (take-add i n bytes)))
+
+pub silent_on : (line : List Tick) (n m : ℕ)
+    → (line ++ silent n) ++ silent m ≡ line ++ silent (n + m)
+silent_on line n m = append_assoc line (silent n) (silent m)
+    ∙ ap (λ l. line ++ l) (replicate-append-replicate n m Silent)

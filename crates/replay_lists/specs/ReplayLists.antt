@@ -1,12 +1,11 @@
 -- What is kept of two recordings.
-use Rattle.std.specs.Prelude.{◌≡◌, ℕ, ◌+◌, List, [], ◌∷◌, ◌++◌, length, map, Option, ⊤}
+use Rattle.std.specs.Prelude.{◌≡◌, ℕ, ◌+◌, List, [], ◌∷◌, ◌++◌, length, map, ⊤}
 use Rattle.yasir_ticks.specs.Ticks.{Item, ticks_in}
 use Rattle.yasir_ticks.specs.declared.tick.Tick.{Tick}
 use Rattle.link_format.specs.Setup.{Setup}
 use Rattle.device_model.specs.Frames.{FrameRead}
 use Rattle.device_model.specs.declared.device.Device.{Ghosts as Device}
-use Rattle.tick_drive.specs.Consumers.{Consuming, Outputs}
-use Rattle.tick_drive.specs.declared.consumer.Stop.{Stop}
+use Rattle.tick_drive.specs.Consumers.{Consuming}
 use Rattle.tick_drive.specs.declared.consumer.Stop.TheVariants.{NoMemory}
 use Rattle.replay_lists.specs.FrameBox.{kept_frames}
 use Rattle.replay_lists.specs.FrameList.{Kept, Holds}
@@ -41,18 +40,6 @@ pub record Listens {V : Type 0} (device : Device V) (value : V) (list : FrameLis
   pub hears : device.stands value line
   pub holds : Holds list (kept_reads (device.reads line))
 
--- what the sinks held at the start, and how the boxes were set up
-pub record ReplayOrigin : Type 0 where
-  pub setup : Setup
-  pub out : Option (List ℕ)
-  pub log : Option (List ℕ)
-
--- There was no memory, and nothing was written.
-pub record StopsListing (stop : Stop) (origin : ReplayOrigin) (outputs : Outputs) : Type 0 where
-  pub why : stop ≡ NoMemory
-  pub out : outputs.out ≡ origin.out
-  pub log : outputs.log ≡ origin.log
-
 module _ {S C V : Type 0} (s : FrameBox S) (c : FrameBox C) (v : Device V) where
   -- The receiver has taken this link, and the device has heard the receiver's line.
   pub record Checks (lists : ReplayLists S C V) (setup : Setup) (link : List Tick) : Type 0 where
@@ -77,31 +64,27 @@ module _ {S C V : Type 0} (s : FrameBox S) (c : FrameBox C) (v : Device V) where
     pub checker : c.able lists.checker
     pub level : v.taken lists.device ≡ c.taken lists.checker
 
-  -- The boxes have taken these items: the ticks before the mark, and those behind it. Nothing is
-  -- written.
-  pub record ListsItems (lists : ReplayLists S C V) (origin : ReplayOrigin) (outputs : Outputs)
-      (items : List Item) : Type 0 where
-    pub listed : HasListed lists origin.setup (before_mark items) (behind_mark items)
+  -- The boxes have taken these items: the ticks before the mark, and those behind it.
+  pub record ListsItems (lists : ReplayLists S C V) (setup : Setup) (items : List Item) :
+      Type 0 where
+    pub listed : HasListed lists setup (before_mark items) (behind_mark items)
     pub marked : lists.marked ≡ has_mark items
-    pub out : outputs.out ≡ origin.out
-    pub log : outputs.log ≡ origin.log
 
   -- After these items more the boxes stand for them too, they have counted them, and they may go
   -- on.
   pub record GoesOnBy (old new : ReplayLists S C V) (more : List Item) : Type 0 where
-    pub moved : (origin : ReplayOrigin) (outputs : Outputs) (items : List Item)
-        → ListsItems old origin outputs items → ListsItems new origin outputs (items ++ more)
+    pub moved : (setup : Setup) (items : List Item) → ListsItems old setup items
+        → ListsItems new setup (items ++ more)
     pub counted : lists_taken new ≡ lists_taken old + length (ticks_in more)
     pub ready : IsReady new
 
-  -- What is said of such a consumer. It uses no disk.
-  abbrev pub listing : {D : Type 0} → Consuming (ReplayLists S C V) D
+  -- What is said of such a consumer: it stops only where there is no memory, and writes nothing.
+  abbrev pub listing : Consuming (ReplayLists S C V)
   listing = record {
-    Origin = ReplayOrigin;
+    Origin = Setup;
     stands = ListsItems;
-    stopped = λ lists stop origin outputs items. StopsListing stop origin outputs;
+    stopped = λ lists stop setup items. stop ≡ NoMemory;
     taken = lists_taken;
-    able = λ lists disk. IsReady lists;
-    kept = λ lists disk. ⊤;
-    safe = λ lists image. ⊤;
+    able = IsReady;
+    went = λ old new result. ⊤;
   }

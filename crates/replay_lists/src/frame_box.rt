@@ -9,12 +9,9 @@ ghost use Rattle.link_format.specs.Setup.{Setup, setup_of};
 ghost use Rattle.replay_lists.specs.FrameBox.{Numbering, AnswersFrame, AnswersFrameRun};
 ghost use Rattle.replay_lists.specs.FrameList.{longest_frame};
 
-use arrayvec::ArrayVec;
+use burst_walk::RunBytes;
 use hmac_tag::Dir;
 use yasir_ticks::{MAX_TICKS, Tick};
-
-/// The bytes that a box answers to a run of ticks.
-pub type RunBytes = ArrayVec<u8, 64>;
 
 /// The number of a frame that falls into a step, and the tick of its first byte.
 #[derive(Clone, Copy, Debug, PartialEq, Eq)]

@@ -9,7 +9,8 @@ mod hearing;
 mod recordings;
 mod replay_lists;
 
-pub use frame_box::{FrameBox, FrameStep, Numbered, RunBytes};
+pub use burst_walk::RunBytes;
+pub use frame_box::{FrameBox, FrameStep, Numbered};
 pub use frame_list::{FrameList, NoMemory};
 pub use recordings::list_recordings;
 pub use replay_lists::ReplayLists;

@@ -8,7 +8,7 @@ use crate::frame_list::NoMemory;
 use crate::replay_lists::ReplayLists;
 use device_model::Device;
 use tick_drive::{End, Stop, drive_to_rest};
-use yasir_io::{Sink, Source, SteadySlots};
+use yasir_io::{Sink, Source};
 
 /// How many silent ticks stand behind the recording behind the mark, so that what passes is sent
 /// and read.
@@ -34,8 +34,7 @@ pub fn list_recordings<S: FrameBox, C: FrameBox, V: Device + Drop, I: Source, O:
     ensures log_faults { L.faults log.new ≡ L.faults log.old }
     ensures flushes { NoneFlushed O.Sink L.Sink out.old out.new log.old log.new }
 {
-    let mut no_disk = SteadySlots::new([0; 24], [0; 24]);
-    match drive_to_rest(1, LINK_REST, input, lists, out, log, &mut no_disk) {
+    match drive_to_rest(1, LINK_REST, input, lists) {
         End::Whole => {}
         end => return end,
     }

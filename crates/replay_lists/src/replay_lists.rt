@@ -1,22 +1,25 @@
 ghost use Rattle.std.specs.Prelude.{◌≡◌, ℕ, ◌+◌, ◌<◌, ◌≤◌, List, [], ◌∷◌, ◌++◌, IfOk, OnOk, false};
+ghost use Rattle.std.specs.Prelude.{length, take};
 ghost use Rattle.yasir_ticks.specs.declared.tick.Tick.{Tick};
 ghost use Rattle.yasir_ticks.specs.Ticks.{silent};
+ghost use Rattle.yasir_ticks.specs.TickRun.{run_ticks};
+ghost use Rattle.burst_walk.specs.Answered.{answered};
 ghost use Rattle.link_format.specs.Setup.{Setup, setup_of};
 ghost use Rattle.device_model.specs.declared.device.Device.{Ghosts as Device};
-ghost use Rattle.replay_lists.specs.FrameBox.{kept_frames};
+ghost use Rattle.replay_lists.specs.FrameBox.{AnswersFrameRun, kept_frames};
 ghost use Rattle.replay_lists.specs.FrameList.{Kept, Holds};
 ghost use Rattle.replay_lists.specs.ReplayLists.{KeepsFrames, Listens, StepsInto};
 ghost use Rattle.replay_lists.specs.declared.frame_box.Numbered.{Numbered};
 
-use crate::frame_box::{FrameBox, Numbered, RunBytes};
+use crate::frame_box::{FrameBox, Numbered};
 use crate::frame_list::{FrameList, NoMemory};
 use crate::hearing::hear_answered;
+use burst_walk::RunBytes;
 use device_model::Device;
 use hmac_tag::Dir;
 use std::alloc::Global;
 use tick_drive::{Consumer, Stop};
-use yasir_io::{Sink, SlotDisk};
-use yasir_ticks::{MAX_TICKS, Tick};
+use yasir_ticks::{MAX_TICKS, Tick, TickRun};
 
 #[cfg(test)]
 mod turn_tests;
@@ -43,6 +46,27 @@ fn step_into<B: FrameBox>(
             Ok(()) => Ok(step.tick),
             Err(NoMemory) => Err(NoMemory),
         },
+    }
+}
+
+// A box takes the first ticks of this run at once. Answers how many, and puts the bytes of the
+// answer into `left`, or none for silence.
+#[inline]
+fn pass_run<B: FrameBox>(line_box: &mut B, run: TickRun<'_>, left: &mut RunBytes) -> usize
+    requires room { B.taken line_box.old + length (run_ticks run) ≤ MAX_TICKS }
+    requires able { B.able line_box.old }
+    ensures within { result ≤ length (run_ticks run.entry) }
+    ensures taken { B.taken line_box.new ≡ B.taken line_box.old + result }
+    ensures able { B.able line_box.new }
+    ensures stands { (setup : Setup) (line : List Tick) → B.stands line_box.old setup line
+        → B.stands line_box.new setup (line ++ take result (run_ticks run.entry)) }
+    ensures answers { (setup : Setup) (line : List Tick) → B.stands line_box.old setup line
+        → AnswersFrameRun (B.numbering setup) line (take result (run_ticks run.entry))
+        (answered result left.new.items) }
+{
+    match run {
+        TickRun::Bytes(bytes) => line_box.pass_bytes(bytes, left),
+        TickRun::Silence(ticks) => line_box.pass_silence(ticks, left) as usize,
     }
 }
 
@@ -79,9 +103,8 @@ pub struct ReplayLists<S, C, V> {
 }
 
 impl<S: FrameBox, C: FrameBox, V: Device + Drop> ReplayLists<S, C, V> {
-    ghost use Rattle.std.specs.Prelude.{length, map, take};
-    ghost use Rattle.yasir_ticks.specs.declared.tick.Tick.TheVariants.{Byte};
-    ghost use Rattle.tick_drive.specs.Items.{byte_items, silent_items};
+    ghost use Rattle.yasir_ticks.specs.Ticks.Item.{tick as tick_item};
+    ghost use Rattle.yasir_ticks.specs.TickRun.{run_items};
     ghost use Rattle.replay_lists.specs.ReplayLists.{Checks, HasListed, IsReady, lists_taken};
     ghost use Rattle.replay_lists.specs.ReplayLists.{GoesOnBy};
     ghost use Rattle.replay_lists.specs.Listed.{MayList};
@@ -152,12 +175,12 @@ impl<S: FrameBox, C: FrameBox, V: Device + Drop> ReplayLists<S, C, V> {
         hear_into(&mut self.device, &mut self.read, received)
     }
 
-    // Gives the first of these bytes to the transmitter as a run, and answers how many.
+    // Gives the first ticks of this run to the transmitter at once, and answers how many.
     #[inline]
-    fn seal_bytes(&mut self, bytes: &[u8]) -> usize
-        requires room { S.taken self.old.sealer + length bytes.now ≤ MAX_TICKS }
+    fn seal_run(&mut self, run: TickRun<'_>) -> usize
+        requires room { S.taken self.old.sealer + length (run_ticks run) ≤ MAX_TICKS }
         requires able { S.able self.old.sealer }
-        ensures within { result ≤ length bytes.now }
+        ensures within { result ≤ length (run_ticks run.entry) }
         ensures able { S.able self.new.sealer }
         ensures others { self.new ≡ record self.old {
           sealer = self.new.sealer;
@@ -167,40 +190,19 @@ impl<S: FrameBox, C: FrameBox, V: Device + Drop> ReplayLists<S, C, V> {
         ensures ok { (setup : Setup) (line : List Tick)
             → KeepsFrames S.FrameBox self.old.sealer self.old.sealed setup line
             → KeepsFrames S.FrameBox self.new.sealer self.new.sealed setup
-            (line ++ map Byte (take result bytes.now)) }
+            (line ++ take result (run_ticks run.entry)) }
     {
         let mut left = RunBytes::new();
-        self.sealer.pass_bytes(bytes, &mut left)
+        pass_run(&mut self.sealer, run, &mut left)
     }
 
-    // The same of silence.
-    #[inline]
-    fn seal_silence(&mut self, ticks: u32) -> u32
-        requires room { S.taken self.old.sealer + ticks ≤ MAX_TICKS }
-        requires able { S.able self.old.sealer }
-        ensures within { result ≤ ticks }
-        ensures able { S.able self.new.sealer }
-        ensures others { self.new ≡ record self.old {
-          sealer = self.new.sealer;
-          sealed = self.new.sealed;
-        } }
-        ensures taken { S.taken self.new.sealer ≡ S.taken self.old.sealer + result }
-        ensures ok { (setup : Setup) (line : List Tick)
-            → KeepsFrames S.FrameBox self.old.sealer self.old.sealed setup line
-            → KeepsFrames S.FrameBox self.new.sealer self.new.sealed setup
-            (line ++ silent result) }
-    {
-        let mut left = RunBytes::new();
-        self.sealer.pass_silence(ticks, &mut left)
-    }
-
-    // Gives the first of these bytes to the receiver as a run, and what it answers to the device.
+    // Gives the first ticks of this run to the receiver at once, and what it answers to the device.
     // Answers how many.
     #[inline]
-    fn check_bytes(&mut self, bytes: &[u8]) -> Result<usize, NoMemory>
-        requires room { C.taken self.old.checker + length bytes.now ≤ MAX_TICKS }
+    fn check_run(&mut self, run: TickRun<'_>) -> Result<usize, NoMemory>
+        requires room { C.taken self.old.checker + length (run_ticks run) ≤ MAX_TICKS }
         requires ready { IsReady S.FrameBox C.FrameBox V.Device self.old }
-        ensures within { IfOk result (λ n. n ≤ length bytes.now) }
+        ensures within { IfOk result (λ n. n ≤ length (run_ticks run.entry)) }
         ensures others { self.new ≡ record self.old {
           checker = self.new.checker;
           device = self.new.device;
@@ -213,83 +215,53 @@ impl<S: FrameBox, C: FrameBox, V: Device + Drop> ReplayLists<S, C, V> {
         ensures ok { IfOk result (λ n. (setup : Setup) (link : List Tick)
             → Checks S.FrameBox C.FrameBox V.Device self.old setup link
             → Checks S.FrameBox C.FrameBox V.Device self.new setup
-            (link ++ map Byte (take n bytes.now))) }
+            (link ++ take n (run_ticks run.entry))) }
     {
         let mut left = RunBytes::new();
-        let count = self.checker.pass_bytes(bytes, &mut left);
+        let count = pass_run(&mut self.checker, run, &mut left);
         match hear_answered(&mut self.device, &mut self.read, count, left.as_slice()) {
             Ok(()) => Ok(count),
             Err(NoMemory) => Err(NoMemory),
         }
     }
 
-    // The same of silence.
+    // Takes the first ticks of this run at once, and answers how many.
     #[inline]
-    fn check_silence(&mut self, ticks: u32) -> Result<u32, NoMemory>
-        requires room { C.taken self.old.checker + ticks ≤ MAX_TICKS }
+    fn take_front(&mut self, run: TickRun<'_>) -> Result<usize, NoMemory>
+        requires room { lists_taken S.FrameBox C.FrameBox V.Device self.old
+            + length (run_ticks run) ≤ MAX_TICKS }
         requires ready { IsReady S.FrameBox C.FrameBox V.Device self.old }
-        ensures within { IfOk result (λ n. n ≤ ticks) }
-        ensures others { self.new ≡ record self.old {
-          checker = self.new.checker;
-          device = self.new.device;
-          passed = self.new.passed;
-          read = self.new.read;
-        } }
-        ensures taken { IfOk result (λ n.
-            C.taken self.new.checker ≡ C.taken self.old.checker + n) }
-        ensures ready { OnOk result (IsReady S.FrameBox C.FrameBox V.Device self.new) }
-        ensures ok { IfOk result (λ n. (setup : Setup) (link : List Tick)
-            → Checks S.FrameBox C.FrameBox V.Device self.old setup link
-            → Checks S.FrameBox C.FrameBox V.Device self.new setup (link ++ silent n)) }
-    {
-        let mut left = RunBytes::new();
-        let count = self.checker.pass_silence(ticks, &mut left);
-        match hear_answered(
-            &mut self.device,
-            &mut self.read,
-            count as usize,
-            left.as_slice(),
-        ) {
-            Ok(()) => Ok(count),
-            Err(NoMemory) => Err(NoMemory),
-        }
-    }
-
-    // Takes the first of these bytes as a run, and answers how many.
-    #[inline]
-    fn run_bytes(&mut self, bytes: &[u8]) -> Result<usize, NoMemory>
-        requires room { lists_taken S.FrameBox C.FrameBox V.Device self.old + length bytes.now
-            ≤ MAX_TICKS }
-        requires ready { IsReady S.FrameBox C.FrameBox V.Device self.old }
-        ensures within { IfOk result (λ n. n ≤ length bytes.now) }
+        ensures within { IfOk result (λ n. n ≤ length (run_ticks run.entry)) }
         ensures goes { IfOk result (λ n. GoesOnBy S.FrameBox C.FrameBox V.Device self.old self.new
-            (byte_items (take n bytes.now))) }
+            (take n (run_items run.entry))) }
     {
         if !self.marked {
-            return Ok(self.seal_bytes(bytes));
+            return Ok(self.seal_run(run));
         }
-        match self.check_bytes(bytes) {
+        match self.check_run(run) {
             Ok(count) => Ok(count),
             Err(NoMemory) => Err(NoMemory),
         }
     }
 
-    // The same of silence.
+    // Takes one tick.
     #[inline]
-    fn run_silence(&mut self, ticks: u32) -> Result<u32, NoMemory>
-        requires room { lists_taken S.FrameBox C.FrameBox V.Device self.old + ticks
-            ≤ MAX_TICKS }
+    fn take_tick(&mut self, tick: Tick) -> Result<(), NoMemory>
+        requires room { lists_taken S.FrameBox C.FrameBox V.Device self.old < MAX_TICKS }
         requires ready { IsReady S.FrameBox C.FrameBox V.Device self.old }
-        ensures within { IfOk result (λ n. n ≤ ticks) }
-        ensures goes { IfOk result (λ n. GoesOnBy S.FrameBox C.FrameBox V.Device self.old self.new
-            (silent_items n)) }
+        ensures { OnOk result (GoesOnBy S.FrameBox C.FrameBox V.Device self.old self.new
+            (tick_item tick ∷ [])) }
     {
-        if !self.marked {
-            return Ok(self.seal_silence(ticks));
-        }
-        match self.check_silence(ticks) {
-            Ok(count) => Ok(count),
-            Err(NoMemory) => Err(NoMemory),
+        if self.marked {
+            match self.check(tick) {
+                Ok(()) => Ok(()),
+                Err(NoMemory) => Err(NoMemory),
+            }
+        } else {
+            match self.seal(tick) {
+                Ok(()) => Ok(()),
+                Err(NoMemory) => Err(NoMemory),
+            }
         }
     }
 
@@ -338,89 +310,34 @@ impl<S: FrameBox, C: FrameBox, V: Device + Drop> ReplayLists<S, C, V> {
     }
 }
 
-impl<S: FrameBox, C: FrameBox, V: Device + Drop, O: Sink, L: Sink, D: SlotDisk> Consumer<O, L, D>
-    for ReplayLists<S, C, V> {
+impl<S: FrameBox, C: FrameBox, V: Device + Drop> Consumer for ReplayLists<S, C, V> {
     ghost use Rattle.replay_lists.specs.ReplayLists.{listing};
 
     ghost meaning = { listing S.FrameBox C.FrameBox V.Device };
 
-    fn take_tick(
-        &mut self,
-        _out: &mut O,
-        _log: &mut L,
-        _disk: &mut D,
-        tick: Tick,
-    ) -> Result<(), Stop> {
-        if self.marked {
-            match self.check(tick) {
-                Ok(()) => Ok(()),
-                Err(NoMemory) => Err(Stop::NoMemory),
-            }
-        } else {
-            match self.seal(tick) {
-                Ok(()) => Ok(()),
-                Err(NoMemory) => Err(Stop::NoMemory),
-            }
+    // The first ticks go at once where the box has an answer to them, and else one goes alone.
+    #[inline]
+    fn take_some(&mut self, run: TickRun<'_>) -> Result<usize, Stop> {
+        let count = match self.take_front(run) {
+            Ok(count) => count,
+            Err(NoMemory) => return Err(Stop::NoMemory),
+        };
+        if count > 0 {
+            return Ok(count);
+        }
+        let first = run.first();
+        match self.take_tick(first) {
+            Ok(()) => Ok(1),
+            Err(NoMemory) => Err(Stop::NoMemory),
         }
     }
 
-    // The first of the bytes go as a run where the box has an answer to one, and else one goes
-    // alone.
-    fn take_bytes(
-        &mut self,
-        out: &mut O,
-        log: &mut L,
-        disk: &mut D,
-        bytes: &[u8],
-    ) -> Result<(), Stop> {
-        let mut taken = 0;
-        while taken < bytes.len() {
-            let count = match self.run_bytes(&bytes[taken..]) {
-                Ok(count) => count,
-                Err(NoMemory) => return Err(Stop::NoMemory),
-            };
-            if count > 0 {
-                taken += count;
-                continue;
-            }
-            match self.take_tick(out, log, disk, Tick::Byte(bytes[taken])) {
-                Ok(()) => taken += 1,
-                Err(stop) => return Err(stop),
-            }
-        }
-        Ok(())
-    }
-
-    // The same of silence.
-    fn take_silence(
-        &mut self,
-        out: &mut O,
-        log: &mut L,
-        disk: &mut D,
-        ticks: u32,
-    ) -> Result<(), Stop> {
-        let mut taken = 0;
-        while taken < ticks {
-            let count = match self.run_silence(ticks - taken) {
-                Ok(count) => count,
-                Err(NoMemory) => return Err(Stop::NoMemory),
-            };
-            if count > 0 {
-                taken += count;
-                continue;
-            }
-            match self.take_tick(out, log, disk, Tick::Silent) {
-                Ok(()) => taken += 1,
-                Err(stop) => return Err(stop),
-            }
-        }
-        Ok(())
-    }
-
-    fn take_mark(&mut self, _out: &mut O, _log: &mut L, _disk: &mut D) -> Result<(), Stop> {
+    fn take_mark(&mut self) -> Result<(), Stop> {
         self.marked = true;
         Ok(())
     }
 
-    ghost safe_now = { λ consumer disk image kept left. tt };
+    ghost went_none = { λ lists ready. tt };
+
+    ghost went_then = { λ a b c result first second. tt };
 }

@@ -9,20 +9,22 @@ use crate::over_boxes::KEY;
 use crate::packets::{self, DNP_PACKET, LINKS, Link, RTU_PACKET, packet_of};
 use crate::receiver_runs::{alike, link_of};
 use box_replay::{LineBox, replay_box};
+use check_receiver::Checker;
 use check_replay::CheckBox;
 use dnp_link_frame::Dnp;
-use frame_boxes::{CheckNoting, SealNoting, ShownFrames};
+use frame_boxes::ShownFrames;
 use hmac_tag::{Dir, HmacSha1, HmacSha256};
 use replay_lists::FrameBox;
-use replay_status::Status;
+use replay_status::{Ends, Status};
 use rtu_frame::Rtu;
 use seal_replay::SealBox;
+use seal_transmitter::Sealer;
 use sequence_journal::{Journal, LinkId, slot_of};
 use std::alloc::Global;
 use std::process::Abort;
 use std::test::Fail;
 use yasir_io::{Failed, Sink, SteadySlots, SteadySource};
-use yasir_ticks::Tick;
+use yasir_ticks::{Tick, TickRun};
 
 /// A box that takes ticks that are alike, as many as it can at once.
 trait Turning: Drop {
@@ -84,12 +86,13 @@ impl<B: LineBox> Turning for Journaled<B> {
     ghost able = { λ value. Fits value.journal (Some (steady_slots value.disk)) };
 
     fn turn_bytes(&mut self, bytes: &[u8]) -> Result<usize, Fail> {
-        let count = self.line_box.forward_bytes(bytes);
+        let run = TickRun::Bytes(bytes);
+        let count = self.line_box.forward(run);
         if count > 0 {
             return Ok(count);
         }
         let mut left = box_replay::RunBytes::new();
-        let count = self.line_box.pass_bytes(bytes, &mut left);
+        let count = self.line_box.pass(run, &mut left);
         if count > 0 {
             return Ok(count);
         }
@@ -101,12 +104,13 @@ impl<B: LineBox> Turning for Journaled<B> {
     }
 
     fn turn_silence(&mut self, ticks: u32) -> Result<u32, Fail> {
-        let count = self.line_box.forward_silence(ticks);
+        let run = TickRun::Silence(ticks);
+        let count = self.line_box.forward(run).min(ticks as usize) as u32;
         if count > 0 {
             return Ok(count);
         }
         let mut left = box_replay::RunBytes::new();
-        let count = self.line_box.pass_silence(ticks, &mut left);
+        let count = self.line_box.pass(run, &mut left).min(ticks as usize) as u32;
         if count > 0 {
             return Ok(count);
         }
@@ -386,9 +390,9 @@ fn bursts_that_do_not_pass_take_few_turns(rt: HostRuntime) -> Result<(), Fail> {
     Ok(())
 }
 
-type ShownSealer<R> = ShownFrames<SealNoting<R, HmacSha1, 2>, R, SteadySlots>;
+type ShownSealer<R> = ShownFrames<Sealer<R, HmacSha1, 2>, R, SteadySlots>;
 
-type ShownChecker<R> = ShownFrames<CheckNoting<R, HmacSha1, 2, 18>, R, SteadySlots>;
+type ShownChecker<R> = ShownFrames<Checker<R, HmacSha1, 2, 18>, R, SteadySlots>;
 
 // The boxes of `replay` take as many.
 #[test]
@@ -470,6 +474,13 @@ fn text_goes_out_by_full_buffers(rt: HostRuntime) -> Result<(), Fail> {
     let mut log = NO_WRITES;
     let served = LinkId::of_no_file();
     let mut disk = SteadySlots::new(slot_of(0, &served), [0; 24]);
+    let ends = Ends {
+        key: &mut key,
+        input: &mut input,
+        out: &mut out,
+        log: &mut log,
+        disk: &mut disk,
+    };
     let status = replay_box::<
         SealBox<Rtu, HmacSha1, 2>,
         SteadySource,
@@ -477,16 +488,7 @@ fn text_goes_out_by_full_buffers(rt: HostRuntime) -> Result<(), Fail> {
         CountedSink,
         CountedSink,
         SteadySlots,
-    >(
-        &served,
-        Dir::Ab,
-        24,
-        &mut key,
-        &mut input,
-        &mut out,
-        &mut log,
-        &mut disk,
-    );
+    >(&served, Dir::Ab, 24, ends);
     assert_eq!(rt; status, Status::Done);
     assert_eq!(rt; out.bytes, REQUESTS * LINK_TEXT);
     assert!(rt;

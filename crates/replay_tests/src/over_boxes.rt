@@ -8,7 +8,7 @@ use check_replay::CheckBox;
 use device_model::Device;
 use dnp_link_frame::Dnp;
 use hmac_tag::{Dir, HmacSha1, HmacSha256};
-use replay_status::{Status, write_fault};
+use replay_status::{Ends, Status, write_fault};
 use rtu_frame::Rtu;
 use seal_replay::SealBox;
 use sequence_journal::{Journal, LIMIT, LinkId, slot_of};
@@ -144,8 +144,15 @@ fn replay_by<B: LineBox>(
     let mut input = MemSource::new(text, 512, plan(failing.input));
     let mut out = MemSink::with_room(alloc, 8000, 512, plan(failing.out))?;
     let mut log = MemSink::with_room(alloc, 40000, 512, plan(failing.log))?;
+    let ends = Ends {
+        key: &mut key,
+        input: &mut input,
+        out: &mut out,
+        log: &mut log,
+        disk: &mut disk,
+    };
     let status = replay_box::<B, MemSource, MemSource, MemSink, MemSink, MemSlots>(
-        link, dir, rest, &mut key, &mut input, &mut out, &mut log, &mut disk,
+        link, dir, rest, ends,
     );
     write_fault(&mut log, &status);
     Ok(Ran {

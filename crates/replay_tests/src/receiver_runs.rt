@@ -6,7 +6,7 @@ ghost use Rattle.check_receiver.specs.Stands.{ticks_taken};
 
 use crate::packets::{DNP_PACKET, KEY, RTU_PACKET, WIDE_RTU_PACKET};
 use crate::receiver_steps::{steps, tick_of};
-use check_receiver::{CheckStep, Checker, RunBytes};
+use check_receiver::{BoxStep, CheckNote, Checker, RunBytes};
 use dnp_link_frame::Dnp;
 use hmac_tag::{Dir, HmacSha1, HmacSha256, Mac};
 use line_rules::LineRules;
@@ -56,7 +56,7 @@ fn pass<R: LineRules, M: Mac, const B: usize, const D: usize>(
 }
 
 // Whether so many ticks have no note, and are these bytes, or silence where there are none.
-fn are_answered(wanted: &[CheckStep], count: usize, left: &[u8]) -> bool {
+fn are_answered(wanted: &[BoxStep<CheckNote>], count: usize, left: &[u8]) -> bool {
     if !left.is_empty() && left.len() != count {
         return false;
     }
@@ -66,7 +66,7 @@ fn are_answered(wanted: &[CheckStep], count: usize, left: &[u8]) -> bool {
             None => Tick::Silent,
         };
         match wanted.get(at) {
-            Some(step) if *step == (CheckStep { tick, note: None }) => {}
+            Some(step) if *step == (BoxStep { tick, note: None }) => {}
             _ => return false,
         }
     }
@@ -81,7 +81,7 @@ fn take<R: LineRules, M: Mac, S: SlotDisk, const B: usize, const D: usize>(
     journal: &mut Journal,
     disk: &mut S,
     part: &[u8],
-    wanted: &[CheckStep],
+    wanted: &[BoxStep<CheckNote>],
 ) -> Result<usize, Fail>
     requires room { ticks_taken checker.old + length part.now ≤ 1000 }
     requires some { 0 < length part.now }
@@ -112,7 +112,7 @@ fn follow<R: LineRules, M: Mac, S: SlotDisk, const B: usize, const D: usize>(
     journal: &mut Journal,
     disk: &mut S,
     link: &[u8],
-    wanted: &[CheckStep],
+    wanted: &[BoxStep<CheckNote>],
     cut: usize,
     most: usize,
 ) -> Result<usize, Fail>
@@ -152,7 +152,7 @@ fn packet_of(receiver: Receiver) -> &'static [u8] {
 }
 
 // What each of them answers to the ticks of a link, and whether its runs come to the same.
-fn rtu_steps(alloc: Global, link: &[u8]) -> Result<Vec<CheckStep>, Fail>
+fn rtu_steps(alloc: Global, link: &[u8]) -> Result<Vec<BoxStep<CheckNote>>, Fail>
     requires short { length link.now < 1000 }
 {
     let mut checker: RtuChecker = Checker::new(&KEY.to_be_bytes(), Dir::Ab);
@@ -165,7 +165,7 @@ fn rtu_steps(alloc: Global, link: &[u8]) -> Result<Vec<CheckStep>, Fail>
 fn follow_rtu(
     rt: &impl Abort,
     link: &[u8],
-    wanted: &[CheckStep],
+    wanted: &[BoxStep<CheckNote>],
     cut: usize,
     most: usize,
 ) -> Result<usize, Fail>
@@ -187,7 +187,7 @@ fn follow_rtu(
     )
 }
 
-fn dnp_steps(alloc: Global, link: &[u8]) -> Result<Vec<CheckStep>, Fail>
+fn dnp_steps(alloc: Global, link: &[u8]) -> Result<Vec<BoxStep<CheckNote>>, Fail>
     requires short { length link.now < 1000 }
 {
     let mut checker: DnpChecker = Checker::new(&KEY.to_be_bytes(), Dir::Ab);
@@ -200,7 +200,7 @@ fn dnp_steps(alloc: Global, link: &[u8]) -> Result<Vec<CheckStep>, Fail>
 fn follow_dnp(
     rt: &impl Abort,
     link: &[u8],
-    wanted: &[CheckStep],
+    wanted: &[BoxStep<CheckNote>],
     cut: usize,
     most: usize,
 ) -> Result<usize, Fail>
@@ -222,7 +222,7 @@ fn follow_dnp(
     )
 }
 
-fn wide_rtu_steps(alloc: Global, link: &[u8]) -> Result<Vec<CheckStep>, Fail>
+fn wide_rtu_steps(alloc: Global, link: &[u8]) -> Result<Vec<BoxStep<CheckNote>>, Fail>
     requires short { length link.now < 1000 }
 {
     let mut checker: WideRtuChecker = Checker::new(&KEY.to_be_bytes(), Dir::Ab);
@@ -235,7 +235,7 @@ fn wide_rtu_steps(alloc: Global, link: &[u8]) -> Result<Vec<CheckStep>, Fail>
 fn follow_wide_rtu(
     rt: &impl Abort,
     link: &[u8],
-    wanted: &[CheckStep],
+    wanted: &[BoxStep<CheckNote>],
     cut: usize,
     most: usize,
 ) -> Result<usize, Fail>
@@ -257,7 +257,7 @@ fn follow_wide_rtu(
     )
 }
 
-fn steps_of(alloc: Global, receiver: Receiver, link: &[u8]) -> Result<Vec<CheckStep>, Fail>
+fn steps_of(alloc: Global, receiver: Receiver, link: &[u8]) -> Result<Vec<BoxStep<CheckNote>>, Fail>
     requires short { length link.now < 1000 }
 {
     match receiver {
@@ -271,7 +271,7 @@ fn follow_by(
     rt: &impl Abort,
     receiver: Receiver,
     link: &[u8],
-    wanted: &[CheckStep],
+    wanted: &[BoxStep<CheckNote>],
     cut: usize,
     most: usize,
 ) -> Result<usize, Fail>

@@ -3,7 +3,7 @@ ghost use Rattle.std.specs.Prelude.{◌≡◌, ◌<◌, length};
 ghost use Rattle.sequence_journal.specs.Journal.{Fits};
 ghost use Rattle.check_receiver.specs.Stands.{ticks_taken};
 
-use check_receiver::{CheckNote, CheckStep, Checker, DroppedWhy, RefusedWhy};
+use check_receiver::{BoxStep, CheckNote, Checker, DroppedWhy, RefusedWhy};
 use hmac_tag::{Dir, HmacSha1, Mac};
 use line_rules::LineRules;
 use rtu_frame::Rtu;
@@ -29,7 +29,7 @@ pub fn steps<R: LineRules, M: Mac, S: SlotDisk, const B: usize, const D: usize>(
     journal: &mut Journal,
     disk: &mut S,
     link: &[u8],
-) -> Result<Vec<CheckStep>, Fail>
+) -> Result<Vec<BoxStep<CheckNote>>, Fail>
     requires begun { ticks_taken checker.old ≡ 0 }
     requires fits { Fits journal.old (S.told disk.old) }
     requires short { length link.now < 1000 }

@@ -9,10 +9,10 @@ use crate::note_lines::note_line;
 use box_replay::{BoxStep, LineBox, NoteLine, RunBytes};
 use hmac_tag::{Dir, Mac};
 use line_rules::LineRules;
-use seal_transmitter::{SealNote, SealStep, Sealer};
+use seal_transmitter::{SealNote, Sealer};
 use sequence_journal::{Journal, JournalFault};
 use yasir_io::SlotDisk;
-use yasir_ticks::Tick;
+use yasir_ticks::{Tick, TickRun};
 
 /// The transmitter as a box, with words of `B` bytes.
 #[derive(Drop)]
@@ -54,27 +54,21 @@ impl<R: LineRules, M: Mac, const B: usize> LineBox for SealBox<R, M, B> {
         journal: &mut Journal,
         disk: &mut D,
     ) -> Result<BoxStep<SealNote>, JournalFault> {
-        match self.sealer.step(t, journal, disk) {
-            Ok(SealStep { tick, note }) => Ok(BoxStep { tick, note }),
-            Err(JournalFault) => Err(JournalFault),
+        self.sealer.step(t, journal, disk)
+    }
+
+    #[inline]
+    fn forward(&mut self, run: TickRun<'_>) -> usize {
+        match run {
+            TickRun::Bytes(bytes) => self.sealer.forward(bytes),
+            TickRun::Silence(ticks) => self.sealer.rest(ticks) as usize,
         }
     }
 
-    #[inline]
-    fn forward_bytes(&mut self, bytes: &[u8]) -> usize {
-        self.sealer.forward(bytes)
-    }
-
-    #[inline]
-    fn forward_silence(&mut self, ticks: u32) -> u32 {
-        self.sealer.rest(ticks)
-    }
-
-    fn pass_bytes(&mut self, bytes: &[u8], left: &mut RunBytes) -> usize {
-        self.sealer.pass_bytes(bytes, left)
-    }
-
-    fn pass_silence(&mut self, ticks: u32, left: &mut RunBytes) -> u32 {
-        self.sealer.pass_silence(ticks, left)
+    fn pass(&mut self, run: TickRun<'_>, left: &mut RunBytes) -> usize {
+        match run {
+            TickRun::Bytes(bytes) => self.sealer.pass_bytes(bytes, left),
+            TickRun::Silence(ticks) => self.sealer.pass_silence(ticks, left) as usize,
+        }
     }
 }

@@ -35,7 +35,8 @@ use Rattle.seal_transmitter.specs.Answers.{AnswersTick, SealsWith}
 use Rattle.seal_transmitter.specs.Stands.{HasWalked, Walks}
 use Rattle.seal_transmitter.specs.Between.{IsJudged, noteless}
 use Rattle.seal_transmitter.specs.declared.note.SealNote.TheVariants.{Sealed, Unsealed}
-use Rattle.seal_transmitter.specs.declared.note.SealStep.{SealStep}
+use Rattle.burst_walk.specs.declared.box_step.BoxStep.{BoxStep}
+use Rattle.seal_transmitter.specs.declared.note.SealNote.{SealNote}
 use Rattle.seal_transmitter.specs.declared.note.UnsealedWhy.{UnsealedWhy}
 use Rattle.seal_transmitter.proofs.Steps.{walked-begun, walked-divided, walks-silent}
 use Rattle.seal_transmitter.proofs.Steps.{walks-unsealed, walks-sealed, walks-early, walks-live}
@@ -44,7 +45,7 @@ use Rattle.seal_transmitter.proofs.Steps.{walks-extra, seals-late, seals-whole, 
 -- The walk over a line goes on by a tick, with this answer.
 pub record WalksOn {R M : Type 0} (proto : LineRules R) (code : Mac M) (word_len : ℕ)
     (setup : Setup) (last earliest : ℕ)
-    (left : List ℕ) (mac : M) (line : List Tick) (t : Tick) (step : SealStep) : Type 0 where
+    (left : List ℕ) (mac : M) (line : List Tick) (t : Tick) (step : BoxStep SealNote) : Type 0 where
   pub walks : Walks proto code word_len last earliest left mac setup (line ++ t ∷ [])
   pub answers : AnswersTick (profile_of proto code word_len LIMIT setup) proto.rules setup.floor
       line t step
@@ -80,7 +81,7 @@ module _ {R M : Type 0} (proto : LineRules R) (code : Mac M) (word_len : ℕ) (s
     abbrev m : ℕ
     m = length line
 
-    abbrev On : ℕ → ℕ → List ℕ → M → Tick → SealStep → Type 0
+    abbrev On : ℕ → ℕ → List ℕ → M → Tick → BoxStep SealNote → Type 0
     On number next to_send new t step =
         WalksOn proto code word_len setup number next to_send new line t step
 

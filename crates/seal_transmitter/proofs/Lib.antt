@@ -12,3 +12,4 @@ pub mod RunSteps
 pub mod OpenSilence
 pub mod Beginning
 pub mod Uptimes
+pub mod Keeping

@@ -20,7 +20,8 @@ use Rattle.seal_transmitter.specs.Sealing.Judgement.{sealed_with, unsealed}
 use Rattle.seal_transmitter.specs.Between.{IsBetween, Judges, noteless}
 use Rattle.seal_transmitter.specs.Stands.{HasTaken}
 use Rattle.seal_transmitter.specs.declared.note.SealNote.TheVariants.{Sealed, Unsealed}
-use Rattle.seal_transmitter.specs.declared.note.SealStep.{SealStep}
+use Rattle.burst_walk.specs.declared.box_step.BoxStep.{BoxStep}
+use Rattle.seal_transmitter.specs.declared.note.SealNote.{SealNote}
 use Rattle.seal_transmitter.specs.declared.note.UnsealedWhy.{UnsealedWhy}
 use Rattle.seal_transmitter.specs.declared.sealer.Sealer.{Sealer}
 use Rattle.seal_transmitter.proofs.Advancing.{WalksOn, number-is, advance-passing, advance-early}
@@ -28,7 +29,8 @@ use Rattle.seal_transmitter.proofs.Advancing.{advance-begin, advance-live, advan
 use Rattle.seal_transmitter.proofs.Advancing.{advance-sealed}
 
 -- where the next byte of the trailer was sent, or silence
-pub record HasSent {R M : Type 0} {B : ℕ} (old new : Sealer R M B) (step : SealStep) : Type 0 where
+pub record HasSent {R M : Type 0} {B : ℕ} (old new : Sealer R M B) (step : BoxStep SealNote) :
+    Type 0 where
   pub rest : new ≡ record old { trailer = new.trailer }
   pub left : bytes_left new.trailer ≡ drop 1 (bytes_left old.trailer)
   pub answer : step ≡ noteless (first_of (bytes_left old.trailer))
@@ -39,15 +41,15 @@ module _ {R M : Type 0} (proto : LineRules R) (code : Mac M) {B : ℕ} (old : Se
   abbrev Between : Tick → Cut → Type 0
   Between t cut = IsBetween proto code old last setup line t cut
 
-  abbrev Taken : Sealer R M B → ℕ → Tick → SealStep → Type 0
+  abbrev Taken : Sealer R M B → ℕ → Tick → BoxStep SealNote → Type 0
   Taken new number t step = HasTaken proto code new number setup line t step
 
-  abbrev On : ℕ → ℕ → List ℕ → M → Tick → SealStep → Type 0
+  abbrev On : ℕ → ℕ → List ℕ → M → Tick → BoxStep SealNote → Type 0
   On number earliest left mac t step = WalksOn proto code B setup number earliest left mac line t
       step
 
   -- the walk goes on, and all else has taken the tick
-  taken : (new : Sealer R M B) (number : ℕ) (t : Tick) (step : SealStep)
+  taken : (new : Sealer R M B) (number : ℕ) (t : Tick) (step : BoxStep SealNote)
       → direction_number new.direction ≡ setup.direction
       → CutStandsFor proto new.cut (line ++ t ∷ [])
       → On number new.earliest_start (bytes_left new.trailer) new.mac t step
@@ -59,21 +61,22 @@ module _ {R M : Type 0} (proto : LineRules R) (code : Mac M) {B : ℕ} (old : Se
     answers = on.answers;
   }
 
-  sent : (new : Sealer R M B) (step : SealStep) (t : Tick) (cut : Cut) → HasSent old new step
+  sent : (new : Sealer R M B) (step : BoxStep SealNote) (t : Tick) (cut : Cut)
+      → HasSent old new step
       → Between t cut
       → On last old.earliest_start (drop 1 (bytes_left old.trailer)) old.mac t
       (noteless (first_of (bytes_left old.trailer)))
       → Taken new last t step
   sent new step t cut has between on =
       let P : Sealer R M B → Type 0 = λ v. Taken v last t step in
-      let Q : SealStep → Type 0 = λ s. On last old.earliest_start (drop 1 (bytes_left old.trailer))
-      old.mac t s in
+      let Q : BoxStep SealNote → Type 0 = λ s. On last old.earliest_start
+      (drop 1 (bytes_left old.trailer)) old.mac t s in
       let L : List ℕ → Type 0 = λ l. On last old.earliest_start l old.mac t step in
       subst P (sym has.rest)
       (taken (record old { trailer = new.trailer }) last t step between.direction_is between.cuts
       (subst L (sym has.left) (subst Q (sym has.answer) on)))
 
-  pub pass-taken : (new : Sealer R M B) (step : SealStep) → HasSent old new step
+  pub pass-taken : (new : Sealer R M B) (step : BoxStep SealNote) → HasSent old new step
       → (t : Tick) (cut : Cut) → IsPassing cut → Between t cut → Taken new last t step
   pass-taken new step has t cut passing between =
       sent new step t cut has between
@@ -81,7 +84,7 @@ module _ {R M : Type 0} (proto : LineRules R) (code : Mac M) {B : ℕ} (old : Se
       old.mac between.walks
       t cut between.is_cut passing)
 
-  early-taken : (new : Sealer R M B) (step : SealStep) → HasSent old new step
+  early-taken : (new : Sealer R M B) (step : BoxStep SealNote) → HasSent old new step
       → (t : Tick) (b : ℕ) (cut : Cut) → t ≡ Byte b → Between t cut
       → start_so_far (line ++ t ∷ []) < old.earliest_start → Taken new last t step
   early-taken new step has t b cut is between early =
@@ -96,14 +99,14 @@ module _ {R M : Type 0} (proto : LineRules R) (code : Mac M) {B : ℕ} (old : Se
 
   -- ---- a byte that starts a burst, and a further live one
 
-  pub begin-early : (new : Sealer R M B) (step : SealStep) → HasSent old new step
+  pub begin-early : (new : Sealer R M B) (step : BoxStep SealNote) → HasSent old new step
       → (t : Tick) (b : ℕ) → Between t (Start b)
       → start_so_far (line ++ t ∷ []) < old.earliest_start → Taken new last t step
   begin-early new step has t b between early =
       early-taken new step has t b (Start b) (start-tick proto.rules line t b between.is_cut)
       between early
 
-  pub go_on-early : (new : Sealer R M B) (step : SealStep) → HasSent old new step
+  pub go_on-early : (new : Sealer R M B) (step : BoxStep SealNote) → HasSent old new step
       → (t : Tick) (b : ℕ) → Between t (Live b) → start_so_far (line ++ t ∷ []) < old.earliest_start
       → Taken new last t step
   go_on-early new step has t b between early =

@@ -42,7 +42,8 @@ use Rattle.seal_transmitter.specs.Answers.{AnswersTick, SealsWith, brief_note}
 use Rattle.seal_transmitter.specs.Between.{noteless}
 use Rattle.seal_transmitter.specs.Stands.{HasWalked, sent_at}
 use Rattle.seal_transmitter.specs.declared.note.SealNote.TheVariants.{Sealed, Unsealed}
-use Rattle.seal_transmitter.specs.declared.note.SealStep.{SealStep}
+use Rattle.burst_walk.specs.declared.box_step.BoxStep.{BoxStep}
+use Rattle.seal_transmitter.specs.declared.note.SealNote.{SealNote}
 use Rattle.seal_transmitter.specs.declared.note.UnsealedWhy.{UnsealedWhy}
 use Rattle.seal_transmitter.specs.declared.note.UnsealedWhy.TheVariants.{Early, Form, Spent}
 use Rattle.seal_transmitter.proofs.Causality.{judge_by, judged-is, sealed-right, no_extra}
@@ -198,7 +199,8 @@ module _ (profile : Profile) (rules : Rules) (lawful : IsLawful rules) (tags : H
       })
 
   -- what a step answers, by the burst that runs
-  answers : (running now : Option Burst) (so_far : Walked running) (t : Tick) (step : SealStep)
+  answers : (running now : Option Burst) (so_far : Walked running) (t : Tick)
+      (step : BoxStep SealNote)
       → Taken running now so_far t
       → or_else (sent_at m left m) (tick_at (emitted walker s (waiting_part now)) m) ≡ step.tick
       → told_notes brief_note (notes_at m (walked walker s (waiting_part now)))
@@ -326,7 +328,8 @@ module _ (profile : Profile) (rules : Rules) (lawful : IsLawful rules) (tags : H
         in_time = left-in_time to_send m next.earliest_start in_time;
       })
 
-  close-answers : (d : Burst) (step : SealStep) → Walked (Some d) → m + 1 ≡ end_of d + T3_5_TICKS
+  close-answers : (d : Burst) (step : BoxStep SealNote) → Walked (Some d)
+      → m + 1 ≡ end_of d + T3_5_TICKS
       → or_else (sent_at m left m) (tick_at (emission_by profile rules d (judgement_now d)) m)
       ≡ step.tick
       → Some (brief_note (note_by rules d (judgement_now d))) ≡ step.note

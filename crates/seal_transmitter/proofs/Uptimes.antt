@@ -9,7 +9,7 @@ use Rattle.sequence_journal.specs.Uptimes.{CommitsAnswered}
 use Rattle.seal_transmitter.specs.Answers.{CommitsNoted, KeepsJournal, numbers_noted}
 use Rattle.seal_transmitter.specs.declared.note.SealNote.{SealNote}
 use Rattle.seal_transmitter.specs.declared.note.SealNote.TheVariants.{Sealed, Unsealed}
-use Rattle.seal_transmitter.specs.declared.note.SealStep.{SealStep}
+use Rattle.burst_walk.specs.declared.box_step.BoxStep.{BoxStep}
 
 module _ {D : Type 0} (d : SlotDisk D) (old new : Journal) (before after : D) where
   answered : (note : Option SealNote) → CommitsNoted d old new before after note
@@ -18,13 +18,13 @@ module _ {D : Type 0} (d : SlotDisk D) (old new : Journal) (before after : D) wh
   answered (Some (Unsealed start why)) kept = kept
   answered (Some (Sealed number start len)) commits = commits.1
 
-  pub commits-answered : (result : Result SealStep JournalFault)
+  pub commits-answered : (result : Result (BoxStep SealNote) JournalFault)
       → KeepsJournal d old new before after result
       → IfOk result (λ step. CommitsAnswered d old new before after (numbers_noted step.note))
   commits-answered (Ok step) keeps = answered step.note keeps.commits
   commits-answered (Err fault) keeps = tt
 
-  pub fails-to-commit : (result : Result SealStep JournalFault)
+  pub fails-to-commit : (result : Result (BoxStep SealNote) JournalFault)
       → KeepsJournal d old new before after result
       → OnErr result ((n : ℕ) × HasFailed old new (d.told before) (d.told after) n)
   fails-to-commit (Ok step) keeps = tt

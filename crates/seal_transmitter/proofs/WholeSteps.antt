@@ -1,9 +1,7 @@
 -- A whole step of a transmitter: the value that cuts the line takes the tick, and then all else.
-use Rattle.std.proofs.Common.{◌≡◌, ◌∙◌, ℕ, ◌+◌, List, [], ◌∷◌, ◌++◌, refl, sym, subst, inl, Result}
+use Rattle.std.proofs.Common.{◌≡◌, ◌∙◌, ℕ, ◌+◌, List, [], ◌∷◌, ◌++◌, sym, subst, Result}
 use Rattle.std.proofs.Common.{Ok, Err}
-use Rattle.std.proofs.Common.{IfOk, OnErr, arith}
-use Rattle.yasir_io.specs.Disks.{Slots}
-use Rattle.yasir_io.specs.declared.disk.SlotDisk.{Ghosts as SlotDisk}
+use Rattle.std.proofs.Common.{IfOk, OnErr}
 use Rattle.yasir_ticks.specs.declared.tick.Tick.{Tick}
 use Rattle.yasir_ticks.specs.declared.tick.Tick.TheVariants.{Silent}
 use Rattle.line_rules.specs.declared.line_rules.LineRules.{Ghosts as LineRules}
@@ -16,14 +14,13 @@ use Rattle.frame_ending.proofs.Running.{closed-tick}
 use Rattle.hmac_tag.specs.declared.tag.Mac.{Ghosts as Mac}
 use Rattle.link_format.specs.Profile.{profile_of}
 use Rattle.link_format.specs.Setup.{Setup}
-use Rattle.sequence_journal.specs.declared.journal.Journal.{Journal}
 use Rattle.sequence_journal.specs.declared.journal.JournalFault.{JournalFault}
 use Rattle.sequence_journal.specs.declared.numbers.TheConstants.{LIMIT}
-use Rattle.sequence_journal.specs.Journal.{Fits}
-use Rattle.seal_transmitter.specs.Answers.{SealsWith, KeepsJournal, CommitsNoted}
+use Rattle.seal_transmitter.specs.Answers.{SealsWith}
 use Rattle.seal_transmitter.specs.Stands.{StandsAt, HasTaken}
 use Rattle.seal_transmitter.specs.Between.{IsBetween}
-use Rattle.seal_transmitter.specs.declared.note.SealStep.{SealStep}
+use Rattle.burst_walk.specs.declared.box_step.BoxStep.{BoxStep}
+use Rattle.seal_transmitter.specs.declared.note.SealNote.{SealNote}
 use Rattle.seal_transmitter.specs.declared.sealer.Sealer.{Sealer}
 
 module _ {R M : Type 0} (proto : LineRules R) (code : Mac M) {B : ℕ} (old : Sealer R M B) (last : ℕ)
@@ -49,7 +46,8 @@ module _ {R M : Type 0} (proto : LineRules R) (code : Mac M) {B : ℕ} (old : Se
   }
 
   -- what is told of the tick, and then all else has taken it
-  pub taken-then : (what : Cut) → told ≡ what → (new : Sealer R M B) (number : ℕ) (step : SealStep)
+  pub taken-then : (what : Cut) → told ≡ what → (new : Sealer R M B) (number : ℕ)
+      (step : BoxStep SealNote)
       → ((setup : Setup) (line : List Tick) → Between what setup line t
       → HasTaken proto code new number setup line t step)
       → (setup : Setup) (line : List Tick) → Before setup line
@@ -60,11 +58,11 @@ module _ {R M : Type 0} (proto : LineRules R) (code : Mac M) {B : ℕ} (old : Se
   -- ---- the tick that closes a burst is silent
 
   module _ (is : told ≡ Closed) (new : Sealer R M B) (number : ℕ) where
-    abbrev Closes : SealStep → Type 0
+    abbrev Closes : BoxStep SealNote → Type 0
     Closes step = (setup : Setup) (line : List Tick)
         → Between Closed setup line Silent → HasTaken proto code new number setup line Silent step
 
-    pub taken-closed : (result : Result SealStep JournalFault) → IfOk result Closes
+    pub taken-closed : (result : Result (BoxStep SealNote) JournalFault) → IfOk result Closes
         → IfOk result (λ step. (setup : Setup) (line : List Tick) → Before setup line
         → HasTaken proto code new number setup line t step)
     taken-closed (Ok step) closes = λ setup line stands.
@@ -78,7 +76,7 @@ module _ {R M : Type 0} (proto : LineRules R) (code : Mac M) {B : ℕ} (old : Se
     SealsThen u setup line =
         SealsWith (profile_of proto code B LIMIT setup) proto.rules setup.floor line u (last + 1)
 
-    pub seals-closed : (result : Result SealStep JournalFault)
+    pub seals-closed : (result : Result (BoxStep SealNote) JournalFault)
         → OnErr result ((setup : Setup) (line : List Tick) → Between Closed setup line Silent
         → SealsThen Silent setup line)
         → OnErr result ((setup : Setup) (line : List Tick) → Before setup line
@@ -90,21 +88,3 @@ module _ {R M : Type 0} (proto : LineRules R) (code : Mac M) {B : ℕ} (old : Se
         subst P (sym (closed-tick proto.rules line t at.is_cut)) (seals setup line) at
 
 -- ---- a step that seals nothing leaves journal and disk as they were
-
-pub journal-kept : {D : Type 0} (d : SlotDisk D) (journal : Journal) (disk : D) (step : SealStep)
-    → ((c : Slots) → d.left_since disk (d.moment disk) c → d.may_leave disk c)
-    → Fits journal (d.told disk) → CommitsNoted d journal journal disk disk step.note
-    → KeepsJournal d journal journal disk disk (Ok step)
-journal-kept d journal disk step only_now fits commits = record {
-  commits = commits;
-  link = refl;
-  fits = fits;
-  failed = tt;
-  crash_safe = λ safe. safe;
-  any_moment = λ safe. record {
-    later = omega arith;
-    each = λ c left. safe.floors c (only_now c left);
-    before = λ t c le left. inl left;
-  };
-  cause = record { never_falls = omega arith; failed = tt; same = refl };
-}

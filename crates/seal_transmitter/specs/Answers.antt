@@ -17,7 +17,7 @@ use Rattle.seal_transmitter.specs.Sealing.{FullNote, sealer, at_floor, seal_note
 use Rattle.seal_transmitter.specs.Sealing.FullNote.{sealed_note, unsealed_note}
 use Rattle.seal_transmitter.specs.declared.note.SealNote.{SealNote}
 use Rattle.seal_transmitter.specs.declared.note.SealNote.TheVariants.{Sealed, Unsealed}
-use Rattle.seal_transmitter.specs.declared.note.SealStep.{SealStep}
+use Rattle.burst_walk.specs.declared.box_step.BoxStep.{BoxStep}
 
 -- A note as it is answered: of a sealed frame it has the length alone.
 abbrev pub brief_note : FullNote → SealNote
@@ -26,7 +26,7 @@ brief_note (unsealed_note start why) = Unsealed start why
 
 -- A step answers, after these ticks of the device and with one tick more, the tick of the link and
 -- the note that the definitions add.
-abbrev pub AnswersTick : Profile → Rules → ℕ → List Tick → Tick → SealStep → Type 0
+abbrev pub AnswersTick : Profile → Rules → ℕ → List Tick → Tick → BoxStep SealNote → Type 0
 AnswersTick profile rules floor line t step =
     AnswersTickOf (sealer profile rules) brief_note (at_floor floor) line t step.tick step.note
 
@@ -57,7 +57,7 @@ numbers_noted None = []
 
 -- What a step does to the journal and its disk.
 pub record KeepsJournal {D : Type 0} (d : SlotDisk D) (old new : Journal) (disk_old disk_new : D)
-    (result : Result SealStep JournalFault) : Type 0 where
+    (result : Result (BoxStep SealNote) JournalFault) : Type 0 where
   pub commits : IfOk result (λ step. CommitsNoted d old new disk_old disk_new step.note)
   pub link : journal_link new ≡ journal_link old
   pub fits : OnOk result (Fits new (d.told disk_new))

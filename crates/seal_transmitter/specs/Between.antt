@@ -19,7 +19,7 @@ use Rattle.seal_transmitter.specs.Sealing.Judgement.{sealed_with, unsealed}
 use Rattle.seal_transmitter.specs.Stands.{Walks}
 use Rattle.seal_transmitter.specs.declared.note.SealNote.{SealNote}
 use Rattle.seal_transmitter.specs.declared.note.SealNote.TheVariants.{Sealed, Unsealed}
-use Rattle.seal_transmitter.specs.declared.note.SealStep.{SealStep}
+use Rattle.burst_walk.specs.declared.box_step.BoxStep.{BoxStep}
 use Rattle.seal_transmitter.specs.declared.note.UnsealedWhy.{UnsealedWhy}
 use Rattle.seal_transmitter.specs.declared.sealer.Sealer.{Sealer}
 
@@ -52,7 +52,7 @@ judgement_of None number = sealed_with number
 judgement_of (Some why) number = unsealed why
 
 -- an answer with no note
-abbrev pub noteless : Tick → SealStep
+abbrev pub noteless : Tick → BoxStep SealNote
 noteless t = record { tick = t; note = None }
 
 -- the note of a burst that is sealed with this number

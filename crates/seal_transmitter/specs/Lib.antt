@@ -1,5 +1,6 @@
 pub mod Sealing
 pub mod Answers
 pub mod Stands
+pub mod Boxed
 pub mod Between
 pub mod Runs

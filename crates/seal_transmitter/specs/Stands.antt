@@ -22,7 +22,8 @@ use Rattle.sequence_journal.specs.declared.numbers.TheConstants.{LIMIT}
 use Rattle.sequence_journal.specs.Journal.{journal_floor}
 use Rattle.seal_transmitter.specs.Answers.{AnswersTick}
 use Rattle.seal_transmitter.specs.Sealing.{SealState, sealer, at_floor, sealed}
-use Rattle.seal_transmitter.specs.declared.note.SealStep.{SealStep}
+use Rattle.burst_walk.specs.declared.box_step.BoxStep.{BoxStep}
+use Rattle.seal_transmitter.specs.declared.note.SealNote.{SealNote}
 use Rattle.seal_transmitter.specs.declared.sealer.Sealer.{Sealer}
 
 -- tick i of the link, where these bytes are sent from tick m on
@@ -70,7 +71,7 @@ module _ {R M : Type 0} (proto : LineRules R) (code : Mac M) where
   -- used is that of the last sealed frame, and it answers as the definitions say.
   pub record HasTaken {B : ℕ} (value : Sealer R M B) (last : ℕ) (setup : Setup) (line : List Tick)
       (t : Tick)
-      (step : SealStep) : Type 0 where
+      (step : BoxStep SealNote) : Type 0 where
     pub stands : StandsAt value last setup (line ++ t ∷ [])
     pub floor : last ≡ last_number setup.floor
         (sealed (profile_of proto code B LIMIT setup) proto.rules setup.floor (line ++ t ∷ []))

@@ -8,7 +8,8 @@ ghost use Rattle.sequence_journal.specs.declared.journal.Journal.{Journal};
 ghost use Rattle.sequence_journal.specs.declared.journal.JournalFault.{JournalFault};
 ghost use Rattle.sequence_journal.specs.Journal.{journal_floor, IsCrashSafe};
 ghost use Rattle.sequence_journal.specs.Uptimes.{IsStepOf, last_from, numbers_answered};
-ghost use Rattle.seal_transmitter.specs.declared.note.SealStep.{SealStep};
+ghost use Rattle.burst_walk.specs.declared.box_step.BoxStep.{BoxStep};
+ghost use Rattle.seal_transmitter.specs.declared.note.SealNote.{SealNote};
 ghost use Rattle.seal_transmitter.specs.Answers.{KeepsJournal, numbers_noted};
 ghost use Rattle.seal_transmitter.specs.Sealing.{sealer, at_floor, sealed};
 
@@ -38,14 +39,16 @@ pub fn longer_lines<R: LineRules, M: Mac>()
 /// and a crash at any moment inside it leaves no floor below the one before. The next step goes on
 /// from the last number answered. The calls that take runs have no disk.
 pub fn steps_are_of_an_uptime<D: SlotDisk>()
-    ensures is_step { (old new : Journal) (before after : D) (result : Result SealStep JournalFault)
+    ensures is_step { (old new : Journal) (before after : D)
+        (result : Result (BoxStep SealNote) JournalFault)
         → KeepsJournal D.SlotDisk old new before after result
         → IsCrashSafe old (D.told before) (D.may_leave before)
         → IsStepOf D.SlotDisk old before (record {
           numbers = numbers_answered (λ step. numbers_noted step.note) result;
           after = after;
         }) }
-    ensures goes_on { (old new : Journal) (before after : D) (result : Result SealStep JournalFault)
+    ensures goes_on { (old new : Journal) (before after : D)
+        (result : Result (BoxStep SealNote) JournalFault)
         → KeepsJournal D.SlotDisk old new before after result
         → last_from (journal_floor old) (numbers_answered (λ step. numbers_noted step.note) result)
         ≡ journal_floor new }

@@ -1,5 +1,3 @@
-use yasir_ticks::Tick;
-
 /// Why a burst of the device isn't sealed.
 #[derive(Clone, Copy, Debug, PartialEq, Eq)]
 pub enum UnsealedWhy {
@@ -21,13 +19,4 @@ pub enum SealNote {
     Sealed { number: u64, start: u64, len: u16 },
     /// It isn't sealed; its first byte came at tick `start`.
     Unsealed { start: u64, why: UnsealedWhy },
-}
-
-/// What the transmitter answers to a tick of the device.
-#[derive(Clone, Copy, Debug, PartialEq, Eq)]
-pub struct SealStep {
-    /// The tick of the link, at the same place.
-    pub tick: Tick,
-    /// The note that falls into this step.
-    pub note: Option<SealNote>,
 }

@@ -1,8 +1,8 @@
 ghost use Rattle.std.specs.Prelude.{◌≡◌, length};
 
 use crate::silence::wait_open;
-use crate::{SealNote, SealStep, UnsealedWhy};
-use arrayvec::ArrayVec;
+use crate::{SealNote, UnsealedWhy};
+use burst_walk::{BoxStep, RunBytes};
 use frame_ending::{BurstCut, Cut};
 use hmac_tag::{Dir, Mac};
 use line_rules::LineRules;
@@ -25,9 +25,6 @@ pub struct Sealer<R, M, const B: usize> {
     earliest_start: u64,
     trailer: Trailer<B>,
 }
-
-/// What is sent of a trailer over a run of ticks.
-pub type RunBytes = ArrayVec<u8, 64>;
 
 // Puts these bytes into `left` in place of what stands there, and says how many they are.
 #[inline]
@@ -56,12 +53,11 @@ impl<R: LineRules, M: Mac, const B: usize> Sealer<R, M, B> {
     ghost use Rattle.link_format.specs.Profile.{IsWordLen, profile_of};
     ghost use Rattle.link_format.specs.Setup.{Setup, setup_of};
     ghost use Rattle.link_format.specs.Trailers.{bytes_left, first_of};
-    ghost use Rattle.sequence_journal.specs.declared.journal.Journal.{Journal};
     ghost use Rattle.sequence_journal.specs.declared.numbers.TheConstants.{LIMIT};
     ghost use Rattle.sequence_journal.specs.Journal.{journal_floor, Fits};
     ghost use Rattle.seal_transmitter.specs.Sealing.Judgement.{sealed_with, unsealed};
     ghost use Rattle.seal_transmitter.specs.Answers.{SealsWith, KeepsJournal};
-    ghost use Rattle.seal_transmitter.specs.Stands.{StandsFor, HasTaken, ticks_taken};
+    ghost use Rattle.seal_transmitter.specs.Stands.{StandsAt, StandsFor, HasTaken, ticks_taken};
     ghost use Rattle.seal_transmitter.specs.Runs.{HasTakenRun};
     ghost use Rattle.seal_transmitter.specs.Between.{IsBetween, Judges, judgement_of, noteless};
     ghost use Rattle.seal_transmitter.specs.Between.{IsSealedNote, IsUnsealedNote};
@@ -70,8 +66,8 @@ impl<R: LineRules, M: Mac, const B: usize> Sealer<R, M, B> {
     pub fn new(key: &[u8], dir: Dir) -> Sealer<R, M, B>
         requires word { IsWordLen B }
         ensures taken { ticks_taken result ≡ 0 }
-        ensures stands { (journal : Journal) → StandsFor R.LineRules M.Mac result journal
-            (setup_of key.now dir (journal_floor journal)) [] }
+        ensures stands { (floor : ℕ) → StandsAt R.LineRules M.Mac result floor
+            (setup_of key.now dir floor) [] }
     {
         Sealer {
             cut: BurstCut::new(),
@@ -94,7 +90,7 @@ impl<R: LineRules, M: Mac, const B: usize> Sealer<R, M, B> {
         t: Tick,
         journal: &mut Journal,
         disk: &mut D,
-    ) -> Result<SealStep, JournalFault>
+    ) -> Result<BoxStep<SealNote>, JournalFault>
         requires room { ticks_taken self.old < MAX_TICKS }
         requires fits { Fits journal.old (D.told disk.old) }
 
@@ -124,9 +120,9 @@ impl<R: LineRules, M: Mac, const B: usize> Sealer<R, M, B> {
         requires { ticks_taken self.old + length bytes.now ≤ MAX_TICKS }
         ensures within { result ≤ length bytes.now }
         ensures taken { ticks_taken self.new ≡ ticks_taken self.old + result }
-        ensures run { (journal : Journal) (setup : Setup) (line : List Tick)
-            → StandsFor R.LineRules M.Mac self.old journal setup line
-            → HasTakenRun R.LineRules M.Mac self.new (journal_floor journal) setup line
+        ensures run { (last : ℕ) (setup : Setup) (line : List Tick)
+            → StandsAt R.LineRules M.Mac self.old last setup line
+            → HasTakenRun R.LineRules M.Mac self.new last setup line
             (map Byte (take result bytes.now)) (map Byte (take result bytes.now)) }
     {
         if self.cut.quiet() < T3_5_TICKS {
@@ -151,9 +147,9 @@ impl<R: LineRules, M: Mac, const B: usize> Sealer<R, M, B> {
         requires { ticks_taken self.old + length bytes.now ≤ MAX_TICKS }
         ensures within { result ≤ length bytes.now }
         ensures taken { ticks_taken self.new ≡ ticks_taken self.old + result }
-        ensures run { (journal : Journal) (setup : Setup) (line : List Tick)
-            → StandsFor R.LineRules M.Mac self.old journal setup line
-            → HasTakenRun R.LineRules M.Mac self.new (journal_floor journal) setup line
+        ensures run { (last : ℕ) (setup : Setup) (line : List Tick)
+            → StandsAt R.LineRules M.Mac self.old last setup line
+            → HasTakenRun R.LineRules M.Mac self.new last setup line
             (map Byte (take result bytes.now)) (map Byte (take result bytes.now)) }
     {
         if self.is_early() {
@@ -175,9 +171,9 @@ impl<R: LineRules, M: Mac, const B: usize> Sealer<R, M, B> {
         requires { ticks_taken self.old + length bytes.now ≤ MAX_TICKS }
         ensures within { result ≤ length bytes.now }
         ensures taken { ticks_taken self.new ≡ ticks_taken self.old + result }
-        ensures run { (journal : Journal) (setup : Setup) (line : List Tick)
-            → StandsFor R.LineRules M.Mac self.old journal setup line
-            → HasTakenRun R.LineRules M.Mac self.new (journal_floor journal) setup line
+        ensures run { (last : ℕ) (setup : Setup) (line : List Tick)
+            → StandsAt R.LineRules M.Mac self.old last setup line
+            → HasTakenRun R.LineRules M.Mac self.new last setup line
             (map Byte (take result bytes.now)) (map Byte (take result bytes.now)) }
     {
         let begun = self.begin_some(bytes);
@@ -193,9 +189,9 @@ impl<R: LineRules, M: Mac, const B: usize> Sealer<R, M, B> {
         requires { ticks_taken self.old + length bytes.now ≤ MAX_TICKS }
         ensures within { result ≤ length bytes.now }
         ensures taken { ticks_taken self.new ≡ ticks_taken self.old + result }
-        ensures run { (journal : Journal) (setup : Setup) (line : List Tick)
-            → StandsFor R.LineRules M.Mac self.old journal setup line
-            → HasTakenRun R.LineRules M.Mac self.new (journal_floor journal) setup line
+        ensures run { (last : ℕ) (setup : Setup) (line : List Tick)
+            → StandsAt R.LineRules M.Mac self.old last setup line
+            → HasTakenRun R.LineRules M.Mac self.new last setup line
             (map Byte (take result bytes.now)) (silent result) }
     {
         if self.trailer.left().len() > 0 {
@@ -215,9 +211,9 @@ impl<R: LineRules, M: Mac, const B: usize> Sealer<R, M, B> {
         requires { ticks_taken self.old + length bytes.now ≤ MAX_TICKS }
         ensures within { result ≤ length bytes.now }
         ensures taken { ticks_taken self.new ≡ ticks_taken self.old + result }
-        ensures run { (journal : Journal) (setup : Setup) (line : List Tick)
-            → StandsFor R.LineRules M.Mac self.old journal setup line
-            → HasTakenRun R.LineRules M.Mac self.new (journal_floor journal) setup line
+        ensures run { (last : ℕ) (setup : Setup) (line : List Tick)
+            → StandsAt R.LineRules M.Mac self.old last setup line
+            → HasTakenRun R.LineRules M.Mac self.new last setup line
             (map Byte (take result bytes.now)) (silent result) }
     {
         if self.trailer.left().len() > 0 {
@@ -234,9 +230,9 @@ impl<R: LineRules, M: Mac, const B: usize> Sealer<R, M, B> {
         requires { ticks_taken self.old + length bytes.now ≤ MAX_TICKS }
         ensures within { length result.items ≤ length bytes.now }
         ensures taken { ticks_taken self.new ≡ ticks_taken self.old + length result.items }
-        ensures run { (journal : Journal) (setup : Setup) (line : List Tick)
-            → StandsFor R.LineRules M.Mac self.old journal setup line
-            → HasTakenRun R.LineRules M.Mac self.new (journal_floor journal) setup line
+        ensures run { (last : ℕ) (setup : Setup) (line : List Tick)
+            → StandsAt R.LineRules M.Mac self.old last setup line
+            → HasTakenRun R.LineRules M.Mac self.new last setup line
             (map Byte (take (length result.items) bytes.now)) (map Byte result.items) }
     {
         if !self.is_early() {
@@ -255,9 +251,9 @@ impl<R: LineRules, M: Mac, const B: usize> Sealer<R, M, B> {
         requires { ticks_taken self.old + ticks ≤ MAX_TICKS }
         ensures within { result ≤ ticks }
         ensures taken { ticks_taken self.new ≡ ticks_taken self.old + result }
-        ensures run { (journal : Journal) (setup : Setup) (line : List Tick)
-            → StandsFor R.LineRules M.Mac self.old journal setup line
-            → HasTakenRun R.LineRules M.Mac self.new (journal_floor journal) setup line
+        ensures run { (last : ℕ) (setup : Setup) (line : List Tick)
+            → StandsAt R.LineRules M.Mac self.old last setup line
+            → HasTakenRun R.LineRules M.Mac self.new last setup line
             (silent result) (silent result) }
     {
         if self.trailer.left().len() > 0 {
@@ -274,9 +270,9 @@ impl<R: LineRules, M: Mac, const B: usize> Sealer<R, M, B> {
         requires { ticks_taken self.old + ticks ≤ MAX_TICKS }
         ensures within { length result.items ≤ ticks }
         ensures taken { ticks_taken self.new ≡ ticks_taken self.old + length result.items }
-        ensures run { (journal : Journal) (setup : Setup) (line : List Tick)
-            → StandsFor R.LineRules M.Mac self.old journal setup line
-            → HasTakenRun R.LineRules M.Mac self.new (journal_floor journal) setup line
+        ensures run { (last : ℕ) (setup : Setup) (line : List Tick)
+            → StandsAt R.LineRules M.Mac self.old last setup line
+            → HasTakenRun R.LineRules M.Mac self.new last setup line
             (silent (length result.items)) (map Byte result.items) }
     {
         let most = ticks.min(self.trailer.left().len() as u32);
@@ -290,9 +286,9 @@ impl<R: LineRules, M: Mac, const B: usize> Sealer<R, M, B> {
         requires { ticks_taken self.old + length bytes.now ≤ MAX_TICKS }
         ensures within { result ≤ length bytes.now }
         ensures taken { ticks_taken self.new ≡ ticks_taken self.old + result }
-        ensures run { (journal : Journal) (setup : Setup) (line : List Tick)
-            → StandsFor R.LineRules M.Mac self.old journal setup line
-            → HasTakenRun R.LineRules M.Mac self.new (journal_floor journal) setup line
+        ensures run { (last : ℕ) (setup : Setup) (line : List Tick)
+            → StandsAt R.LineRules M.Mac self.old last setup line
+            → HasTakenRun R.LineRules M.Mac self.new last setup line
             (map Byte (take result bytes.now)) (silent result) }
     {
         let held = self.hold(bytes);
@@ -311,9 +307,9 @@ impl<R: LineRules, M: Mac, const B: usize> Sealer<R, M, B> {
         requires { ticks_taken self.old + length bytes.now ≤ MAX_TICKS }
         ensures within { result ≤ length bytes.now }
         ensures taken { ticks_taken self.new ≡ ticks_taken self.old + result }
-        ensures run { (journal : Journal) (setup : Setup) (line : List Tick)
-            → StandsFor R.LineRules M.Mac self.old journal setup line
-            → HasTakenRun R.LineRules M.Mac self.new (journal_floor journal) setup line
+        ensures run { (last : ℕ) (setup : Setup) (line : List Tick)
+            → StandsAt R.LineRules M.Mac self.old last setup line
+            → HasTakenRun R.LineRules M.Mac self.new last setup line
             (map Byte (take result bytes.now)) (answered result left.new.items) }
     {
         let held = self.hold_some(bytes);
@@ -330,9 +326,9 @@ impl<R: LineRules, M: Mac, const B: usize> Sealer<R, M, B> {
         requires { ticks_taken self.old + ticks ≤ MAX_TICKS }
         ensures within { result ≤ ticks }
         ensures taken { ticks_taken self.new ≡ ticks_taken self.old + result }
-        ensures run { (journal : Journal) (setup : Setup) (line : List Tick)
-            → StandsFor R.LineRules M.Mac self.old journal setup line
-            → HasTakenRun R.LineRules M.Mac self.new (journal_floor journal) setup line
+        ensures run { (last : ℕ) (setup : Setup) (line : List Tick)
+            → StandsAt R.LineRules M.Mac self.old last setup line
+            → HasTakenRun R.LineRules M.Mac self.new last setup line
             (silent result) (answered result left.new.items) }
     {
         if self.trailer.left().len() == 0 {
@@ -353,12 +349,12 @@ impl<R: LineRules, M: Mac, const B: usize> Sealer<R, M, B> {
 
     // The next byte of the trailer, or silence.
     #[inline]
-    fn send(&mut self) -> SealStep
+    fn send(&mut self) -> BoxStep<SealNote>
         ensures rest { self.new ≡ record self.old { trailer = self.new.trailer } }
         ensures left { bytes_left self.new.trailer ≡ drop 1 (bytes_left self.old.trailer) }
         ensures answer { result ≡ noteless (first_of (bytes_left self.old.trailer)) }
     {
-        SealStep {
+        BoxStep {
             tick: self.trailer.next_tick(),
             note: None,
         }
@@ -366,7 +362,7 @@ impl<R: LineRules, M: Mac, const B: usize> Sealer<R, M, B> {
 
     // A tick that is neither forwarded nor closes a burst.
     #[inline]
-    fn pass(&mut self) -> SealStep
+    fn pass(&mut self) -> BoxStep<SealNote>
         ensures cut { self.new.cut ≡ self.old.cut }
         ensures note { result.note ≡ None }
         ensures step { (last : ℕ) (setup : Setup) (line : List Tick) (t : Tick) (cut : Cut)
@@ -379,7 +375,7 @@ impl<R: LineRules, M: Mac, const B: usize> Sealer<R, M, B> {
 
     // The first byte of a burst.
     #[inline]
-    fn begin(&mut self, byte: u8) -> SealStep
+    fn begin(&mut self, byte: u8) -> BoxStep<SealNote>
         ensures cut { self.new.cut ≡ self.old.cut }
         ensures note { result.note ≡ None }
         ensures step { (last : ℕ) (setup : Setup) (line : List Tick) (t : Tick)
@@ -391,7 +387,7 @@ impl<R: LineRules, M: Mac, const B: usize> Sealer<R, M, B> {
         }
         self.mac.begin();
         self.mac.update(&[R::LABEL, self.direction.number(), byte]);
-        SealStep {
+        BoxStep {
             tick: Tick::Byte(byte),
             note: None,
         }
@@ -399,7 +395,7 @@ impl<R: LineRules, M: Mac, const B: usize> Sealer<R, M, B> {
 
     // A further live byte of it.
     #[inline]
-    fn go_on(&mut self, byte: u8) -> SealStep
+    fn go_on(&mut self, byte: u8) -> BoxStep<SealNote>
         ensures cut { self.new.cut ≡ self.old.cut }
         ensures note { result.note ≡ None }
         ensures step { (last : ℕ) (setup : Setup) (line : List Tick) (t : Tick)
@@ -410,7 +406,7 @@ impl<R: LineRules, M: Mac, const B: usize> Sealer<R, M, B> {
             return self.send();
         }
         self.mac.update(&[byte]);
-        SealStep {
+        BoxStep {
             tick: Tick::Byte(byte),
             note: None,
         }
@@ -444,7 +440,7 @@ impl<R: LineRules, M: Mac, const B: usize> Sealer<R, M, B> {
         &mut self,
         journal: &mut Journal,
         disk: &mut D,
-    ) -> Result<SealStep, JournalFault>
+    ) -> Result<BoxStep<SealNote>, JournalFault>
         requires room { ticks_taken self.old ≤ MAX_TICKS }
         requires fits { Fits journal.old (D.told disk.old) }
 
@@ -474,7 +470,7 @@ impl<R: LineRules, M: Mac, const B: usize> Sealer<R, M, B> {
     }
 
     // Leaves the closed burst without a trailer.
-    fn leave(&mut self, why: UnsealedWhy) -> SealStep
+    fn leave(&mut self, why: UnsealedWhy) -> BoxStep<SealNote>
         ensures cut { self.new.cut ≡ self.old.cut }
         ensures note { IsUnsealedNote why result.note }
         ensures step { (last : ℕ) (setup : Setup) (line : List Tick)
@@ -482,7 +478,7 @@ impl<R: LineRules, M: Mac, const B: usize> Sealer<R, M, B> {
             → Judges R.LineRules M.Mac self.old last setup (line ++ Silent ∷ []) (unsealed why)
             → HasTaken R.LineRules M.Mac self.new last setup line Silent result }
     {
-        SealStep {
+        BoxStep {
             tick: self.trailer.next_tick(),
             note: Some(SealNote::Unsealed {
                 start: self.cut.start(),
@@ -492,7 +488,7 @@ impl<R: LineRules, M: Mac, const B: usize> Sealer<R, M, B> {
     }
 
     // Seals the closed burst with a number that is committed.
-    fn seal(&mut self, number: u64) -> SealStep
+    fn seal(&mut self, number: u64) -> BoxStep<SealNote>
         requires room { ticks_taken self.old ≤ MAX_TICKS }
         ensures cut { self.new.cut ≡ self.old.cut }
         ensures note { IsSealedNote number result.note }
@@ -507,7 +503,7 @@ impl<R: LineRules, M: Mac, const B: usize> Sealer<R, M, B> {
         self.trailer.load(number, &tag);
         // this tick is the trailer's first one
         self.earliest_start = self.cut.ticks() + (B + M::TAG) as u64 + u64::from(T3_5_TICKS - 1);
-        SealStep {
+        BoxStep {
             tick: self.trailer.next_tick(),
             note: Some(SealNote::Sealed {
                 number,
@@ -520,8 +516,8 @@ impl<R: LineRules, M: Mac, const B: usize> Sealer<R, M, B> {
     /// The live bytes of the burst that is running or was the last.
     #[inline]
     pub fn live_bytes(&self) -> &R
-        ensures { (journal : Journal) (setup : Setup) (line : List Tick)
-            → StandsFor R.LineRules M.Mac self.now journal setup line
+        ensures { (last : ℕ) (setup : Setup) (line : List Tick)
+            → StandsAt R.LineRules M.Mac self.now last setup line
             → R.stands result.now (live_bytes_so_far R.rules line) }
     {
         self.cut.rules()

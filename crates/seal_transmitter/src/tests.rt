@@ -26,7 +26,7 @@ fn steps<R: LineRules, M: Mac, D: SlotDisk, const B: usize>(
     journal: &mut Journal,
     disk: &mut D,
     line: &[u8],
-) -> Result<Vec<SealStep>, Fail>
+) -> Result<Vec<BoxStep<SealNote>>, Fail>
     requires begun { ticks_taken sealer.old ≡ 0 }
     requires fits { Fits journal.old (D.told disk.old) }
     requires short { length line.now < 1000 }

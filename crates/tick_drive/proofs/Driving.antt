@@ -6,8 +6,6 @@ use Rattle.std.specs.Prelude.{unwrap_or}
 use Rattle.std.specs.List.{flat_map}
 use Rattle.std.proofs.lemmas.Bool.{cases_eq}
 use Rattle.std.proofs.lemmas.List.{nil_from_length}
-use Rattle.yasir_io.specs.declared.sink.Sink.{Ghosts as Sink}
-use Rattle.yasir_io.specs.declared.disk.SlotDisk.{Ghosts as SlotDisk}
 use Rattle.yasir_ticks.specs.Characters.{line_feed}
 use Rattle.yasir_ticks.specs.Ticks.{Item, ticks_in}
 use Rattle.yasir_ticks.specs.TickText.{IsTickText, BeginsTickText, ended_items, lines_of}
@@ -15,7 +13,7 @@ use Rattle.yasir_ticks.specs.TickText.{line_items}
 use Rattle.yasir_ticks.specs.Reader.{items_of_content}
 use Rattle.yasir_ticks.specs.declared.place.Content.{Content}
 use Rattle.yasir_ticks.proofs.Lines.{lines_of-more}
-use Rattle.tick_drive.specs.Consumers.{Consuming, State, Gives}
+use Rattle.tick_drive.specs.Consumers.{Consuming, AreJoined, Gives}
 use Rattle.tick_drive.specs.Items.{silent_items}
 use Rattle.tick_drive.specs.Input.{IsMetOf, EndsLine, IsWhole, IsReadCause, max_ticks}
 use Rattle.tick_drive.specs.Input.{is_read_fault}
@@ -103,28 +101,28 @@ read_same in0 in1 is_cause e unless = record {
   same = λ _. e;
 }
 
-module _ {C O L D : Type 0} (meaning : Consuming C D) (o : Sink O) (l : Sink L)
-    (d : SlotDisk D) where
+module _ {C : Type 0} (meaning : Consuming C) where
   -- So far: the text that was met, whose ended lines the consumer was given, and so many ticks in
   -- them.
   pub record Progress (marks : ℕ) (before now : Option (List ℕ)) (intake : Intake)
-      (start state : State C O L D) (ticks : ℕ) : Type 0 where
+      (start state : C) (ticks : ℕ) : Type 0 where
     pub text : List ℕ
     pub met : HasMet intake marks before now text
-    pub gives : Gives meaning o l d {T = Unit {0}} start state (ended_items text) (Ok tt)
+    pub gives : Gives meaning start state (ended_items text) (Ok tt)
     pub sum : ticks ≡ length (ticks_in (ended_items text))
     pub few : ticks ≤ max_ticks
-    pub taken : meaning.taken state.consumer ≡ ticks
+    pub taken : meaning.taken state ≡ ticks
 
+module _ {C : Type 0} (meaning : Consuming C) (joins : AreJoined meaning) where
   -- nothing met yet
   pub progress_start : (marks : ℕ) (before : Option (List ℕ)) (intake : Intake)
-      (start : State C O L D) → HasMet intake marks before before []
-      → Gives meaning o l d {T = Unit {0}} start start [] (Ok tt) → meaning.taken start.consumer ≡ 0
-      → Progress marks before before intake start start 0
+      (start : C) → HasMet intake marks before before []
+      → Gives meaning start start [] (Ok tt) → meaning.taken start ≡ 0
+      → Progress meaning marks before before intake start start 0
   progress_start marks before intake start met none fresh = record {
     text = [];
     met = met;
-    gives = gives_items meaning o l d start start [] (ended_items []) (Ok tt) (sym ended_items-nil)
+    gives = gives_items meaning start start [] (ended_items []) (Ok tt) (sym ended_items-nil)
         none;
     sum = sym (ap (λ items. length (ticks_in items)) ended_items-nil);
     few = omega arith;
@@ -133,16 +131,16 @@ module _ {C O L D : Type 0} (meaning : Consuming C D) (o : Sink O) (l : Sink L)
 
   -- bytes that end no line with ticks
   pub progress_quiet : (marks : ℕ) (before now later : Option (List ℕ)) (intake next : Intake)
-      (start state : State C O L D) (ticks : ℕ)
-      (p : Progress marks before now intake start state ticks)
+      (start state : C) (ticks : ℕ)
+      (p : Progress meaning marks before now intake start state ticks)
       → MeetsLine next marks before later p.text []
-      → Progress marks before later next start state ticks
+      → Progress meaning marks before later next start state ticks
   progress_quiet marks before now later intake next start state ticks p met =
       let same : ended_items ((p.text ++ met.front) ++ met.byte ∷ []) ≡ ended_items p.text =
       met.ended ∙ append-nil _ in record {
         text = (p.text ++ met.front) ++ met.byte ∷ [];
         met = met.met;
-        gives = gives_items meaning o l d start state _ _ (Ok tt) (sym same) p.gives;
+        gives = gives_items meaning start state _ _ (Ok tt) (sym same) p.gives;
         sum = p.sum ∙ ap (λ items. length (ticks_in items)) (sym same);
         few = p.few;
         taken = p.taken;
@@ -150,18 +148,18 @@ module _ {C O L D : Type 0} (meaning : Consuming C D) (o : Sink O) (l : Sink L)
 
   -- a line that was handed over
   pub progress_line : (marks : ℕ) (before now later : Option (List ℕ)) (intake next : Intake)
-      (start mid new : State C O L D) (ticks sum : ℕ) (line : List Item)
-      (p : Progress marks before now intake start mid ticks)
+      (start mid new : C) (ticks sum : ℕ) (line : List Item)
+      (p : Progress meaning marks before now intake start mid ticks)
       → MeetsLine next marks before later p.text line
-      → HandsOver meaning o l d mid new ticks line sum
-      → meaning.taken new.consumer ≡ sum
-      → Progress marks before later next start new sum
+      → HandsOver meaning mid new ticks line sum
+      → meaning.taken new ≡ sum
+      → Progress meaning marks before later next start new sum
   progress_line marks before now later intake next start mid new ticks sum line p met handed taken =
       record {
         text = (p.text ++ met.front) ++ met.byte ∷ [];
         met = met.met;
-        gives = gives_items meaning o l d start new _ _ (Ok tt) (sym met.ended)
-            (gives_then meaning o l d start mid new _ _ (Ok tt) p.gives handed.gives);
+        gives = gives_items meaning start new _ _ (Ok tt) (sym met.ended)
+            (gives_then meaning joins start mid new _ _ (Ok tt) p.gives handed.gives);
         sum = omega (
           arith,
           handed.sum_is,
@@ -175,10 +173,10 @@ module _ {C O L D : Type 0} (meaning : Consuming C D) (o : Sink O) (l : Sink L)
 
   -- a step that isn't answered ends the run
   pub step_ends : (marks : ℕ) (before now later : Option (List ℕ)) (intake next : Intake)
-      (start state : State C O L D) (ticks : ℕ) (end : End)
-      (p : Progress marks before now intake start state ticks)
+      (start state : C) (ticks : ℕ) (end : End)
+      (p : Progress meaning marks before now intake start state ticks)
       → StepAnswer next marks before later p.text (Err end)
-      → Drives meaning o l d marks 0 before later start state end
+      → Drives meaning marks 0 before later start state end
   step_ends marks before now later intake next start state ticks (Refused bad) p h = record {
     items = ended_items p.text;
     takes = record {
@@ -222,10 +220,10 @@ module _ {C O L D : Type 0} (meaning : Consuming C D) (o : Sink O) (l : Sink L)
 
   -- a text that isn't right at its end
   pub finish_ends : (marks : ℕ) (before now later : Option (List ℕ)) (intake next : Intake)
-      (start state : State C O L D) (ticks : ℕ) (end : End)
-      (p : Progress marks before now intake start state ticks)
+      (start state : C) (ticks : ℕ) (end : End)
+      (p : Progress meaning marks before now intake start state ticks)
       → MeetsEnd next marks before later p.text → FinishAnswer marks p.text (Err end)
-      → Drives meaning o l d marks 0 before later start state end × (is_read_fault end ≡ false)
+      → Drives meaning marks 0 before later start state end × (is_read_fault end ≡ false)
   finish_ends marks before now later intake next start state ticks (Refused bad) p met h = (
     record {
       items = ended_items p.text;
@@ -253,11 +251,11 @@ module _ {C O L D : Type 0} (meaning : Consuming C D) (o : Sink O) (l : Sink L)
 
   -- a line that was held back, or at one of whose ticks the consumer stopped, ends the run
   pub line_ends : (marks : ℕ) (before now later : Option (List ℕ)) (intake next : Intake)
-      (start mid new : State C O L D) (ticks : ℕ) (line : List Item) (end : End)
-      (p : Progress marks before now intake start mid ticks)
+      (start mid new : C) (ticks : ℕ) (line : List Item) (end : End)
+      (p : Progress meaning marks before now intake start mid ticks)
       → MeetsLine next marks before later p.text line
-      → HandAnswer meaning o l d mid new ticks line (Err end)
-      → Drives meaning o l d marks 0 before later start new end × (is_read_fault end ≡ false)
+      → HandAnswer meaning mid new ticks line (Err end)
+      → Drives meaning marks 0 before later start new end × (is_read_fault end ≡ false)
   line_ends marks before now later intake next start mid new ticks line
       (TooLong Ticks count) p met h =
       let some : line ≢ [] = λ none. let nothing : length (ticks_in line) ≡ 0 =
@@ -274,7 +272,7 @@ module _ {C O L D : Type 0} (meaning : Consuming C D) (o : Sink O) (l : Sink L)
             sum = omega (arith, h.sum, p.sum, ticks_with (ended_items p.text) line);
             above = h.above;
           };
-          gives = subst (λ state. Gives meaning o l d start state (ended_items p.text) (Ok tt))
+          gives = subst (λ state. Gives meaning start state (ended_items p.text) (Ok tt))
               (sym h.same) p.gives;
         },
         refl,
@@ -293,7 +291,7 @@ module _ {C O L D : Type 0} (meaning : Consuming C D) (o : Sink O) (l : Sink L)
             few = omega (arith, h.few, p.sum, ticks_with (ended_items p.text) line);
             are = ap (λ items. items ++ line) (sym quiet);
           });
-          gives = gives_then meaning o l d start mid new (ended_items p.text) line (Err stop)
+          gives = gives_then meaning joins start mid new (ended_items p.text) line (Err stop)
               p.gives h.gives;
         },
         refl,
@@ -309,12 +307,12 @@ module _ {C O L D : Type 0} (meaning : Consuming C D) (o : Sink O) (l : Sink L)
 
   -- the last line was handed over
   pub last_ends : (marks : ℕ) (before now later : Option (List ℕ)) (intake next : Intake)
-      (start mid new : State C O L D) (ticks sum : ℕ) (line : List Item)
-      (p : Progress marks before now intake start mid ticks)
+      (start mid new : C) (ticks sum : ℕ) (line : List Item)
+      (p : Progress meaning marks before now intake start mid ticks)
       → MeetsEnd next marks before later p.text
       → IsTickText marks p.text (ended_items p.text ++ line)
-      → HandsOver meaning o l d mid new ticks line sum
-      → Drives meaning o l d marks 0 before later start new Whole
+      → HandsOver meaning mid new ticks line sum
+      → Drives meaning marks 0 before later start new Whole
   last_ends marks before now later intake next start mid new ticks sum line p met right h = record {
     items = ended_items p.text ++ line;
     takes = record {
@@ -325,18 +323,18 @@ module _ {C O L D : Type 0} (meaning : Consuming C D) (o : Sink O) (l : Sink L)
       few = omega (arith, h.few, h.sum_is, p.sum, ticks_with (ended_items p.text) line);
       are = sym (append-nil _);
     };
-    gives = gives_then meaning o l d start mid new (ended_items p.text) line (Ok tt) p.gives
+    gives = gives_then meaning joins start mid new (ended_items p.text) line (Ok tt) p.gives
         h.gives;
   }
 
   -- the last line was held back, or the consumer stopped at one of its ticks
   pub last_line_ends : (marks : ℕ) (before now later : Option (List ℕ)) (intake next : Intake)
-      (start mid new : State C O L D) (ticks : ℕ) (line : List Item) (end : End)
-      (p : Progress marks before now intake start mid ticks)
+      (start mid new : C) (ticks : ℕ) (line : List Item) (end : End)
+      (p : Progress meaning marks before now intake start mid ticks)
       → MeetsEnd next marks before later p.text
       → IsTickText marks p.text (ended_items p.text ++ line)
-      → HandAnswer meaning o l d mid new ticks line (Err end)
-      → Drives meaning o l d marks 0 before later start new end × (is_read_fault end ≡ false)
+      → HandAnswer meaning mid new ticks line (Err end)
+      → Drives meaning marks 0 before later start new end × (is_read_fault end ≡ false)
   last_line_ends marks before now later intake next start mid new ticks line (TooLong Ticks count) p
       met right h = (
         record {
@@ -350,7 +348,7 @@ module _ {C O L D : Type 0} (meaning : Consuming C D) (o : Sink O) (l : Sink L)
             sum = omega (arith, h.sum, p.sum, ticks_with (ended_items p.text) line);
             above = h.above;
           };
-          gives = subst (λ state. Gives meaning o l d start state (ended_items p.text) (Ok tt))
+          gives = subst (λ state. Gives meaning start state (ended_items p.text) (Ok tt))
               (sym h.same) p.gives;
         },
         refl,
@@ -368,7 +366,7 @@ module _ {C O L D : Type 0} (meaning : Consuming C D) (o : Sink O) (l : Sink L)
             are = sym (append-nil _);
           });
           gives =
-              gives_then meaning o l d start mid new (ended_items p.text) line (Err stop) p.gives
+              gives_then meaning joins start mid new (ended_items p.text) line (Err stop) p.gives
               h.gives;
         },
         refl,
@@ -383,34 +381,34 @@ module _ {C O L D : Type 0} (meaning : Consuming C D) (o : Sink O) (l : Sink L)
       absurd h
 
   -- the silence behind a whole input was taken
-  pub rest_taken : (marks rest : ℕ) (before now : Option (List ℕ)) (old mid new : State C O L D)
-      → Drives meaning o l d marks 0 before now old mid Whole
-      → Gives meaning o l d {T = Unit {0}} mid new (silent_items rest) (Ok tt)
-      → Drives meaning o l d marks rest before now old new Whole
+  pub rest_taken : (marks rest : ℕ) (before now : Option (List ℕ)) (old mid new : C)
+      → Drives meaning marks 0 before now old mid Whole
+      → Gives meaning mid new (silent_items rest) (Ok tt)
+      → Drives meaning marks rest before now old new Whole
   rest_taken marks rest before now old mid new whole more = record {
     items = whole.items ++ silent_items rest;
     takes = rested marks rest before now whole.items whole.takes;
-    gives = gives_then meaning o l d old mid new whole.items (silent_items rest) (Ok tt) whole.gives
+    gives = gives_then meaning joins old mid new whole.items (silent_items rest) (Ok tt) whole.gives
         more;
   }
 
   -- the consumer stopped in it
-  pub rest_stops : (marks rest : ℕ) (before now : Option (List ℕ)) (old mid new : State C O L D)
-      (stop : Stop) → Drives meaning o l d marks 0 before now old mid Whole
-      → Gives meaning o l d {T = Unit {0}} mid new (silent_items rest) (Err stop)
-      → Drives meaning o l d marks rest before now old new (Stopped stop)
+  pub rest_stops : (marks rest : ℕ) (before now : Option (List ℕ)) (old mid new : C)
+      (stop : Stop) → Drives meaning marks 0 before now old mid Whole
+      → Gives meaning mid new (silent_items rest) (Err stop)
+      → Drives meaning marks rest before now old new (Stopped stop)
   rest_stops marks rest before now old mid new stop whole more = record {
     items = whole.items ++ silent_items rest;
     takes = inr (rested marks rest before now whole.items whole.takes);
-    gives = gives_then meaning o l d old mid new whole.items (silent_items rest) (Err stop)
+    gives = gives_then meaning joins old mid new whole.items (silent_items rest) (Err stop)
         whole.gives more;
   }
 
   -- silence behind a whole input changes nothing of any other end
-  pub other_ends : (marks rest : ℕ) (before now : Option (List ℕ)) (old new : State C O L D)
+  pub other_ends : (marks rest : ℕ) (before now : Option (List ℕ)) (old new : C)
       (end : End) → (end ≡ Whole → ⊥)
-      → Drives meaning o l d marks 0 before now old new end
-      → Drives meaning o l d marks rest before now old new end
+      → Drives meaning marks 0 before now old new end
+      → Drives meaning marks rest before now old new end
   other_ends marks rest before now old new Whole other h = absurd (other refl)
   other_ends marks rest before now old new (Refused bad) other h =
       record { items = h.items; takes = h.takes; gives = h.gives }
@@ -425,6 +423,6 @@ module _ {C O L D : Type 0} (meaning : Consuming C D) (o : Sink O) (l : Sink L)
     | inr whole ↦ record {
       items = h.items ++ silent_items rest;
       takes = inr (rested marks rest before now h.items whole);
-      gives = gives_front meaning o l d old new h.items (silent_items rest) stop h.gives;
+      gives = gives_front meaning old new h.items (silent_items rest) stop h.gives;
     }
   ]

@@ -1,14 +1,15 @@
 -- Ticks among items, and how many a run has.
-use Rattle.std.proofs.Common.{◌≡◌, ℕ, suc, zero, ◌+◌, ◌-◌, ◌<◌, ◌≤◌, List, [], ◌∷◌, ◌++◌, length}
-use Rattle.std.proofs.Common.{get_or, take, drop, map, replicate, length-append, append-nil, refl}
-use Rattle.std.proofs.Common.{ap, sym, ◌∙◌, arith}
-use Rattle.std.proofs.lemmas.List.{map-append, take_more, take-append-drop}
-use Rattle.std.proofs.lemmas.List.{replicate-append-replicate}
-use Rattle.std.proofs.lemmas.List.{length-take}
-use Rattle.tick_drive.specs.Items.{byte_items, silent_items}
+use Rattle.std.proofs.Common.{◌≡◌, ℕ, suc, zero, ◌+◌, ◌≤◌, List, [], ◌∷◌, ◌++◌, length, take, drop}
+use Rattle.std.proofs.Common.{map, replicate, length-append, append-nil, refl, ap, sym, ◌∙◌, arith}
+use Rattle.std.proofs.lemmas.List.{length-take, length-take-le, drop-map, take-map}
+use Rattle.tick_drive.specs.Items.{byte_items}
 use Rattle.yasir_ticks.specs.Ticks.{Item, ticks_in}
 use Rattle.yasir_ticks.specs.Ticks.Item.{tick, mark}
+use Rattle.yasir_ticks.specs.TickRun.{run_ticks, run_items}
+use Rattle.yasir_ticks.specs.declared.tick.Tick.{Tick}
 use Rattle.yasir_ticks.specs.declared.tick.Tick.TheVariants.{Silent, Byte}
+use Rattle.yasir_ticks.specs.declared.tick_run.TickRun.{TickRun}
+use Rattle.yasir_ticks.proofs.TickRuns.{items_of_ticks, ticks_in-ticks}
 
 pub ticks_in-append : (a b : List Item) → ticks_in (a ++ b) ≡ ticks_in a ++ ticks_in b
 ticks_in-append [] b = refl
@@ -34,44 +35,32 @@ pub length-ticks_in-silence : (n : ℕ) → length (ticks_in (replicate n (tick 
 length-ticks_in-silence zero = refl
 length-ticks_in-silence (suc n) = ap suc (length-ticks_in-silence n)
 
--- the byte at a place, between those before it and those after it
-pub byte_items-at : (bytes : List ℕ) (i : ℕ) → i < length bytes
-    → byte_items bytes ≡ (byte_items (take i bytes) ++ tick (Byte (get_or bytes i 0)) ∷ [])
-    ++ byte_items (drop (i + 1) bytes)
-byte_items-at bytes i within =
-    let whole : byte_items bytes ≡ byte_items (take (i + 1) bytes ++ drop (i + 1) bytes) =
-    ap byte_items (sym (take-append-drop (i + 1) bytes)) in
-    let cut : byte_items (take (i + 1) bytes ++ drop (i + 1) bytes)
-    ≡ byte_items (take (i + 1) bytes) ++ byte_items (drop (i + 1) bytes) =
-    map-append (λ b. tick (Byte b)) (take (i + 1) bytes) (drop (i + 1) bytes) in
-    let more : byte_items (take (i + 1) bytes)
-    ≡ byte_items (take i bytes) ++ tick (Byte (get_or bytes i 0)) ∷ [] =
-    ap byte_items (take_more bytes i 0 within)
-    ∙ map-append (λ b. tick (Byte b)) (take i bytes) (get_or bytes i 0 ∷ []) in
-    whole ∙ cut ∙ ap (λ l. l ++ byte_items (drop (i + 1) bytes)) more
-
--- one byte more
-pub byte_items-more : (bytes : List ℕ) (i : ℕ) → i < length bytes
-    → byte_items (take i bytes) ++ tick (Byte (get_or bytes i 0)) ∷ []
-    ≡ byte_items (take (i + 1) bytes)
-byte_items-more bytes i within =
-    sym (ap byte_items (take_more bytes i 0 within)
-    ∙ map-append (λ b. tick (Byte b)) (take i bytes) (get_or bytes i 0 ∷ []))
-
 pub length-ticks_in-take : (bytes : List ℕ) (i : ℕ) → i ≤ length bytes
     → length (ticks_in (byte_items (take i bytes))) ≡ i
 length-ticks_in-take bytes i within =
     length-ticks_in-bytes (take i bytes) ∙ let long : length (take i bytes) ≡ i =
     omega (arith, length-take i bytes, within) in long
 
--- one silent tick more
-pub silent_items-more : (n : ℕ) → silent_items n ++ tick Silent ∷ [] ≡ silent_items (n + 1)
-silent_items-more n = replicate-append-replicate n 1 (tick Silent)
+-- the items of a run without its first ticks
+pub run_items-behind : (run rest : TickRun) (n : ℕ) → run_ticks rest ≡ drop n (run_ticks run)
+    → run_items rest ≡ drop n (run_items run)
+run_items-behind run rest n is = items_of_ticks rest ∙ ap (map tick) is
+    ∙ sym (drop-map tick n (run_ticks run)) ∙ ap (drop n) (sym (items_of_ticks run))
 
--- one silent tick between those before it and those after it
-pub silent_items-at : (n i : ℕ) → i < n
-    → silent_items n ≡ (silent_items i ++ tick Silent ∷ []) ++ silent_items (n - (i + 1))
-silent_items-at n i within =
-    let sum : i + 1 + (n - (i + 1)) ≡ n = omega arith in
-    ap silent_items (sym sum) ∙ sym (replicate-append-replicate (i + 1) (n - (i + 1)) (tick Silent))
-    ∙ ap (λ l. l ++ silent_items (n - (i + 1))) (sym (replicate-append-replicate i 1 (tick Silent)))
+-- the ticks of the first items of a run are its first ticks
+pub ticks_in-front : (run : TickRun) (n : ℕ)
+    → ticks_in (take n (run_items run)) ≡ take n (run_ticks run)
+ticks_in-front run n =
+    ap (λ l. ticks_in (take n l)) (items_of_ticks run) ∙ ap ticks_in (take-map tick n (run_ticks run))
+    ∙ ticks_in-ticks (take n (run_ticks run))
+
+-- so many they are
+pub length-front : (run : TickRun) (n : ℕ) → n ≤ length (run_ticks run)
+    → length (ticks_in (take n (run_items run))) ≡ n
+length-front run n within =
+    ap length (ticks_in-front run n) ∙ length-take-le n (run_ticks run) within
+
+-- the item of its first tick, and those behind it
+pub run_items-first : (run : TickRun) (t : Tick) (rest : List Tick) → run_ticks run ≡ t ∷ rest
+    → run_items run ≡ tick t ∷ map tick rest
+run_items-first run t rest is = items_of_ticks run ∙ ap (map tick) is

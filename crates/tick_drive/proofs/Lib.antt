@@ -2,3 +2,5 @@ pub mod Known
 pub mod ItemLaws
 pub mod Moving
 pub mod Driving
+pub mod Causes
+pub mod Fronts

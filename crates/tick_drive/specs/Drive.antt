@@ -1,10 +1,8 @@
 -- How a drive over an input ends, and what the consumer has then taken.
 use Rattle.std.specs.Prelude.{◌≡◌, ℕ, ◌+◌, ◌<◌, ◌≤◌, List, length, Option, Result, Ok, Err}
-use Rattle.yasir_io.specs.declared.sink.Sink.{Ghosts as Sink}
-use Rattle.yasir_io.specs.declared.disk.SlotDisk.{Ghosts as SlotDisk}
 use Rattle.yasir_ticks.specs.Ticks.{Item, ticks_in}
 use Rattle.tick_drive.specs.Input.{Takes, max_ticks}
-use Rattle.tick_drive.specs.Consumers.{Consuming, State, Gives}
+use Rattle.tick_drive.specs.Consumers.{Consuming, Gives}
 use Rattle.tick_drive.specs.declared.consumer.Stop.{Stop}
 use Rattle.tick_drive.specs.declared.end.End.{End}
 use Rattle.tick_drive.specs.declared.end.End.TheVariants.{Stopped, TooLong}
@@ -15,43 +13,39 @@ abbrev pub answer_of : End → Result (Unit {0}) Stop
 answer_of (Stopped stop) = Err stop
 answer_of end = Ok tt
 
--- A consumer that has taken nothing yet may be used.
-pub record IsFresh {C D : Type 0} (meaning : Consuming C D) (consumer : C) (disk : D) : Type 0 where
-  pub none : meaning.taken consumer ≡ 0
-  pub able : meaning.able consumer disk
+module _ {C : Type 0} (meaning : Consuming C) where
+  -- A consumer that has taken nothing yet may be used.
+  pub record IsFresh (consumer : C) : Type 0 where
+    pub none : meaning.taken consumer ≡ 0
+    pub able : meaning.able consumer
 
-module _ {C O L D : Type 0} (meaning : Consuming C D) (o : Sink O) (l : Sink L)
-    (d : SlotDisk D) where
   -- What was taken of an input that had `before` left and now has `now` was given to a consumer,
   -- and the drive over it ended so.
-  pub record Drives (marks rest : ℕ) (before now : Option (List ℕ)) (old new : State C O L D)
-      (end : End) : Type 0 where
+  pub record Drives (marks rest : ℕ) (before now : Option (List ℕ)) (old new : C) (end : End) :
+      Type 0 where
     pub items : List Item
     pub takes : Takes marks rest before now items end
-    pub gives : Gives meaning o l d old new items (answer_of end)
+    pub gives : Gives meaning old new items (answer_of end)
 
   -- One line's items were handed over: their ticks with those before are this sum.
-  pub record HandsOver (old new : State C O L D) (ticks : ℕ) (items : List Item) (sum : ℕ) :
-      Type 0 where
-    pub gives : Gives meaning o l d {T = Unit {0}} old new items (Ok tt)
+  pub record HandsOver (old new : C) (ticks : ℕ) (items : List Item) (sum : ℕ) : Type 0 where
+    pub gives : Gives meaning old new items (Ok tt)
     pub sum_is : sum ≡ ticks + length (ticks_in items)
     pub few : sum ≤ max_ticks
 
   -- Their ticks with those before are too many, and nothing was done.
-  pub record HoldsBack (old new : State C O L D) (ticks : ℕ) (items : List Item) (count : ℕ) :
-      Type 0 where
+  pub record HoldsBack (old new : C) (ticks : ℕ) (items : List Item) (count : ℕ) : Type 0 where
     pub same : new ≡ old
     pub sum : count ≡ ticks + length (ticks_in items)
     pub above : max_ticks < count
 
   -- The consumer stopped at one of them.
-  pub record StopsAt (old new : State C O L D) (ticks : ℕ) (items : List Item) (stop : Stop) :
-      Type 0 where
-    pub gives : Gives meaning o l d {T = Unit {0}} old new items (Err stop)
+  pub record StopsAt (old new : C) (ticks : ℕ) (items : List Item) (stop : Stop) : Type 0 where
+    pub gives : Gives meaning old new items (Err stop)
     pub few : ticks + length (ticks_in items) ≤ max_ticks
 
   -- what the answer says where one line's items were to be handed over after so many ticks
-  abbrev pub HandAnswer : State C O L D → State C O L D → ℕ → List Item → Result ℕ End → Type 0
+  abbrev pub HandAnswer : C → C → ℕ → List Item → Result ℕ End → Type 0
   HandAnswer old new ticks items (Ok sum) = HandsOver old new ticks items sum
   HandAnswer old new ticks items (Err (TooLong Ticks count)) = HoldsBack old new ticks items count
   HandAnswer old new ticks items (Err (Stopped stop)) = StopsAt old new ticks items stop

@@ -2,13 +2,13 @@ ghost use Rattle.std.specs.Prelude.{◌≡◌, ℕ, ◌≤◌, length, IfOk};
 ghost use Rattle.yasir_ticks.specs.Ticks.{items_of_run, ticks_in};
 ghost use Rattle.yasir_ticks.specs.Reader.{items_of_content};
 ghost use Rattle.tick_drive.specs.Input.{IsReadCause, is_read_fault, max_ticks};
-ghost use Rattle.tick_drive.specs.Consumers.{state_of, MayTake, Gives};
+ghost use Rattle.tick_drive.specs.Consumers.{MayTake, Gives};
 ghost use Rattle.tick_drive.specs.Drive.{Drives, IsFresh, HandAnswer};
 
 use crate::intake::Intake;
 use crate::{Consumer, End, Stop, TooMuch};
-use yasir_io::{Sink, SlotDisk, Source};
-use yasir_ticks::{Content, Run};
+use yasir_io::Source;
+use yasir_ticks::{Content, Run, TickRun};
 
 /// How many ticks of an input are taken at most.
 pub const MAX_INPUT_TICKS: u32 = 16_777_216;
@@ -28,46 +28,32 @@ fn ticks_of(content: Content, bytes: &[u8]) -> u32
 
 // Gives a line of this content to the consumer.
 #[inline(always)]
-fn give<O: Sink, L: Sink, D: SlotDisk, C: Consumer<O, L, D>>(
-    content: Content,
-    bytes: &[u8],
-    consumer: &mut C,
-    out: &mut O,
-    log: &mut L,
-    disk: &mut D,
-) -> Result<(), Stop>
-    requires { MayTake C.meaning consumer.old disk.old (items_of_content content bytes.now) }
-    ensures { Gives C.meaning O.Sink L.Sink D.SlotDisk
-        (state_of consumer.old out.old log.old disk.old)
-        (state_of consumer.new out.new log.new disk.new)
-        (items_of_content content bytes.now) result }
+fn give<C: Consumer>(content: Content, bytes: &[u8], consumer: &mut C) -> Result<(), Stop>
+    requires { MayTake C.meaning consumer.old (items_of_content content bytes.now) }
+    ensures { Gives C.meaning consumer.old consumer.new (items_of_content content bytes.now)
+        result }
 {
     match content {
         Content::NoTick => Ok(()),
-        Content::KeptBytes => consumer.take_bytes(out, log, disk, bytes),
-        Content::SilentTicks(ticks) => consumer.take_silence(out, log, disk, ticks),
-        Content::OneMark => consumer.take_mark(out, log, disk),
+        Content::KeptBytes => consumer.take_run(TickRun::Bytes(bytes)),
+        Content::SilentTicks(ticks) => consumer.take_run(TickRun::Silence(ticks)),
+        Content::OneMark => consumer.take_mark(),
     }
 }
 
 // Hands one line to the consumer, unless its ticks with those before are too many. Answers the sum.
 #[inline(always)]
-fn hand_over<O: Sink, L: Sink, D: SlotDisk, C: Consumer<O, L, D>>(
+fn hand_over<C: Consumer>(
     ticks: u32,
     content: Content,
     bytes: &[u8],
     consumer: &mut C,
-    out: &mut O,
-    log: &mut L,
-    disk: &mut D,
 ) -> Result<u32, End>
     requires within { ticks ≤ max_ticks }
     requires short { length bytes.now ≤ 32 }
     requires taken { C.meaning.taken consumer.old ≡ ticks }
-    requires able { C.meaning.able consumer.old disk.old }
-    ensures handed { HandAnswer C.meaning O.Sink L.Sink D.SlotDisk
-        (state_of consumer.old out.old log.old disk.old)
-        (state_of consumer.new out.new log.new disk.new) ticks
+    requires able { C.meaning.able consumer.old }
+    ensures handed { HandAnswer C.meaning consumer.old consumer.new ticks
         (items_of_content content bytes.now) result }
     ensures taken { IfOk result (λ sum. C.meaning.taken consumer.new ≡ sum) }
 {
@@ -78,63 +64,34 @@ fn hand_over<O: Sink, L: Sink, D: SlotDisk, C: Consumer<O, L, D>>(
             count: sum,
         });
     }
-    match give(content, bytes, consumer, out, log, disk) {
+    match give(content, bytes, consumer) {
         Ok(()) => Ok(sum as u32),
         Err(stop) => Err(End::Stopped(stop)),
     }
 }
 
 // Hands the run of a last line to the consumer.
-fn hand_last<O: Sink, L: Sink, D: SlotDisk, C: Consumer<O, L, D>>(
-    ticks: u32,
-    run: &Run,
-    consumer: &mut C,
-    out: &mut O,
-    log: &mut L,
-    disk: &mut D,
-) -> Result<u32, End>
+fn hand_last<C: Consumer>(ticks: u32, run: &Run, consumer: &mut C) -> Result<u32, End>
     requires within { ticks ≤ max_ticks }
     requires taken { C.meaning.taken consumer.old ≡ ticks }
-    requires able { C.meaning.able consumer.old disk.old }
-    ensures handed { HandAnswer C.meaning O.Sink L.Sink D.SlotDisk
-        (state_of consumer.old out.old log.old disk.old)
-        (state_of consumer.new out.new log.new disk.new) ticks (items_of_run run.now) result }
+    requires able { C.meaning.able consumer.old }
+    ensures handed { HandAnswer C.meaning consumer.old consumer.new ticks (items_of_run run.now)
+        result }
 {
     match run {
-        Run::Nothing => hand_over(ticks, Content::NoTick, &[], consumer, out, log, disk),
-        Run::Bytes(bytes) => {
-            hand_over(ticks, Content::KeptBytes, bytes, consumer, out, log, disk)
-        }
-        Run::Silence(n) => {
-            hand_over(
-                ticks,
-                Content::SilentTicks(*n),
-                &[],
-                consumer,
-                out,
-                log,
-                disk,
-            )
-        }
-        Run::Mark => hand_over(ticks, Content::OneMark, &[], consumer, out, log, disk),
+        Run::Nothing => hand_over(ticks, Content::NoTick, &[], consumer),
+        Run::Bytes(bytes) => hand_over(ticks, Content::KeptBytes, bytes, consumer),
+        Run::Silence(n) => hand_over(ticks, Content::SilentTicks(*n), &[], consumer),
+        Run::Mark => hand_over(ticks, Content::OneMark, &[], consumer),
     }
 }
 
 /// Drives an input, as tick text with exactly so many marks, into a consumer that has taken nothing
 /// yet, until one of the two stops.
-pub fn drive<S: Source, O: Sink, L: Sink, D: SlotDisk, C: Consumer<O, L, D>>(
-    marks: u8,
-    input: &mut S,
-    consumer: &mut C,
-    out: &mut O,
-    log: &mut L,
-    disk: &mut D,
-) -> End
-    requires fresh { IsFresh C.meaning consumer.old disk.old }
-    ensures driven { Drives C.meaning O.Sink L.Sink D.SlotDisk marks 0 (S.left input.old)
-        (S.left input.new)
-        (state_of consumer.old out.old log.old disk.old)
-        (state_of consumer.new out.new log.new disk.new) result }
+pub fn drive<S: Source, C: Consumer>(marks: u8, input: &mut S, consumer: &mut C) -> End
+    requires fresh { IsFresh C.meaning consumer.old }
+    ensures driven { Drives C.meaning marks 0 (S.left input.old) (S.left input.new) consumer.old
+        consumer.new result }
     ensures read { IsReadCause (S.faults input.old) (S.faults input.new) (is_read_fault result) }
 {
     let mut intake = Intake::new(marks);
@@ -149,7 +106,7 @@ pub fn drive<S: Source, O: Sink, L: Sink, D: SlotDisk, C: Consumer<O, L, D>>(
             continue;
         }
         let bytes = intake.line_bytes();
-        match hand_over(ticks, content, bytes, consumer, out, log, disk) {
+        match hand_over(ticks, content, bytes, consumer) {
             Ok(sum) => ticks = sum,
             Err(end) => return end,
         }
@@ -158,7 +115,7 @@ pub fn drive<S: Source, O: Sink, L: Sink, D: SlotDisk, C: Consumer<O, L, D>>(
         Ok(run) => run,
         Err(end) => return end,
     };
-    match hand_last(ticks, &last, consumer, out, log, disk) {
+    match hand_last(ticks, &last, consumer) {
         Ok(_) => End::Whole,
         Err(end) => end,
     }
@@ -166,27 +123,22 @@ pub fn drive<S: Source, O: Sink, L: Sink, D: SlotDisk, C: Consumer<O, L, D>>(
 
 /// Drives an input into a consumer, and then so many silent ticks behind an input that was taken
 /// whole.
-pub fn drive_to_rest<S: Source, O: Sink, L: Sink, D: SlotDisk, C: Consumer<O, L, D>>(
+pub fn drive_to_rest<S: Source, C: Consumer>(
     marks: u8,
     rest: u32,
     input: &mut S,
     consumer: &mut C,
-    out: &mut O,
-    log: &mut L,
-    disk: &mut D,
 ) -> End
-    requires fresh { IsFresh C.meaning consumer.old disk.old }
-    ensures driven { Drives C.meaning O.Sink L.Sink D.SlotDisk marks rest (S.left input.old)
-        (S.left input.new)
-        (state_of consumer.old out.old log.old disk.old)
-        (state_of consumer.new out.new log.new disk.new) result }
+    requires fresh { IsFresh C.meaning consumer.old }
+    ensures driven { Drives C.meaning marks rest (S.left input.old) (S.left input.new) consumer.old
+        consumer.new result }
     ensures read { IsReadCause (S.faults input.old) (S.faults input.new) (is_read_fault result) }
 {
-    match drive(marks, input, consumer, out, log, disk) {
+    match drive(marks, input, consumer) {
         End::Whole => {}
         end => return end,
     }
-    match consumer.take(out, log, disk, &Run::Silence(rest)) {
+    match consumer.take_run(TickRun::Silence(rest)) {
         Ok(()) => End::Whole,
         Err(stop) => End::Stopped(stop),
     }

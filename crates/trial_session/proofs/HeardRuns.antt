@@ -7,9 +7,10 @@ use Rattle.yasir_ticks.specs.declared.tick.Tick.TheVariants.{Byte}
 use Rattle.device_model.specs.Frames.{frames_of}
 use Rattle.device_model.specs.declared.device.Device.{Ghosts as Device}
 use Rattle.device_model.specs.declared.device.FrameAt.{FrameAt}
+use Rattle.link_box.specs.declared.box_trait.LinkBox.{Ghosts as LinkBox}
+use Rattle.trial_session.specs.Counting.{Counting}
 use Rattle.trial_session.specs.Sides.{HasTaken, HasPassed, HasHeard, IsHearing, HasReceived}
 use Rattle.trial_session.specs.Sides.{IsReceiving}
-use Rattle.trial_session.specs.declared.counting_box.CountingBox.{Ghosts as CountingBox}
 use Rattle.trial_session.specs.declared.listening.Listening.{Listening}
 use Rattle.trial_session.specs.declared.receiving.Receiving.{Receiving}
 
@@ -68,30 +69,30 @@ module _ {V : Type 0} (device : Device V) where
     hears = so.hears;
   }
 
-module _ {C V : Type 0} (checks : CountingBox C) (device : Device V) where
+module _ {C N V : Type 0} (checks : LinkBox C N) (checking : Counting) (device : Device V) where
   -- a run more is checked, and what the receiver makes of it is heard, or waits
   pub receives-run : (old new : Receiving C V) (before after : List ℕ)
-      (link run answer : List Tick) → IsReceiving checks device old before link
-      → ((l : List Tick) → HasTaken checks old.checking l
-      → HasPassed checks new.checking l run answer)
+      (link run answer : List Tick) → IsReceiving checks checking device old before link
+      → ((l : List Tick) → HasTaken checks checking old.checking l
+      → HasPassed checks checking new.checking l run answer)
       → ((l : List Tick) → IsHearing device old.listening before l
       → IsHearing device new.listening after (l ++ answer))
-      → IsReceiving checks device new after (link ++ run)
+      → IsReceiving checks checking device new after (link ++ run)
   receives-run old new before after link run answer so check hear =
       let passed = check link so.checks_link in
       record {
         checks_link = passed.sent.taken;
         hears_line = subst (IsHearing device new.listening after) (sym passed.sent.answered)
-            (hear (checks.counting.other_line link) so.hears_line);
+            (hear (checking.other_line link) so.hears_line);
       }
 
   -- no byte waits at first
   pub receives-none : (value : Receiving C V) (waiting : List ℕ) (link : List Tick)
-      → waiting ≡ [] → HasReceived checks device value link
-      → IsReceiving checks device value waiting link
+      → waiting ≡ [] → HasReceived checks checking device value link
+      → IsReceiving checks checking device value waiting link
   receives-none value waiting link none so = record {
     checks_link = so.checks_link;
-    hears_line = hearing-as device value.listening [] waiting (checks.counting.other_line link)
-        (sym none) (hears-none device value.listening (checks.counting.other_line link)
+    hears_line = hearing-as device value.listening [] waiting (checking.other_line link)
+        (sym none) (hears-none device value.listening (checking.other_line link)
         so.hears_line);
   }

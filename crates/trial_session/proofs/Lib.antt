@@ -3,7 +3,6 @@ pub mod FrameDraws
 pub mod Lists
 pub mod Starting
 pub mod Counting
-pub mod Fates
 pub mod Periods
 pub mod Placed
 pub mod SealsAll

@@ -14,7 +14,8 @@ use Rattle.trial_session.specs.Session.{period_len, period_line, state_at, sessi
 use Rattle.trial_session.specs.Session.{altered_link, alteration_in, after_frame, ticks_of}
 use Rattle.trial_session.specs.Sides.{HasTaken, HasSent, HasReceived}
 use Rattle.trial_session.specs.declared.alteration.Alteration.{Alteration}
-use Rattle.trial_session.specs.declared.counting_box.CountingBox.{Ghosts as CountingBox}
+use Rattle.link_box.specs.declared.box_trait.LinkBox.{Ghosts as LinkBox}
+use Rattle.trial_session.specs.Counting.{Counting}
 use Rattle.trial_session.specs.declared.session.Session.{Session}
 use Rattle.trial_session.specs.declared.summary.Summary.{Summary}
 
@@ -79,8 +80,9 @@ module _ (drawing : Drawing) (behind seed : ℕ) where
   unfolding altered_link
   link-none l = refl
 
-module _ {S C V : Type 0} (seals : CountingBox S) (checks : CountingBox C) (device : Device V)
-    (drawing : Drawing) (behind : ℕ) (old new : Session S C V) (frame : List ℕ) (mid : ℕ)
+module _ {S C V N K : Type 0} (seals : LinkBox S N) (sealing : Counting) (checks : LinkBox C K)
+    (checking : Counting) (device : Device V) (drawing : Drawing) (behind : ℕ) (old new : Session S
+    C V) (frame : List ℕ) (mid : ℕ)
     (alteration : Alteration) (sent : List Tick) where
   pub run-suc : frame ≡ drawing.frame (draw_state old.draws)
       → mid ≡ state_after (drawing.draws (draw_state old.draws)) (draw_state old.draws)
@@ -88,16 +90,16 @@ module _ {S C V : Type 0} (seals : CountingBox S) (checks : CountingBox C) (devi
       → alteration ≡ alteration_of (nth_drawn 1 mid % 8)
       (nth_drawn 2 mid % (length frame + behind)) (1 + nth_drawn 3 mid % 255)
       → length sent ≡ period_len
-      → ((line : List Tick) → HasTaken seals old.sealing line
-      → HasSent seals new.sealing line (period_line frame) sent)
-      → ((link : List Tick) → HasReceived checks device old.receiving link
-      → HasReceived checks device new.receiving (link ++ altered alteration sent))
-      → (seed n : ℕ) → HasRun seals checks device drawing behind old seed n
-      → HasRun seals checks device drawing behind new seed (suc n)
+      → ((line : List Tick) → HasTaken seals sealing old.sealing line
+      → HasSent seals sealing new.sealing line (period_line frame) sent)
+      → ((link : List Tick) → HasReceived checks checking device old.receiving link
+      → HasReceived checks checking device new.receiving (link ++ altered alteration sent))
+      → (seed n : ℕ) → HasRun seals sealing checks checking device drawing behind old seed n
+      → HasRun seals sealing checks checking device drawing behind new seed (suc n)
   run-suc frame_is mid_is end_is alteration_is long seal receive seed n run =
       let x = state_at drawing seed n in
       let line = session_line drawing seed n in
-      let link = altered_link drawing behind seed n (seals.counting.other_line line) in
+      let link = altered_link drawing behind seed n (sealing.other_line line) in
       let frame_at : frame ≡ drawing.frame x = frame_is ∙ ap drawing.frame run.state_is in
       let mid_at : mid ≡ after_frame drawing x =
       mid_is ∙ ap (λ s. state_after (drawing.draws s) s) run.state_is in
@@ -111,25 +113,25 @@ module _ {S C V : Type 0} (seals : CountingBox S) (checks : CountingBox C) (devi
       let sealed = seal line run.seals_line in
       let whole : line ++ period_line frame ≡ session_line drawing seed (suc n) =
       ap (λ f. line ++ period_line f) frame_at ∙ sym (line-suc drawing behind seed n) in
-      let now : seals.counting.other_line (session_line drawing seed (suc n))
-      ≡ seals.counting.other_line line ++ sent =
-      ap seals.counting.other_line (sym whole) ∙ sealed.answered in
+      let now : sealing.other_line (session_line drawing seed (suc n))
+      ≡ sealing.other_line line ++ sent =
+      ap sealing.other_line (sym whole) ∙ sealed.answered in
       let linked : link ++ altered alteration sent
       ≡ altered_link drawing behind seed (suc n)
-      (seals.counting.other_line (session_line drawing seed (suc n))) =
+      (sealing.other_line (session_line drawing seed (suc n))) =
       ap (λ a. link ++ altered a sent) alter_at
       ∙ sym (ap (altered_link drawing behind seed (suc n)) now
-      ∙ link-suc drawing behind seed n (seals.counting.other_line line) sent run.link_long long) in
+      ∙ link-suc drawing behind seed n (sealing.other_line line) sent run.link_long long) in
       record {
         state_is = end_is ∙ ap (state_after 3) mid_at ∙ sym (state-suc drawing behind seed n);
-        seals_line = subst (HasTaken seals new.sealing) whole sealed.taken;
+        seals_line = subst (HasTaken seals sealing new.sealing) whole sealed.taken;
         link_long = ap length now ∙ (omega (
           arith,
-          length-append (seals.counting.other_line line) sent,
+          length-append (sealing.other_line line) sent,
           run.link_long,
           long,
         ));
-        receives_link = subst (HasReceived checks device new.receiving) linked
+        receives_link = subst (HasReceived checks checking device new.receiving) linked
             (receive link run.receives_link);
       }
 

@@ -1,43 +1,22 @@
 -- Runs that are sent.
-use Rattle.std.proofs.Common.{◌≡◌, ◌∙◌, ℕ, zero, suc, ◌+◌, ◌-◌, ◌<◌, ◌≤◌, List, [], ◌∷◌, ◌++◌}
+use Rattle.std.proofs.Common.{◌≡◌, ◌∙◌, ℕ, zero, suc, ◌+◌, ◌-◌, List, [], ◌∷◌, ◌++◌}
 use Rattle.std.proofs.Common.{length, take, drop, map, ap, sym, subst, append_assoc, append-nil}
-use Rattle.std.proofs.Common.{refl, arith}
-use Rattle.std.specs.Prelude.{slice_index_or}
-use Rattle.std.proofs.lemmas.List.{take_all, take_rest, map-append, length-map}
-use Rattle.std.proofs.lemmas.List.{length-take-le, length-replicate, replicate-append-replicate}
+use Rattle.std.proofs.Common.{refl, arith, Option}
+use Rattle.std.proofs.lemmas.List.{take_all, take_rest, map-append, replicate-append-replicate}
 use Rattle.yasir_ticks.specs.Ticks.{silent}
 use Rattle.yasir_ticks.specs.declared.tick.Tick.{Tick}
 use Rattle.yasir_ticks.specs.declared.tick.Tick.TheVariants.{Silent, Byte}
 use Rattle.burst_walk.specs.Answered.{answered}
-use Rattle.trial_session.specs.Counting.{CountsRun}
+use Rattle.link_box.specs.declared.box_trait.LinkBox.{Ghosts as LinkBox}
+use Rattle.sequence_journal.specs.Journal.{journal_floor}
+use Rattle.trial_session.specs.Boxes.{trial_setup}
+use Rattle.trial_session.specs.Counting.{Counting, CountsStep, CountsRun}
+use Rattle.trial_session.specs.Counting.{through_in, refused_in, dropped_in}
+use Rattle.trial_session.specs.declared.fate.Fate.{Fate}
 use Rattle.trial_session.specs.Sides.{HasTaken, HasSent, HasPassed}
-use Rattle.trial_session.specs.declared.counting_box.CountingBox.{Ghosts as CountingBox}
 use Rattle.trial_session.specs.declared.side.Side.{Side}
 
--- as many bytes as there are ticks are answered as they are
-answered-bytes : (x : List ℕ) → answered (length x) x ≡ map Byte x
-answered-bytes [] = refl
-answered-bytes (b ∷ x) = refl
-
-pub answered-all : (n : ℕ) (x left : List ℕ) → n ≡ length x → left ≡ x
-    → map Byte x ≡ answered n left
-answered-all n x left count items =
-    sym (ap (λ k. answered k left) count ∙ (ap (λ l. answered (length x) l) items
-    ∙ answered-bytes x))
-
--- none are answered as silence
-pub answered-none : (n : ℕ) (left : List ℕ) → left ≡ [] → silent n ≡ answered n left
-answered-none n left none = sym (ap (λ l. answered n l) none)
-
 -- ---- lists by places
-
-pub take-of-take : {A : Type 0} (n all : ℕ) (l : List A) → n ≤ all
-    → take n (take all l) ≡ take n l
-take-of-take zero all l within = refl
-take-of-take (suc n) zero l within = absurd (omega (arith, within))
-take-of-take (suc n) (suc all) [] within = refl
-take-of-take {A} (suc n) (suc all) (x ∷ xs) within =
-    ap (λ (r : List A). x ∷ r) (take-of-take n all xs (omega (arith, within)))
 
 pub take-some : {A : Type 0} (at n : ℕ) (l : List A)
     → take (at + n) l ≡ take at l ++ take n (drop at l)
@@ -48,10 +27,12 @@ take-some {A} (suc at) n (x ∷ xs) =
     let on : suc at + n ≡ suc (at + n) = omega arith in
     ap (λ k. take k (x ∷ xs)) on ∙ ap (λ (r : List A). x ∷ r) (take-some at n xs)
 
-pub take-one : {A : Type 0} (l : List A) (d : A) → 0 < length l
-    → take 1 l ≡ slice_index_or l 0 d ∷ []
-take-one [] d some = absurd (omega (arith, some))
-take-one (x ∷ xs) d some = refl
+-- ticks up to a place, and the next ones
+pub run-more : (at n : ℕ) (ticks rest before : List Tick) → rest ≡ drop at ticks
+    → before ++ take at ticks ++ take n rest ≡ before ++ take (at + n) ticks
+run-more at n ticks rest before is =
+    append_assoc before (take at ticks) (take n rest)
+    ∙ ap (λ l. before ++ l) (ap (λ l. take at ticks ++ take n l) is ∙ sym (take-some at n ticks))
 
 -- bytes up to a place, and the next ones
 pub bytes-more : (at n : ℕ) (bytes : List ℕ) (before : List Tick)
@@ -72,24 +53,15 @@ silence-more at n before =
     append_assoc before (silent at) (silent n)
     ∙ ap (λ l. before ++ l) (replicate-append-replicate at n Silent)
 
--- how many ticks runs have
-pub bytes-long : (n : ℕ) (bytes : List ℕ) → n ≤ length bytes
-    → length (map (λ b. Byte b) (take n bytes)) ≡ n
-bytes-long n bytes within =
-    length-map (take n bytes) (λ b. Byte b) ∙ length-take-le n bytes within
-
-pub silence-long : (n : ℕ) → length (silent n) ≡ n
-silence-long n = length-replicate n Silent
-
-module _ {X : Type 0} (counter : CountingBox X) where
+module _ {X N : Type 0} (line_box : LinkBox X N) (counting : Counting) where
   -- a run that the box takes, of which nothing is counted
   pub passes-run : (side next : Side X) (line run front answer : List Tick) → run ≡ front
-      → counter.stands next.line_box next.journal (line ++ run)
+      → line_box.stands next.line_box (journal_floor next.journal) trial_setup (line ++ run)
       → next.through ≡ side.through → next.refused ≡ side.refused → next.dropped ≡ side.dropped
-      → HasTaken counter side line → CountsRun counter.counting line run answer
-      → HasPassed counter next line front answer
+      → HasTaken line_box counting side line → CountsRun counting line run answer
+      → HasPassed line_box counting next line front answer
   passes-run side next line run front answer same stands through refused dropped before counts =
-      subst (λ l. HasPassed counter next line l answer) same (record {
+      subst (λ l. HasPassed line_box counting next line l answer) same (record {
         sent = record {
           taken = record {
             stands = stands;
@@ -102,54 +74,76 @@ module _ {X : Type 0} (counter : CountingBox X) where
         long = counts.long;
       })
 
+  -- a tick that the box takes, in whose step a burst may be counted
+  pub sends-step : (side next : Side X) (line : List Tick) (t tick : Tick) (fate : Option Fate)
+      → line_box.stands next.line_box (journal_floor next.journal) trial_setup (line ++ t ∷ [])
+      → next.through ≡ side.through + through_in fate
+      → next.refused ≡ side.refused + refused_in fate
+      → next.dropped ≡ side.dropped + dropped_in fate
+      → HasTaken line_box counting side line → CountsStep counting line t tick fate
+      → HasSent line_box counting next line (t ∷ []) (tick ∷ [])
+  sends-step side next line t tick fate stands through refused dropped before counts = record {
+    taken = record {
+      stands = stands;
+      through_is = through ∙ ap (λ k. k + through_in fate) before.through_is
+          ∙ sym counts.through_is;
+      refused_is = refused ∙ ap (λ k. k + refused_in fate) before.refused_is
+          ∙ sym counts.refused_is;
+      dropped_is = dropped ∙ ap (λ k. k + dropped_in fate) before.dropped_is
+          ∙ sym counts.dropped_is;
+    };
+    answered = counts.tick_is;
+  }
+
   -- a run of no tick changes nothing
   pub passes-none : (side : Side X) (line run answer : List Tick) → run ≡ []
-      → HasPassed counter side line run answer → HasTaken counter side line
+      → HasPassed line_box counting side line run answer → HasTaken line_box counting side line
   passes-none side line run answer none passed =
-      subst (HasTaken counter side) (ap (λ l. line ++ l) none ∙ append-nil line)
+      subst (HasTaken line_box counting side) (ap (λ l. line ++ l) none ∙ append-nil line)
       passed.sent.taken
 
   -- one tick that is sent is a run
   pub passes-tick : (next : Side X) (line : List Tick) (t answer : Tick) (run answers : List Tick)
       → run ≡ t ∷ [] → answers ≡ answer ∷ []
-      → HasSent counter next line (t ∷ []) (answer ∷ [])
-      → HasPassed counter next line run answers
+      → HasSent line_box counting next line (t ∷ []) (answer ∷ [])
+      → HasPassed line_box counting next line run answers
   passes-tick next line t answer run answers run_is answers_are sent =
-      subst (λ l. HasPassed counter next line l answers) (sym run_is)
-      (subst (λ l. HasPassed counter next line (t ∷ []) l) (sym answers_are) (record {
+      subst (λ l. HasPassed line_box counting next line l answers) (sym run_is)
+      (subst (λ l. HasPassed line_box counting next line (t ∷ []) l) (sym answers_are) (record {
         sent = sent;
         long = refl;
       }))
 
   -- the same answer by other names
   pub passes-as : (next : Side X) (line run : List Tick) (n : ℕ) (left items : List ℕ)
-      → left ≡ items → HasPassed counter next line run (answered n items)
-      → HasPassed counter next line run (answered n left)
+      → left ≡ items → HasPassed line_box counting next line run (answered n items)
+      → HasPassed line_box counting next line run (answered n left)
   passes-as next line run n left items is =
-      subst (λ l. HasPassed counter next line run (answered n l)) (sym is)
+      subst (λ l. HasPassed line_box counting next line run (answered n l)) (sym is)
 
   -- nothing is sent yet
-  pub sends-none : (side : Side X) (line : List Tick) → HasTaken counter side line
-      → HasSent counter side line [] []
+  pub sends-none : (side : Side X) (line : List Tick) → HasTaken line_box counting side line
+      → HasSent line_box counting side line [] []
   sends-none side line taken = record {
-    taken = subst (HasTaken counter side) (sym (append-nil line)) taken;
-    answered = ap counter.counting.other_line (append-nil line)
-        ∙ sym (append-nil (counter.counting.other_line line));
+    taken = subst (HasTaken line_box counting side) (sym (append-nil line)) taken;
+    answered = ap counting.other_line (append-nil line)
+        ∙ sym (append-nil (counting.other_line line));
   }
 
   -- a run more is sent
   pub sends-run : (side next : Side X) (line more run answer before after : List Tick)
-      → HasSent counter side line more before
-      → ((l : List Tick) → HasTaken counter side l → HasPassed counter next l run answer)
+      → HasSent line_box counting side line more before
+      → ((l : List Tick) → HasTaken line_box counting side l → HasPassed line_box counting next l
+      run answer)
       → after ≡ before ++ answer
-      → HasSent counter next line (more ++ run) after
+      → HasSent line_box counting next line (more ++ run) after
   sends-run side next line more run answer before after so pass is =
       let one = (pass (line ++ more) so.taken).sent in
       record {
-        taken = subst (HasTaken counter next) (append_assoc line more run) one.taken;
-        answered = ap counter.counting.other_line (sym (append_assoc line more run))
+        taken = subst (HasTaken line_box counting next) (append_assoc line more run) one.taken;
+        answered = ap counting.other_line (sym (append_assoc line more run))
             ∙ one.answered
             ∙ ap (λ l. l ++ answer) so.answered
-            ∙ append_assoc (counter.counting.other_line line) before answer
-            ∙ ap (λ l. counter.counting.other_line line ++ l) (sym is);
+            ∙ append_assoc (counting.other_line line) before answer
+            ∙ ap (λ l. counting.other_line line ++ l) (sym is);
       }

@@ -18,8 +18,8 @@ use Rattle.link_verdicts.specs.Checking.FullNote.{passed_note, refused_note, dro
 use Rattle.link_verdicts.specs.declared.note.CheckNote.{CheckNote}
 use Rattle.link_verdicts.specs.declared.note.CheckNote.TheVariants as Check
 use Rattle.trial_session.specs.Counting.{Counting}
-use Rattle.trial_session.specs.declared.counting_box.Fate.{Fate}
-use Rattle.trial_session.specs.declared.counting_box.Fate.TheVariants.{Through, Refused, Dropped}
+use Rattle.trial_session.specs.declared.fate.Fate.{Fate}
+use Rattle.trial_session.specs.declared.fate.Fate.TheVariants.{Through, Refused, Dropped}
 
 -- Both boxes have the key of sixteen bytes 0, direction `ab`, and new journals.
 abbrev pub trial_setup : Setup

@@ -1,9 +1,8 @@
 -- What boxes make of a line, as far as it is counted.
 use Rattle.std.specs.Prelude.{◌≡◌, ℕ, ◌+◌, List, [], ◌∷◌, ◌++◌, length, Option, Some, None}
 use Rattle.yasir_ticks.specs.declared.tick.Tick.{Tick}
-use Rattle.trial_session.specs.declared.counting_box.CountedStep.{CountedStep}
-use Rattle.trial_session.specs.declared.counting_box.Fate.{Fate}
-use Rattle.trial_session.specs.declared.counting_box.Fate.TheVariants.{Through, Refused, Dropped}
+use Rattle.trial_session.specs.declared.fate.Fate.{Fate}
+use Rattle.trial_session.specs.declared.fate.Fate.TheVariants.{Through, Refused, Dropped}
 
 -- the other line of a line, and how many of its bursts have each fate
 pub record Counting : Type 0 where
@@ -40,12 +39,12 @@ pub record CountsNothing (counting : Counting) : Type 0 where
 
 -- After these ticks of a line, and with one tick more, a step answers the tick of the other line,
 -- and the fate of the burst that is counted then.
-pub record CountsStep (counting : Counting) (line : List Tick) (t : Tick) (step : CountedStep)
+pub record CountsStep (counting : Counting) (line : List Tick) (t tick : Tick) (fate : Option Fate)
     : Type 0 where
-  pub tick_is : counting.other_line (line ++ t ∷ []) ≡ counting.other_line line ++ step.tick ∷ []
-  pub through_is : counting.through (line ++ t ∷ []) ≡ counting.through line + through_in step.fate
-  pub refused_is : counting.refused (line ++ t ∷ []) ≡ counting.refused line + refused_in step.fate
-  pub dropped_is : counting.dropped (line ++ t ∷ []) ≡ counting.dropped line + dropped_in step.fate
+  pub tick_is : counting.other_line (line ++ t ∷ []) ≡ counting.other_line line ++ tick ∷ []
+  pub through_is : counting.through (line ++ t ∷ []) ≡ counting.through line + through_in fate
+  pub refused_is : counting.refused (line ++ t ∷ []) ≡ counting.refused line + refused_in fate
+  pub dropped_is : counting.dropped (line ++ t ∷ []) ≡ counting.dropped line + dropped_in fate
 
 -- After these ticks of a line, a run of ticks more is answered with as many ticks of the other
 -- line, and no burst is counted in it.

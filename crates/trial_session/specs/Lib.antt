@@ -7,6 +7,8 @@ pub mod Alterations
 pub mod Session
 pub mod Counting
 pub mod Boxes
+pub mod Fates
+pub mod FateLaws
 pub mod Summaries
 pub mod Links
 pub mod Sides

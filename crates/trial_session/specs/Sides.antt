@@ -4,33 +4,35 @@ use Rattle.yasir_io.specs.Steady.{steady_slots}
 use Rattle.yasir_ticks.specs.declared.tick.Tick.{Tick}
 use Rattle.yasir_ticks.specs.declared.tick.Tick.TheVariants.{Byte}
 use Rattle.device_model.specs.declared.device.Device.{Ghosts as Device}
-use Rattle.sequence_journal.specs.Journal.{Fits}
-use Rattle.trial_session.specs.declared.counting_box.CountingBox.{Ghosts as CountingBox}
+use Rattle.link_box.specs.declared.box_trait.LinkBox.{Ghosts as LinkBox}
+use Rattle.sequence_journal.specs.Journal.{journal_floor, Fits}
+use Rattle.trial_session.specs.Boxes.{trial_setup}
+use Rattle.trial_session.specs.Counting.{Counting}
 use Rattle.trial_session.specs.declared.listening.Listening.{Listening}
 use Rattle.trial_session.specs.declared.receiving.Receiving.{Receiving}
 use Rattle.trial_session.specs.declared.side.Side.{Side}
 
-module _ {X : Type 0} (counter : CountingBox X) where
+module _ {X N : Type 0} (line_box : LinkBox X N) where
   -- The box may take a tick: the disk is the journal's, and no more is counted than there were
   -- ticks.
   pub record MayTake (side : Side X) : Type 0 where
     pub fits : Fits side.journal (Some (steady_slots side.disk))
-    pub through_few : side.through ≤ counter.taken side.line_box
-    pub refused_few : side.refused ≤ counter.taken side.line_box
-    pub dropped_few : side.dropped ≤ counter.taken side.line_box
+    pub through_few : side.through ≤ line_box.taken side.line_box
+    pub refused_few : side.refused ≤ line_box.taken side.line_box
+    pub dropped_few : side.dropped ≤ line_box.taken side.line_box
 
+module _ {X N : Type 0} (line_box : LinkBox X N) (counting : Counting) where
   -- The box has taken this line, and its bursts are counted.
   pub record HasTaken (side : Side X) (line : List Tick) : Type 0 where
-    pub stands : counter.stands side.line_box side.journal line
-    pub through_is : side.through ≡ counter.counting.through line
-    pub refused_is : side.refused ≡ counter.counting.refused line
-    pub dropped_is : side.dropped ≡ counter.counting.dropped line
+    pub stands : line_box.stands side.line_box (journal_floor side.journal) trial_setup line
+    pub through_is : side.through ≡ counting.through line
+    pub refused_is : side.refused ≡ counting.refused line
+    pub dropped_is : side.dropped ≡ counting.dropped line
 
   -- After this line the box has taken these ticks more, and has answered these.
   pub record HasSent (side : Side X) (line more answers : List Tick) : Type 0 where
     pub taken : HasTaken side (line ++ more)
-    pub answered : counter.counting.other_line (line ++ more)
-        ≡ counter.counting.other_line line ++ answers
+    pub answered : counting.other_line (line ++ more) ≡ counting.other_line line ++ answers
 
   -- The same of a run, whose answer has as many ticks.
   pub record HasPassed (side : Side X) (line run answer : List Tick) : Type 0 where
@@ -51,13 +53,13 @@ pub record IsHearing {V : Type 0} (device : Device V) (value : Listening V) (wai
   pub hears : HasHeard device value front
 
 -- The receiver has taken this link, and the device has heard what it made of it.
-pub record HasReceived {C V : Type 0} (checks : CountingBox C) (device : Device V)
-    (receiving : Receiving C V) (link : List Tick) : Type 0 where
-  pub checks_link : HasTaken checks receiving.checking link
-  pub hears_line : HasHeard device receiving.listening (checks.counting.other_line link)
+pub record HasReceived {C N V : Type 0} (checks : LinkBox C N) (checking : Counting)
+    (device : Device V) (receiving : Receiving C V) (link : List Tick) : Type 0 where
+  pub checks_link : HasTaken checks checking receiving.checking link
+  pub hears_line : HasHeard device receiving.listening (checking.other_line link)
 
 -- The receiver and the device have taken as many ticks, and may take more.
-pub record MayReceive {C V : Type 0} (checks : CountingBox C) (device : Device V)
+pub record MayReceive {C N V : Type 0} (checks : LinkBox C N) (device : Device V)
     (receiving : Receiving C V) : Type 0 where
   pub may_check : MayTake checks receiving.checking
   pub read_few : receiving.listening.read ≤ device.taken receiving.listening.device
@@ -66,13 +68,14 @@ pub record MayReceive {C V : Type 0} (checks : CountingBox C) (device : Device V
 
 -- The receiver has taken this link, and of what it made of it the device is still to hear these
 -- bytes.
-pub record IsReceiving {C V : Type 0} (checks : CountingBox C) (device : Device V)
-    (receiving : Receiving C V) (waiting : List ℕ) (link : List Tick) : Type 0 where
-  pub checks_link : HasTaken checks receiving.checking link
-  pub hears_line : IsHearing device receiving.listening waiting (checks.counting.other_line link)
+pub record IsReceiving {C N V : Type 0} (checks : LinkBox C N) (checking : Counting)
+    (device : Device V) (receiving : Receiving C V) (waiting : List ℕ) (link : List Tick) : Type 0
+  where
+    pub checks_link : HasTaken checks checking receiving.checking link
+    pub hears_line : IsHearing device receiving.listening waiting (checking.other_line link)
 
 -- The device has taken fewer ticks than the receiver, by these bytes, and both may take more.
-pub record MayGoOnReceiving {C V : Type 0} (checks : CountingBox C) (device : Device V)
+pub record MayGoOnReceiving {C N V : Type 0} (checks : LinkBox C N) (device : Device V)
     (receiving : Receiving C V) (waiting : List ℕ) : Type 0 where
   pub may_check : MayTake checks receiving.checking
   pub read_few : receiving.listening.read ≤ device.taken receiving.listening.device

@@ -8,6 +8,7 @@ mod check_counting;
 mod counting_box;
 mod drawn_frames;
 mod draws;
+mod fate;
 mod laws;
 mod link;
 mod listening;
@@ -21,13 +22,12 @@ mod side;
 mod summary;
 
 pub use alteration::Alteration;
-pub use check_counting::CheckCounting;
-pub use counting_box::{CountedStep, CountingBox, Fate};
+pub use counting_box::CountingBox;
 pub use drawn_frames::DrawnFrames;
 pub use draws::{Draws, FrameBytes};
+pub use fate::Fate;
 pub use laws::sessions_tell;
-pub use printing::print_session;
-pub use seal_counting::SealCounting;
+pub use printing::session_line;
 pub use session::try_session;
 pub use summary::Summary;
 

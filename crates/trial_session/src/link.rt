@@ -4,6 +4,7 @@ ghost use Rattle.trial_session.specs.Alterations.{altered};
 use crate::Alteration;
 use crate::marks::{bytes_in_front, overwrite};
 use delay_ring::mark_runs::silence_in_front;
+use yasir_ticks::TickRun;
 
 /// How many ticks each frame has for itself, on the device's line and on the link.
 pub const PERIOD: usize = 640;
@@ -39,6 +40,7 @@ pub struct Link {
 impl Link {
     ghost use Rattle.std.specs.Prelude.{◌+◌, [], map, drop, slice_index_or};
     ghost use Rattle.yasir_ticks.specs.Ticks.{silent};
+    ghost use Rattle.yasir_ticks.specs.TickRun.{run_ticks};
     ghost use Rattle.yasir_ticks.specs.declared.tick.Tick.TheVariants.{Byte};
     ghost use Rattle.burst_walk.specs.Answered.{answered};
     ghost use Rattle.trial_session.specs.Links.{link_sent};
@@ -157,9 +159,9 @@ impl Link {
         self.len
     }
 
-    /// How many of the ticks from a place on are silent, up to the first byte.
+    // How many of the ticks from a place on are silent, up to the first byte.
     #[inline]
-    pub fn silence_from(&self, at: usize) -> usize
+    fn silence_from(&self, at: usize) -> usize
         requires { at < self.now.len }
         ensures within { at + result ≤ self.now.len }
         ensures silent { take result (drop at (link_sent self.now)) ≡ silent result }
@@ -168,9 +170,9 @@ impl Link {
         silence_in_front(&self.marks[at..self.len])
     }
 
-    /// The bytes that stand from a place on, up to the first silent tick.
+    // The bytes that stand from a place on, up to the first silent tick.
     #[inline]
-    pub fn bytes_from(&self, at: usize) -> &[u8]
+    fn bytes_from(&self, at: usize) -> &[u8]
         requires { at < self.now.len }
         ensures within { at + length result.now ≤ self.now.len }
         ensures bytes { take (length result.now) (drop at (link_sent self.now))
@@ -179,5 +181,21 @@ impl Link {
     {
         let count = bytes_in_front(&self.marks[at..self.len]);
         &self.bytes[at..at + count]
+    }
+
+    /// The ticks that stand from a place on and are alike, one at least.
+    #[inline]
+    pub fn run_from(&self, at: usize) -> TickRun<'_>
+        requires { at < self.now.len }
+        ensures some { 0 < length (run_ticks result) }
+        ensures within { at + length (run_ticks result) ≤ self.now.len }
+        ensures ticks { take (length (run_ticks result)) (drop at (link_sent self.now))
+            ≡ run_ticks result }
+    {
+        let silent = self.silence_from(at);
+        if silent > 0 {
+            return TickRun::Silence(silent as u32);
+        }
+        TickRun::Bytes(self.bytes_from(at))
     }
 }

@@ -1,13 +1,10 @@
 ghost use Rattle.std.specs.Prelude.{◌≡◌, ◌+◌, ◌<◌, ◌≤◌, ◌++◌, length};
-ghost use Rattle.replay_status.specs.Causes.{SinkCause};
-ghost use Rattle.replay_status.specs.Flushes.{FlushesAtEnd};
 ghost use Rattle.trial_session.specs.Summaries.{session_summary};
-ghost use Rattle.trial_session.specs.TrialLine.{worded, trial_line, PrintsLine};
+ghost use Rattle.trial_session.specs.TrialLine.{worded, trial_line};
 
 use crate::{CountingBox, DrawnFrames, Summary, try_session};
 use device_model::Device;
-use replay_status::{Line, Status, flush_both, push_decimal};
-use yasir_io::{Failed, Sink, write_all};
+use replay_status::{Line, push_decimal};
 
 // Appends a word, and a number behind it, each with a blank before it.
 fn push_worded(line: &mut Line, word: &[u8], n: u64)
@@ -41,32 +38,22 @@ fn trial_line(name: &[u8], seed: u32, count: u32, counted: Summary) -> Line
     line
 }
 
-/// Runs the session of so many frames from a seed, as `try_session` does, and prints its line, with
-/// the name of its protocol.
-pub fn print_session<
-    R: DrawnFrames,
-    S: CountingBox,
-    C: CountingBox,
-    V: Device + Drop,
-    O: Sink,
-    L: Sink,
->(name: &[u8], seed: u32, count: u32, behind: usize, out: &mut O, log: &mut L) -> Status
+/// Runs the session of so many frames from a seed, as `try_session` does, and returns its line,
+/// with the name of its protocol.
+pub fn session_line<R: DrawnFrames, S: CountingBox, C: CountingBox, V: Device + Drop>(
+    name: &[u8],
+    seed: u32,
+    count: u32,
+    behind: usize,
+) -> Line
     requires name { length name.now ≤ 10 }
     requires some { 0 < behind }
     requires few { behind ≤ 64 }
     requires sealing { S.widths_fit }
     requires checking { C.widths_fit }
-    ensures line { PrintsLine (O.held out.old) (O.held out.new)
-        (trial_line name.now seed count
-        (session_summary R.drawing behind S.counting C.counting V.reads seed count)) result }
-    ensures log { L.held log.new ≡ L.held log.old }
-    ensures sinks { SinkCause (O.faults out.old) (O.faults out.new) (L.faults log.old)
-        (L.faults log.new) result }
-    ensures flushes { FlushesAtEnd O.Sink L.Sink out.old out.new log.old log.new result }
+    ensures { result.items ≡ trial_line name.now seed count
+        (session_summary R.drawing behind S.counting C.counting V.reads seed count) }
 {
     let counted = try_session::<R, S, C, V>(seed, count, behind);
-    match write_all(out, trial_line(name, seed, count, counted).as_slice()) {
-        Ok(()) => flush_both(out, log),
-        Err(Failed) => Status::WriteFault,
-    }
+    trial_line(name, seed, count, counted)
 }

@@ -1,7 +1,7 @@
 ghost use Rattle.std.specs.Prelude.{◌≡◌, [], ◌∷◌};
 ghost use Rattle.burst_walk.specs.Answered.{answered};
 
-use check_receiver::RunBytes;
+use burst_walk::RunBytes;
 use yasir_ticks::Tick;
 
 /// Puts a tick into `left` as the answer to a run of one tick.

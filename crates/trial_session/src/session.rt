@@ -9,7 +9,7 @@ use crate::receiving::Receiving;
 use crate::side::Side;
 use crate::{CountingBox, DrawnFrames, Draws, Summary};
 use device_model::Device;
-use yasir_ticks::MAX_TICKS;
+use yasir_ticks::{MAX_TICKS, TickRun};
 
 /// So many silent ticks follow the link of a session, so that all that has passed is read.
 const REST: u32 = 320;
@@ -46,9 +46,10 @@ impl<S: CountingBox, C: CountingBox, V: Device + Drop> Session<S, C, V> {
     fn new(seed: u32) -> Session<S, C, V>
         requires sealing { S.widths_fit }
         requires checking { C.widths_fit }
-        ensures able { MayGoOn S.CountingBox C.CountingBox V.Device result 0 }
+        ensures able { MayGoOn S.LinkBox C.LinkBox V.Device result 0 }
         ensures run { (drawing : Drawing) (behind : ℕ)
-            → HasRun S.CountingBox C.CountingBox V.Device drawing behind result seed 0 }
+            → HasRun S.LinkBox S.counting C.LinkBox C.counting V.Device drawing behind result
+            seed 0 }
     {
         Session {
             draws: Draws::new(seed),
@@ -61,33 +62,36 @@ impl<S: CountingBox, C: CountingBox, V: Device + Drop> Session<S, C, V> {
     fn run_period<R: DrawnFrames>(&mut self, behind: usize)
         requires some { 0 < behind }
         requires few { behind ≤ 64 }
-        requires able { MayGoOn S.CountingBox C.CountingBox V.Device self.old
+        requires able { MayGoOn S.LinkBox C.LinkBox V.Device self.old
             (S.taken self.old.sealing.line_box) }
         requires room { S.taken self.old.sealing.line_box + 640 ≤ MAX_TICKS }
-        ensures able { MayGoOn S.CountingBox C.CountingBox V.Device self.new
+        ensures able { MayGoOn S.LinkBox C.LinkBox V.Device self.new
             (S.taken self.old.sealing.line_box + 640) }
         ensures run { (seed count : ℕ)
-            → HasRun S.CountingBox C.CountingBox V.Device R.drawing behind self.old seed count
-            → HasRun S.CountingBox C.CountingBox V.Device R.drawing behind self.new seed
-            (suc count) }
+            → HasRun S.LinkBox S.counting C.LinkBox C.counting V.Device R.drawing behind self.old
+            seed count
+            → HasRun S.LinkBox S.counting C.LinkBox C.counting V.Device R.drawing behind self.new
+            seed (suc count) }
     {
         let frame = R::draw_frame(&mut self.draws);
         let alteration = draw_alteration(&mut self.draws, frame.len() + behind);
         let mut link = Link::new();
-        self.sealing.forward_bytes(frame.as_slice(), &mut link);
         self.sealing
-            .forward_silence((PERIOD - frame.len()) as u32, &mut link);
+            .forward(TickRun::Bytes(frame.as_slice()), &mut link);
+        let rest = TickRun::Silence((PERIOD - frame.len()) as u32);
+        self.sealing.forward(rest, &mut link);
         link.alter(alteration);
         self.receiving.take(&link);
     }
 
     // The silence behind the link, and what was counted.
     fn close(&mut self) -> Summary
-        requires able { MayGoOn S.CountingBox C.CountingBox V.Device self.old
+        requires able { MayGoOn S.LinkBox C.LinkBox V.Device self.old
             (S.taken self.old.sealing.line_box) }
         requires room { S.taken self.old.sealing.line_box + 320 ≤ MAX_TICKS }
         ensures { (drawing : Drawing) (behind seed count : ℕ)
-            → HasRun S.CountingBox C.CountingBox V.Device drawing behind self.old seed count
+            → HasRun S.LinkBox S.counting C.LinkBox C.counting V.Device drawing behind self.old
+            seed count
             → result ≡ session_summary drawing behind S.counting C.counting V.reads seed count }
     {
         self.receiving.take_silence(REST);

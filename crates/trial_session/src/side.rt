@@ -1,13 +1,13 @@
-use crate::counting_box::{CountingBox, Fate};
+use crate::counting_box::CountingBox;
+use crate::fate::Fate;
 use crate::link::Link;
 use crate::runs::put_tick;
-use check_receiver::RunBytes;
+use burst_walk::RunBytes;
+use hmac_tag::Dir;
+use link_box::take_alike;
 use sequence_journal::{Journal, LinkId};
 use yasir_io::SteadySlots;
-use yasir_ticks::{MAX_TICKS, Tick};
-
-/// How many bytes a box takes at once at most.
-const MAX_RUN: usize = 64;
+use yasir_ticks::{MAX_TICKS, Tick, TickRun};
 
 /// A box over a new journal on a disk that never fails, and how many bursts have each fate.
 #[derive(Drop)]
@@ -30,11 +30,11 @@ impl<X> Side<X> {
 
 impl<X: CountingBox> Side<X> {
     ghost use Rattle.std.specs.Prelude.{◌≡◌, ◌+◌, ◌<◌, ◌≤◌, List, [], ◌∷◌, ◌++◌, length};
-    ghost use Rattle.std.specs.Prelude.{take, map};
-    ghost use Rattle.yasir_ticks.specs.Ticks.{silent};
-    ghost use Rattle.yasir_ticks.specs.declared.tick.Tick.TheVariants.{Byte};
+    ghost use Rattle.std.specs.Prelude.{take, Option};
+    ghost use Rattle.yasir_ticks.specs.TickRun.{run_ticks};
     ghost use Rattle.trial_session.specs.Links.{link_sent};
     ghost use Rattle.yasir_ticks.specs.declared.tick.Tick.{Tick};
+    ghost use Rattle.trial_session.specs.Boxes.{told_by};
     ghost use Rattle.trial_session.specs.Counting.{through_in, refused_in, dropped_in};
     ghost use Rattle.trial_session.specs.Counting.{CountsNothing};
     ghost use Rattle.trial_session.specs.Sides.{MayTake, HasTaken, HasSent, HasPassed};
@@ -43,15 +43,15 @@ impl<X: CountingBox> Side<X> {
     /// A new box over a new journal.
     pub fn new() -> Side<X>
         requires { X.widths_fit }
-        ensures able { MayTake X.CountingBox result }
+        ensures able { MayTake X.LinkBox result }
         ensures level { X.taken result.line_box ≡ 0 }
-        ensures taken { HasTaken X.CountingBox result [] }
+        ensures taken { HasTaken X.LinkBox X.counting result [] }
         ensures nothing { CountsNothing X.counting }
     {
         let mut disk = SteadySlots::new([0; 24], [0; 24]);
         let journal = Journal::init(&mut disk, &LinkId::of_no_file()).unwrap();
         Side {
-            line_box: X::new(),
+            line_box: X::new(&[0; 16], Dir::Ab),
             journal,
             disk,
             through: 0,
@@ -101,110 +101,77 @@ impl<X: CountingBox> Side<X> {
         }
     }
 
+    // The fate of a step's note.
+    #[inline]
+    fn fate_in(note: Option<X::Note>) -> Option<Fate>
+        ensures { result ≡ told_by X.fate_of note }
+    {
+        match note {
+            Some(note) => Some(X::fate(note)),
+            None => None,
+        }
+    }
+
     // Takes the next tick, and answers that of the other line.
     #[inline]
     fn step(&mut self, t: Tick) -> Tick
-        requires able { MayTake X.CountingBox self.old }
+        requires able { MayTake X.LinkBox self.old }
         requires room { X.taken self.old.line_box < MAX_TICKS }
-        ensures able { MayTake X.CountingBox self.new }
+        ensures able { MayTake X.LinkBox self.new }
         ensures level { X.taken self.new.line_box ≡ X.taken self.old.line_box + 1 }
-        ensures sent { (line : List Tick) → HasTaken X.CountingBox self.old line
-            → HasSent X.CountingBox self.new line (t ∷ []) (result ∷ []) }
+        ensures sent { (line : List Tick) → HasTaken X.LinkBox X.counting self.old line
+            → HasSent X.LinkBox X.counting self.new line (t ∷ []) (result ∷ []) }
     {
         let step = self
             .line_box
             .step(t, &mut self.journal, &mut self.disk)
             .unwrap();
-        self.count(step.fate);
+        self.count(Self::fate_in(step.note));
         step.tick
     }
 
-    /// Takes the first of these bytes, one at least, one a tick, and answers how many. `left` gets
-    /// the bytes of the other line, one for each, or none where that is silent.
-    pub fn send_bytes(&mut self, bytes: &[u8], left: &mut RunBytes) -> usize
-        requires some { 0 < length bytes.now }
-        requires able { MayTake X.CountingBox self.old }
-        requires room { X.taken self.old.line_box + length bytes.now ≤ MAX_TICKS }
-        ensures able { MayTake X.CountingBox self.new }
+    /// Takes the first of these ticks, one at least, and answers how many. `left` gets the bytes of
+    /// the other line, one for each, or none where that is silent.
+    pub fn send(&mut self, run: TickRun<'_>, left: &mut RunBytes) -> usize
+        requires some { 0 < length (run_ticks run) }
+        requires able { MayTake X.LinkBox self.old }
+        requires room { X.taken self.old.line_box + length (run_ticks run) ≤ MAX_TICKS }
+        ensures able { MayTake X.LinkBox self.new }
         ensures some { 0 < result }
-        ensures within { result ≤ length bytes.now }
+        ensures within { result ≤ length (run_ticks run.entry) }
         ensures level { X.taken self.new.line_box ≡ X.taken self.old.line_box + result }
-        ensures sent { (line : List Tick) → HasTaken X.CountingBox self.old line
-            → HasPassed X.CountingBox self.new line (map Byte (take result bytes.now))
+        ensures sent { (line : List Tick) → HasTaken X.LinkBox X.counting self.old line
+            → HasPassed X.LinkBox X.counting self.new line (take result (run_ticks run.entry))
             (answered result left.new.items) }
     {
-        let part = &bytes[..bytes.len().min(MAX_RUN)];
-        let taken = self.line_box.pass_bytes(part, left);
+        let taken = take_alike(&mut self.line_box, run, left);
         if taken > 0 {
             return taken;
         }
-        let answer = self.step(Tick::Byte(bytes[0]));
+        let answer = self.step(run.first());
         put_tick(left, answer);
         1
     }
 
-    /// The same of so many silent ticks.
-    pub fn send_silence(&mut self, ticks: u32, left: &mut RunBytes) -> u32
-        requires some { 0 < ticks }
-        requires able { MayTake X.CountingBox self.old }
-        requires room { X.taken self.old.line_box + ticks ≤ MAX_TICKS }
-        ensures able { MayTake X.CountingBox self.new }
-        ensures some { 0 < result }
-        ensures within { result ≤ ticks }
-        ensures level { X.taken self.new.line_box ≡ X.taken self.old.line_box + result }
-        ensures sent { (line : List Tick) → HasTaken X.CountingBox self.old line
-            → HasPassed X.CountingBox self.new line (silent result)
-            (answered result left.new.items) }
-    {
-        let taken = self.line_box.pass_silence(ticks, left);
-        if taken > 0 {
-            return taken;
-        }
-        let answer = self.step(Tick::Silent);
-        put_tick(left, answer);
-        1
-    }
-
-    /// Takes these bytes, one a tick, and sends what the other line has.
-    pub fn forward_bytes(&mut self, bytes: &[u8], link: &mut Link)
-        requires able { MayTake X.CountingBox self.old }
-        requires room { X.taken self.old.line_box + length bytes.now ≤ MAX_TICKS }
-        requires link { link.old.len + length bytes.now ≤ 640 }
-        ensures able { MayTake X.CountingBox self.new }
+    /// Takes these ticks, and sends what the other line has.
+    pub fn forward(&mut self, run: TickRun<'_>, link: &mut Link)
+        requires able { MayTake X.LinkBox self.old }
+        requires room { X.taken self.old.line_box + length (run_ticks run) ≤ MAX_TICKS }
+        requires link { link.old.len + length (run_ticks run) ≤ 640 }
+        ensures able { MayTake X.LinkBox self.new }
         ensures level { X.taken self.new.line_box
-            ≡ X.taken self.old.line_box + length bytes.now }
-        ensures len { link.new.len ≡ link.old.len + length bytes.now }
+            ≡ X.taken self.old.line_box + length (run_ticks run.entry) }
+        ensures len { link.new.len ≡ link.old.len + length (run_ticks run.entry) }
         ensures sent { (line more : List Tick)
-            → HasSent X.CountingBox self.old line more (link_sent link.old)
-            → HasSent X.CountingBox self.new line (more ++ map Byte bytes.now)
+            → HasSent X.LinkBox X.counting self.old line more (link_sent link.old)
+            → HasSent X.LinkBox X.counting self.new line (more ++ run_ticks run.entry)
             (link_sent link.new) }
     {
         let mut left = RunBytes::new();
         let mut at = 0;
-        while at < bytes.len() {
-            let taken = self.send_bytes(&bytes[at..], &mut left);
+        while at < run.len() {
+            let taken = self.send(run.behind(at), &mut left);
             link.add(taken, left.as_slice());
-            at += taken;
-        }
-    }
-
-    /// The same of so many silent ticks.
-    pub fn forward_silence(&mut self, ticks: u32, link: &mut Link)
-        requires able { MayTake X.CountingBox self.old }
-        requires room { X.taken self.old.line_box + ticks ≤ MAX_TICKS }
-        requires link { link.old.len + ticks ≤ 640 }
-        ensures able { MayTake X.CountingBox self.new }
-        ensures level { X.taken self.new.line_box ≡ X.taken self.old.line_box + ticks }
-        ensures len { link.new.len ≡ link.old.len + ticks }
-        ensures sent { (line more : List Tick)
-            → HasSent X.CountingBox self.old line more (link_sent link.old)
-            → HasSent X.CountingBox self.new line (more ++ silent ticks) (link_sent link.new) }
-    {
-        let mut left = RunBytes::new();
-        let mut at = 0;
-        while at < ticks {
-            let taken = self.send_silence(ticks - at, &mut left);
-            link.add(taken as usize, left.as_slice());
             at += taken;
         }
     }

@@ -1,19 +1,18 @@
 use super::*;
+use check_receiver::Checker;
 use device_model::{DnpDevice, RtuDevice};
 use dnp_link_frame::Dnp;
 use hmac_tag::HmacSha1;
 use rtu_frame::Rtu;
+use seal_transmitter::Sealer;
 
 // The counts of a session of either protocol, as scripts/trial_model.py computes them.
 #[test]
 fn sessions(rt: HostRuntime) {
     assert_eq!(rt;
-        try_session::<
-            Rtu,
-            SealCounting<Rtu, HmacSha1, 2>,
-            CheckCounting<Rtu, HmacSha1, 2, 18>,
-            RtuDevice
-        >(7, 100, 17),
+        try_session::<Rtu, Sealer<Rtu, HmacSha1, 2>, Checker<Rtu, HmacSha1, 2, 18>, RtuDevice>(
+            7, 100, 17
+        ),
         Summary {
             sealed: 100,
             passed: 64,
@@ -23,12 +22,9 @@ fn sessions(rt: HostRuntime) {
         }
     );
     assert_eq!(rt;
-        try_session::<
-            Dnp,
-            SealCounting<Dnp, HmacSha1, 2>,
-            CheckCounting<Dnp, HmacSha1, 2, 18>,
-            DnpDevice
-        >(0, 1000, 17),
+        try_session::<Dnp, Sealer<Dnp, HmacSha1, 2>, Checker<Dnp, HmacSha1, 2, 18>, DnpDevice>(
+            0, 1000, 17
+        ),
         Summary {
             sealed: 1000,
             passed: 598,

@@ -5,14 +5,17 @@ ghost use Rattle.std.specs.Prelude.{◌≡◌};
 use crate::link::Link;
 use crate::receiving::Receiving;
 use crate::side::Side;
-use crate::{CheckCounting, CountedStep, CountingBox, SealCounting};
-use check_receiver::RunBytes;
+use crate::{CountingBox, Fate};
+use burst_walk::{BoxStep, RunBytes};
+use check_receiver::Checker;
 use device_model::{Device, FrameAt, Heard, RtuDevice};
-use hmac_tag::HmacSha1;
+use hmac_tag::{Dir, HmacSha1};
+use link_box::LinkBox;
 use rtu_frame::Rtu;
+use seal_transmitter::Sealer;
 use sequence_journal::{Journal, JournalFault};
 use yasir_io::SlotDisk;
-use yasir_ticks::Tick;
+use yasir_ticks::{Tick, TickRun};
 
 /// A box or a device, and how often it has taken a run or a single tick.
 #[derive(Drop)]
@@ -29,18 +32,20 @@ impl<X> Counted<X> {
     }
 }
 
-impl<X: CountingBox> CountingBox for Counted<X> {
+impl<X: LinkBox> LinkBox for Counted<X> {
+    type Note = X::Note;
+
     ghost stands = { λ value. X.stands value.inner };
 
     ghost taken = { λ value. X.taken value.inner };
 
-    ghost counting = { X.counting };
+    ghost walking = { X.walking };
 
     ghost widths_fit = { X.widths_fit };
 
-    fn new() -> Self {
+    fn new(key: &[u8], dir: Dir) -> Self {
         Counted {
-            inner: X::new(),
+            inner: X::new(key, dir),
             turns: 0,
         }
     }
@@ -50,27 +55,39 @@ impl<X: CountingBox> CountingBox for Counted<X> {
         t: Tick,
         journal: &mut Journal,
         disk: &mut D,
-    ) -> Result<CountedStep, JournalFault> {
+    ) -> Result<BoxStep<X::Note>, JournalFault> {
         self.turn();
         self.inner.step(t, journal, disk)
     }
 
-    // Where no tick is taken a step follows, which is the turn.
-    fn pass_bytes(&mut self, bytes: &[u8], left: &mut RunBytes) -> usize {
-        let count = self.inner.pass_bytes(bytes, left);
+    // Where no tick is taken another call follows, which is the turn.
+    fn forward(&mut self, run: TickRun<'_>) -> usize {
+        let count = self.inner.forward(run);
         if count > 0 {
             self.turn();
         }
         count
     }
 
-    fn pass_silence(&mut self, ticks: u32, left: &mut RunBytes) -> u32 {
-        let count = self.inner.pass_silence(ticks, left);
+    fn pass(&mut self, run: TickRun<'_>, left: &mut RunBytes) -> usize {
+        let count = self.inner.pass(run, left);
         if count > 0 {
             self.turn();
         }
         count
     }
+}
+
+impl<X: CountingBox> CountingBox for Counted<X> {
+    ghost fate_of = { X.fate_of };
+
+    ghost counting = { X.counting };
+
+    fn fate(note: X::Note) -> Fate {
+        X::fate(note)
+    }
+
+    ghost counts = { X.counts };
 }
 
 impl<V: Device> Device for Counted<V> {
@@ -118,11 +135,11 @@ const FRAME: &[u8] = b"\x01\x03\x00\x00\x00\x0a\xc5\xcd";
 #[test]
 fn a_frame_takes_few_turns(rt: HostRuntime) {
     let mut link = Link::new();
-    let mut sealing: Side<Counted<SealCounting<Rtu, HmacSha1, 2>>> = Side::new();
-    sealing.forward_bytes(FRAME, &mut link);
-    sealing.forward_silence(632, &mut link);
+    let mut sealing: Side<Counted<Sealer<Rtu, HmacSha1, 2>>> = Side::new();
+    sealing.forward(TickRun::Bytes(FRAME), &mut link);
+    sealing.forward(TickRun::Silence(632), &mut link);
     assert!(rt; sealing.line_box().turns <= 5);
-    let mut receiving: Receiving<Counted<CheckCounting<Rtu, HmacSha1, 2, 18>>, Counted<RtuDevice>> =
+    let mut receiving: Receiving<Counted<Checker<Rtu, HmacSha1, 2, 18>>, Counted<RtuDevice>> =
         Receiving::new();
     receiving.take(&link);
     assert!(rt; receiving.read() == 1);

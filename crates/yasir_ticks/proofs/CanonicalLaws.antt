@@ -1,55 +1,35 @@
 -- The canonical text of ticks stands for them, and for nothing else.
-use Rattle.std.proofs.Common.{◌≡◌, ◌≢◌, ◌∙◌, ◌==◌, ℕ, zero, suc, ◌+◌, ◌*◌, ◌/◌, ◌%◌, ◌^◌, ◌<◌, ◌≤◌}
-use Rattle.std.proofs.Common.{Bool, true, false, cond, List, [], ◌∷◌, ◌++◌, length, map, take, drop}
-use Rattle.std.proofs.Common.{replicate, Some, get_or, refl, sym, ap, subst, arith, append_assoc}
-use Rattle.std.proofs.Common.{Ok, not, ◌⊎◌, inl, inr}
-use Rattle.std.specs.List.{flat_map, range_with_len, list_all, All}
+use Rattle.std.proofs.Common.{◌≡◌, ◌∙◌, ℕ, zero, suc, ◌+◌, ◌-◌, ◌/◌, ◌%◌, ◌^◌, ◌<◌, ◌≤◌}
+use Rattle.std.proofs.Common.{true, List, [], ◌∷◌, ◌++◌, length, map, take, drop}
+use Rattle.std.proofs.Common.{replicate, Some, refl, sym, ap, subst, arith, append_assoc}
+use Rattle.std.proofs.Common.{inl, inr}
+use Rattle.std.specs.List.{flat_map, All}
 use Rattle.std.specs.Fmt.{decimal}
-use Rattle.std.proofs.Math.Seq.{take-add}
-use Rattle.std.proofs.lemmas.Bool.{and_parts, both_ways, cases_lt}
+use Rattle.std.proofs.lemmas.Bool.{cases_lt}
 use Rattle.std.proofs.lemmas.Fmt.{decimal_by_steps}
-use Rattle.std.proofs.lemmas.List.{append-nil, map-append, length-take, get_or_past, take_all}
-use Rattle.std.proofs.lemmas.List.{drop-drop, length-drop, replicate-append-replicate}
+use Rattle.std.proofs.lemmas.List.{append-nil, map-append, length-take, get_or_past, take-append-drop}
+use Rattle.std.proofs.lemmas.List.{length-drop, replicate-append-replicate}
 use Rattle.std.proofs.lemmas.List.Elements.{All-nil, All-cons, All-take, All-drop, All-get_or}
-use Rattle.hex.specs.Hex.{encode_lower, decode_of, is_hex_digit, IsBytes}
+use Rattle.hex.specs.Hex.{encode_lower, IsBytes}
 use Rattle.hex.proofs.HexLemmas.{decode_of-encode_lower}
-use Rattle.yasir_ticks.specs.Ticks.{Item, IsTick, AreTicks, marks_in}
+use Rattle.yasir_ticks.specs.Ticks.{Item, IsTick, AreTicks, marks_in, ticks_in}
 use Rattle.yasir_ticks.specs.Ticks.Item.{tick}
 use Rattle.yasir_ticks.specs.TickText.{lines_of, line_items, all_items, is_decimal_digit}
-use Rattle.yasir_ticks.specs.TickText.{is_plain_decimal, number_after, ends_in_return}
-use Rattle.yasir_ticks.specs.TickText.{content_items, IsTickText}
+use Rattle.yasir_ticks.specs.TickText.{is_plain_decimal, number_after}
+use Rattle.yasir_ticks.specs.TickText.{IsTickText}
 use Rattle.yasir_ticks.specs.CanonicalText.{Stretch, stretches, with_tick, stretch_lines, byte_line}
 use Rattle.yasir_ticks.specs.CanonicalText.{silence_line, canonical_text}
 use Rattle.yasir_ticks.specs.CanonicalText.Stretch.{bytes, silence}
 use Rattle.yasir_ticks.specs.declared.tick.Tick.{Tick}
 use Rattle.yasir_ticks.specs.declared.tick.Tick.TheVariants.{Silent, Byte}
-use Rattle.yasir_ticks.proofs.Lines.{all_lines, joined, all_lines-lf, all_lines-byte}
+use Rattle.yasir_ticks.proofs.Lines.{all_lines, all_lines-line}
+use Rattle.yasir_ticks.proofs.Steps.{IsRightLine, pairs_right, number_right}
 use Rattle.yasir_ticks.proofs.Items.{all_items_cons}
-use Rattle.yasir_ticks.proofs.Contents.{test_of, line_items-plain, without_return-same}
-use Rattle.yasir_ticks.proofs.Digits.{hex_digits, byte_items-right, silence_items-right}
+use Rattle.yasir_ticks.proofs.TickRuns.{ticks_in-ticks}
+use Rattle.yasir_ticks.proofs.Writing.{full_bytes, last_bytes, full_silence, last_silence}
 use Rattle.yasir_ticks.proofs.Digits.{is_plain_decimal-more, number_after-append}
 
 -- ---- one line
-
-module _ (test : ℕ → Bool) where
-  other : (b c : ℕ) → test b ≡ false → test c ≡ true → c ≢ b
-  other b c fails passes e = both_ways (test c) (ap test e ∙ fails) passes
-
-  -- content before an LF is the first line
-  first_line : test 10 ≡ false → (x more : List ℕ) → list_all test x ≡ true
-      → all_lines (x ++ 10 ∷ more) ≡ x ∷ all_lines more
-  first_line fails [] more h = all_lines-lf more
-  first_line fails (c ∷ x) more h =
-      let parts = and_parts (test c) (list_all test x) h in
-      all_lines-byte c (x ++ 10 ∷ more) (other 10 c fails parts.0)
-      ∙ ap (λ ls. joined (c ∷ []) ls) (first_line fails x more parts.1)
-
-  no_return : test 13 ≡ false → (c : ℕ) (x : List ℕ) → (c == 13) ≡ false → list_all test x ≡ true
-      → ends_in_return (c ∷ x) ≡ false
-  no_return fails c [] h all = h
-  no_return fails c (d ∷ x) h all =
-      let parts = and_parts (test d) (list_all test x) all in
-      no_return fails d x (test_of d 13 (other 13 d fails parts.0)) parts.1
 
 -- the text of these lines, whatever lines follow
 abbrev Adds : List ℕ → List Item → Type 0
@@ -70,14 +50,12 @@ adds-as x y i j e f adds more others h =
     ap (λ t. all_items (all_lines (t ++ more))) (sym e)
     ∙ (adds more others h ∙ ap (λ items. Some (items ++ others)) f)
 
-adds-line : (test : ℕ → Bool) (sign : ℕ) (content : List ℕ) (items : List Item) → test 10 ≡ false
-    → sign ≢ 10 → list_all test content ≡ true
-    → line_items (sign ∷ content) ≡ Some items → Adds (sign ∷ (content ++ 10 ∷ [])) items
-adds-line test sign content items fails other_sign all stands more others h =
-    ap (λ t. all_items (all_lines (sign ∷ t))) (append_assoc content (10 ∷ []) more)
-    ∙ (ap all_items (all_lines-byte sign (content ++ 10 ∷ more) other_sign
-    ∙ ap (λ ls. joined (sign ∷ []) ls) (first_line test fails content more all))
-    ∙ all_items_cons (sign ∷ content) (all_lines more) items others stands h)
+adds-line : (line : List ℕ) (items : List Item) → IsRightLine line items
+    → Adds (line ++ 10 ∷ []) items
+adds-line line items right more others h =
+    ap (λ t. all_items (all_lines t)) (append_assoc line (10 ∷ []) more)
+    ∙ ap all_items (all_lines-line line more right.free)
+    ∙ all_items_cons line (all_lines more) items others right.stands h
 
 -- ---- bytes
 
@@ -85,67 +63,40 @@ abbrev byte_ticks : List ℕ → List Item
 byte_ticks l = map (λ b. tick (Byte b)) l
 
 bytes_from : (l : List ℕ) → All (λ b. b < 256) l → IsBytes l
-bytes_from [] all i = lit_zero i
-  where
-    lit_zero : (i : ℕ) → get_or [] i 0 < 256
-    lit_zero zero = omega arith
-    lit_zero (suc i) = omega arith
-bytes_from (b ∷ l) all i = at_index i (within (length (b ∷ l)) i)
-  where
-    within : (n i : ℕ) → (i < n) ⊎ (n ≤ i)
-    within n i = cases_lt i n
-
-    at_index : (i : ℕ) → (i < length (b ∷ l)) ⊎ (length (b ∷ l) ≤ i) → get_or (b ∷ l) i 0 < 256
-    at_index i (inl h) = All-get_or (λ x. x < 256) (b ∷ l) i 0 h all
-    at_index i (inr h) = rw (get_or_past (b ∷ l) i 0 h) (omega arith)
+bytes_from l all i = elim (cases_lt i (length l)) [
+  | inl h ↦ All-get_or (λ x. x < 256) l i 0 h all
+  | inr h ↦ rw (get_or_past l i 0 h) (omega arith)
+]
 
 adds-bytes : (l : List ℕ) → All (λ b. b < 256) l → 1 ≤ length l → length l ≤ 32
     → Adds (byte_line l) (byte_ticks l)
-adds-bytes l all some few =
-    let decoded : decode_of (encode_lower l) ≡ Ok l = decode_of-encode_lower l (bytes_from l all) in
-    let digits : list_all is_hex_digit (encode_lower l) ≡ true =
-    hex_digits (encode_lower l) l decoded in
-    let stands : line_items (43 ∷ encode_lower l) ≡ Some (byte_ticks l) =
-    line_items-plain (43 ∷ encode_lower l) refl
-    ∙ (ap content_items (without_return-same (43 ∷ encode_lower l)
-    (no_return is_hex_digit refl 43 (encode_lower l) refl digits))
-    ∙ byte_items-right (encode_lower l) l decoded some few) in
-    adds-line is_hex_digit 43 (encode_lower l) (byte_ticks l) refl (λ e. absurd (omega arith))
-    digits stands
+adds-bytes l all some few = adds-line (43 ∷ encode_lower l) (byte_ticks l)
+    (pairs_right (encode_lower l) l (decode_of-encode_lower l (bytes_from l all)) (omega arith) few)
 
--- so many lines of bytes, from one of them on
-adds-lines : (l : List ℕ) (a n : ℕ) → All (λ b. b < 256) l → 32 * (a + n) ≤ length l + 31
-    → Adds (flat_map (λ i. byte_line (take 32 (drop (32 * i) l))) (range_with_len a n))
-    (byte_ticks (take (32 * n) (drop (32 * a) l)))
-adds-lines l a zero all enough = let e : 32 * 0 ≡ 0 = omega arith in
-    adds-as [] [] [] (byte_ticks (take (32 * 0) (drop (32 * a) l))) refl
-    (ap (λ k. byte_ticks (take k (drop (32 * a) l))) (sym e)) adds-nil
-adds-lines l a (suc n) all enough =
-    let here : 1 ≤ length (take 32 (drop (32 * a) l)) =
-    simp (length-take, length-drop) (omega arith) in
-    let few : length (take 32 (drop (32 * a) l)) ≤ 32 = simp length-take (omega arith) in
-    let bytes_here : All (λ b. b < 256) (take 32 (drop (32 * a) l)) =
-    All-take (λ b. b < 256) 32 (drop (32 * a) l) (All-drop (λ b. b < 256) (32 * a) l all) in
-    let enough' : 32 * (a + 1 + n) ≤ length l + 31 = omega arith in
-    let step : 32 * suc n ≡ 32 + 32 * n = omega arith in
-    let next : 32 * a + 32 ≡ 32 * (a + 1) = omega arith in
-    let items : byte_ticks (take 32 (drop (32 * a) l))
-    ++ byte_ticks (take (32 * n) (drop (32 * (a + 1)) l))
-    ≡ byte_ticks (take (32 * suc n) (drop (32 * a) l)) =
-    sym (ap (λ k. byte_ticks (take k (drop (32 * a) l))) step
-    ∙ (ap byte_ticks (take-add 32 (32 * n) (drop (32 * a) l))
-    ∙ (map-append (λ b. tick (Byte b)) (take 32 (drop (32 * a) l))
-    (take (32 * n) (drop 32 (drop (32 * a) l)))
-    ∙ ap (λ x. byte_ticks (take 32 (drop (32 * a) l)) ++ byte_ticks (take (32 * n) x))
-    (drop-drop 32 (32 * a) l ∙ ap (λ k. drop k l) next)))) in
-    let first : List ℕ = byte_line (take 32 (drop (32 * a) l)) in
-    let others : List ℕ = flat_map (λ i. byte_line (take 32 (drop (32 * i) l)))
-    (range_with_len (a + 1) n) in
-    adds-as (first ++ others) (first ++ others) _ _ refl items
-    (adds-append first others (byte_ticks (take 32 (drop (32 * a) l)))
-    (byte_ticks (take (32 * n) (drop (32 * (a + 1)) l)))
-    (adds-bytes (take 32 (drop (32 * a) l)) bytes_here here few)
-    (adds-lines l (a + 1) n all enough'))
+-- a stretch of at most n bytes
+adds-lines : (n : ℕ) (l : List ℕ) → length l ≤ n → All (λ b. b < 256) l
+    → Adds (stretch_lines (bytes l)) (byte_ticks l)
+adds-lines n [] within all = adds-nil
+adds-lines zero (b ∷ l) within all = absurd (omega arith)
+adds-lines (suc n) (b ∷ l) within all = elim (cases_lt (length (b ∷ l)) 33) [
+  | inl few ↦ adds-as (byte_line (b ∷ l)) (stretch_lines (bytes (b ∷ l))) (byte_ticks (b ∷ l))
+      (byte_ticks (b ∷ l)) (sym (last_bytes (b ∷ l) (omega arith) (omega arith))) refl
+      (adds-bytes (b ∷ l) all (omega arith) (omega arith))
+  | inr many ↦
+      let front = take 32 (b ∷ l) in
+      let rest = drop 32 (b ∷ l) in
+      let full : length front ≡ 32 = omega (arith, length-take 32 (b ∷ l)) in
+      let fewer : length rest ≤ n = omega (arith, length-drop 32 (b ∷ l)) in
+      let whole : front ++ rest ≡ b ∷ l = take-append-drop 32 (b ∷ l) in
+      adds-as (byte_line front ++ stretch_lines (bytes rest)) (stretch_lines (bytes (b ∷ l)))
+      (byte_ticks front ++ byte_ticks rest) (byte_ticks (b ∷ l))
+      (sym (full_bytes front rest full) ∙ ap (λ x. stretch_lines (bytes x)) whole)
+      (sym (map-append (λ b. tick (Byte b)) front rest) ∙ ap byte_ticks whole)
+      (adds-append (byte_line front) (stretch_lines (bytes rest)) (byte_ticks front)
+      (byte_ticks rest)
+      (adds-bytes front (All-take (λ b. b < 256) 32 (b ∷ l) all) (omega arith) (omega arith))
+      (adds-lines n rest fewer (All-drop (λ b. b < 256) 32 (b ∷ l) all)))
+]
 
 -- ---- silence
 
@@ -176,48 +127,38 @@ counts n some fits = decimal_by_steps (λ n digits. 0 < n → IsCount n digits) 
           number = number_after-append 0 digits (48 + n % 10) [] ∙ omega arith;
         }
 
-digits_of_count : (x : List ℕ) → is_plain_decimal x ≡ true → list_all is_decimal_digit x ≡ true
-digits_of_count [] h = refl
-digits_of_count (c ∷ x) h = (and_parts (not (c == 48)) (list_all is_decimal_digit (c ∷ x)) h).1
-
 adds-silence : (n : ℕ) → 0 < n → n ≤ 1000000 → Adds (silence_line n) (replicate n (tick Silent))
 adds-silence n some few =
     let fits : n < 2 ^ 64 = omega arith in
     let count : IsCount n (decimal n) = counts n some fits in
-    let digits : list_all is_decimal_digit (decimal n) ≡ true =
-    digits_of_count (decimal n) count.plain in
-    let stands : line_items (45 ∷ decimal n) ≡ Some (replicate n (tick Silent)) =
-    line_items-plain (45 ∷ decimal n) refl
-    ∙ (ap content_items (without_return-same (45 ∷ decimal n)
-    (no_return is_decimal_digit refl 45 (decimal n) refl digits))
-    ∙ silence_items-right (decimal n) n count.plain count.number few) in
-    adds-line is_decimal_digit 45 (decimal n) (replicate n (tick Silent)) refl
-    (λ e. absurd (omega arith)) digits stands
+    adds-line (45 ∷ decimal n) (replicate n (tick Silent))
+    (number_right (decimal n) n count.plain count.number few)
 
--- full lines, of a size that one line may have, and then what is left
-adds-full : (size full : ℕ) → 0 < size → size ≤ 1000000
-    → Adds (flat_map silence_line (replicate full size)) (replicate (size * full) (tick Silent))
-adds-full size zero some few = let e : size * 0 ≡ 0 = omega arith in
-    adds-as [] [] [] (replicate (size * 0) (tick Silent)) refl
-    (ap (λ k. replicate k (tick Silent)) (sym e)) adds-nil
-adds-full size (suc full) some few =
-    let e : size + size * full ≡ size * suc full = omega arith in
-    adds-as (silence_line size ++ flat_map silence_line (replicate full size))
-    (silence_line size ++ flat_map silence_line (replicate full size)) _ _ refl
-    (replicate-append-replicate size (size * full) (tick Silent)
-    ∙ ap (λ k. replicate k (tick Silent)) e)
-    (adds-append (silence_line size) (flat_map silence_line (replicate full size))
-    (replicate size (tick Silent)) (replicate (size * full) (tick Silent))
-    (adds-silence size some few) (adds-full size full some few))
+-- a filled line, and then a stretch
+adds-more : (full m k : ℕ) → full ≡ 1000000 → full + m ≡ k
+    → Adds (stretch_lines (silence m)) (replicate m (tick Silent))
+    → Adds (stretch_lines (silence k)) (replicate k (tick Silent))
+adds-more full m k is sum rest = adds-as (silence_line full ++ stretch_lines (silence m))
+    (stretch_lines (silence k)) (replicate full (tick Silent) ++ replicate m (tick Silent))
+    (replicate k (tick Silent))
+    (sym (full_silence full m is) ∙ ap (λ n. stretch_lines (silence n)) sum)
+    (replicate-append-replicate full m (tick Silent) ∙ ap (λ n. replicate n (tick Silent)) sum)
+    (adds-append (silence_line full) (stretch_lines (silence m)) (replicate full (tick Silent))
+    (replicate m (tick Silent)) (adds-silence full (omega arith) (omega arith)) rest)
 
-adds-left : (left : ℕ) → left ≤ 1000000
-    → Adds (cond (left == 0) [] (silence_line left)) (replicate left (tick Silent))
-adds-left zero few = adds-nil
-adds-left (suc left) few =
-    let e : (suc left == 0) ≡ false = test_of (suc left) 0 (λ e. absurd (omega arith)) in
-    adds-as (silence_line (suc left)) (cond (suc left == 0) [] (silence_line (suc left)))
-    (replicate (suc left) (tick Silent)) (replicate (suc left) (tick Silent)) (sym (rw e refl))
-    refl (adds-silence (suc left) (omega arith) few)
+-- a stretch of k silent ticks, at most n
+adds-silences : (n k : ℕ) → k ≤ n
+    → Adds (stretch_lines (silence k)) (replicate k (tick Silent))
+adds-silences n zero within = adds-nil
+adds-silences zero (suc k) within = absurd (omega arith)
+adds-silences (suc n) (suc k) within = elim (cases_lt (suc k) 1000001) [
+  | inl few ↦ adds-as (silence_line (suc k)) (stretch_lines (silence (suc k)))
+      (replicate (suc k) (tick Silent)) (replicate (suc k) (tick Silent))
+      (sym (last_silence (suc k) (omega arith) (omega arith))) refl
+      (adds-silence (suc k) (omega arith) (omega arith))
+  | inr many ↦ adds-more 1000000 (suc k - 1000000) (suc k) refl (omega arith)
+      (adds-silences n (suc k - 1000000) (omega arith))
+]
 
 -- ---- stretches
 
@@ -234,29 +175,8 @@ AreRight [] = Unit {0}
 AreRight (s ∷ more) = IsRight s × AreRight more
 
 adds-stretch : (s : Stretch) → IsRight s → Adds (stretch_lines s) (items_of_stretch s)
-adds-stretch (bytes l) right =
-    let enough : 32 * (0 + (length l + 31) / 32) ≤ length l + 31 = omega arith in
-    let all : length (drop (32 * 0) l) ≤ 32 * ((length l + 31) / 32) =
-    simp length-drop (omega arith) in
-    let e : 32 * 0 ≡ 0 = omega arith in
-    adds-as (stretch_lines (bytes l)) (stretch_lines (bytes l))
-    (byte_ticks (take (32 * ((length l + 31) / 32)) (drop (32 * 0) l))) (byte_ticks l) refl
-    (ap byte_ticks (take_all (32 * ((length l + 31) / 32)) (drop (32 * 0) l) all
-    ∙ ap (λ k. drop k l) e))
-    (adds-lines l 0 ((length l + 31) / 32) right enough)
-adds-stretch (silence n) right =
-    let left : n % 1000000 ≤ 1000000 = omega arith in
-    let e : 1000000 * (n / 1000000) + n % 1000000 ≡ n = omega arith in
-    adds-as (stretch_lines (silence n)) (stretch_lines (silence n))
-    (replicate (1000000 * (n / 1000000)) (tick Silent) ++ replicate (n % 1000000) (tick Silent))
-    (replicate n (tick Silent)) refl
-    (replicate-append-replicate (1000000 * (n / 1000000)) (n % 1000000) (tick Silent)
-    ∙ ap (λ k. replicate k (tick Silent)) e)
-    (adds-append (flat_map silence_line (replicate (n / 1000000) 1000000))
-    (cond (n % 1000000 == 0) [] (silence_line (n % 1000000)))
-    (replicate (1000000 * (n / 1000000)) (tick Silent)) (replicate (n % 1000000) (tick Silent))
-    (adds-full 1000000 (n / 1000000) (omega arith) (omega arith))
-    (adds-left (n % 1000000) left))
+adds-stretch (bytes l) right = adds-lines (length l) l (omega arith) right
+adds-stretch (silence n) right = adds-silences n n (omega arith)
 
 adds-stretches : (parts : List Stretch) → AreRight parts
     → Adds (flat_map stretch_lines parts) (flat_map items_of_stretch parts)
@@ -314,15 +234,6 @@ canonical_text-stands ticks are = record {
   marked = marks_in-ticks ticks;
 }
 
-map_tick-same : (a b : List Tick) → map tick a ≡ map tick b → a ≡ b
-map_tick-same [] [] h = refl
-map_tick-same [] (t ∷ b) h = cc
-map_tick-same (t ∷ a) [] h = cc
-map_tick-same (t ∷ a) (u ∷ b) h =
-    let first : t ≡ u = cc in
-    let others : map tick a ≡ map tick b = cc in
-    rw (first, map_tick-same a b others) refl
-
 -- and two lists with the same text are equal.
 pub canonical_text-same : (a b : List Tick) → AreTicks a → AreTicks b
     → canonical_text a ≡ canonical_text b → a ≡ b
@@ -332,7 +243,7 @@ canonical_text-same a b are bre same =
     let items : Some (map tick a) ≡ Some (map tick b) =
     sym text_a.lines ∙ (ap (λ t. all_items (all_lines t)) same ∙ text_b.lines) in
     let one : map tick a ≡ map tick b = cc in
-    map_tick-same a b one
+    sym (ticks_in-ticks a) ∙ (ap ticks_in one ∙ ticks_in-ticks b)
 
 -- So a text that is the canonical one stands for the ticks.
 pub whole_text : (ticks : List Tick) (text : List ℕ) → text ≡ canonical_text ticks → AreTicks ticks

@@ -1,6 +1,6 @@
 -- Lines apart from comments: a CR at the end, bytes that may not stand in a content.
 use Rattle.std.proofs.Common.{◌≡◌, ◌≢◌, ◌∙◌, ◌==◌, ℕ, suc, Bool, true, false, List, [], ◌∷◌, ◌++◌}
-use Rattle.std.proofs.Common.{length, Option, Some, None, refl, ap, cond, arith}
+use Rattle.std.proofs.Common.{length, Option, Some, None, refl, ap, cond, arith, append-nil}
 use Rattle.yasir_ticks.specs.Ticks.{Item}
 use Rattle.yasir_ticks.specs.Ticks.Item.{mark}
 use Rattle.yasir_ticks.specs.TickText.{line_items, content_items, without_return, ends_in_return}
@@ -53,11 +53,7 @@ pub line_items-return : (x : List ℕ) → starts_comment x ≡ false
     → line_items (x ++ 13 ∷ []) ≡ content_items x
 line_items-return x h =
     line_items-plain (x ++ 13 ∷ []) (starts_comment-append x 13 [] h (λ e. absurd (omega arith)))
-    ∙ ap content_items (without_return-append x 13 [] ∙ append_nil_lem x)
-  where
-    append_nil_lem : (x : List ℕ) → x ++ [] ≡ x
-    append_nil_lem [] = refl
-    append_nil_lem (c ∷ x) = ap (λ l. c ∷ l) (append_nil_lem x)
+    ∙ ap content_items (without_return-append x 13 [] ∙ append-nil x)
 
 -- a mark and then any byte
 pub mark_items-bad : (x : List ℕ) (b : ℕ) (l : List ℕ)

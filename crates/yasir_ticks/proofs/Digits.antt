@@ -1,23 +1,24 @@
 -- Digits of `+` and `-` lines: one digit more, and bytes that are no digits.
 use Rattle.std.proofs.Common.{◌≡◌, ◌∙◌, ◌==◌, ◌&&◌, ℕ, ◌+◌, ◌*◌, ◌-◌, ◌%◌, ◌≤◌, ◌<◌, Bool, true}
 use Rattle.std.proofs.Common.{false, not, List, [], ◌∷◌, ◌++◌, length, map, replicate, Option, Some}
-use Rattle.std.proofs.Common.{None, Result, Ok, Err, refl, ap, sym, cond, arith, option_map, leb}
+use Rattle.std.proofs.Common.{None, Result, Ok, Err, refl, sym, cond, arith, option_map, leb}
 use Rattle.std.specs.List.{list_all}
 use Rattle.std.specs.Result.{result_ok}
 use Rattle.std.proofs.lemmas.Bool.{both_ways, and_parts}
-use Rattle.std.proofs.lemmas.List.{length-append}
 use Rattle.std.proofs.lemmas.List.Folds.{list_all-append}
-use Rattle.std.proofs.lemmas.List.Sums.{list_all-from_AllPass}
-use Rattle.hex.specs.Hex.{decode_of, decode_pairs, is_hex_digit, hex_digit_value, digit_or_error}
-use Rattle.hex.specs.Hex.{pair_value, value_at, ◌>>=◌}
-use Rattle.hex.proofs.Pairs.{decode_pairs-ok_pair, cons_byte}
+use Rattle.hex.specs.Hex.{decode_of, is_hex_digit}
 use Rattle.hex.specs.declared.error.FromHexError.{FromHexError}
-use Rattle.hex.proofs.HexLemmas.{decode_of-ok, decode_of-even, decode_of-odd}
+use Rattle.hex.proofs.HexLemmas.{decode_of-odd}
+use Rattle.yasir_ticks.proofs.hex_digits.Decoding.{hex_digits, hex_length}
 use Rattle.yasir_ticks.specs.Ticks.{Item}
 use Rattle.yasir_ticks.specs.Ticks.Item.{tick}
 use Rattle.yasir_ticks.specs.declared.tick.Tick.TheVariants.{Silent, Byte}
 use Rattle.yasir_ticks.specs.TickText.{byte_items, silence_items, is_plain_decimal}
 use Rattle.yasir_ticks.specs.TickText.{is_decimal_digit, number_after}
+
+and_false : (p q : Bool) → q ≡ false → (p && q) ≡ false
+and_false true q h = h
+and_false false q h = refl
 
 -- a test that fails at one element fails for the list
 pub list_all-bad : (test : ℕ → Bool) (x : List ℕ) (b : ℕ) (l : List ℕ) → test b ≡ false
@@ -25,19 +26,8 @@ pub list_all-bad : (test : ℕ → Bool) (x : List ℕ) (b : ℕ) (l : List ℕ)
 list_all-bad test [] b l h = rw h refl
 list_all-bad test (c ∷ x) b l h = and_false (test c) (list_all test (x ++ b ∷ l))
     (list_all-bad test x b l h)
-  where
-    and_false : (p q : Bool) → q ≡ false → (p && q) ≡ false
-    and_false true q h = h
-    and_false false q h = refl
 
 -- ---- hex digits
-
--- digits that decode are hex digits, all of them
-pub hex_digits : (x bytes : List ℕ) → decode_of x ≡ Ok bytes → list_all is_hex_digit x ≡ true
-hex_digits x bytes h = list_all-from_AllPass is_hex_digit x (decode_of-ok x bytes h).1
-
-pub hex_length : (x bytes : List ℕ) → decode_of x ≡ Ok bytes → length x ≡ 2 * length bytes
-hex_length x bytes h = (decode_of-ok x bytes h).2
 
 -- what stands for bytes, whatever the number of digits is
 byte_items-none : (x : List ℕ) → ((bytes : List ℕ) → decode_of x ≡ Ok bytes → ⊥)
@@ -75,44 +65,6 @@ byte_items-right x bytes e low high =
     within : (n k : ℕ) → n ≡ 2 * k → 1 ≤ k → k ≤ 32 → (leb 1 n && leb n 64) ≡ true
     within n k e low high = grind arith
 
--- one pair more
-bind_ok : {A B : Type 0} (r : Result A FromHexError) (f : A → Result B FromHexError) (y : B)
-    → (r >>= f) ≡ Ok y → (x : A) × (r ≡ Ok x) × (f x ≡ Ok y)
-bind_ok (Ok x) f y h = (x, refl, h)
-bind_ok (Err e) f y h = cc h
-
-pair_value-ok : (a b i high low : ℕ) → hex_digit_value a ≡ Some high → hex_digit_value b ≡ Some low
-    → pair_value a b i ≡ Ok (high * 16 + low)
-pair_value-ok a b i high low p q =
-    let ha : value_at a i ≡ Ok high = ap (digit_or_error a i) p in
-    let hb : value_at b (i + 1) ≡ Ok low = ap (digit_or_error b (i + 1)) q in
-    rw (ha, hb) refl
-
-decode_pairs-more : (i : ℕ) (x bytes : List ℕ) (a b high low : ℕ) → decode_pairs i x ≡ Ok bytes
-    → hex_digit_value a ≡ Some high → hex_digit_value b ≡ Some low
-    → decode_pairs i (x ++ a ∷ b ∷ []) ≡ Ok (bytes ++ (high * 16 + low) ∷ [])
-unfolding decode_pairs
-decode_pairs-more i [] bytes a b high low e p q =
-    let none : [] ≡ bytes = cc in
-    rw (← none) (decode_pairs-ok_pair i a b (high * 16 + low) [] (pair_value-ok a b i high low p q))
-decode_pairs-more i (c ∷ []) bytes a b high low e p q = cc
-decode_pairs-more i (c ∷ d ∷ x) bytes a b high low e p q =
-    let first = bind_ok (pair_value c d i) _ bytes e in
-    let rest = bind_ok (decode_pairs (i + 2) x) _ bytes first.2 in
-    let whole : first.0 ∷ rest.0 ≡ bytes = cc rest.2 in
-    rw (← whole)
-    (decode_pairs-ok_pair i c d first.0 (x ++ a ∷ b ∷ []) first.1
-    ∙ ap (cons_byte first.0) (decode_pairs-more (i + 2) x rest.0 a b high low rest.1 p q))
-
-pub decode_of-more : (x bytes : List ℕ) (a b high low : ℕ) → decode_of x ≡ Ok bytes
-    → hex_digit_value a ≡ Some high → hex_digit_value b ≡ Some low
-    → decode_of (x ++ a ∷ b ∷ []) ≡ Ok (bytes ++ (high * 16 + low) ∷ [])
-decode_of-more x bytes a b high low e p q =
-    let ok = decode_of-ok x bytes e in
-    let n : length (x ++ a ∷ b ∷ []) % 2 ≡ 0 = omega (arith, length-append x (a ∷ b ∷ []), ok.0) in
-    decode_of-even (x ++ a ∷ b ∷ []) n ∙ decode_pairs-more 0 x bytes a b high low
-    (sym (decode_of-even x ok.0) ∙ e) p q
-
 -- ---- decimal digits
 
 silence_items-none : (x : List ℕ) → is_plain_decimal x ≡ false → silence_items x ≡ None
@@ -122,17 +74,9 @@ pub silence_items-bad : (x : List ℕ) (b : ℕ) (l : List ℕ) → is_decimal_d
     → silence_items (x ++ b ∷ l) ≡ None
 silence_items-bad [] b l h = silence_items-none (b ∷ l)
     (and_false (not (b == 48)) (is_decimal_digit b && list_all is_decimal_digit l) (rw h refl))
-  where
-    and_false : (p q : Bool) → q ≡ false → (p && q) ≡ false
-    and_false true q h = h
-    and_false false q h = refl
 silence_items-bad (c ∷ x) b l h = silence_items-none (c ∷ (x ++ b ∷ l))
     (and_false (not (c == 48)) (list_all is_decimal_digit (c ∷ (x ++ b ∷ l)))
     (list_all-bad is_decimal_digit (c ∷ x) b l h))
-  where
-    and_false : (p q : Bool) → q ≡ false → (p && q) ≡ false
-    and_false true q h = h
-    and_false false q h = refl
 
 pub silence_items-zero : (l : List ℕ) → silence_items (48 ∷ l) ≡ None
 silence_items-zero l = refl

@@ -54,6 +54,27 @@ module _ (text : List ℕ) where
       (all_items_cons (lines_of text).last [] (own) [] stands refl)
       ∙ ap (λ x. Some (ended_items text ++ x)) (append-nil (own))
 
+-- an LF behind a last line that stands for these items
+pub line_ends : (text new_bytes : List ℕ) (line left marks : ℕ) (own : List Item)
+    → all_items (lines_of text).ended ≡ Some (ended_items text) → line ≡ line_after text
+    → marks_in (ended_items text) + (marks_in own + left) ≡ marks
+    → line_items (lines_of text).last ≡ Some own
+    → IsAt Start new_bytes (line + 1) left marks (text ++ 10 ∷ [])
+line_ends text new_bytes line left marks own ended counted marked stands =
+    let same = items_lf text own stands in
+    record {
+      ended = ap (λ (x : Lines). all_items x.ended) (lines_of-lf text)
+          ∙ items_whole text own stands ended ∙ ap Some (sym same);
+      marked = rw same (omega (arith, marks_in-append (ended_items text) own, marked));
+      counted = rw (lines_of-lf text)
+          (omega (
+            arith,
+            length-append (lines_of text).ended ((lines_of text).last ∷ []),
+            counted,
+          ));
+      last = rw (lines_of-lf text) refl;
+    }
+
 module _ (place new_place : Place) (bytes new_bytes : List ℕ) (line left new_left marks : ℕ)
     (text : List ℕ) (at : IsAt place bytes line left marks text) where
   -- a byte within a line
@@ -75,26 +96,9 @@ module _ (place new_place : Place) (bytes new_bytes : List ℕ) (line left new_l
   -- the LF of a line
   at_lf : (own : List Item) → Accepts place bytes left 10 (own) new_place new_bytes new_left
       → IsAt new_place new_bytes (line + 1) new_left marks (text ++ 10 ∷ [])
-  at_lf own a =
-      let stands = a.stands refl (lines_of text).last at.last in
-      let same = items_lf text own stands in
-      record {
-        ended = ap (λ (x : Lines). all_items x.ended) (lines_of-lf text)
-            ∙ items_whole text own stands at.ended ∙ ap Some (sym same);
-        marked = rw same (omega (
-          arith,
-          marks_in-append (ended_items text) (own),
-          a.marked,
-          at.marked,
-        ));
-        counted = rw (lines_of-lf text)
-            (omega (
-              arith,
-              length-append (lines_of text).ended ((lines_of text).last ∷ []),
-              at.counted,
-            ));
-        last = rw (lines_of-lf text, a.start refl) refl;
-      }
+  at_lf own a = rw (a.start refl) (line_ends text new_bytes line new_left marks own at.ended
+      at.counted (omega (arith, a.marked, at.marked, ap marks_at (a.start refl)))
+      (a.stands refl (lines_of text).last at.last))
 
 -- all lines of a text with a byte behind it and more, where the last line so far is a front of one
 -- of them

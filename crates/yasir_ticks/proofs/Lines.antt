@@ -1,6 +1,9 @@
 -- The lines of a text, and of a text with more behind it.
 use Rattle.std.proofs.Common.{◌≡◌, ◌≢◌, ◌∙◌, ◌==◌, ℕ, zero, suc, Bool, true, false, List, [], ◌∷◌}
-use Rattle.std.proofs.Common.{◌++◌, replicate, refl, ap, sym, cond, arith}
+use Rattle.std.proofs.Common.{◌++◌, ◌<◌, replicate, length, get_or, refl, ap, cond, arith}
+use Rattle.std.proofs.Common.{append_assoc, append-nil}
+use Rattle.std.specs.List.{list_all}
+use Rattle.std.proofs.lemmas.Bool.{and_parts}
 use Rattle.yasir_ticks.specs.TickText.{Lines, lines_of, with_front}
 
 -- all lines of a text, the last one too
@@ -21,107 +24,78 @@ fronted lf c lines =
     cond lf (record { ended = [] ∷ lines.ended; last = lines.last })
     (with_front c lines.ended lines.last)
 
-front_lf : (lf : Bool) (c : ℕ) (lines more : Lines)
-    → more ≡ record { ended = lines.ended ++ lines.last ∷ []; last = [] }
-    → fronted lf c more ≡ record {
-      ended = (fronted lf c lines).ended
-          ++ (fronted lf c lines).last ∷ [];
-      last = [];
-    }
-front_lf true c lines more e = rw e refl
-front_lf false c lines more e = rw e (front_of c lines.ended lines.last)
-  where
-    front_of : (c : ℕ) (ended : List (List ℕ)) (last : List ℕ)
-        → with_front c (ended ++ last ∷ []) []
-        ≡ record {
-          ended = (with_front c ended last).ended ++ (with_front c ended last).last ∷ [];
-          last = [];
-        }
-    front_of c [] last = refl
-    front_of c (l ∷ ls) last = refl
+-- lines, and then these lines behind them
+abbrev pub behind : Lines → List (List ℕ) → List ℕ → Lines
+behind lines [] last = record { ended = lines.ended; last = lines.last ++ last }
+behind lines (l ∷ ls) last =
+    record { ended = lines.ended ++ (lines.last ++ l) ∷ ls; last = last }
 
-front_more : (lf : Bool) (c b : ℕ) (lines more : Lines)
-    → more ≡ record { ended = lines.ended; last = lines.last ++ b ∷ [] }
-    → fronted lf c more ≡ record {
-      ended = (fronted lf c lines).ended;
-      last = (fronted lf c lines).last ++ b ∷ [];
-    }
-front_more true c b lines more e = rw e refl
-front_more false c b lines more e = rw e (front_of c b lines.ended lines.last)
+fronted_behind : (lf : Bool) (c : ℕ) (xs : List (List ℕ)) (x : List ℕ) (ys : List (List ℕ))
+    (y : List ℕ) → fronted lf c (behind (record { ended = xs; last = x }) ys y)
+    ≡ behind (fronted lf c (record { ended = xs; last = x })) ys y
+fronted_behind true c xs x [] y = refl
+fronted_behind true c xs x (l ∷ ls) y = refl
+fronted_behind false c [] x [] y = refl
+fronted_behind false c [] x (l ∷ ls) y = refl
+fronted_behind false c (z ∷ xs) x [] y = refl
+fronted_behind false c (z ∷ xs) x (l ∷ ls) y = refl
+
+-- the first line of what follows goes on with the last line
+pub lines_of-append : (x y : List ℕ)
+    → lines_of (x ++ y) ≡ behind (lines_of x) (lines_of y).ended (lines_of y).last
+unfolding lines_of
+lines_of-append [] y = alone (lines_of y).ended (lines_of y).last
   where
-    front_of : (c b : ℕ) (ended : List (List ℕ)) (last : List ℕ)
-        → with_front c ended (last ++ b ∷ [])
-        ≡ record {
-          ended = (with_front c ended last).ended;
-          last = (with_front c ended last).last ++ b ∷ [];
-        }
-    front_of c b [] last = refl
-    front_of c b (l ∷ ls) last = refl
+    alone : (ls : List (List ℕ)) (l : List ℕ) → record { ended = ls; last = l }
+        ≡ behind (record { ended = []; last = [] }) ls l
+    alone [] l = refl
+    alone (k ∷ ls) l = refl
+lines_of-append (c ∷ x) y = ap (fronted (c == 10) c) (lines_of-append x y)
+    ∙ fronted_behind (c == 10) c (lines_of x).ended (lines_of x).last (lines_of y).ended
+    (lines_of y).last
 
 -- an LF ends the last line
 pub lines_of-lf : (x : List ℕ) → lines_of (x ++ 10 ∷ [])
     ≡ record { ended = (lines_of x).ended ++ (lines_of x).last ∷ []; last = [] }
 unfolding lines_of
-lines_of-lf [] = refl
-lines_of-lf (c ∷ x) = front_lf (c == 10) c (lines_of x) (lines_of (x ++ 10 ∷ [])) (lines_of-lf x)
+lines_of-lf x = lines_of-append x (10 ∷ [])
+    ∙ ap (λ l. record { ended = (lines_of x).ended ++ l ∷ []; last = [] })
+    (append-nil (lines_of x).last)
 
 -- another byte stands at the end of the last line
-pub lines_of-more : (x : List ℕ) (b : ℕ) → b ≢ 10
-    → lines_of (x ++ b ∷ []) ≡ record {
-      ended = (lines_of x).ended;
-      last = (lines_of x).last ++ b
-          ∷ [];
-    }
+pub lines_of-more : (x : List ℕ) (b : ℕ) → b ≢ 10 → lines_of (x ++ b ∷ [])
+    ≡ record { ended = (lines_of x).ended; last = (lines_of x).last ++ b ∷ [] }
 unfolding lines_of
-lines_of-more [] b h = rw (test_of b h) refl
-lines_of-more (c ∷ x) b h = front_more (c == 10) c b (lines_of x) (lines_of (x ++ b ∷ []))
-    (lines_of-more x b h)
+lines_of-more x b h = lines_of-append x (b ∷ []) ∙ rw (test_of b h) refl
 
-joined-nil : (ls : List (List ℕ)) → joined [] ls ≡ ls
-joined-nil [] = refl
-joined-nil (l ∷ ls) = refl
+-- bytes without an LF
+abbrev pub IsFree : List ℕ → Type 0
+IsFree line = (k : ℕ) → k < length line → get_or line k 0 ≢ 10
 
-joined-cons : (c : ℕ) (x : List ℕ) (ls : List (List ℕ))
-    → joined (c ∷ []) (joined x ls) ≡ joined (c ∷ x) ls
-joined-cons c x [] = refl
-joined-cons c x (l ∷ ls) = refl
+one_line : (line : List ℕ) → IsFree line → lines_of line ≡ record { ended = []; last = line }
+unfolding lines_of
+one_line [] free = refl
+one_line (b ∷ line) free = let first : b ≢ 10 = free 0 (omega arith) in
+    rw (test_of b first, one_line line (λ k h. free (suc k) (omega arith))) refl
 
--- all lines of what `fronted` gives
-fronted_all : (lf : Bool) (c : ℕ) (lines : Lines)
-    → (fronted lf c lines).ended ++ (fronted lf c lines).last ∷ []
-    ≡ cond lf ([] ∷ (lines.ended ++ lines.last ∷ []))
-    (joined (c ∷ []) (lines.ended ++ lines.last ∷ []))
-fronted_all true c lines = refl
-fronted_all false c lines = by_ended c lines.ended lines.last
-  where
-    by_ended : (c : ℕ) (ended : List (List ℕ)) (last : List ℕ)
-        → (with_front c ended last).ended ++ (with_front c ended last).last ∷ []
-        ≡ joined (c ∷ []) (ended ++ last ∷ [])
-    by_ended c [] last = refl
-    by_ended c (l ∷ ls) last = refl
+-- they go on with the last line
+pub lines_of-free : (more text : List ℕ) → IsFree more → lines_of (text ++ more)
+    ≡ record { ended = (lines_of text).ended; last = (lines_of text).last ++ more }
+lines_of-free more text free = lines_of-append text more
+    ∙ ap (λ (l : Lines). behind (lines_of text) l.ended l.last) (one_line more free)
 
-front_step : (lf : Bool) (c : ℕ) (lines : Lines) (more : List (List ℕ))
-    → cond lf ([] ∷ (lines.ended ++ joined lines.last more))
-    (joined (c ∷ []) (lines.ended ++ joined lines.last more))
-    ≡ (fronted lf c lines).ended ++ joined (fronted lf c lines).last more
-front_step true c lines more = refl
-front_step false c lines more = by_ended c lines.ended lines.last more
-  where
-    by_ended : (c : ℕ) (ended : List (List ℕ)) (last : List ℕ) (more : List (List ℕ))
-        → joined (c ∷ []) (ended ++ joined last more)
-        ≡ (with_front c ended last).ended ++ joined (with_front c ended last).last more
-    by_ended c [] last more = joined-cons c last more
-    by_ended c (l ∷ ls) last more = refl
-
--- The first line of what follows goes on with the last line.
+-- All lines: the first one of what follows goes on with the last line.
 pub all_lines-append : (x y : List ℕ) → all_lines (x ++ y)
     ≡ (lines_of x).ended ++ joined (lines_of x).last (all_lines y)
-unfolding lines_of
-all_lines-append [] y = sym (joined-nil (all_lines y))
-all_lines-append (c ∷ x) y =
-    fronted_all (c == 10) c (lines_of (x ++ y))
-    ∙ ap (λ ls. cond (c == 10) ([] ∷ ls) (joined (c ∷ []) ls)) (all_lines-append x y)
-    ∙ front_step (c == 10) c (lines_of x) (all_lines y)
+all_lines-append x y =
+    ap (λ (l : Lines). l.ended ++ l.last ∷ []) (lines_of-append x y)
+    ∙ all_behind (lines_of x) (lines_of y).ended (lines_of y).last
+  where
+    all_behind : (x : Lines) (ls : List (List ℕ)) (l : List ℕ)
+        → (behind x ls l).ended ++ (behind x ls l).last ∷ []
+        ≡ x.ended ++ joined x.last (ls ++ l ∷ [])
+    all_behind x [] l = refl
+    all_behind x (k ∷ ls) l = append_assoc x.ended ((x.last ++ k) ∷ ls) (l ∷ [])
 
 pub all_lines-lf : (x : List ℕ) → all_lines (10 ∷ x) ≡ [] ∷ all_lines x
 unfolding lines_of
@@ -130,7 +104,27 @@ all_lines-lf x = refl
 pub all_lines-byte : (b : ℕ) (x : List ℕ) → b ≢ 10
     → all_lines (b ∷ x) ≡ joined (b ∷ []) (all_lines x)
 unfolding lines_of
-all_lines-byte b x h = fronted_all (b == 10) b (lines_of x) ∙ rw (test_of b h) refl
+all_lines-byte b x h = all_lines-append (b ∷ []) x ∙ rw (test_of b h) refl
+
+-- bytes that pass a test which an LF doesn't have none
+pub free_passing : (test : ℕ → Bool) (line : List ℕ) → test 10 ≡ false
+    → list_all test line ≡ true → IsFree line
+free_passing test [] bad all k h = absurd (omega arith)
+free_passing test (b ∷ line) bad all zero h = λ e.
+    let parts = and_parts (test b) (list_all test line) all in cc (rw e at parts.0, bad)
+free_passing test (b ∷ line) bad all (suc k) h =
+    free_passing test line bad (and_parts (test b) (list_all test line) all).1 k (omega arith)
+
+pub free_behind : (sign : ℕ) (line : List ℕ) → sign ≢ 10 → IsFree line → IsFree (sign ∷ line)
+free_behind sign line other free zero h = other
+free_behind sign line other free (suc k) h = free k (omega arith)
+
+-- a line and its LF
+pub all_lines-line : (line more : List ℕ) → IsFree line
+    → all_lines (line ++ 10 ∷ more) ≡ line ∷ all_lines more
+all_lines-line line more free = all_lines-append line (10 ∷ more)
+    ∙ ap (λ (l : Lines). l.ended ++ joined l.last (all_lines (10 ∷ more))) (one_line line free)
+    ∙ ap (joined line) (all_lines-lf more) ∙ ap (λ l. l ∷ all_lines more) (append-nil line)
 
 -- there is a first line
 pub all_lines-first : (x : List ℕ) → (l : List ℕ) × (ls : List (List ℕ)) × (all_lines x ≡ l ∷ ls)

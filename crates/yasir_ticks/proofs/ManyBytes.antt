@@ -1,5 +1,5 @@
 -- Several bytes of a text, one after the other.
-use Rattle.std.proofs.Common.{◌≡◌, ◌≢◌, ◌∙◌, ℕ, suc, ◌+◌, ◌-◌, ◌*◌, ◌<◌, ◌≤◌, List, [], ◌∷◌, ◌++◌}
+use Rattle.std.proofs.Common.{◌≡◌, ◌≢◌, ◌∙◌, ℕ, ◌+◌, ◌-◌, ◌*◌, ◌<◌, ◌≤◌, List, [], ◌∷◌, ◌++◌}
 use Rattle.std.proofs.Common.{length, take, drop, get_or, unwrap_or, Option, Some, None, is_some}
 use Rattle.std.proofs.Common.{refl, ap, sym, subst, arith, append_assoc, append-nil, length-append}
 use Rattle.std.proofs.Common.{length-drop}
@@ -14,7 +14,7 @@ use Rattle.yasir_ticks.specs.ReaderStep.{Accepts}
 use Rattle.yasir_ticks.specs.Slices.{GoesOn}
 use Rattle.yasir_ticks.specs.declared.place.Place.TheVariants.{Comment, Pairs, HalfPair}
 use Rattle.yasir_ticks.specs.declared.reader.TickReader.{TickReader}
-use Rattle.yasir_ticks.proofs.Lines.{lines_of-more}
+use Rattle.yasir_ticks.proofs.Lines.{IsFree, lines_of-more, lines_of-free}
 use Rattle.yasir_ticks.proofs.Feeding.{at_more}
 use Rattle.yasir_ticks.proofs.Steps.{accepts_high, accepts_low, hex_not_lf}
 
@@ -84,32 +84,26 @@ accepts_comment n bytes left b l h = record {
 }
 
 comment_at : (more : List ℕ) (n m : ℕ) (bytes : List ℕ) (line left marks : ℕ) (text : List ℕ)
-    → IsAt (Comment n) bytes line left marks text
-    → ((k : ℕ) → k < length more → get_or more k 0 ≢ 10) → n + length more ≡ m → m ≤ 120
+    → IsAt (Comment n) bytes line left marks text → IsFree more → n + length more ≡ m → m ≤ 120
     → IsAt (Comment m) bytes line left marks (text ++ more)
-comment_at [] n m bytes line left marks text at free sum within =
-    let same : n ≡ m = omega arith in rw (← same, append-nil text) at
-comment_at (b ∷ more) n m bytes line left marks text at free sum within =
-    let step = at_more (Comment n) (Comment (n + 1)) bytes bytes line left left marks text
-    at b [] (free 0 (omega arith))
-    (accepts_comment n bytes left b (free 0 (omega arith)) (omega arith)) in
-    rw (← append_assoc text (b ∷ []) more)
-    (comment_at more (n + 1) m bytes line left marks (text ++ b ∷ []) step
-    (λ k h. free (suc k) (omega arith)) (omega arith) within)
-
-quiet_bytes : (more text : List ℕ) → ((k : ℕ) → k < length more → get_or more k 0 ≢ 10)
-    → ended_items (text ++ more) ≡ ended_items text
-quiet_bytes [] text free = rw (append-nil text) refl
-quiet_bytes (b ∷ more) text free =
-    rw (← append_assoc text (b ∷ []) more)
-    (quiet_bytes more (text ++ b ∷ []) (λ k h. free (suc k) (omega arith))
-    ∙ quiet_byte text b (free 0 (omega arith)))
+comment_at more n m bytes line left marks text at free sum within =
+    let lines = lines_of-free more text free in record {
+      ended = rw lines at.ended;
+      marked = rw lines at.marked;
+      counted = rw lines at.counted;
+      last = rw lines (record {
+        after = at.last.after ++ more;
+        is = rw at.last.is refl;
+        long = omega (arith, length-append at.last.after more, at.last.long);
+        fits = within;
+      });
+    }
 
 -- bytes of a comment
 pub goes_on_comment : (old new : TickReader) (n m : ℕ) (more : List ℕ) → old.place ≡ Comment n
     → new.place ≡ Comment m → new.line ≡ old.line → new.left ≡ old.left
-    → new.bytes.items ≡ old.bytes.items → ((k : ℕ) → k < length more → get_or more k 0 ≢ 10)
-    → n + length more ≡ m → m ≤ 120 → GoesOn old more new
+    → new.bytes.items ≡ old.bytes.items → IsFree more → n + length more ≡ m → m ≤ 120
+    → GoesOn old more new
 goes_on_comment old new n m more p q e k kept free sum within = record {
   stands = λ marks text s.
       let at : IsAt (Comment n) old.bytes.items old.line old.left marks text = rw p at s.at in
@@ -117,21 +111,9 @@ goes_on_comment old new n m more p q e k kept free sum within = record {
         at = rw (q, e, k, kept) (comment_at more n m old.bytes.items old.line old.left marks text
             at free sum within);
       };
-  quiet = λ marks text s. quiet_bytes more text free;
+  quiet = λ marks text s. rw (lines_of-free more text free) refl;
   lines = omega arith;
 }
-
--- the first two bytes behind these
-pub take_pair : (bytes : List ℕ) (n : ℕ) → n + 1 < length bytes
-    → take (n + 2) bytes ≡ take n bytes ++ get_or bytes n 0 ∷ get_or bytes (n + 1) 0 ∷ []
-take_pair bytes n h =
-    let more : take (n + 1 + 1) bytes ≡ take (n + 1) bytes ++ get_or bytes (n + 1) 0 ∷ [] =
-    take_more bytes (n + 1) 0 h in
-    let first : take (n + 1) bytes ≡ take n bytes ++ get_or bytes n 0 ∷ [] =
-    take_more bytes n 0 (omega arith) in
-    let sum : n + 2 ≡ n + 1 + 1 = omega arith in
-    ap (λ k. take k bytes) sum ∙ more ∙ ap (λ x. x ++ get_or bytes (n + 1) 0 ∷ []) first
-    ∙ append_assoc (take n bytes) (get_or bytes n 0 ∷ []) (get_or bytes (n + 1) 0 ∷ [])
 
 -- bytes of a slice, and then some of the rest
 pub goes_on_slice : (a b c : TickReader) (bytes : List ℕ) (n m : ℕ) → GoesOn a (take n bytes) b

@@ -6,6 +6,7 @@ use Rattle.std.specs.List.{list_all}
 use Rattle.std.specs.Option.{option_map_or}
 use Rattle.std.proofs.lemmas.Bool.{both_ways, and_parts}
 use Rattle.std.proofs.lemmas.List.{length-append}
+use Rattle.std.proofs.lemmas.List.Folds.{list_all-append}
 use Rattle.hex.specs.Hex.{decode_of, decode_pairs, is_hex_digit, hex_digit_value}
 use Rattle.yasir_ticks.specs.Ticks.{Item, marks_in}
 use Rattle.yasir_ticks.specs.Ticks.Item.{mark}
@@ -29,8 +30,10 @@ use Rattle.yasir_ticks.proofs.Contents.{test_of, line_items-plain, without_retur
 use Rattle.yasir_ticks.proofs.Contents.{line_items-byte, line_items-return, line_items-return_open}
 use Rattle.yasir_ticks.proofs.Contents.{line_items-return_inside, mark_items-bad}
 use Rattle.yasir_ticks.proofs.Items.{marks_in-content}
-use Rattle.yasir_ticks.proofs.Digits.{hex_digits, hex_length, byte_items-bad, byte_items-odd}
-use Rattle.yasir_ticks.proofs.Digits.{byte_items-long, byte_items-right, decode_of-more}
+use Rattle.yasir_ticks.proofs.Lines.{IsFree, free_behind, free_passing}
+use Rattle.yasir_ticks.proofs.Digits.{byte_items-bad, byte_items-odd}
+use Rattle.yasir_ticks.proofs.Digits.{byte_items-long, byte_items-right}
+use Rattle.yasir_ticks.proofs.hex_digits.Decoding.{hex_digits, hex_length, decode_of-more}
 use Rattle.yasir_ticks.proofs.Digits.{silence_items-bad, silence_items-right, silence_items-big}
 use Rattle.yasir_ticks.proofs.Digits.{silence_items-zero, number_after-append, number_after-grows}
 use Rattle.yasir_ticks.proofs.Digits.{is_plain_decimal-more}
@@ -74,15 +77,10 @@ pub plain_half_pair : (bytes digits : List ℕ) (digit high : ℕ) → decode_of
 plain_half_pair bytes digits digit high e v = record {
   apart = refl;
   whole = ends_in_return-none is_hex_digit refl 43 (digits ++ digit ∷ [])
-      (λ e. absurd (omega arith)) (all_more digits (hex_digits digits bytes e) (ap is_some v));
+      (λ e. absurd (omega arith))
+      (list_all-append is_hex_digit digits (digit ∷ [])
+      ∙ rw (hex_digits digits bytes e, ap is_some v) refl);
 }
-  where
-    all_more : (x : List ℕ) → list_all is_hex_digit x ≡ true → is_hex_digit digit ≡ true
-        → list_all is_hex_digit (x ++ digit ∷ []) ≡ true
-    all_more [] h g = rw g refl
-    all_more (c ∷ x) h g =
-        let parts = and_parts (is_hex_digit c) (list_all is_hex_digit x) h in
-        rw (parts.0, all_more x parts.1 g) refl
 
 pub plain_number : (digits : List ℕ) → is_plain_decimal digits ≡ true → IsPlain (45 ∷ digits)
 plain_number [] h = cc
@@ -160,6 +158,34 @@ closes_returned content bytes = record {
   stands = λ line r. rw r.is (line_items-return r.before r.apart ∙ r.stands);
   marked = refl;
 }
+
+-- a line of a right form, without an LF
+pub record IsRightLine (line : List ℕ) (items : List Item) : Type 0 where
+  pub free : IsFree line
+  pub stands : line_items line ≡ Some items
+
+pub pairs_right : (digits bytes : List ℕ) → decode_of digits ≡ Ok bytes → 0 < length bytes
+    → length bytes ≤ 32 → IsRightLine (43 ∷ digits) (items_of_content KeptBytes bytes)
+pairs_right digits bytes decoded some fits = record {
+  free = free_behind 43 digits (λ e. absurd (omega arith))
+      (free_passing is_hex_digit digits refl (hex_digits digits bytes decoded));
+  stands = (closes_pairs bytes some).stands (43 ∷ digits)
+      (record { digits = digits; is = refl; decoded = decoded; fits = fits });
+}
+
+pub number_right : (digits : List ℕ) (n : ℕ) → is_plain_decimal digits ≡ true
+    → number_after 0 digits ≡ n → n ≤ 1000000
+    → IsRightLine (45 ∷ digits) (items_of_content (SilentTicks n) [])
+number_right digits n plain number fits = record {
+  free = free_behind 45 digits (λ e. absurd (omega arith)) (free_number digits plain);
+  stands = (closes_number n []).stands (45 ∷ digits)
+      (record { digits = digits; is = refl; plain = plain; number = number; fits = fits });
+}
+  where
+    free_number : (digits : List ℕ) → is_plain_decimal digits ≡ true → IsFree digits
+    free_number [] h = λ k l. absurd (omega arith)
+    free_number (d ∷ digits) h = free_passing is_decimal_digit (d ∷ digits) refl
+        (and_parts (not (d == 48)) (list_all is_decimal_digit (d ∷ digits)) h).1
 
 -- ---- where a line may not end
 

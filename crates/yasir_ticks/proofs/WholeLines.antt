@@ -1,22 +1,19 @@
 -- Whole lines of a text, each at once.
-use Rattle.std.proofs.Common.{◌≡◌, ◌≢◌, ◌∙◌, ◌==◌, ℕ, suc, zero, ◌+◌, ◌-◌, ◌<◌, ◌≤◌, Bool, true}
-use Rattle.std.proofs.Common.{false, List, [], ◌∷◌, ◌++◌, length, take, get_or, Some, None, Ok, Err}
+use Rattle.std.proofs.Common.{◌≡◌, ◌∙◌, ℕ, suc, zero, ◌+◌, ◌-◌, ◌<◌, ◌≤◌, true}
+use Rattle.std.proofs.Common.{List, [], ◌∷◌, ◌++◌, length, take, get_or, Some, None, Ok, Err}
 use Rattle.std.proofs.Common.{Option, Result, inl, inr, refl, ap, sym, subst, arith, append_assoc}
-use Rattle.std.proofs.Common.{append-nil, length-append, not, drop, ◌*◌}
-use Rattle.std.specs.Prelude.{OnOk, IfOk, IfErr}
-use Rattle.std.specs.List.{list_all}
-use Rattle.std.proofs.lemmas.Bool.{cases_eq, and_parts, lt-ltb}
+use Rattle.std.proofs.Common.{append-nil, length-append, drop, ◌*◌}
+use Rattle.std.proofs.lemmas.Bool.{cases_eq, lt-ltb}
 use Rattle.std.proofs.lemmas.List.{take_more, take_all, length-take}
-use Rattle.hex.specs.Hex.{decode_of, decode_pairs, is_hex_digit, hex_digit_value}
+use Rattle.hex.specs.Hex.{decode_of, decode_pairs, hex_digit_value}
 use Rattle.yasir_ticks.specs.Ticks.{Item, marks_in}
-use Rattle.yasir_ticks.specs.TickText.{Lines, lines_of, line_items, all_items, ended_items}
-use Rattle.yasir_ticks.specs.TickText.{line_after, fault_after, is_decimal_digit, is_plain_decimal}
+use Rattle.yasir_ticks.specs.TickText.{lines_of, line_items, ended_items}
+use Rattle.yasir_ticks.specs.TickText.{is_decimal_digit, is_plain_decimal}
 use Rattle.yasir_ticks.specs.TickText.{number_after}
-use Rattle.yasir_ticks.specs.TickText.{BeginsTickText, IsRefusedAfter}
 use Rattle.yasir_ticks.specs.Place.{has_ticks}
-use Rattle.yasir_ticks.specs.Reader.{IsAt, StandsFor, HasRefused, items_of_content}
+use Rattle.yasir_ticks.specs.Reader.{IsAt, StandsFor, items_of_content, marks_of_content}
 use Rattle.yasir_ticks.specs.ReaderStep.{Advances, line_with}
-use Rattle.yasir_ticks.specs.Slices.{GoesOn, TakesLine, EndsLine, StopsAt, FeedsLine}
+use Rattle.yasir_ticks.specs.Slices.{GoesOn, TakesLine, EndsLine, TakesUpTo, StopsAt, FeedsLine}
 use Rattle.yasir_ticks.specs.Slices.{FeedsByte, TakesWhole, IsFewPairs}
 use Rattle.yasir_ticks.specs.declared.whole_lines.Whole.{Whole}
 use Rattle.yasir_ticks.specs.declared.fault.BadTicks.{BadTicks}
@@ -26,53 +23,15 @@ use Rattle.yasir_ticks.specs.declared.place.Content.TheVariants.{NoTick, KeptByt
 use Rattle.yasir_ticks.specs.declared.place.Content.TheVariants.{OneMark}
 use Rattle.yasir_ticks.specs.declared.place.Place.TheVariants.{Start}
 use Rattle.yasir_ticks.specs.declared.reader.TickReader.{TickReader}
-use Rattle.yasir_ticks.proofs.Digits.{hex_digits, is_plain_decimal-more, number_after-append}
-use Rattle.yasir_ticks.proofs.Digits.{decode_of-more}
-use Rattle.yasir_ticks.proofs.Lines.{lines_of-lf, lines_of-more}
-use Rattle.yasir_ticks.proofs.Items.{marks_in-append, marks_in-content}
-use Rattle.yasir_ticks.proofs.Feeding.{items_lf, items_whole, accepted_at, accepted_items}
+use Rattle.yasir_ticks.proofs.Digits.{is_plain_decimal-more, number_after-append}
+use Rattle.yasir_ticks.proofs.hex_digits.Decoding.{decode_of-more, take_pair}
+use Rattle.yasir_ticks.proofs.Lines.{IsFree, lines_of-free, free_behind}
+use Rattle.yasir_ticks.proofs.Items.{marks_in-content}
+use Rattle.yasir_ticks.proofs.Feeding.{items_lf, line_ends, accepted_at, accepted_items}
 use Rattle.yasir_ticks.proofs.Feeding.{refused_at}
-use Rattle.yasir_ticks.proofs.Steps.{closes_pairs, closes_number, closes_comment}
+use Rattle.yasir_ticks.proofs.Steps.{IsRightLine, pairs_right, number_right, closes_comment}
 use Rattle.yasir_ticks.proofs.Completions.{begins_at}
-use Rattle.yasir_ticks.proofs.ManyBytes.{goes_on_fed, text_more, take_pair}
-
--- bytes without an LF
-abbrev pub IsFree : List ℕ → Type 0
-IsFree line = (k : ℕ) → k < length line → get_or line k 0 ≢ 10
-
--- they go on with the last line
-lines_of-free : (more text : List ℕ) → IsFree more → lines_of (text ++ more)
-    ≡ record { ended = (lines_of text).ended; last = (lines_of text).last ++ more }
-lines_of-free [] text free = rw (append-nil text, append-nil (lines_of text).last) refl
-lines_of-free (b ∷ more) text free =
-    let first : b ≢ 10 = free 0 (omega arith) in
-    ap lines_of (sym (append_assoc text (b ∷ []) more))
-    ∙ lines_of-free more (text ++ b ∷ []) (λ k h. free (suc k) (omega arith))
-    ∙ ap (λ (x : Lines). record { ended = x.ended; last = x.last ++ more })
-    (lines_of-more text b first)
-    ∙ ap (λ l. record { ended = (lines_of text).ended; last = l })
-    (append_assoc (lines_of text).last (b ∷ []) more)
-
--- an LF behind a last line that stands for these items
-line_ends : (text new_bytes : List ℕ) (line left marks : ℕ) (own : List Item)
-    → all_items (lines_of text).ended ≡ Some (ended_items text) → line ≡ line_after text
-    → marks_in (ended_items text) + left ≡ marks → marks_in own ≡ 0
-    → line_items (lines_of text).last ≡ Some own
-    → IsAt Start new_bytes (line + 1) left marks (text ++ 10 ∷ [])
-line_ends text new_bytes line left marks own ended counted marked none stands =
-    let same = items_lf text own stands in
-    record {
-      ended = ap (λ (x : Lines). all_items x.ended) (lines_of-lf text)
-          ∙ items_whole text own stands ended ∙ ap Some (sym same);
-      marked = rw same (omega (arith, marks_in-append (ended_items text) own, none, marked));
-      counted = rw (lines_of-lf text)
-          (omega (
-            arith,
-            length-append (lines_of text).ended ((lines_of text).last ∷ []),
-            counted,
-          ));
-      last = rw (lines_of-lf text) refl;
-    }
+use Rattle.yasir_ticks.proofs.ManyBytes.{goes_on_fed, text_more}
 
 module _ (text line : List ℕ) (before : (lines_of text).last ≡ []) (free : IsFree line) where
   cut : lines_of (text ++ line) ≡ record { ended = (lines_of text).ended; last = line }
@@ -88,7 +47,7 @@ module _ (text line : List ℕ) (before : (lines_of text).last ≡ []) (free : I
       → IsAt Start new_bytes (n + 1) left marks ((text ++ line) ++ 10 ∷ [])
   whole_at bytes new_bytes n left marks own at stands none =
       line_ends (text ++ line) new_bytes n left marks own (rw cut at.ended) (rw cut at.counted)
-      (rw cut (omega (arith, at.marked))) none (rw cut stands)
+      (rw cut (omega (arith, at.marked, none))) (rw cut stands)
 
   whole_items : (own : List Item) → line_items line ≡ Some own
       → ended_items ((text ++ line) ++ 10 ∷ []) ≡ ended_items text ++ own
@@ -226,153 +185,88 @@ module _ (a b c : TickReader) (bytes : List ℕ) (n : ℕ) (within : n < length 
     remembered = e.remembered;
   }
 
--- ---- what the clauses of a line that was fed say
+-- ---- up to the end of a line
 
 module _ (old new : TickReader) (bytes : List ℕ) (taken : ℕ) where
   pub line_within : (result : Result Content BadTicks) → FeedsLine old bytes taken result new
       → taken ≤ length bytes
-  line_within (Ok content) (inl e) = e.within
-  line_within (Ok content) (inr t) = omega (arith, t.all)
+  line_within (Ok content) t = t.within
   line_within (Err bad) s = omega (arith, s.within)
 
-  pub line_stands : (result : Result Content BadTicks) → FeedsLine old bytes taken result new
-      → (marks : ℕ) (text : List ℕ) → StandsFor old marks text
-      → OnOk result (StandsFor new marks (text ++ take taken bytes))
-  line_stands (Ok content) (inl e) marks text s = e.stands marks text s
-  line_stands (Ok content) (inr t) marks text s = t.goes.stands marks text s
-  line_stands (Err bad) f marks text s = tt
+  -- a line was ended,
+  pub line_ended : (content : Content) → EndsLine old bytes taken content new
+      → TakesUpTo old bytes taken content new
+  line_ended content e = record {
+    within = e.within;
+    stands = e.stands;
+    begins = λ marks text s. begins_at (e.stands marks text s).at;
+    items = e.items;
+    nothing = e.nothing;
+    last = λ marks text s ticks. (e.some, e.quiet marks text s);
+    whole = λ more. e.feed;
+    progress = λ some. e.some;
+    lines = e.lines;
+  }
 
-  pub line_begins : (result : Result Content BadTicks) → FeedsLine old bytes taken result new
-      → (marks : ℕ) (text : List ℕ) → StandsFor old marks text
-      → OnOk result (BeginsTickText marks (text ++ take taken bytes))
-  line_begins (Ok content) f marks text s = begins_at (line_stands (Ok content) f marks text s).at
-  line_begins (Err bad) f marks text s = tt
-
-  pub line_items_are : (result : Result Content BadTicks) → FeedsLine old bytes taken result new
-      → (marks : ℕ) (text : List ℕ) → StandsFor old marks text
-      → IfOk result (λ content. ended_items (text ++ take taken bytes)
-      ≡ ended_items text ++ items_of_content content new.bytes.items)
-  line_items_are (Ok content) (inl e) marks text s = e.items marks text s
-  line_items_are (Ok content) (inr t) marks text s = rw t.none (t.goes.quiet marks text s
-      ∙ sym (append-nil (ended_items text)))
-  line_items_are (Err bad) f marks text s = tt
-
-  pub line_nothing : (result : Result Content BadTicks) → FeedsLine old bytes taken result new
-      → IfOk result (λ content. items_of_content content new.bytes.items ≡ []
-      → content ≡ NoTick)
-  line_nothing (Ok content) (inl e) = e.nothing
-  line_nothing (Ok content) (inr t) = λ _. t.none
-  line_nothing (Err bad) f = tt
-
-  pub line_last : (result : Result Content BadTicks) → FeedsLine old bytes taken result new
-      → (marks : ℕ) (text : List ℕ) → StandsFor old marks text
-      → IfOk result (λ content. content ≢ NoTick → (0 < taken)
-      × (ended_items (text ++ take (taken - 1) bytes) ≡ ended_items text))
-  line_last (Ok content) (inl e) marks text s = λ _. (e.some, e.quiet marks text s)
-  line_last (Ok content) (inr t) marks text s = λ some. absurd (some t.none)
-  line_last (Err bad) f marks text s = tt
-
-  pub line_whole : (result : Result Content BadTicks) → FeedsLine old bytes taken result new
-      → OnOk result (taken < length bytes → get_or bytes (taken - 1) 0 ≡ 10)
-  line_whole (Ok content) (inl e) = λ _. e.feed
-  line_whole (Ok content) (inr t) = λ h. absurd (omega (arith, t.all))
-  line_whole (Err bad) f = tt
-
-  pub line_progress : (result : Result Content BadTicks) → FeedsLine old bytes taken result new
-      → 0 < length bytes → OnOk result (0 < taken)
-  line_progress (Ok content) (inl e) h = e.some
-  line_progress (Ok content) (inr t) h = omega (arith, t.all)
-  line_progress (Err bad) f h = tt
-
-  pub line_refused : (result : Result Content BadTicks) → FeedsLine old bytes taken result new
-      → (marks : ℕ) (text : List ℕ) → StandsFor old marks text
-      → IfErr result (λ bad. (taken < length bytes)
-      × IsRefusedAfter marks (text ++ take taken bytes) (get_or bytes taken 0)
-      × (bad.line ≡ line_after (text ++ take taken bytes))
-      × (bad.why ≡ fault_after (text ++ take taken bytes) (get_or bytes taken 0))
-      × (ended_items (text ++ take taken bytes) ≡ ended_items text))
-  line_refused (Ok content) f marks text s = tt
-  line_refused (Err bad) f marks text s =
-      let told = f.refused marks text s in (f.within, told.0, told.1, told.2, told.3)
-
-  pub line_lines : (result : Result Content BadTicks) → FeedsLine old bytes taken result new
-      → new.line ≤ old.line + taken
-  line_lines (Ok content) (inl e) = e.lines
-  line_lines (Ok content) (inr t) = omega (arith, t.goes.lines, t.all, length-take taken bytes)
-  line_lines (Err bad) f = f.lines
-
-  pub line_remembered : (result : Result Content BadTicks) → FeedsLine old bytes taken result new
-      → IfErr result (λ bad. HasRefused new bad)
-  line_remembered (Ok content) f = tt
-  line_remembered (Err bad) f = f.remembered
+  -- or all bytes were taken
+  pub all_taken : taken ≡ length bytes → GoesOn old (take taken bytes) new
+      → TakesUpTo old bytes taken NoTick new
+  all_taken all goes = record {
+    within = omega arith;
+    stands = goes.stands;
+    begins = λ marks text s. begins_at (goes.stands marks text s).at;
+    items = λ marks text s. goes.quiet marks text s ∙ sym (append-nil (ended_items text));
+    nothing = λ none. refl;
+    last = λ marks text s ticks. absurd (ticks refl);
+    whole = λ more. absurd (omega arith);
+    progress = λ some. omega arith;
+    lines = omega (arith, goes.lines, length-take taken bytes);
+  }
 
 -- ---- the usual lines
 
--- bytes that pass a test which an LF doesn't have none
-pub free_passing : (test : ℕ → Bool) (line : List ℕ) → test 10 ≡ false
-    → list_all test line ≡ true → IsFree line
-free_passing test [] bad all k h = absurd (omega arith)
-free_passing test (b ∷ line) bad all zero h = λ e.
-    let parts = and_parts (test b) (list_all test line) all in cc (rw e at parts.0, bad)
-free_passing test (b ∷ line) bad all (suc k) h =
-    free_passing test line bad (and_parts (test b) (list_all test line) all).1 k (omega arith)
-
-free_behind : (sign : ℕ) (line : List ℕ) → sign ≢ 10 → IsFree line → IsFree (sign ∷ line)
-free_behind sign line other free zero h = other
-free_behind sign line other free (suc k) h = free k (omega arith)
+pub takes_right : (old new : TickReader) (line : List ℕ) (content : Content) → old.place ≡ Start
+    → new.place ≡ Start → new.line ≡ old.line + 1 → new.left ≡ old.left
+    → IsRightLine line (items_of_content content new.bytes.items)
+    → has_ticks content new.bytes.items ≡ true → marks_of_content content ≡ 0
+    → TakesLine old line content new
+takes_right old new line content p q l m right ticks none = record {
+  began = p;
+  free = right.free;
+  stands = right.stands;
+  ticks = ticks;
+  no_mark = none;
+  place = q;
+  counted = l;
+  left = m;
+}
 
 pub takes_pairs : (old new : TickReader) (digits bytes : List ℕ) → old.place ≡ Start
     → new.place ≡ Start → new.line ≡ old.line + 1 → new.left ≡ old.left
     → new.bytes.items ≡ bytes → decode_of digits ≡ Ok bytes → 0 < length bytes
     → length bytes ≤ 32 → TakesLine old (43 ∷ digits) KeptBytes new
-takes_pairs old new digits bytes p q l m kept decoded some fits = record {
-  began = p;
-  free = free_behind 43 digits (λ e. absurd (omega arith))
-      (free_passing is_hex_digit digits refl (hex_digits digits bytes decoded));
-  stands = rw kept ((closes_pairs bytes some).stands (43 ∷ digits)
-      (record { digits = digits; is = refl; decoded = decoded; fits = fits }));
-  ticks = rw kept (lt-ltb 0 (length bytes) some);
-  no_mark = refl;
-  place = q;
-  counted = l;
-  left = m;
-}
+takes_pairs old new digits bytes p q l m kept decoded some fits =
+    takes_right old new (43 ∷ digits) KeptBytes p q l m
+    (rw kept (pairs_right digits bytes decoded some fits))
+    (rw kept (lt-ltb 0 (length bytes) some)) refl
 
 pub takes_number : (old new : TickReader) (digits : List ℕ) (n : ℕ) → old.place ≡ Start
     → new.place ≡ Start → new.line ≡ old.line + 1 → new.left ≡ old.left
     → is_plain_decimal digits ≡ true → number_after 0 digits ≡ n → 0 < n → n ≤ 1000000
     → TakesLine old (45 ∷ digits) (SilentTicks n) new
-takes_number old new digits n p q l m plain number some fits = record {
-  began = p;
-  free = free_behind 45 digits (λ e. absurd (omega arith)) (free_number digits plain);
-  stands = (closes_number n new.bytes.items).stands (45 ∷ digits)
-      (record { digits = digits; is = refl; plain = plain; number = number; fits = fits });
-  ticks = lt-ltb 0 n some;
-  no_mark = refl;
-  place = q;
-  counted = l;
-  left = m;
-}
-  where
-    free_number : (digits : List ℕ) → is_plain_decimal digits ≡ true → IsFree digits
-    free_number [] h = λ k l. absurd (omega arith)
-    free_number (d ∷ digits) h = free_passing is_decimal_digit (d ∷ digits) refl
-        (and_parts (not (d == 48)) (list_all is_decimal_digit (d ∷ digits)) h).1
+takes_number old new digits n p q l m plain number some fits =
+    takes_right old new (45 ∷ digits) (SilentTicks n) p q l m
+    (number_right digits n plain number fits) (lt-ltb 0 n some) refl
 
 pub takes_comment : (old new : TickReader) (after : List ℕ) → old.place ≡ Start
     → new.place ≡ Start → new.line ≡ old.line + 1 → new.left ≡ old.left
     → IsFree after → length after ≤ 120 → TakesLine old (35 ∷ after) NoTick new
-takes_comment old new after p q l m free fits = record {
-  began = p;
-  free = free_behind 35 after (λ e. absurd (omega arith)) free;
-  stands = (closes_comment (length after) new.bytes.items).stands (35 ∷ after)
-      (record { after = after; is = refl; long = refl; fits = fits });
-  ticks = refl;
-  no_mark = refl;
-  place = q;
-  counted = l;
-  left = m;
-}
+takes_comment old new after p q l m free fits =
+    takes_right old new (35 ∷ after) NoTick p q l m (record {
+      free = free_behind 35 after (λ e. absurd (omega arith)) free;
+      stands = (closes_comment (length after) new.bytes.items).stands (35 ∷ after)
+          (record { after = after; is = refl; long = refl; fits = fits });
+    }) refl refl
 
 -- a line of this first byte and then of bytes that a slice begins with
 pub whole_ends : (old new : TickReader) (sign : ℕ) (rest : List ℕ) (whole : Whole)

@@ -24,11 +24,6 @@ accepts_two_marks : IsTickText 2 (codes "%" ++ 13 ∷ 10 ∷ codes "%") (mark �
 unfolding lines_of line_items
 accepts_two_marks = record { lines = refl; marked = refl }
 
--- a mark and one byte more
-refuses_more_behind_a_mark : line_items (codes "%1") ≡ None
-unfolding line_items
-refuses_more_behind_a_mark = refl
-
 accepts_nothing : IsTickText 0 [] []
 unfolding lines_of line_items
 accepts_nothing = record { lines = refl; marked = refl }
@@ -40,100 +35,44 @@ longest_silence = silence_items-right (codes "1000000") 1000000 refl refl (omega
 no_longer_silence : silence_items (codes "1000001") ≡ None
 no_longer_silence = silence_items-big (codes "1000001") (omega arith)
 
--- contents of no right form
-refuses_leading_zero : line_items (codes "-07") ≡ None
-unfolding line_items
-refuses_leading_zero = refl
-
-refuses_zero : line_items (codes "-0") ≡ None
-unfolding line_items
-refuses_zero = refl
-
-refuses_odd : line_items (codes "+1") ≡ None
+-- contents of no right form, and comments of 120 bytes and of one more
+rows : (line_items (codes "%1") ≡ None) × (line_items (codes "-07") ≡ None)
+    × (line_items (codes "-0") ≡ None) × (line_items (codes "+1") ≡ None)
+    × (line_items (43 ∷ replicate 66 48) ≡ None)
+    × (line_items (35 ∷ replicate 120 13) ≡ Some [])
+    × (line_items (35 ∷ replicate 121 13) ≡ None)
 unfolding line_items decode_pairs
-refuses_odd = refl
+rows = (refl, refl, refl, refl, refl, refl, refl)
 
-refuses_33_bytes : line_items (43 ∷ replicate 66 48) ≡ None
-unfolding line_items decode_pairs
-refuses_33_bytes = refl
+-- Why a byte is refused, or the end. A number that begins with 0 or is too large is a count:
+counts : (fault_after (codes "-") 48 ≡ Count) × (fault_after (codes "-100000") 49 ≡ Count)
+unfolding lines_of
+counts = (refl, refl)
 
-accepts_120_comment_bytes : line_items (35 ∷ replicate 120 13) ≡ Some []
-unfolding line_items
-accepts_120_comment_bytes = refl
+-- half a pair is odd, before an LF and at the end; no pair and no number are empty
+odd_or_empty : (fault_after (codes "+1") 10 ≡ Odd) × (fault_at_end (codes "+1") ≡ Odd)
+    × (fault_at_end (codes "+") ≡ Empty) × (fault_after (codes "-") 13 ≡ Empty)
+unfolding lines_of line_items decode_pairs
+odd_or_empty = (refl, refl, refl, refl)
 
-refuses_121_comment_bytes : line_items (35 ∷ replicate 121 13) ≡ None
-unfolding line_items
-refuses_121_comment_bytes = refl
+-- digit 65 and byte 121 of a comment are too long; what is no digit there is not
+long_lines : (fault_after (43 ∷ replicate 64 48) 65 ≡ Long)
+    × (fault_after (35 ∷ replicate 120 97) 13 ≡ Long)
+    × (fault_after (43 ∷ replicate 64 48) 103 ≡ Char)
+unfolding lines_of
+long_lines = (refl, refl, refl)
 
--- why a byte is refused, or the end
-module _ where
-  zero_is_count : fault_after (codes "-") 48 ≡ Count
-  unfolding lines_of
-  zero_is_count = refl
+-- no digit, no sign, more behind a CR or behind a mark, and a mark where none is left
+misplaced : (fault_after (codes "+0") 103 ≡ Char) × (fault_after [] 120 ≡ Char)
+    × (fault_after (codes "+0a" ++ 13 ∷ []) 120 ≡ Char) × (fault_after (codes "%") 37 ≡ Char)
+    × (fault_after [] 37 ≡ Char) × (fault_after (codes "%" ++ 10 ∷ []) 37 ≡ Char)
+unfolding lines_of
+misplaced = (refl, refl, refl, refl, refl, refl)
 
-  too_large_is_count : fault_after (codes "-100000") 49 ≡ Count
-  unfolding lines_of
-  too_large_is_count = refl
-
-  half_pair_is_odd : fault_after (codes "+1") 10 ≡ Odd
-  unfolding lines_of
-  half_pair_is_odd = refl
-
-  half_pair_at_end_is_odd : fault_at_end (codes "+1") ≡ Odd
-  unfolding lines_of line_items decode_pairs
-  half_pair_at_end_is_odd = refl
-
-  no_pair_is_empty : fault_at_end (codes "+") ≡ Empty
-  unfolding lines_of line_items decode_pairs
-  no_pair_is_empty = refl
-
-  no_number_is_empty : fault_after (codes "-") 13 ≡ Empty
-  unfolding lines_of
-  no_number_is_empty = refl
-
-  no_digit_is_char : fault_after (codes "+0") 103 ≡ Char
-  unfolding lines_of
-  no_digit_is_char = refl
-
-  no_sign_is_char : fault_after [] 120 ≡ Char
-  unfolding lines_of
-  no_sign_is_char = refl
-
-  digit_65_is_long : fault_after (43 ∷ replicate 64 48) 65 ≡ Long
-  unfolding lines_of
-  digit_65_is_long = refl
-
-  no_digit_at_65_is_char : fault_after (43 ∷ replicate 64 48) 103 ≡ Char
-  unfolding lines_of
-  no_digit_at_65_is_char = refl
-
-  comment_byte_121_is_long : fault_after (35 ∷ replicate 120 97) 13 ≡ Long
-  unfolding lines_of
-  comment_byte_121_is_long = refl
-
-  after_return_is_char : fault_after (codes "+0a" ++ 13 ∷ []) 120 ≡ Char
-  unfolding lines_of
-  after_return_is_char = refl
-
-  no_mark_left_is_char : fault_after [] 37 ≡ Char
-  unfolding lines_of
-  no_mark_left_is_char = refl
-
-  second_mark_is_char : fault_after (codes "%" ++ 10 ∷ []) 37 ≡ Char
-  unfolding lines_of
-  second_mark_is_char = refl
-
-  more_behind_a_mark_is_char : fault_after (codes "%") 37 ≡ Char
-  unfolding lines_of
-  more_behind_a_mark_is_char = refl
-
-  missing_mark_is_mark : fault_at_end (codes "+01") ≡ Mark
-  unfolding lines_of line_items decode_pairs
-  missing_mark_is_mark = refl
-
-  missing_mark_stands_in_line_2 : line_after (codes "+01" ++ 10 ∷ []) ≡ 2
-  unfolding lines_of
-  missing_mark_stands_in_line_2 = refl
+-- a mark that is missing, in line 2
+missing : (fault_at_end (codes "+01") ≡ Mark) × (line_after (codes "+01" ++ 10 ∷ []) ≡ 2)
+unfolding lines_of line_items decode_pairs
+missing = (refl, refl)
 
 -- the canonical text
 canonical_nothing : canonical_text [] ≡ []

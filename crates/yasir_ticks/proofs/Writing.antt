@@ -1,118 +1,119 @@
--- One more tick at a writer of tick text: stretches that grow, and the lines that they are cut
--- into.
+-- The canonical text of ticks begins with the line that their first ones fill, or that the next one
+-- ends.
 use Rattle.std.proofs.Common.{◌≡◌, ◌∙◌, ℕ, zero, suc, ◌+◌, ◌*◌, ◌/◌, ◌%◌, ◌==◌, ◌<◌, ◌≤◌, cond}
-use Rattle.std.proofs.Common.{false, List, [], ◌∷◌, ◌++◌, length, take, drop, replicate, refl, sym}
-use Rattle.std.proofs.Common.{ap, arith}
+use Rattle.std.proofs.Common.{List, [], ◌∷◌, ◌++◌, length, map, take, drop, replicate, refl}
+use Rattle.std.proofs.Common.{sym, ap, arith, inl, inr}
 use Rattle.std.specs.List.{flat_map, range_with_len}
 use Rattle.std.proofs.Math.Seq.{drop-append-add}
-use Rattle.std.proofs.lemmas.Bool.{cond-false}
-use Rattle.std.proofs.lemmas.Grind.{flat_map-append}
-use Rattle.std.proofs.lemmas.List.{append-nil, length-append, take_all, take-append-le}
-use Rattle.std.proofs.lemmas.List.{drop-append-le, length-drop}
+use Rattle.std.proofs.lemmas.Bool.{cond-false, cases_lt}
+use Rattle.std.proofs.lemmas.List.{append-nil, append_assoc, length-append, take_all, take-append-le}
+use Rattle.yasir_ticks.specs.Ticks.{silent}
 use Rattle.yasir_ticks.specs.CanonicalText.{Stretch, stretches, with_tick, stretch_lines, byte_line}
-use Rattle.yasir_ticks.specs.CanonicalText.{silence_line}
+use Rattle.yasir_ticks.specs.CanonicalText.{silence_line, canonical_text}
 use Rattle.yasir_ticks.specs.CanonicalText.Stretch.{bytes, silence}
-use Rattle.yasir_ticks.specs.Writer.{grown}
 use Rattle.yasir_ticks.specs.declared.tick.Tick.{Tick}
 use Rattle.yasir_ticks.specs.declared.tick.Tick.TheVariants.{Silent, Byte}
+use Rattle.yasir_ticks.proofs.Contents.{test_of}
 
--- ---- stretches
+abbrev text_of : List Stretch → List ℕ
+text_of parts = flat_map stretch_lines parts
 
--- A tick before these stretches and one after them may be added in either order.
-grown-with_tick : (a t : Tick) (parts : List Stretch)
-    → with_tick a (grown parts t) ≡ grown (with_tick a parts) t
-grown-with_tick (Byte a) (Byte b) [] = refl
-grown-with_tick (Byte a) Silent [] = refl
-grown-with_tick Silent (Byte b) [] = refl
-grown-with_tick Silent Silent [] = refl
-grown-with_tick (Byte a) (Byte b) (bytes l ∷ []) = refl
-grown-with_tick (Byte a) Silent (bytes l ∷ []) = refl
-grown-with_tick Silent (Byte b) (bytes l ∷ []) = refl
-grown-with_tick Silent Silent (bytes l ∷ []) = refl
-grown-with_tick (Byte a) (Byte b) (silence n ∷ []) = refl
-grown-with_tick (Byte a) Silent (silence n ∷ []) = refl
-grown-with_tick Silent (Byte b) (silence n ∷ []) = refl
-grown-with_tick Silent Silent (silence n ∷ []) = refl
-grown-with_tick (Byte a) t (bytes l ∷ r ∷ more) = refl
-grown-with_tick Silent t (bytes l ∷ r ∷ more) = refl
-grown-with_tick (Byte a) t (silence n ∷ r ∷ more) = refl
-grown-with_tick Silent t (silence n ∷ r ∷ more) = refl
-
-pub stretches-more : (ticks : List Tick) (t : Tick)
-    → stretches (ticks ++ t ∷ []) ≡ grown (stretches ticks) t
-stretches-more [] (Byte b) = refl
-stretches-more [] Silent = refl
-stretches-more (a ∷ ticks) t = ap (with_tick a) (stretches-more ticks t)
-    ∙ grown-with_tick a t (stretches ticks)
-
-pub grown-last : (front : List Stretch) (s : Stretch) (t : Tick)
-    → grown (front ++ s ∷ []) t ≡ front ++ grown (s ∷ []) t
-grown-last [] s t = refl
-grown-last (r ∷ []) s t = refl
-grown-last (r ∷ q ∷ front) s t = ap (λ x. r ∷ x) (grown-last (q ∷ front) s t)
-
--- ---- lines
-
-range_more : (a n : ℕ) → range_with_len a (suc n) ≡ range_with_len a n ++ (a + n) ∷ []
-range_more a zero = let e : a ≡ a + 0 = omega arith in ap (λ k. k ∷ []) e
-range_more a (suc n) = let e : a + 1 + n ≡ a + suc n = omega arith in
-    ap (λ x. a ∷ x) (range_more (a + 1) n ∙ ap (λ k. range_with_len (a + 1) n ++ k ∷ []) e)
-
-flat_map-same : (f g : ℕ → List ℕ) (a n : ℕ) → ((i : ℕ) → i < a + n → f i ≡ g i)
-    → flat_map f (range_with_len a n) ≡ flat_map g (range_with_len a n)
-flat_map-same f g a zero same = refl
-flat_map-same f g a (suc n) same =
-    let first : a < a + suc n = omega arith in
-    rw (same a first)
-    (ap (λ x. g a ++ x) (flat_map-same f g (a + 1) n
-    (λ i below. let h : i < a + suc n = omega arith in same i h)))
+-- ---- bytes
 
 -- the bytes of one line of a stretch
 abbrev line_at : List ℕ → ℕ → List ℕ
 line_at l i = byte_line (take 32 (drop (32 * i) l))
 
--- Lines that are filled stay as they are when more bytes come,
-line_at-before : (filled rest : List ℕ) (lines i : ℕ) → length filled ≡ 32 * lines → i < lines
-    → line_at (filled ++ rest) i ≡ line_at filled i
-line_at-before filled rest lines i long before =
-    let here : 32 * i ≤ length filled = omega arith in
-    let left : 32 ≤ length (drop (32 * i) filled) = simp length-drop (omega arith) in
-    ap (λ x. byte_line (take 32 x)) (drop-append-le (32 * i) filled rest here)
-    ∙ ap byte_line (take-append-le 32 (drop (32 * i) filled) rest left)
+shifted : (f g : ℕ → List ℕ) (a n : ℕ) → ((i : ℕ) → f (i + 1) ≡ g i)
+    → flat_map f (range_with_len (a + 1) n) ≡ flat_map g (range_with_len a n)
+shifted f g a zero same = refl
+shifted f g a (suc n) same =
+    ap (λ x. x ++ flat_map f (range_with_len (a + 1 + 1) n)) (same a)
+    ∙ ap (λ x. g a ++ x) (shifted f g (a + 1) n same)
 
--- and at most 32 bytes more are a line of their own.
-line_at-last : (filled rest : List ℕ) (lines : ℕ) → length filled ≡ 32 * lines → length rest ≤ 32
-    → line_at (filled ++ rest) lines ≡ byte_line rest
-line_at-last filled rest lines long few =
-    let e : 32 * lines ≡ length filled + 0 = omega arith in
-    ap (λ k. byte_line (take 32 (drop k (filled ++ rest)))) e
-    ∙ (ap (λ x. byte_line (take 32 x)) (drop-append-add filled rest 0)
-    ∙ ap byte_line (take_all 32 rest few))
-
--- bytes in so many lines
-lines_of_bytes : (l : List ℕ) (lines : ℕ) → (length l + 31) / 32 ≡ lines
-    → stretch_lines (bytes l) ≡ flat_map (line_at l) (range_with_len 0 lines)
-lines_of_bytes l lines e = ap (λ n. flat_map (line_at l) (range_with_len 0 n)) e
-
-pub bytes_more : (filled rest : List ℕ) (lines : ℕ) → length filled ≡ 32 * lines → 0 < length rest
-    → length rest ≤ 32
-    → stretch_lines (bytes (filled ++ rest)) ≡ stretch_lines (bytes filled) ++ byte_line rest
-bytes_more filled rest lines long some few =
-    let whole : (length (filled ++ rest) + 31) / 32 ≡ suc lines =
+-- a filled line, and then the lines of what follows
+pub full_bytes : (l m : List ℕ) → length l ≡ 32
+    → stretch_lines (bytes (l ++ m)) ≡ byte_line l ++ stretch_lines (bytes m)
+full_bytes l m full =
+    let count : (length (l ++ m) + 31) / 32 ≡ suc ((length m + 31) / 32) =
     simp length-append (omega arith) in
-    let before : (length filled + 31) / 32 ≡ lines = omega arith in
-    lines_of_bytes (filled ++ rest) (suc lines) whole
-    ∙ (ap (λ r. flat_map (line_at (filled ++ rest)) r) (range_more 0 lines)
-    ∙ (flat_map-append (line_at (filled ++ rest)) (range_with_len 0 lines) ((0 + lines) ∷ [])
-    ∙ (ap (λ x. x ++ (line_at (filled ++ rest) (0 + lines) ++ []))
-    (flat_map-same (line_at (filled ++ rest)) (line_at filled) 0 lines
-    (λ i below. let h : i < lines = omega arith in line_at-before filled rest lines i long h)
-    ∙ sym (lines_of_bytes filled lines before))
-    ∙ (ap (λ x. stretch_lines (bytes filled) ++ x)
-    (append-nil (line_at (filled ++ rest) (0 + lines)))
-    ∙ (let e : 0 + lines ≡ lines = omega arith in
-    ap (λ k. stretch_lines (bytes filled) ++ line_at (filled ++ rest) k) e
-    ∙ ap (λ x. stretch_lines (bytes filled) ++ x) (line_at-last filled rest lines long few))))))
+    let first : take 32 (l ++ m) ≡ l =
+    take-append-le 32 l m (omega arith) ∙ take_all 32 l (omega arith) in
+    ap (λ n. flat_map (line_at (l ++ m)) (range_with_len 0 n)) count
+    ∙ ap (λ x. byte_line x
+    ++ flat_map (line_at (l ++ m)) (range_with_len 1 ((length m + 31) / 32))) first
+    ∙ ap (λ x. byte_line l ++ x)
+    (shifted (line_at (l ++ m)) (line_at m) 0 ((length m + 31) / 32) later)
+  where
+    later : (i : ℕ) → line_at (l ++ m) (i + 1) ≡ line_at m i
+    later i = let e : 32 * (i + 1) ≡ length l + 32 * i = omega arith in
+        ap (λ k. byte_line (take 32 (drop k (l ++ m)))) e
+        ∙ ap (λ x. byte_line (take 32 x)) (drop-append-add l m (32 * i))
+
+-- a line alone
+pub last_bytes : (l : List ℕ) → 0 < length l → length l ≤ 32 → stretch_lines (bytes l) ≡ byte_line l
+last_bytes l some few =
+    let count : (length l + 31) / 32 ≡ 1 = omega arith in
+    ap (λ n. flat_map (line_at l) (range_with_len 0 n)) count ∙ append-nil (byte_line (take 32 l))
+    ∙ ap byte_line (take_all 32 l few)
+
+-- bytes before these stretches
+abbrev with_bytes : List ℕ → List Stretch → List Stretch
+with_bytes l [] = bytes l ∷ []
+with_bytes l (bytes m ∷ parts) = bytes (l ++ m) ∷ parts
+with_bytes l (silence n ∷ parts) = bytes l ∷ silence n ∷ parts
+
+stretches-bytes : (b : ℕ) (l : List ℕ) (more : List Tick)
+    → stretches (map Byte (b ∷ l) ++ more) ≡ with_bytes (b ∷ l) (stretches more)
+stretches-bytes b [] more = one (stretches more)
+  where
+    one : (parts : List Stretch) → with_tick (Byte b) parts ≡ with_bytes (b ∷ []) parts
+    one [] = refl
+    one (bytes m ∷ parts) = refl
+    one (silence n ∷ parts) = refl
+stretches-bytes b (c ∷ l) more =
+    ap (with_tick (Byte b)) (stretches-bytes c l more) ∙ next (stretches more)
+  where
+    next : (parts : List Stretch)
+        → with_tick (Byte b) (with_bytes (c ∷ l) parts) ≡ with_bytes (b ∷ c ∷ l) parts
+    next [] = refl
+    next (bytes m ∷ parts) = refl
+    next (silence n ∷ parts) = refl
+
+-- a line of these bytes is filled, or these stretches end it
+abbrev pub EndsBytes : List ℕ → List Stretch → Type 0
+EndsBytes l [] = Unit {0}
+EndsBytes l (bytes m ∷ parts) = length l ≡ 32
+EndsBytes l (silence n ∷ parts) = Unit {0}
+
+pub full_ends-bytes : (l : List ℕ) (parts : List Stretch) → length l ≡ 32 → EndsBytes l parts
+full_ends-bytes l [] full = tt
+full_ends-bytes l (bytes m ∷ parts) full = full
+full_ends-bytes l (silence n ∷ parts) full = tt
+
+pub silent_ends-bytes : (l : List ℕ) (parts : List Stretch)
+    → EndsBytes l (with_tick Silent parts)
+silent_ends-bytes l [] = tt
+silent_ends-bytes l (bytes m ∷ parts) = tt
+silent_ends-bytes l (silence n ∷ parts) = tt
+
+text-bytes : (l : List ℕ) (parts : List Stretch) → 0 < length l → length l ≤ 32
+    → EndsBytes l parts → text_of (with_bytes l parts) ≡ byte_line l ++ text_of parts
+text-bytes l [] some few ends = ap (λ x. x ++ []) (last_bytes l some few)
+text-bytes l (bytes m ∷ parts) some few full =
+    ap (λ x. x ++ text_of parts) (full_bytes l m full)
+    ∙ append_assoc (byte_line l) (stretch_lines (bytes m)) (text_of parts)
+text-bytes l (silence n ∷ parts) some few ends =
+    ap (λ x. x ++ text_of (silence n ∷ parts)) (last_bytes l some few)
+
+pub leads-bytes : (l : List ℕ) (more : List Tick) → 0 < length l → length l ≤ 32
+    → EndsBytes l (stretches more)
+    → canonical_text (map Byte l ++ more) ≡ byte_line l ++ canonical_text more
+leads-bytes [] more some few ends = absurd (omega arith)
+leads-bytes (b ∷ l) more some few ends = ap text_of (stretches-bytes b l more)
+    ∙ text-bytes (b ∷ l) (stretches more) some few ends
+
+-- ---- silence
 
 -- the lines of a silence, from its full lines and what is left
 silence_lines : ℕ → ℕ → List ℕ
@@ -125,48 +126,89 @@ unfolding silence_lines
 lines_of_silence n full left e f = ap (λ k. silence_lines k (n % 1000000)) e
     ∙ ap (λ k. silence_lines full k) f
 
-silence_lines-none : (full : ℕ) → silence_lines full 0
-    ≡ flat_map silence_line (replicate full 1000000)
+silence_lines-full : (full left : ℕ)
+    → silence_lines (suc full) left ≡ silence_line 1000000 ++ silence_lines full left
 unfolding silence_lines
-silence_lines-none full = append-nil (flat_map silence_line (replicate full 1000000))
+silence_lines-full full left =
+    append_assoc (silence_line 1000000) (flat_map silence_line (replicate full 1000000))
+    (cond (left == 0) [] (silence_line left))
 
-silence_lines-some : (full left : ℕ) → 0 < left
-    → silence_lines full left ≡ flat_map silence_line (replicate full 1000000) ++ silence_line left
+silence_lines-last : (left : ℕ) → 0 < left → silence_lines 0 left ≡ silence_line left
 unfolding silence_lines
-silence_lines-some full left some =
-    ap (λ x. flat_map silence_line (replicate full 1000000) ++ x)
-    (cond-false (left == 0) ([]) (silence_line left) (not_none left some))
+silence_lines-last left some =
+    cond-false (left == 0) [] (silence_line left) (test_of left 0 (λ e. absurd (omega arith)))
+
+pub full_silence : (n m : ℕ) → n ≡ 1000000
+    → stretch_lines (silence (n + m)) ≡ silence_line n ++ stretch_lines (silence m)
+full_silence n m full =
+    lines_of_silence (n + m) (suc (m / 1000000)) (m % 1000000) (omega arith) (omega arith)
+    ∙ silence_lines-full (m / 1000000) (m % 1000000)
+    ∙ ap (λ k. silence_line k ++ silence_lines (m / 1000000) (m % 1000000)) (sym full)
+    ∙ ap (λ x. silence_line n ++ x)
+    (sym (lines_of_silence m (m / 1000000) (m % 1000000) refl refl))
+
+last_full : (n : ℕ) → n ≡ 1000000 → silence_line 1000000 ++ silence_lines 0 0 ≡ silence_line n
+unfolding silence_lines
+last_full n full = append-nil (silence_line 1000000) ∙ ap silence_line (sym full)
+
+pub last_silence : (n : ℕ) → 0 < n → n ≤ 1000000 → stretch_lines (silence n) ≡ silence_line n
+last_silence n some few = elim (cases_lt n 1000000) [
+  | inl less ↦ lines_of_silence n 0 n (omega arith) (omega arith) ∙ silence_lines-last n some
+  | inr full ↦ lines_of_silence n 1 0 (omega arith) (omega arith) ∙ silence_lines-full 0 0
+      ∙ last_full n (omega arith)
+]
+
+abbrev with_silence : ℕ → List Stretch → List Stretch
+with_silence n [] = silence n ∷ []
+with_silence n (bytes l ∷ parts) = silence n ∷ bytes l ∷ parts
+with_silence n (silence m ∷ parts) = silence (n + m) ∷ parts
+
+stretches-silence : (n : ℕ) (more : List Tick)
+    → stretches (silent (suc n) ++ more) ≡ with_silence (suc n) (stretches more)
+stretches-silence zero more = one (stretches more)
   where
-    not_none : (n : ℕ) → 0 < n → (n == 0) ≡ false
-    not_none n h = grind arith
+    one : (parts : List Stretch) → with_tick Silent parts ≡ with_silence 1 parts
+    one [] = refl
+    one (bytes l ∷ parts) = refl
+    one (silence m ∷ parts) = let e : suc m ≡ 1 + m = omega arith in
+        ap (λ k. silence k ∷ parts) e
+stretches-silence (suc n) more =
+    ap (with_tick Silent) (stretches-silence n more) ∙ next (stretches more)
+  where
+    next : (parts : List Stretch)
+        → with_tick Silent (with_silence (suc n) parts) ≡ with_silence (suc (suc n)) parts
+    next [] = refl
+    next (bytes l ∷ parts) = refl
+    next (silence m ∷ parts) = let e : suc (suc n + m) ≡ suc (suc n) + m = omega arith in
+        ap (λ k. silence k ∷ parts) e
 
-replicate_end : (full n : ℕ) → replicate (suc full) n ≡ replicate full n ++ n ∷ []
-replicate_end zero n = refl
-replicate_end (suc full) n = ap (λ x. n ∷ x) (replicate_end full n)
+abbrev pub EndsSilence : ℕ → List Stretch → Type 0
+EndsSilence n [] = Unit {0}
+EndsSilence n (bytes l ∷ parts) = Unit {0}
+EndsSilence n (silence m ∷ parts) = n ≡ 1000000
 
-full_silence : (lines : ℕ) → stretch_lines (silence (1000000 * lines))
-    ≡ flat_map silence_line (replicate lines 1000000)
-full_silence lines =
-    let e : 1000000 * lines / 1000000 ≡ lines = omega arith in
-    let f : 1000000 * lines % 1000000 ≡ 0 = omega arith in
-    lines_of_silence (1000000 * lines) lines 0 e f ∙ silence_lines-none lines
+pub full_ends-silence : (n : ℕ) (parts : List Stretch) → n ≡ 1000000 → EndsSilence n parts
+full_ends-silence n [] full = tt
+full_ends-silence n (bytes l ∷ parts) full = tt
+full_ends-silence n (silence m ∷ parts) full = full
 
-pub silence_part : (lines rest : ℕ) → 0 < rest → rest < 1000000
-    → stretch_lines (silence (1000000 * lines + rest))
-    ≡ stretch_lines (silence (1000000 * lines)) ++ silence_line rest
-silence_part lines rest some few =
-    let e : (1000000 * lines + rest) / 1000000 ≡ lines = omega arith in
-    let f : (1000000 * lines + rest) % 1000000 ≡ rest = omega arith in
-    lines_of_silence (1000000 * lines + rest) lines rest e f
-    ∙ (silence_lines-some lines rest some
-    ∙ ap (λ x. x ++ silence_line rest) (sym (full_silence lines)))
+pub byte_ends-silence : (n b : ℕ) (parts : List Stretch) → EndsSilence n (with_tick (Byte b) parts)
+byte_ends-silence n b [] = tt
+byte_ends-silence n b (bytes l ∷ parts) = tt
+byte_ends-silence n b (silence m ∷ parts) = tt
 
-pub silence_full : (lines : ℕ) → stretch_lines (silence (1000000 * suc lines))
-    ≡ stretch_lines (silence (1000000 * lines)) ++ silence_line 1000000
-silence_full lines =
-    full_silence (suc lines)
-    ∙ (ap (λ x. flat_map silence_line x) (replicate_end lines 1000000)
-    ∙ (flat_map-append silence_line (replicate lines 1000000) (1000000 ∷ [])
-    ∙ (ap (λ x. flat_map silence_line (replicate lines 1000000) ++ x)
-    (append-nil (silence_line 1000000))
-    ∙ ap (λ x. x ++ silence_line 1000000) (sym (full_silence lines)))))
+text-silence : (n : ℕ) (parts : List Stretch) → 0 < n → n ≤ 1000000 → EndsSilence n parts
+    → text_of (with_silence n parts) ≡ silence_line n ++ text_of parts
+text-silence n [] some few ends = ap (λ x. x ++ []) (last_silence n some few)
+text-silence n (bytes l ∷ parts) some few ends =
+    ap (λ x. x ++ text_of (bytes l ∷ parts)) (last_silence n some few)
+text-silence n (silence m ∷ parts) some few full =
+    ap (λ x. x ++ text_of parts) (full_silence n m full)
+    ∙ append_assoc (silence_line n) (stretch_lines (silence m)) (text_of parts)
+
+pub leads-silence : (n : ℕ) (more : List Tick) → 0 < n → n ≤ 1000000
+    → EndsSilence n (stretches more)
+    → canonical_text (silent n ++ more) ≡ silence_line n ++ canonical_text more
+leads-silence zero more some few ends = absurd (omega arith)
+leads-silence (suc n) more some few ends = ap text_of (stretches-silence n more)
+    ∙ text-silence (suc n) (stretches more) some few ends

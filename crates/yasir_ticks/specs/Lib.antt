@@ -1,4 +1,5 @@
 pub mod Ticks
+pub mod TickRun
 pub mod Bursts
 pub mod BurstsOf
 pub mod Characters
@@ -10,5 +11,4 @@ pub mod ReaderStep
 pub mod Line
 pub mod Writer
 pub mod Slices
-pub mod Pairs
 pub mod HexDigits

@@ -1,10 +1,10 @@
 -- What several bytes of a tick text do, one after the other.
-use Rattle.std.specs.Prelude.{◌≡◌, ◌≢◌, ◌⊎◌, ℕ, ◌+◌, ◌-◌, ◌*◌, ◌<◌, ◌≤◌, List, [], ◌∷◌, ◌++◌}
+use Rattle.std.specs.Prelude.{◌≡◌, ◌≢◌, ℕ, ◌+◌, ◌-◌, ◌*◌, ◌<◌, ◌≤◌, List, [], ◌∷◌, ◌++◌}
 use Rattle.std.specs.Prelude.{length, take, true, slice_index, Option, Some, None, Result, Ok, Err}
 use Rattle.hex.specs.Hex.{decode_of}
 use Rattle.yasir_ticks.specs.Characters.{line_feed}
 use Rattle.yasir_ticks.specs.TickText.{ended_items, line_items, is_plain_decimal, number_after}
-use Rattle.yasir_ticks.specs.TickText.{IsRefusedAfter, line_after, fault_after}
+use Rattle.yasir_ticks.specs.TickText.{BeginsTickText, IsRefusedAfter, line_after, fault_after}
 use Rattle.yasir_ticks.specs.Place.{has_ticks}
 use Rattle.yasir_ticks.specs.Reader.{StandsFor, HasRefused, items_of_content, marks_of_content}
 use Rattle.yasir_ticks.specs.declared.fault.BadTicks.{BadTicks}
@@ -60,14 +60,30 @@ pub record EndsLine (old : TickReader) (bytes : List ℕ) (taken : ℕ) (content
   pub nothing : items_of_content content new.bytes.items ≡ [] → content ≡ NoTick
   pub lines : new.line ≤ old.line + taken
 
--- It has taken them all, and none of them ended a line with ticks or a mark.
-pub record TakesAll (old : TickReader) (bytes : List ℕ) (taken : ℕ) (content : Content)
+-- A reader has taken so many of these bytes, none of which is refused: up to the end of the line in
+-- which it stood, or all of them. The line stands for this content.
+pub record TakesUpTo (old : TickReader) (bytes : List ℕ) (taken : ℕ) (content : Content)
     (new : TickReader) : Type 0 where
-  pub all : taken ≡ length bytes
-  pub goes : GoesOn old (take taken bytes) new
-  pub none : content ≡ NoTick
+  pub within : taken ≤ length bytes
+  pub stands : (marks : ℕ) (text : List ℕ) → StandsFor old marks text
+      → StandsFor new marks (text ++ take taken bytes)
+  pub begins : (marks : ℕ) (text : List ℕ) → StandsFor old marks text
+      → BeginsTickText marks (text ++ take taken bytes)
+  pub items : (marks : ℕ) (text : List ℕ) → StandsFor old marks text
+      → ended_items (text ++ take taken bytes)
+      ≡ ended_items text ++ items_of_content content new.bytes.items
+  -- It is `NoTick` exactly where no line with ticks or a mark ended.
+  pub nothing : items_of_content content new.bytes.items ≡ [] → content ≡ NoTick
+  -- Such a line ended at the last byte that was taken, and none before.
+  pub last : (marks : ℕ) (text : List ℕ) → StandsFor old marks text → content ≢ NoTick
+      → (0 < taken) × (ended_items (text ++ take (taken - 1) bytes) ≡ ended_items text)
+  -- Where not every byte was taken, the last one that was ended its line.
+  pub whole : taken < length bytes → slice_index bytes (taken - 1) ≡ line_feed
+  pub progress : 0 < length bytes → 0 < taken
+  pub lines : new.line ≤ old.line + taken
 
--- It has taken so many of them, none of which ended such a line, and refuses the next one.
+-- It has taken so many of them, in which no line with ticks or a mark ended, and refuses the next
+-- one.
 pub record StopsAt (old : TickReader) (bytes : List ℕ) (taken : ℕ) (bad : BadTicks)
     (new : TickReader) : Type 0 where
   pub within : taken < length bytes
@@ -81,8 +97,7 @@ pub record StopsAt (old : TickReader) (bytes : List ℕ) (taken : ℕ) (bad : Ba
 
 -- what a reader did that was fed bytes up to the end of a line
 abbrev pub FeedsLine : TickReader → List ℕ → ℕ → Result Content BadTicks → TickReader → Type 0
-FeedsLine old bytes taken (Ok content) new =
-    EndsLine old bytes taken content new ⊎ TakesAll old bytes taken content new
+FeedsLine old bytes taken (Ok content) new = TakesUpTo old bytes taken content new
 FeedsLine old bytes taken (Err bad) new = StopsAt old bytes taken bad new
 
 -- what a reader did that was fed one byte

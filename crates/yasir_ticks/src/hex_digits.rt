@@ -1,9 +1,17 @@
-//! Bytes as lower-case hex digits, 32 of them at a time.
+//! Hex digits: bytes as lower-case ones, 32 bytes at a time, and what digits of either case spell.
 ghost use Rattle.std.specs.Prelude.{◌≡◌, ◌+◌, ◌*◌, ◌<◌, ◌≤◌, ◌++◌, length};
 ghost use Rattle.hex.specs.Hex.{encode_lower};
 
-use crate::digit_lanes::digits_of;
+mod digit;
+mod digit_lanes;
+mod pairs;
+#[cfg(test)]
+mod tests;
+
 use arrayvec::ArrayVec;
+pub(crate) use digit::hex_value;
+use digit_lanes::digits_of;
+pub(crate) use pairs::{Decoded, decode_front};
 
 // How many bytes are written together.
 const TOGETHER: usize = 32;

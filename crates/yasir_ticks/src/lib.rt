@@ -1,13 +1,8 @@
 //! Ticks of a serial line, and tick text: the recorded line that a program reads.
 #![tactic(auto)]
 
-mod digit;
-mod digit_lanes;
 mod fault;
-#[cfg(test)]
-mod hex_digit_tests;
 mod hex_digits;
-mod pairs;
 mod place;
 mod reader;
 mod run;
@@ -15,6 +10,7 @@ mod slices;
 #[cfg(test)]
 mod tests;
 mod tick;
+mod tick_run;
 mod whole_lines;
 mod writer;
 
@@ -23,8 +19,8 @@ pub use hex_digits::push_digits;
 pub use place::Content;
 pub use reader::TickReader;
 pub use run::{LineBytes, Run};
-pub use slices::Fed;
 pub use tick::Tick;
+pub use tick_run::TickRun;
 pub use whole_lines::FedLine;
 pub use writer::{LineText, TickWriter};
 

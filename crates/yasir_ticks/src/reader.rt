@@ -4,7 +4,7 @@ ghost use Rattle.hex.specs.Hex.{hex_digit_value, is_hex_digit};
 ghost use Rattle.yasir_ticks.specs.Characters.{line_feed, carriage_return, percent_sign};
 ghost use Rattle.yasir_ticks.specs.Place.{has_ticks, is_sound, is_foreign};
 
-use crate::digit::hex_value;
+use crate::hex_digits::hex_value;
 use crate::place::{Content, Place};
 use crate::{BadTicks, LineBytes, Run, TickFault};
 

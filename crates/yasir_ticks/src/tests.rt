@@ -1,4 +1,4 @@
-use crate::{BadTicks, Content, Run, Tick, TickFault, TickReader, TickWriter};
+use crate::{BadTicks, Content, Run, Tick, TickFault, TickReader, TickRun, TickWriter};
 use std::alloc::Global;
 use std::process::Abort;
 use std::test::Fail;
@@ -262,8 +262,8 @@ fn read_slices(alloc: Global, marks: u8, text: &[u8], size: usize) -> Result<See
         if reader.line() > 9 {
             return Err("too many lines".into());
         }
-        let fed = reader.feed_some(slice);
-        seen.take(fed.run.ok().ok_or("refused")?)?;
+        let fed = reader.feed_line(slice);
+        seen.take_line(fed.line.ok().ok_or("refused")?, reader.line_bytes())?;
         rest = &rest[fed.taken..];
     }
     seen.take(reader.finish().ok().ok_or("refused at the end")?)?;
@@ -380,4 +380,17 @@ fn refuses_a_byte_at_each_place_of_a_line(rt: HostRuntime) -> Result<(), Fail> {
         }
     }
     Ok(())
+}
+
+#[test]
+fn cuts_runs_in_two(rt: HostRuntime) {
+    let bytes = TickRun::Bytes(b"\x05\x06\x07");
+    assert_eq!(rt; bytes.len(), 3);
+    assert_eq!(rt; bytes.first(), Tick::Byte(5));
+    assert_eq!(rt; bytes.behind(2).first(), Tick::Byte(7));
+    assert_eq!(rt; bytes.front(2).len(), 2);
+    let silence = TickRun::Silence(4);
+    assert_eq!(rt; silence.first(), Tick::Silent);
+    assert_eq!(rt; silence.behind(1).len(), 3);
+    assert!(rt; silence.front(0).is_empty());
 }

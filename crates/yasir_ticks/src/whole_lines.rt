@@ -1,11 +1,10 @@
 //! A line of tick text at once. Its bytes are lent by the reader, so that none is moved.
-ghost use Rattle.std.specs.Prelude.{◌≡◌, ◌≢◌, ℕ, ◌+◌, ◌-◌, ◌<◌, ◌≤◌, ◌^◌, ◌++◌, List, [], length};
-ghost use Rattle.std.specs.Prelude.{take, slice_index, Err, OnOk, IfOk, IfErr, IfSome, None};
+ghost use Rattle.std.specs.Prelude.{◌≡◌, ◌+◌, ◌-◌, ◌<◌, ◌≤◌, ◌^◌, length, slice_index, Err};
+ghost use Rattle.std.specs.Prelude.{IfSome, None};
 ghost use Rattle.yasir_ticks.specs.Characters.{line_feed, plus_sign, minus_sign, number_sign};
 ghost use Rattle.yasir_ticks.specs.Slices.{TakesWhole, IsSpelled, IsFewPairs, FeedsByte, FeedsLine};
 
-use crate::digit::hex_value;
-use crate::pairs::{Decoded, decode_front};
+use crate::hex_digits::{Decoded, decode_front, hex_value};
 use crate::place::{Content, Place};
 use crate::reader::MAX_COMMENT;
 use crate::{BadTicks, LineBytes, TickReader};
@@ -83,11 +82,7 @@ fn few_pairs(bytes: &[u8]) -> Option<LineBytes>
 impl TickReader {
     ghost use Rattle.yasir_ticks.specs.declared.fault.BadTicks.{BadTicks};
     ghost use Rattle.yasir_ticks.specs.declared.place.Place.TheVariants.{Start};
-    ghost use Rattle.yasir_ticks.specs.declared.place.Content.TheVariants.{NoTick};
-    ghost use Rattle.yasir_ticks.specs.TickText.{BeginsTickText, IsRefusedAfter, ended_items};
-    ghost use Rattle.yasir_ticks.specs.TickText.{line_after, fault_after};
-    ghost use Rattle.yasir_ticks.specs.Reader.{StandsFor, HasRefused, reader_line, lent_bytes};
-    ghost use Rattle.yasir_ticks.specs.Reader.{items_of_content};
+    ghost use Rattle.yasir_ticks.specs.Reader.{HasRefused, reader_line, lent_bytes};
 
     /// The bytes of the `+` line that was ended last. They stand until the next byte is fed.
     #[inline]
@@ -309,10 +304,13 @@ impl TickReader {
         }
     }
 
-    // The same; a usual line goes by at once.
+    /// Takes bytes of the text up to and with the LF of the line in which the reader stands, or up
+    /// to a refused one, or all of them. It is as if they were fed one by one; the bytes of a `+`
+    /// line are lent by `line_bytes`.
     #[inline(always)]
-    fn feed_usual(&mut self, bytes: &[u8]) -> FedLine
+    pub fn feed_line(&mut self, bytes: &[u8]) -> FedLine
         requires { reader_line self.old + length bytes.now < 2 ^ 32 }
+        ensures within { result.taken ≤ length bytes.now }
         ensures fed { FeedsLine self.old bytes.now result.taken result.line self.new }
         ensures for_good { (bad : BadTicks) → HasRefused self.old bad → 0 < length bytes.now
             → (result.taken ≡ 0) × (result.line ≡ Err bad) × (self.new ≡ self.old) }
@@ -323,49 +321,5 @@ impl TickReader {
             }
         }
         self.feed_rest(bytes)
-    }
-
-    /// Takes bytes of the text up to and with the LF of the line in which the reader stands, or up
-    /// to a refused one, or all of them. It is as if they were fed one by one; the bytes of a `+`
-    /// line are lent by `line_bytes`.
-    #[inline(always)]
-    pub fn feed_line(&mut self, bytes: &[u8]) -> FedLine
-        requires { reader_line self.old + length bytes.now < 2 ^ 32 }
-        ensures within { result.taken ≤ length bytes.now }
-        ensures stands { (marks : ℕ) (text : List ℕ) → StandsFor self.old marks text
-            → OnOk result.line (StandsFor self.new marks (text ++ take result.taken bytes.now)) }
-        ensures begins { (marks : ℕ) (text : List ℕ) → StandsFor self.old marks text
-            → OnOk result.line (BeginsTickText marks (text ++ take result.taken bytes.now)) }
-        // The content is that of the line that ended.
-        ensures items { (marks : ℕ) (text : List ℕ) → StandsFor self.old marks text
-            → IfOk result.line (λ content. ended_items (text ++ take result.taken bytes.now)
-            ≡ ended_items text ++ items_of_content content (lent_bytes self.new)) }
-        // It is `NoTick` exactly where no line with ticks or a mark ended.
-        ensures nothing { IfOk result.line (λ content.
-            items_of_content content (lent_bytes self.new) ≡ [] → content ≡ NoTick) }
-        // Such a line ended at the last byte that was taken, and none before.
-        ensures last { (marks : ℕ) (text : List ℕ) → StandsFor self.old marks text
-            → IfOk result.line (λ content. content ≢ NoTick → (0 < result.taken)
-            × (ended_items (text ++ take (result.taken - 1) bytes.now) ≡ ended_items text)) }
-        // Where not every byte was taken, the last one that was ended its line.
-        ensures whole { OnOk result.line (result.taken < length bytes.now
-            → slice_index bytes.now (result.taken - 1) ≡ line_feed) }
-        ensures progress { 0 < length bytes.now → OnOk result.line (0 < result.taken) }
-        // It refuses the text at its refused place, and nowhere else; no line with ticks or a mark
-        // ended before.
-        ensures refused { (marks : ℕ) (text : List ℕ) → StandsFor self.old marks text
-            → IfErr result.line (λ bad. (result.taken < length bytes.now)
-            × IsRefusedAfter marks (text ++ take result.taken bytes.now)
-            (slice_index bytes.now result.taken)
-            × (bad.line ≡ line_after (text ++ take result.taken bytes.now))
-            × (bad.why ≡ fault_after (text ++ take result.taken bytes.now)
-            (slice_index bytes.now result.taken))
-            × (ended_items (text ++ take result.taken bytes.now) ≡ ended_items text)) }
-        ensures lines { reader_line self.new ≤ reader_line self.old + result.taken }
-        ensures remembered { IfErr result.line (λ bad. HasRefused self.new bad) }
-        ensures for_good { (bad : BadTicks) → HasRefused self.old bad → 0 < length bytes.now
-            → (result.taken ≡ 0) × (result.line ≡ Err bad) × (self.new ≡ self.old) }
-    {
-        self.feed_usual(bytes)
     }
 }

@@ -4,7 +4,7 @@ ghost use Rattle.arrayvec.specs.ArrayVec.{array_vec_len};
 ghost use Rattle.yasir_ticks.specs.CanonicalText.{byte_line, silence_line};
 ghost use Rattle.yasir_ticks.specs.Line.{is_unfilled};
 
-use crate::{LineBytes, Run, Tick, push_digits};
+use crate::{LineBytes, Run, Tick, TickRun, push_digits};
 use arrayvec::ArrayVec;
 use itoa::Buffer;
 
@@ -49,14 +49,16 @@ pub struct TickWriter {
 }
 
 impl TickWriter {
-    ghost use Rattle.std.specs.Prelude.{map, take, slice_index};
+    ghost use Rattle.std.specs.Prelude.{map, take, drop, slice_index};
     ghost use Rattle.yasir_ticks.specs.Ticks.{IsTick, silent};
+    ghost use Rattle.yasir_ticks.specs.TickRun.{run_ticks};
     ghost use Rattle.yasir_ticks.specs.declared.tick.Tick.TheVariants.{Silent, Byte};
     ghost use Rattle.yasir_ticks.specs.Ticks.Item.{tick};
     ghost use Rattle.yasir_ticks.specs.declared.run.Run.TheVariants.{Nothing};
     ghost use Rattle.yasir_ticks.specs.TickText.{IsTickText};
     ghost use Rattle.yasir_ticks.specs.CanonicalText.{canonical_text};
-    ghost use Rattle.yasir_ticks.specs.Writer.{HasWritten, Writes, BeginsWith, joins, has_room_for};
+    ghost use Rattle.yasir_ticks.specs.Writer.{HasWritten, Writes, HasTick, line_ticks, line_text};
+    ghost use Rattle.yasir_ticks.specs.Writer.{joins, has_room_for};
 
     /// A writer that has taken no tick.
     pub fn new() -> TickWriter
@@ -69,7 +71,8 @@ impl TickWriter {
 
     /// Begins a line with a byte.
     fn begin_bytes(&mut self, b: u8)
-        ensures { BeginsWith b self.new.unfilled }
+        ensures ticks { line_ticks self.new.unfilled ≡ Byte b ∷ [] }
+        ensures begun { HasTick self.new.unfilled }
     {
         let mut line = LineBytes::new();
         line.push(b);
@@ -78,9 +81,9 @@ impl TickWriter {
 
     #[inline]
     fn extend_byte(&mut self, b: u8) -> bool
-        ensures answer { result ≡ joins self.old.unfilled (Tick.Byte b) }
-        ensures is_tick { IsTick (Tick.Byte b) }
-        ensures taken { result ≡ true → Writes self.old.unfilled (Tick.Byte b) []
+        ensures answer { result ≡ joins self.old.unfilled (Byte b) }
+        ensures is_tick { IsTick (Byte b) }
+        ensures taken { result ≡ true → Writes self.old.unfilled (Byte b ∷ []) []
             self.new.unfilled }
         ensures left { result ≡ false → self.new ≡ self.old }
     {
@@ -102,8 +105,9 @@ impl TickWriter {
 
     #[inline]
     fn extend_silent(&mut self) -> bool
-        ensures answer { result ≡ joins self.old.unfilled Tick.Silent }
-        ensures taken { result ≡ true → Writes self.old.unfilled Tick.Silent [] self.new.unfilled }
+        ensures answer { result ≡ joins self.old.unfilled Silent }
+        ensures taken { result ≡ true → Writes self.old.unfilled (Silent ∷ []) []
+            self.new.unfilled }
         ensures left { result ≡ false → self.new ≡ self.old }
     {
         match &mut self.unfilled {
@@ -206,11 +210,26 @@ impl TickWriter {
         }
     }
 
+    /// Takes ticks of a run up to the first one that completes a line. Answers how many it took.
+    #[inline]
+    pub fn extend_run(&mut self, run: TickRun<'_>) -> usize
+        ensures within { result ≤ length (run_ticks run.entry) }
+        ensures taken { (ticks : List Tick) (answered : List ℕ) → HasWritten self.old ticks answered
+            → HasWritten self.new (ticks ++ take result (run_ticks run.entry)) answered }
+        ensures completes { (t : Tick) (more : List Tick)
+            → drop result (run_ticks run.entry) ≡ t ∷ more → has_room_for self.new t ≡ false }
+    {
+        match run {
+            TickRun::Bytes(bytes) => self.extend_bytes(bytes),
+            TickRun::Silence(ticks) => self.extend_silence(ticks) as usize,
+        }
+    }
+
     // The line that a byte completes: it fills it, or ends one of silence.
     fn complete_by_byte(&mut self, b: u8) -> LineText
-        requires { joins self.old.unfilled (Tick.Byte b) ≡ false }
-        ensures is_tick { IsTick (Tick.Byte b) }
-        ensures writes { Writes self.old.unfilled (Tick.Byte b) result.items self.new.unfilled }
+        requires { joins self.old.unfilled (Byte b) ≡ false }
+        ensures is_tick { IsTick (Byte b) }
+        ensures writes { Writes self.old.unfilled (Byte b ∷ []) result.items self.new.unfilled }
     {
         match &mut self.unfilled {
             Run::Bytes(line) => {
@@ -231,8 +250,8 @@ impl TickWriter {
 
     // The line that a silent tick completes: it fills it, or ends one of bytes.
     fn complete_by_silence(&mut self) -> LineText
-        requires { joins self.old.unfilled Tick.Silent ≡ false }
-        ensures { Writes self.old.unfilled Tick.Silent result.items self.new.unfilled }
+        requires { joins self.old.unfilled Silent ≡ false }
+        ensures { Writes self.old.unfilled (Silent ∷ []) result.items self.new.unfilled }
     {
         match &mut self.unfilled {
             Run::Silence(_) => {
@@ -276,12 +295,9 @@ impl TickWriter {
         }
     }
 
-    /// Takes the end of the ticks, and answers the line that isn't filled, or an empty text.
-    pub fn finish(self) -> LineText
-        ensures whole { (ticks : List Tick) (answered : List ℕ) → HasWritten self ticks answered
-            → answered ++ result.items ≡ canonical_text ticks }
-        ensures reads { (ticks : List Tick) (answered : List ℕ) → HasWritten self ticks answered
-            → IsTickText 0 (answered ++ result.items) (map tick ticks) }
+    // The text of the line that isn't filled.
+    fn unfilled_text(&self) -> LineText
+        ensures { result.items ≡ line_text self.now.unfilled }
     {
         match &self.unfilled {
             Run::Nothing => LineText::new(),
@@ -289,5 +305,15 @@ impl TickWriter {
             Run::Silence(n) => count_line(*n),
             Run::Mark => LineText::new(),
         }
+    }
+
+    /// Takes the end of the ticks, and answers the line that isn't filled, or an empty text.
+    pub fn finish(self) -> LineText
+        ensures whole { (ticks : List Tick) (answered : List ℕ) → HasWritten self ticks answered
+            → answered ++ result.items ≡ canonical_text ticks }
+        ensures reads { (ticks : List Tick) (answered : List ℕ) → HasWritten self ticks answered
+            → IsTickText 0 (answered ++ result.items) (map tick ticks) }
+    {
+        self.unfilled_text()
     }
 }

@@ -6,14 +6,16 @@ ghost use Rattle.sequence_journal.specs.Journal.{journal_floor};
 ghost use Rattle.yasir_ticks.specs.declared.TheConstants.{MAX_TICKS};
 
 use super::BoxLines;
-use crate::line_box::{BoxStep, LineBox, NoteLine, RunBytes};
+use crate::driven_box::DrivenBox;
+use crate::line_box::{LineBox, NoteLine};
+use burst_walk::{BoxStep, RunBytes};
 use hmac_tag::Dir;
 use sequence_journal::{Journal, JournalFault, LinkId, slot_of};
 use std::alloc::Global;
 use std::test::Fail;
 use tick_drive::{End, drive};
 use yasir_io::{MemSink, Plan, SlotDisk, SteadySlots, SteadySource};
-use yasir_ticks::Tick;
+use yasir_ticks::{Tick, TickRun};
 
 /// How often a box was asked to forward a run, how often to answer one, and how often it took a
 /// single tick.
@@ -95,38 +97,29 @@ impl LineBox for Wire {
         })
     }
 
-    fn forward_bytes(&mut self, bytes: &[u8]) -> usize {
+    fn forward(&mut self, run: TickRun<'_>) -> usize {
         self.calls.forward = self.calls.forward.saturating_add(1);
         if !self.forwards {
             return 0;
         }
-        self.taken += bytes.len() as u64;
-        bytes.len()
+        self.taken += run.len() as u64;
+        run.len()
     }
 
-    fn forward_silence(&mut self, ticks: u32) -> u32 {
-        self.calls.forward = self.calls.forward.saturating_add(1);
-        if !self.forwards {
-            return 0;
-        }
-        self.taken += u64::from(ticks);
-        ticks
-    }
-
-    fn pass_bytes(&mut self, bytes: &[u8], left: &mut RunBytes) -> usize {
+    fn pass(&mut self, run: TickRun<'_>, left: &mut RunBytes) -> usize {
         self.calls.pass = self.calls.pass.saturating_add(1);
-        let count = bytes.len().min(left.capacity());
         left.clear();
+        let bytes = match run {
+            TickRun::Bytes(bytes) => bytes,
+            TickRun::Silence(ticks) => {
+                self.taken += u64::from(ticks);
+                return ticks as usize;
+            }
+        };
+        let count = bytes.len().min(left.capacity());
         left.try_extend_from_slice(&bytes[..count]).unwrap();
         self.taken += count as u64;
         count
-    }
-
-    fn pass_silence(&mut self, ticks: u32, left: &mut RunBytes) -> u32 {
-        self.calls.pass = self.calls.pass.saturating_add(1);
-        left.clear();
-        self.taken += u64::from(ticks);
-        ticks
     }
 }
 
@@ -147,7 +140,8 @@ fn calls_of(alloc: Global, forwards: bool) -> Result<Calls, Fail> {
     let mut input = SteadySource::new(TEXT);
     let mut out = MemSink::with_room(alloc, 200, 512, Plan::new())?;
     let mut log = MemSink::with_room(alloc, 0, 512, Plan::new())?;
-    match drive(0, &mut input, &mut lines, &mut out, &mut log, &mut disk) {
+    let mut driven = DrivenBox::new(&mut lines, &mut out, &mut log, &mut disk);
+    match drive(0, &mut input, &mut driven) {
         End::Whole => Ok(lines.line_box.calls),
         _ => Err(Fail::from("the text isn't whole")),
     }

@@ -6,7 +6,7 @@ use device_model::{Device, FrameAt, Heard};
 use std::alloc::Global;
 use std::test::Fail;
 use tick_drive::{End, drive};
-use yasir_io::{MemSink, Plan, SteadySlots, SteadySource};
+use yasir_io::{MemSink, Plan, SteadySource, TextBuffer};
 use yasir_ticks::Tick;
 
 /// How often a device heard runs of bytes, runs of silence, and single ticks.
@@ -75,20 +75,13 @@ const TEXT: &[u8] = b"+000102030405060708090a0b0c0d0e0f101112131415161718191a1b1
 
 // The calls of a device that hears the text.
 fn calls_of(alloc: Global) -> Result<Calls, Fail> {
-    let mut printer: FrameLines<Deaf> = FrameLines::new();
+    let mut device = Deaf::fresh();
+    let mut lines = TextBuffer::new();
     let mut input = SteadySource::new(TEXT);
     let mut out = MemSink::with_room(alloc, 0, 512, Plan::new())?;
-    let mut log = MemSink::with_room(alloc, 0, 512, Plan::new())?;
-    let mut no_disk = SteadySlots::new([0; 24], [0; 24]);
-    match drive(
-        0,
-        &mut input,
-        &mut printer,
-        &mut out,
-        &mut log,
-        &mut no_disk,
-    ) {
-        End::Whole => Ok(printer.device.calls),
+    let mut printer = FrameLines::new(&mut device, &mut lines, &mut out);
+    match drive(0, &mut input, &mut printer) {
+        End::Whole => Ok(device.calls),
         _ => Err(Fail::from("the text isn't whole")),
     }
 }

@@ -1,41 +1,40 @@
-ghost use Rattle.std.specs.Prelude.{◌≡◌};
+ghost use Rattle.std.specs.Prelude.{Some};
 ghost use Rattle.yasir_io.specs.declared.disk.Slot.TheVariants.{A};
 ghost use Rattle.yasir_io.specs.Disks.{LeavesOnly};
 ghost use Rattle.sequence_journal.specs.Journal.{IsBut};
+ghost use Rattle.replay_status.specs.Ends.{outside_before, outside_after};
+ghost use Rattle.link_replay.specs.declared.words.Command.TheVariants.{Init};
+ghost use Rattle.link_replay.specs.Commands.{HasCauses};
+ghost use Rattle.link_replay.specs.InitCommand.{Inits};
 ghost use Rattle.link_replay.specs.Protocols.{link_of};
-ghost use Rattle.link_replay.specs.InitCommand.{MakesJournal, LeavesSinks};
-ghost use Rattle.replay_status.specs.Causes.{SinkCause, DiskCause};
-ghost use Rattle.replay_status.specs.Flushes.{FlushesAtEnd};
 
 use crate::link::link_of;
 use crate::{Profile, Proto};
 use hmac_tag::Dir;
-use replay_status::{Status, flush_both};
+use replay_status::{Ends, Status, flush_both};
 use sequence_journal::{InitError, Journal};
-use yasir_io::{Sink, SlotDisk};
+use yasir_io::{Sink, SlotDisk, Source};
 
 /// Makes a new journal of a link at floor 0, where none stands.
-pub fn make_journal<O: Sink, L: Sink, D: SlotDisk>(
+pub fn make_journal<K: Source, S: Source, O: Sink, L: Sink, D: SlotDisk>(
     proto: Proto,
     profile: Profile,
     dir: Dir,
-    out: &mut O,
-    log: &mut L,
-    disk: &mut D,
+    ends: Ends<K, S, O, L, D>,
 ) -> Status
-    ensures journal { MakesJournal (link_of proto profile dir) (D.told disk.old) (D.told disk.new)
-        (D.may_leave disk.old) (D.may_leave disk.new) result }
-    ensures any_moment { LeavesOnly D.moment D.left_since disk.old disk.new
-        (IsBut A (D.may_leave disk.old)) }
-    ensures untouched { LeavesSinks O.Sink L.Sink out.old out.new log.old log.new result }
-    ensures sinks { SinkCause (O.faults out.old) (O.faults out.new) (L.faults log.old)
-        (L.faults log.new) result }
-    ensures flushes { FlushesAtEnd O.Sink L.Sink out.old out.new log.old log.new result }
-    ensures disk { DiskCause (D.faults disk.old) (D.faults disk.new) result }
+    ensures inits { Inits O.Sink L.Sink D.SlotDisk (link_of proto profile dir)
+        (outside_before ends.entry) (outside_after ends.exit) result }
+    ensures any_moment { LeavesOnly D.moment D.left_since ends.entry.disk.now
+        (outside_after ends.exit).disk (IsBut A (D.may_leave ends.entry.disk.now)) }
+    ensures causes { HasCauses K.Source S.Source O.Sink L.Sink D.SlotDisk
+        (Some (Init proto profile dir)) (outside_before ends.entry) (outside_after ends.exit)
+        result }
 {
+    let Ends { out, log, disk, .. } = ends;
     match Journal::init(disk, &link_of(proto, profile, dir)) {
-        Ok(_) => flush_both(out, log),
-        Err(InitError::Fault) => Status::JournalFault,
-        Err(InitError::Stands { floor }) => Status::HasJournal { floor },
+        Ok(_) => {}
+        Err(InitError::Fault) => return Status::JournalFault,
+        Err(InitError::Stands { floor }) => return Status::HasJournal { floor },
     }
+    flush_both(out, log)
 }

@@ -1,8 +1,8 @@
-ghost use Rattle.std.specs.Prelude.{◌≡◌, ℕ, List};
-ghost use Rattle.replay_status.specs.Outside.{outside};
-ghost use Rattle.replay_status.specs.Causes.{ReadsCause, SinkCause};
-ghost use Rattle.replay_status.specs.Flushes.{FlushesAtEnd};
-ghost use Rattle.box_replay.specs.ReplaysBox.{KeepsFloorThroughout, BoxDiskCause};
+ghost use Rattle.std.specs.Prelude.{Some};
+ghost use Rattle.replay_status.specs.Ends.{outside_before, outside_after};
+ghost use Rattle.box_replay.specs.ReplaysBox.{KeepsFloorThroughout};
+ghost use Rattle.link_replay.specs.declared.words.Command.TheVariants.{Seal};
+ghost use Rattle.link_replay.specs.Commands.{HasCauses};
 ghost use Rattle.link_replay.specs.Protocols.{link_of};
 ghost use Rattle.link_replay.specs.SealCommand.{Seals};
 
@@ -11,7 +11,7 @@ use crate::{Profile, Proto};
 use box_replay::replay_box;
 use dnp_link_frame::Dnp;
 use hmac_tag::{Dir, HmacSha1, HmacSha256};
-use replay_status::Status;
+use replay_status::{Ends, Status};
 use rtu_frame::Rtu;
 use seal_replay::SealBox;
 use yasir_io::{Sink, SlotDisk, Source};
@@ -27,37 +27,29 @@ pub fn seal<K: Source, S: Source, O: Sink, L: Sink, D: SlotDisk>(
     proto: Proto,
     profile: Profile,
     dir: Dir,
-    key: &mut K,
-    input: &mut S,
-    out: &mut O,
-    log: &mut L,
-    disk: &mut D,
+    ends: Ends<K, S, O, L, D>,
 ) -> Status
     ensures seals { Seals K.Source S.Source O.Sink L.Sink D.SlotDisk proto profile dir
-        (outside key.old input.old out.old log.old disk.old)
-        (outside key.new input.new out.new log.new disk.new) result }
+        (outside_before ends.entry) (outside_after ends.exit) result }
     ensures any_moment { KeepsFloorThroughout D.SlotDisk (link_of proto profile dir)
-        disk.old disk.new }
-    ensures reads { ReadsCause (K.faults key.old) (K.faults key.new)
-        (S.faults input.old) (S.faults input.new) result }
-    ensures disk { BoxDiskCause (D.faults disk.old) (D.faults disk.new) result }
-    ensures sinks { SinkCause (O.faults out.old) (O.faults out.new)
-        (L.faults log.old) (L.faults log.new) result }
-    ensures flushes { FlushesAtEnd O.Sink L.Sink out.old out.new log.old log.new result }
+        ends.entry.disk.now (outside_after ends.exit).disk }
+    ensures causes { HasCauses K.Source S.Source O.Sink L.Sink D.SlotDisk
+        (Some (Seal proto profile dir)) (outside_before ends.entry) (outside_after ends.exit)
+        result }
 {
     let link = link_of(proto, profile, dir);
     match (proto, profile) {
         (Proto::Rtu, Profile::Y18) => replay_box::<SealBox<Rtu, HmacSha1, 2>, K, S, O, L, D>(
-            &link, dir, Y18_REST, key, input, out, log, disk,
+            &link, dir, Y18_REST, ends,
         ),
         (Proto::Dnp3, Profile::Y18) => replay_box::<SealBox<Dnp, HmacSha1, 2>, K, S, O, L, D>(
-            &link, dir, Y18_REST, key, input, out, log, disk,
+            &link, dir, Y18_REST, ends,
         ),
         (Proto::Rtu, Profile::Y24) => replay_box::<SealBox<Rtu, HmacSha256, 4>, K, S, O, L, D>(
-            &link, dir, Y24_REST, key, input, out, log, disk,
+            &link, dir, Y24_REST, ends,
         ),
         (Proto::Dnp3, Profile::Y24) => replay_box::<SealBox<Dnp, HmacSha256, 4>, K, S, O, L, D>(
-            &link, dir, Y24_REST, key, input, out, log, disk,
+            &link, dir, Y24_REST, ends,
         ),
     }
 }

@@ -1,11 +1,12 @@
-ghost use Rattle.std.specs.Prelude.{◌≡◌, ◌+◌, ◌≤◌, ◌++◌, length, codes};
-ghost use Rattle.link_replay.specs.VectorsCommand.{table_line, table_lines, PrintsTables};
-ghost use Rattle.replay_status.specs.Causes.{SinkCause};
-ghost use Rattle.replay_status.specs.Flushes.{FlushesAtEnd};
+ghost use Rattle.std.specs.Prelude.{◌≡◌, ◌+◌, ◌≤◌, ◌++◌, length, codes, Some};
+ghost use Rattle.replay_status.specs.Ends.{outside_before, outside_after};
+ghost use Rattle.link_replay.specs.declared.words.Command.TheVariants.{Vectors};
+ghost use Rattle.link_replay.specs.Commands.{HasCauses};
+ghost use Rattle.link_replay.specs.VectorsCommand.{table_line, table_lines, Tabulates};
 
-use replay_status::{Line, Status, flush_both, push_decimal};
+use replay_status::{Ends, Line, Status, flush_both, push_decimal};
 use vectors::{Miss, crc_table, frames_table, hmac_table, user_table};
-use yasir_io::{Failed, Sink, write_all};
+use yasir_io::{Failed, Sink, SlotDisk, Source, write_all};
 
 // Appends the line of a table: its name, how many rows it has, and what it was answered.
 fn push_table(line: &mut Line, name: &[u8], rows: u32, answer: Result<(), Miss>)
@@ -46,15 +47,18 @@ fn table_lines() -> Line
 }
 
 /// Prints a line for each table of known answers.
-pub fn print_tables<O: Sink, L: Sink>(out: &mut O, log: &mut L) -> Status
-    ensures tables { PrintsTables (O.held out.old) (O.held out.new) result }
-    ensures log { L.held log.new ≡ L.held log.old }
-    ensures sinks { SinkCause (O.faults out.old) (O.faults out.new) (L.faults log.old)
-        (L.faults log.new) result }
-    ensures flushes { FlushesAtEnd O.Sink L.Sink out.old out.new log.old log.new result }
+pub fn print_tables<K: Source, S: Source, O: Sink, L: Sink, D: SlotDisk>(
+    ends: Ends<K, S, O, L, D>,
+) -> Status
+    ensures tabulates { Tabulates O.Sink L.Sink (outside_before ends.entry)
+        (outside_after ends.exit) result }
+    ensures causes { HasCauses K.Source S.Source O.Sink L.Sink D.SlotDisk (Some Vectors)
+        (outside_before ends.entry) (outside_after ends.exit) result }
 {
+    let Ends { out, log, .. } = ends;
     match write_all(out, table_lines().as_slice()) {
-        Ok(()) => flush_both(out, log),
-        Err(Failed) => Status::WriteFault,
+        Ok(()) => {}
+        Err(Failed) => return Status::WriteFault,
     }
+    flush_both(out, log)
 }

@@ -1,19 +1,21 @@
-ghost use Rattle.std.specs.Prelude.{◌≡◌, ◌≤◌, length};
-ghost use Rattle.replay_status.specs.Causes.{SinkCause};
-ghost use Rattle.replay_status.specs.Flushes.{FlushesAtEnd};
-ghost use Rattle.trial_session.specs.Telling.{Tells};
-ghost use Rattle.trial_session.specs.TrialLine.{trial_line, PrintsLine};
-ghost use Rattle.link_replay.specs.TrialCommand.{trial_counts};
+ghost use Rattle.std.specs.Prelude.{◌≡◌, ◌≤◌, length, Some};
+ghost use Rattle.replay_status.specs.Ends.{outside_before, outside_after};
+ghost use Rattle.trial_session.specs.TrialLine.{trial_line};
+ghost use Rattle.link_replay.specs.declared.words.Command.TheVariants.{Trial};
+ghost use Rattle.link_replay.specs.Commands.{HasCauses};
+ghost use Rattle.link_replay.specs.TrialCommand.{trial_counts, Tries};
 ghost use Rattle.link_replay.specs.Words.{link_word};
 
 use crate::{Profile, Proto};
+use check_receiver::Checker;
 use device_model::{DnpDevice, RtuDevice};
 use dnp_link_frame::Dnp;
 use hmac_tag::{HmacSha1, HmacSha256};
-use replay_status::Status;
+use replay_status::{Ends, Line, Status, flush_both};
 use rtu_frame::Rtu;
-use trial_session::{CheckCounting, SealCounting, print_session};
-use yasir_io::Sink;
+use seal_transmitter::Sealer;
+use trial_session::session_line;
+use yasir_io::{Failed, Sink, SlotDisk, Source, write_all};
 
 /// How many ticks follow a frame in its packet, by each profile: the pause and the trailer, one
 /// less than the receiver's delay.
@@ -21,13 +23,13 @@ const Y18_BEHIND: usize = 17;
 
 const Y24_BEHIND: usize = 23;
 
-type Y18Sealer<R> = SealCounting<R, HmacSha1, 2>;
+type Y18Sealer<R> = Sealer<R, HmacSha1, 2>;
 
-type Y18Checker<R> = CheckCounting<R, HmacSha1, 2, 18>;
+type Y18Checker<R> = Checker<R, HmacSha1, 2, 18>;
 
-type Y24Sealer<R> = SealCounting<R, HmacSha256, 4>;
+type Y24Sealer<R> = Sealer<R, HmacSha256, 4>;
 
-type Y24Checker<R> = CheckCounting<R, HmacSha256, 4, 24>;
+type Y24Checker<R> = Checker<R, HmacSha256, 4, 24>;
 
 // The word of a protocol and a profile.
 fn link_word(proto: Proto, profile: Profile) -> &'static [u8]
@@ -42,45 +44,55 @@ fn link_word(proto: Proto, profile: Profile) -> &'static [u8]
     }
 }
 
-/// Tries a link over so many frames that are drawn from a seed, and prints what came of them.
-pub fn try_link<O: Sink, L: Sink>(
-    proto: Proto,
-    profile: Profile,
-    seed: u32,
-    count: u32,
-    out: &mut O,
-    log: &mut L,
-) -> Status
-    ensures line { PrintsLine (O.held out.old) (O.held out.new)
-        (trial_line (link_word proto profile) seed count (trial_counts proto profile seed count))
-        result }
-    ensures tells { Tells (trial_counts proto profile seed count) count }
-    ensures log { L.held log.new ≡ L.held log.old }
-    ensures sinks { SinkCause (O.faults out.old) (O.faults out.new)
-        (L.faults log.old) (L.faults log.new) result }
-    ensures flushes { FlushesAtEnd O.Sink L.Sink out.old out.new log.old log.new result }
+// The line of the session of so many frames from a seed, over a link.
+fn line_of_session(proto: Proto, profile: Profile, seed: u32, count: u32) -> Line
+    ensures { result.items ≡ trial_line (link_word proto profile) seed count
+        (trial_counts proto profile seed count) }
 {
     let name = link_word(proto, profile);
     match (proto, profile) {
         (Proto::Rtu, Profile::Y18) => {
-            print_session::<Rtu, Y18Sealer<Rtu>, Y18Checker<Rtu>, RtuDevice, O, L>(
-                name, seed, count, Y18_BEHIND, out, log,
+            session_line::<Rtu, Y18Sealer<Rtu>, Y18Checker<Rtu>, RtuDevice>(
+                name, seed, count, Y18_BEHIND,
             )
         }
         (Proto::Dnp3, Profile::Y18) => {
-            print_session::<Dnp, Y18Sealer<Dnp>, Y18Checker<Dnp>, DnpDevice, O, L>(
-                name, seed, count, Y18_BEHIND, out, log,
+            session_line::<Dnp, Y18Sealer<Dnp>, Y18Checker<Dnp>, DnpDevice>(
+                name, seed, count, Y18_BEHIND,
             )
         }
         (Proto::Rtu, Profile::Y24) => {
-            print_session::<Rtu, Y24Sealer<Rtu>, Y24Checker<Rtu>, RtuDevice, O, L>(
-                name, seed, count, Y24_BEHIND, out, log,
+            session_line::<Rtu, Y24Sealer<Rtu>, Y24Checker<Rtu>, RtuDevice>(
+                name, seed, count, Y24_BEHIND,
             )
         }
         (Proto::Dnp3, Profile::Y24) => {
-            print_session::<Dnp, Y24Sealer<Dnp>, Y24Checker<Dnp>, DnpDevice, O, L>(
-                name, seed, count, Y24_BEHIND, out, log,
+            session_line::<Dnp, Y24Sealer<Dnp>, Y24Checker<Dnp>, DnpDevice>(
+                name, seed, count, Y24_BEHIND,
             )
         }
     }
+}
+
+/// Tries a link over so many frames that are drawn from a seed, and prints what came of them.
+pub fn try_link<K: Source, S: Source, O: Sink, L: Sink, D: SlotDisk>(
+    proto: Proto,
+    profile: Profile,
+    seed: u32,
+    count: u32,
+    ends: Ends<K, S, O, L, D>,
+) -> Status
+    ensures tries { Tries O.Sink L.Sink proto profile seed count (outside_before ends.entry)
+        (outside_after ends.exit) result }
+    ensures causes { HasCauses K.Source S.Source O.Sink L.Sink D.SlotDisk
+        (Some (Trial proto profile seed count)) (outside_before ends.entry)
+        (outside_after ends.exit) result }
+{
+    let Ends { out, log, .. } = ends;
+    let line = line_of_session(proto, profile, seed, count);
+    match write_all(out, line.as_slice()) {
+        Ok(()) => {}
+        Err(Failed) => return Status::WriteFault,
+    }
+    flush_both(out, log)
 }

@@ -3,8 +3,9 @@
 ghost use Rattle.std.specs.Prelude.{[], refl};
 
 use super::ReplayLists;
-use crate::frame_box::{FrameBox, FrameStep, RunBytes};
+use crate::frame_box::{FrameBox, FrameStep};
 use crate::recordings::list_recordings;
+use burst_walk::RunBytes;
 use device_model::{Device, FrameAt, Heard};
 use hmac_tag::Dir;
 use std::alloc::Global;

@@ -21,19 +21,19 @@ returns-clause-runs g c = λ asked asks.
     let same = asks-one _ _ _ c.asked_by-asked.ensures asks in
     let before = outside c.args.key.now c.args.input.now c.args.out.now c.args.log.now
     c.args.disk.now in
-    let after = outside c.answer-status.new.key c.answer-status.new.input c.answer-status.new.out
-    c.write_fault.new.log c.answer-status.new.disk in
+    let ends = c.answer-status.new.ends in
+    let after = outside ends.0 ends.1.0 ends.1.1.0 c.write_fault.new.log ends.1.1.1.1.0 in
     subst (λ a. Runs g.K.Source g.S.Source g.O.Sink g.L.Sink g.D.SlotDisk a before after
     c.answer-status.result) same (record {
-      noted = c.answer-status.new.log;
+      noted = ends.1.1.1.0;
       does = c.answer-status.ensures.does;
-      faults = logs-from _ _ _ _ _ _ _ c.answer-status.result c.answer-status.ensures.causes.sinks
-          c.write_fault.ensures.logs;
+      faults = logs-from _ _ _ _ _ _ _ c.answer-status.result
+          c.answer-status.ensures.causes.streams.sinks c.write_fault.ensures.logs;
     })
 
 pub returns-clause-any_moment : goal.returns-clause-any_moment
 returns-clause-any_moment g c = λ asked asks.
-    subst (λ a. KeepsDisk g.D.SlotDisk a c.args.disk.now c.answer-status.new.disk)
+    subst (λ a. KeepsDisk g.D.SlotDisk a c.args.disk.now c.answer-status.new.ends.1.1.1.1.0)
     (asks-one _ _ _ c.asked_by-asked.ensures asks) c.answer-status.ensures.any_moment
 
 pub returns-clause-causes : goal.returns-clause-causes
@@ -41,12 +41,12 @@ returns-clause-causes g c = λ asked asks.
     let same = asks-one _ _ _ c.asked_by-asked.ensures asks in
     let before = outside c.args.key.now c.args.input.now c.args.out.now c.args.log.now
     c.args.disk.now in
-    let after = outside c.answer-status.new.key c.answer-status.new.input c.answer-status.new.out
-    c.write_fault.new.log c.answer-status.new.disk in
+    let ends = c.answer-status.new.ends in
+    let after = outside ends.0 ends.1.0 ends.1.1.0 c.write_fault.new.log ends.1.1.1.1.0 in
     subst (λ a. HasCauses g.K.Source g.S.Source g.O.Sink g.L.Sink g.D.SlotDisk a before after
     c.answer-status.result) same
     (causes_after g.K.Source g.S.Source g.O.Sink g.L.Sink g.D.SlotDisk c.asked_by-asked.result
-    before after c.answer-status.new.log c.answer-status.result
+    before after ends.1.1.1.0 c.answer-status.result
     c.answer-status.ensures.causes c.write_fault.ensures.never_falls c.write_fault.ensures.same
     c.write_fault.ensures.flushes)
 
@@ -55,15 +55,14 @@ returns-clause-done g c = λ asked asks may calm.
     let same = asks-one _ _ _ c.asked_by-asked.ensures asks in
     let before = outside c.args.key.now c.args.input.now c.args.out.now c.args.log.now
     c.args.disk.now in
-    let after = outside c.answer-status.new.key c.answer-status.new.input c.answer-status.new.out
-    c.write_fault.new.log c.answer-status.new.disk in
+    let ends = c.answer-status.new.ends in
+    let after = outside ends.0 ends.1.0 ends.1.1.0 c.write_fault.new.log ends.1.1.1.1.0 in
     let right = subst (λ a. MayDo g.K.Source g.S.Source g.O.Sink g.L.Sink g.D.SlotDisk a before)
     (sym same) may in
-    let mid = outside c.answer-status.new.key c.answer-status.new.input c.answer-status.new.out
-    c.answer-status.new.log c.answer-status.new.disk in
+    let mid = outside ends.0 ends.1.0 ends.1.1.0 ends.1.1.1.0 ends.1.1.1.1.0 in
     subst (λ a. EndsWell a c.answer-status.result) same
     (asked_done g.K.Source g.S.Source g.O.Sink g.L.Sink g.D.SlotDisk c.asked_by-asked.result before
     mid c.answer-status.result right
     (calm_before g.K.Source g.S.Source g.O.Sink g.L.Sink g.D.SlotDisk before after
-    c.answer-status.new.log c.write_fault.ensures.never_falls calm)
+    ends.1.1.1.0 c.write_fault.ensures.never_falls calm)
     c.answer-status.ensures.does c.answer-status.ensures.causes)

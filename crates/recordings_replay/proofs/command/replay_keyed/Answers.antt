@@ -8,8 +8,8 @@ use Rattle.recordings_replay.specs.Recorded.{device_line, link_ticks}
 use Rattle.recordings_replay.proofs.Recording.{recorded-prints}
 use Rattle.recordings_replay.proofs.command.replay_keyed.Goals as goal
 
-pub returns-in-Whole-clause-prints : goal.returns-in-Whole-clause-prints
-returns-in-Whole-clause-prints g c =
+pub returns-clause-prints : goal.returns-clause-prints
+returns-clause-prints g c =
     let setup = setup_of c.args.key.now c.args.dir 0 in
     let both = c.in-Whole.ensures.listed in
     let takes = both.takes in
@@ -17,8 +17,8 @@ returns-in-Whole-clause-prints g c =
     let link = link_ticks takes.told in
     let listed = both.listed setup c.new-lists.ensures.listed in
     let listing = listing_with g.S.FrameBox g.C.FrameBox g.V.Device c.args.dir c.args.key.now in
-    recorded-prints listing c.args.device_rest (g.I.Source.left c.args.input.now)
-    (g.I.Source.left c.list_recordings-end.new.input) (g.O.Sink.held c.args.out.now)
+    recorded-prints listing c.args.device_rest (g.I.Source.left c.args.ends.input.now)
+    (g.I.Source.left c.list_recordings-end.new.input) (g.O.Sink.held c.args.ends.out.now)
     (g.O.Sink.held c.print_listing.new.out) takes.told
     (record { text = takes.text; met = takes.met; right = takes.right; few = takes.few })
     c.print_listing.result
@@ -31,11 +31,11 @@ returns-in-Whole-clause-prints g c =
       in_turn = c.requires.in_turn setup line;
     })))
 
-pub returns-in-Whole-clause-input : goal.returns-in-Whole-clause-input
-returns-in-Whole-clause-input g c = input_cause_of_whole _ _ c.print_listing.result
+pub returns-clause-input : goal.returns-clause-input
+returns-clause-input g c = input_cause_of_whole _ _ c.print_listing.result
     c.print_listing.ensures.status (c.in-Whole.ensures.read.same refl)
 
-pub returns-in-Whole-clause-flushes : goal.returns-in-Whole-clause-flushes
-returns-in-Whole-clause-flushes g c = flushes_of_whole g.O.Sink g.L.Sink _ _ _ _ _ _
+pub returns-clause-flushes : goal.returns-clause-flushes
+returns-clause-flushes g c = flushes_of_whole g.O.Sink g.L.Sink _ _ _ _ _ _
     c.in-Whole.ensures.flushes c.in-Whole.ensures.log_faults c.print_listing.result
     c.print_listing.ensures.flushes

@@ -2,7 +2,7 @@ use Rattle.std.proofs.Common.{◌≡◌, ◌++◌, subst, arith}
 use Rattle.yasir_ticks.specs.Ticks.{silent}
 use Rattle.replay_lists.specs.ReplayLists.{Listens}
 use Rattle.replay_lists.proofs.HeardRuns.{hears-nothing}
-use Rattle.replay_lists.proofs.Runs.{silent_on}
+use Rattle.replay_lists.proofs.HeardRuns.{silent_on}
 use Rattle.replay_lists.proofs.hearing.hear_silence.Goals as goal
 
 pub loop-done-init : goal.loop-done-init

@@ -7,11 +7,9 @@ use Rattle.tick_drive.proofs.input_loop.drive.Goals as goal
 
 pub loop-content-init : goal.loop-content-init
 loop-content-init g c = (
-  progress_start g.C.Consumer.meaning g.O.Sink g.L.Sink g.D.SlotDisk
+  progress_start g.C.Consumer.meaning g.met.C.Consumer.went_then
       _ _ _ _ (c.new-intake.ensures (g.S.Source.left c.args.input.now))
-      (gives_none g.C.Consumer.meaning g.O.Sink g.L.Sink g.D.SlotDisk _ c.requires.fresh.able
-      (λ kept image left. g.met.C.Consumer.safe_now _ _ image kept
-      (g.met.D.SlotDisk.only_now _ image left)))
+      (gives_none g.C.Consumer.meaning _ g.met.C.Consumer.went_none c.requires.fresh.able)
       c.requires.fresh.none,
   refl,
 )
@@ -21,7 +19,7 @@ loop-content-preserved-in-NoTick g c =
     let progress = c.loop-content.invariant.0 in
     let answer = (rw c.in-Ok-Some.field-0-is at c.in-Ok-Some.ensures.answer) _ _ progress.text
     progress.met in (
-      progress_quiet g.C.Consumer.meaning g.O.Sink g.L.Sink g.D.SlotDisk _ _ _ _ _ _ _ _ _ progress
+      progress_quiet g.C.Consumer.meaning g.met.C.Consumer.went_then _ _ _ _ _ _ _ _ _ progress
           (rw c.in-NoTick.is at answer),
       c.in-Ok-Some.ensures.cause.same refl ∙ c.loop-content.invariant.1,
     )
@@ -32,7 +30,7 @@ loop-content-preserved g c =
     let answer = (rw c.in-Ok-Some.field-0-is at c.in-Ok-Some.ensures.answer) _ _ progress.text
     progress.met in
     let line = line_lent _ _ _ _ _ _ _ c.line_bytes-bytes.ensures.bytes answer in (
-      progress_line g.C.Consumer.meaning g.O.Sink g.L.Sink g.D.SlotDisk
+      progress_line g.C.Consumer.meaning g.met.C.Consumer.went_then
           _ _ _ _ _ _ _ _ _ _ _ _ progress line c.in-Ok.ensures.handed c.in-Ok.ensures.taken,
       c.in-Ok-Some.ensures.cause.same refl ∙ c.loop-content.invariant.1,
     )
@@ -43,7 +41,7 @@ returns-in-Err-hand_over g c =
     let answer = (rw c.in-Ok-Some.field-0-is at c.in-Ok-Some.ensures.answer) _ _ progress.text
     progress.met in
     let line = line_lent _ _ _ _ _ _ _ c.line_bytes-bytes.ensures.bytes answer in
-    let ends = line_ends g.C.Consumer.meaning g.O.Sink g.L.Sink g.D.SlotDisk
+    let ends = line_ends g.C.Consumer.meaning g.met.C.Consumer.went_then
     _ _ _ _ _ _ _ _ _ _ _ _ progress line
     c.in-Err-hand_over.ensures.handed in
     record {
@@ -55,7 +53,7 @@ returns-in-Err-hand_over g c =
 pub returns-in-Err-clause-driven : goal.returns-in-Err-clause-driven
 returns-in-Err-clause-driven g c =
     let progress = c.loop-content.invariant.0 in
-    step_ends g.C.Consumer.meaning g.O.Sink g.L.Sink g.D.SlotDisk _ _ _ _ _ c.step.new.self
+    step_ends g.C.Consumer.meaning g.met.C.Consumer.went_then _ _ _ _ _ c.step.new.self
     _ _ _ _ progress (c.in-Err.ensures.answer _ _ progress.text progress.met)
 
 pub returns-in-Err-finish : goal.returns-in-Err-finish
@@ -63,7 +61,7 @@ returns-in-Err-finish g c =
     let progress = c.loop-content.invariant.0 in
     let met = (rw c.in-Ok-None.field-0-is at c.in-Ok-None.ensures.answer) _ _ progress.text
     progress.met in
-    let ends = finish_ends g.C.Consumer.meaning g.O.Sink g.L.Sink g.D.SlotDisk
+    let ends = finish_ends g.C.Consumer.meaning g.met.C.Consumer.went_then
     _ _ _ _ _ _ _ _ _ _ progress met (c.in-Err-finish.ensures _ progress.text met.fed) in
     record {
       driven = ends.0;
@@ -76,7 +74,7 @@ returns-in-Ok-hand_last-clause-driven g c =
     let progress = c.loop-content.invariant.0 in
     let met = (rw c.in-Ok-None.field-0-is at c.in-Ok-None.ensures.answer) _ _ progress.text
     progress.met in
-    last_ends g.C.Consumer.meaning g.O.Sink g.L.Sink g.D.SlotDisk _ _ _ _ _ _ _ _ _ _ _ _ progress
+    last_ends g.C.Consumer.meaning g.met.C.Consumer.went_then _ _ _ _ _ _ _ _ _ _ _ _ progress
     met (c.in-Ok-finish.ensures _ progress.text met.fed) c.in-Ok-hand_last.ensures.handed
 
 pub returns-in-Err-hand_last : goal.returns-in-Err-hand_last
@@ -84,7 +82,7 @@ returns-in-Err-hand_last g c =
     let progress = c.loop-content.invariant.0 in
     let met = (rw c.in-Ok-None.field-0-is at c.in-Ok-None.ensures.answer) _ _ progress.text
     progress.met in
-    let ends = last_line_ends g.C.Consumer.meaning g.O.Sink g.L.Sink g.D.SlotDisk
+    let ends = last_line_ends g.C.Consumer.meaning g.met.C.Consumer.went_then
     _ _ _ _ _ _ _ _ _ _ _ _ progress met (c.in-Ok-finish.ensures _ progress.text met.fed)
     c.in-Err-hand_last.ensures.handed in
     record {

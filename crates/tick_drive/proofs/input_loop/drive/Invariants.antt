@@ -1,14 +1,12 @@
 use Rattle.std.proofs.Common.{◌≡◌, ◌-◌}
-use Rattle.tick_drive.specs.Consumers.{state_of}
 use Rattle.tick_drive.proofs.Driving.{Progress}
 use Rattle.tick_drive.proofs.input_loop.drive.Given as goal
 
 abbrev pub invariant-loop-content : goal.invariant-loop-content
 invariant-loop-content g l =
-    Progress g.C.Consumer.meaning g.O.Sink g.L.Sink g.D.SlotDisk l.marks
+    Progress g.C.Consumer.meaning l.marks
     (g.S.Source.left l.fn.input) (g.S.Source.left l.input) l.intake
-    (state_of l.fn.consumer l.fn.out l.fn.log l.fn.disk) (state_of l.consumer l.out l.log l.disk)
-    l.ticks
+    l.fn.consumer l.consumer l.ticks
     × (g.S.Source.faults l.input ≡ g.S.Source.faults l.fn.input)
 
 abbrev pub decreases-loop-content : goal.decreases-loop-content

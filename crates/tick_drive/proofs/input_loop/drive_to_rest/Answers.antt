@@ -3,8 +3,8 @@ use Rattle.tick_drive.proofs.ItemLaws.{length-ticks_in-silence}
 use Rattle.tick_drive.proofs.Driving.{rest_taken, rest_stops, other_ends, few-whole}
 use Rattle.tick_drive.proofs.input_loop.drive_to_rest.Goals as goal
 
-pub take-requires : goal.take-requires
-take-requires g c =
+pub take_run-requires : goal.take_run-requires
+take_run-requires g c =
     let driven = c.in-Whole.ensures.driven in record {
       room = omega (
         arith,
@@ -19,15 +19,15 @@ take-requires g c =
 
 pub returns-in_default : goal.returns-in_default
 returns-in_default g c = record {
-  driven = other_ends g.C.Consumer.meaning g.O.Sink g.L.Sink g.D.SlotDisk _ c.args.rest
+  driven = other_ends g.C.Consumer.meaning g.met.C.Consumer.went_then _ c.args.rest
       _ _ _ _ _ c.in_default.not-Whole c.drive.ensures.driven;
   read = c.drive.ensures.read;
 }
 
 pub returns-in-Err-clause-driven : goal.returns-in-Err-clause-driven
-returns-in-Err-clause-driven g c = rest_stops g.C.Consumer.meaning g.O.Sink g.L.Sink g.D.SlotDisk
+returns-in-Err-clause-driven g c = rest_stops g.C.Consumer.meaning g.met.C.Consumer.went_then
     _ c.args.rest _ _ _ _ _ _ c.in-Whole.ensures.driven c.in-Err.ensures
 
 pub returns-in-Ok-clause-driven : goal.returns-in-Ok-clause-driven
-returns-in-Ok-clause-driven g c = rest_taken g.C.Consumer.meaning g.O.Sink g.L.Sink g.D.SlotDisk
+returns-in-Ok-clause-driven g c = rest_taken g.C.Consumer.meaning g.met.C.Consumer.went_then
     _ c.args.rest _ _ _ _ _ c.in-Whole.ensures.driven c.in-Ok.ensures

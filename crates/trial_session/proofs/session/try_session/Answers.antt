@@ -12,7 +12,7 @@ loop-init g c = (
 pub run_period-requires-clause-able : goal.run_period-requires-clause-able
 run_period-requires-clause-able g c =
     let may = c.loop.invariant.0 in
-    subst (MayGoOn g.S.CountingBox g.C.CountingBox g.V.Device c.loop.session)
+    subst (MayGoOn g.S.LinkBox g.C.LinkBox g.V.Device c.loop.session)
     (sym may.sealed_ticks) may
 
 pub run_period-requires-clause-room : goal.run_period-requires-clause-room
@@ -22,11 +22,12 @@ run_period-requires-clause-room g c =
 pub loop-preserved : goal.loop-preserved
 loop-preserved g c =
     let more : suc c.loop.counter ≡ c.loop.counter + 1 = omega arith in
-    let ticks : g.S.CountingBox.taken c.loop.session.sealing.line_box + 640
+    let ticks : g.S.LinkBox.taken c.loop.session.sealing.line_box + 640
     ≡ 640 * (c.loop.counter + 1) = omega (arith, c.loop.invariant.0.sealed_ticks) in (
-      subst (MayGoOn g.S.CountingBox g.C.CountingBox g.V.Device c.run_period.new.self) ticks
+      subst (MayGoOn g.S.LinkBox g.C.LinkBox g.V.Device c.run_period.new.self) ticks
           c.run_period.ensures.able,
-      subst (HasRun g.S.CountingBox g.C.CountingBox g.V.Device g.R.DrawnFrames.drawing c.args.behind
+      subst (HasRun g.S.LinkBox g.S.CountingBox.counting g.C.LinkBox g.C.CountingBox.counting
+          g.V.Device g.R.DrawnFrames.drawing c.args.behind
           c.run_period.new.self c.args.seed) more
           (c.run_period.ensures.run c.args.seed c.loop.counter c.loop.invariant.1),
     )
@@ -34,7 +35,7 @@ loop-preserved g c =
 pub close-requires-clause-able : goal.close-requires-clause-able
 close-requires-clause-able g c =
     let may = c.loop.invariant.0 in
-    subst (MayGoOn g.S.CountingBox g.C.CountingBox g.V.Device c.loop.session)
+    subst (MayGoOn g.S.LinkBox g.C.LinkBox g.V.Device c.loop.session)
     (sym may.sealed_ticks) may
 
 pub close-requires-clause-room : goal.close-requires-clause-room

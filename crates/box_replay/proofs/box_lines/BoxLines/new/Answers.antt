@@ -9,9 +9,9 @@ pub returns-clause-drives : goal.returns-clause-drives
 returns-clause-drives g c = λ link texts told is fits.
     let setup = setup_of c.args.key.now c.args.dir (journal_floor c.args.journal) in record {
       steps = c.new.ensures.stands c.args.journal;
-      sends = begins (g.B.LineBox.boxed setup) setup.floor c.new-2.result _ _ texts
+      sends = begins (g.B.LineBox.boxed setup) setup.floor c.new-2.result.writer _ _ texts
           (g.B.LineBox.is_boxed c.requires setup)
-          c.new-2.ensures c.new-3.ensures.waits c.new-4.ensures.waits;
+          c.new-2.ensures.written c.new-2.ensures.ticks c.new-2.ensures.notes;
       link_is = is;
       floor_told = subst (λ l. ToldFloor l (journal_floor c.args.journal) told) is fits.floor;
     }

@@ -1,6 +1,5 @@
-use Rattle.std.proofs.Common.{◌≡◌, ◌∙◌, ◌++◌, [], sym, ap, subst, arith, length, List}
-use Rattle.std.proofs.Common.{ℕ, take, map, refl}
-use Rattle.std.proofs.Common.{length-append}
+use Rattle.std.proofs.Common.{◌≡◌, ◌∙◌, ◌++◌, [], sym, ap, subst, arith, length, List, ℕ, take, map}
+use Rattle.std.proofs.Common.{refl, length-append}
 use Rattle.std.proofs.lemmas.List.{take-take, take-map, length-take-le}
 use Rattle.yasir_ticks.specs.declared.tick.Tick.{Tick}
 use Rattle.yasir_ticks.specs.declared.tick.Tick.TheVariants.{Byte}

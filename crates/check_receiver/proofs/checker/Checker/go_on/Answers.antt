@@ -6,12 +6,11 @@ use Rattle.check_receiver.specs.Stands.{HasTaken}
 use Rattle.check_receiver.proofs.Machine.{waiting-some}
 use Rattle.yasir_ticks.specs.declared.tick.Tick.TheVariants.{Byte}
 use Rattle.yasir_ticks.specs.declared.tick.Tick.{Tick}
-use Rattle.frame_ending.specs.Cuts.{cut_of}
 use Rattle.frame_ending.specs.declared.cut.Cut.TheVariants.{Live}
 use Rattle.frame_ending.proofs.Running.{live-tick}
 use Rattle.frame_ending.specs.LiveBytes.{live_bytes}
 use Rattle.burst_walk.specs.Causal.{going_on}
-use Rattle.check_receiver.proofs.Resting.{rest-byte}
+use Rattle.check_receiver.proofs.Resting.{begins-none, rest-taken}
 use Rattle.check_receiver.proofs.Entering.{live-taken, live-coded}
 use Rattle.check_receiver.proofs.Dropping.{drop-live}
 use Rattle.check_receiver.proofs.checker.Checker.go_on.Goals as goal
@@ -19,10 +18,10 @@ use Rattle.check_receiver.proofs.checker.Checker.go_on.Goals as goal
 pub returns-then-not-self-clause-step : goal.returns-then-not-self-clause-step
 returns-then-not-self-clause-step g c = λ last setup line t between.
     let is = live-tick g.R.LineRules.rules line t c.args.byte between.is_cut in
-    let C : Tick → Type 0 = λ u. cut_of g.R.LineRules.rules line u ≡ Live c.args.byte in
-    rest-byte g.R.LineRules g.M.Mac c.args.self.now last setup line t (Live c.args.byte) between
+    rest-taken g.R.LineRules g.M.Mac c.args.self.now last setup line t (Live c.args.byte) between
     c.pass_by.new.self c.pass_by.result c.pass_by.ensures.turned c.pass_by.ensures.note
-    c.args.byte is (inl (subst C is between.is_cut)) c.if-not-self.true
+    (begins-none g.R.LineRules.rules line t c.args.byte is (inl between.is_cut))
+    c.if-not-self.true
 
 pub returns-in-Short : goal.returns-in-Short
 returns-in-Short g c = record {

@@ -1,8 +1,5 @@
-use Rattle.std.proofs.Common.{◌≡◌, [], ◌∷◌, ◌++◌, inr, sym, subst, arith}
-use Rattle.std.proofs.Common.{refl, Option}
+use Rattle.std.proofs.Common.{◌≡◌, [], ◌∷◌, ◌++◌, inr, sym, subst, arith, refl, Option}
 use Rattle.std.proofs.lemmas.Result.{IfOk-weaker, on_err_weaker}
-use Rattle.yasir_ticks.specs.declared.tick.Tick.{Tick}
-use Rattle.frame_ending.specs.Cuts.{cut_of}
 use Rattle.frame_ending.specs.declared.cut.Cut.TheVariants.{Extra}
 use Rattle.frame_ending.proofs.Running.{extra-tick}
 use Rattle.link_verdicts.specs.declared.note.CheckNote.{CheckNote}
@@ -11,7 +8,7 @@ use Rattle.sequence_journal.specs.Journal.{journal_floor}
 use Rattle.check_receiver.specs.Between.{IsNoPass}
 use Rattle.check_receiver.proofs.Hearing.{hears-between, until-long, break-taken}
 use Rattle.check_receiver.proofs.Journals.{journal-kept}
-use Rattle.check_receiver.proofs.Resting.{rest-byte}
+use Rattle.check_receiver.proofs.Resting.{begins-none, rest-taken}
 use Rattle.check_receiver.proofs.Taking.{more-taken, whole-taken}
 use Rattle.check_receiver.proofs.checker.Checker.hear_extra.Goals as goal
 
@@ -20,10 +17,11 @@ use Rattle.check_receiver.proofs.checker.Checker.hear_extra.Goals as goal
 pub returns-then-not-self-clause-step : goal.returns-then-not-self-clause-step
 returns-then-not-self-clause-step g c = λ setup line t between.
     let is = extra-tick g.R.LineRules.rules line t c.args.byte between.is_cut in
-    let C : Tick → Type 0 = λ u. cut_of g.R.LineRules.rules line u ≡ Extra c.args.byte in
-    rest-byte g.R.LineRules g.M.Mac c.args.self.now (journal_floor c.args.journal.now) setup line t
+    rest-taken g.R.LineRules g.M.Mac c.args.self.now (journal_floor c.args.journal.now) setup line t
     (Extra c.args.byte) between c.pass_by.new.self c.pass_by.result c.pass_by.ensures.turned
-    c.pass_by.ensures.note c.args.byte is (inr (subst C is between.is_cut)) c.if-not-self.true
+    c.pass_by.ensures.note
+    (begins-none g.R.LineRules.rules line t c.args.byte is (inr between.is_cut))
+    c.if-not-self.true
 
 pub returns-then-not-self-clause-journal : goal.returns-then-not-self-clause-journal
 returns-then-not-self-clause-journal g c =

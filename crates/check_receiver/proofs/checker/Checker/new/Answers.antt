@@ -6,15 +6,14 @@ use Rattle.yasir_ticks.specs.declared.tick.Tick.{Tick}
 use Rattle.link_format.specs.Profile.{Profile, profile_of}
 use Rattle.link_format.specs.Setup.{Setup, setup_of}
 use Rattle.sequence_journal.specs.declared.numbers.TheConstants.{LIMIT}
-use Rattle.sequence_journal.specs.Journal.{journal_floor}
 use Rattle.link_verdicts.specs.Checking.{at_floor}
 use Rattle.link_verdicts.specs.Holding.{HasWalked}
 use Rattle.link_verdicts.proofs.Begun.{walked-begun}
 use Rattle.check_receiver.proofs.checker.Checker.new.Goals as goal
 
 pub returns-clause-stands : goal.returns-clause-stands
-returns-clause-stands g c = λ journal.
-    let setup : Setup = setup_of c.args.key.now c.args.dir (journal_floor journal) in
+returns-clause-stands g c = λ floor.
+    let setup : Setup = setup_of c.args.key.now c.args.dir floor in
     let profile : Profile = profile_of g.R.LineRules g.M.Mac g.row.B LIMIT setup in
     let W : ℕ → Type 0 = λ o. HasWalked profile g.R.LineRules.rules setup.floor 0 (bursts [])
     (at_floor setup.floor) false [] [] o None in

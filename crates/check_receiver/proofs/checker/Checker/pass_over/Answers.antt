@@ -1,5 +1,4 @@
-use Rattle.std.proofs.Common.{◌≡◌, ◌∙◌, ◌-◌, subst, arith, length, List}
-use Rattle.std.proofs.Common.{ℕ, take, map}
+use Rattle.std.proofs.Common.{◌≡◌, ◌∙◌, ◌-◌, subst, arith, length, List, ℕ, take, map}
 use Rattle.std.proofs.lemmas.List.{take-take, length-take-le}
 use Rattle.yasir_ticks.specs.declared.tick.Tick.{Tick}
 use Rattle.yasir_ticks.specs.declared.tick.Tick.TheVariants.{Byte}

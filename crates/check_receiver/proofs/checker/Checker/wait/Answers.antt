@@ -1,16 +1,15 @@
-use Rattle.std.proofs.Common.{◌∙◌, ◌+◌, ◌≤◌, ◌<◌, sym, arith, length, [], ◌∷◌}
-use Rattle.std.proofs.Common.{◌++◌}
+use Rattle.std.proofs.Common.{◌∙◌, ◌+◌, ◌≤◌, ◌<◌, sym, arith, length, [], ◌∷◌, ◌++◌}
 use Rattle.yasir_ticks.specs.declared.tick.Tick.TheVariants.{Silent}
 use Rattle.frame_ending.specs.LiveBytes.{live_end}
 use Rattle.check_receiver.proofs.Machine.{waiting-some}
-use Rattle.check_receiver.proofs.Silences.{rest-silent, refuse-silent, open-silent, waits-long}
-use Rattle.check_receiver.proofs.Silences.{waits-header}
+use Rattle.check_receiver.proofs.Resting.{rest-taken}
+use Rattle.check_receiver.proofs.Silences.{refuse-silent, open-silent, waits-long, waits-header}
 use Rattle.check_receiver.proofs.checker.Checker.wait.Goals as goal
 
 pub returns-then-not-self-clause-step : goal.returns-then-not-self-clause-step
 returns-then-not-self-clause-step g c = λ last setup line cut silence between.
-    rest-silent g.R.LineRules g.M.Mac c.args.self.now last setup line cut between
-    c.pass_by.new.self c.pass_by.result c.pass_by.ensures.turned c.pass_by.ensures.note
+    rest-taken g.R.LineRules g.M.Mac c.args.self.now last setup line Silent cut between
+    c.pass_by.new.self c.pass_by.result c.pass_by.ensures.turned c.pass_by.ensures.note tt
     c.if-not-self.true
 
 pub returns-then-from-clause-step : goal.returns-then-from-clause-step

@@ -1,15 +1,27 @@
-use Rattle.std.proofs.Common.{subst, []}
+use Rattle.std.proofs.Common.{ap, subst, []}
 use Rattle.link_format.specs.Setup.{setup_of}
-use Rattle.frame_boxes.proofs.Starting.{floor-of}
+use Rattle.sequence_journal.specs.Journal.{journal_floor}
+use Rattle.frame_boxes.specs.FramesOf.{frames_among}
+use Rattle.frame_boxes.proofs.Starting.{floor-of, no-note, no-tick}
 use Rattle.frame_boxes.proofs.shown_frames.ShownFramesFrameBox.new.Goals as goal
 
 pub returns-clause-stands : goal.returns-clause-stands
 returns-clause-stands g c = record {
-  notes = subst (λ n. g.X.NotingBox.stands c.new.result c.unwrap-journal.result
+  notes = subst (λ n. g.X.LinkBox.stands c.new.result (journal_floor c.unwrap-journal.result)
       (setup_of c.args.key.now c.args.dir n) [])
       (floor-of c.init.result c.unwrap-journal.result c.unwrap-journal.ensures
       c.init.ensures.floor)
-      (c.new.ensures.stands c.unwrap-journal.result);
+      (c.new.ensures.stands (journal_floor c.unwrap-journal.result));
   burst = c.new-2.ensures;
   room = c.requires.1;
 }
+
+pub returns-clause-nothing : goal.returns-clause-nothing
+returns-clause-nothing g c = λ setup.
+    let walking = g.X.LinkBox.walking in
+    ap (frames_among walking.frame_in) (no-note (walking.walker setup) (walking.begun setup))
+
+pub returns-clause-no_tick : goal.returns-clause-no_tick
+returns-clause-no_tick g c = λ setup.
+    let walking = g.X.LinkBox.walking in
+    no-tick (walking.walker setup) (walking.begun setup)

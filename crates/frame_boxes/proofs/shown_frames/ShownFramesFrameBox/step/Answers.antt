@@ -1,27 +1,34 @@
-use Rattle.std.proofs.Common.{◌++◌, ◌∷◌, [], subst, sym}
-use Rattle.replay_lists.specs.FrameBox.{AnswersFrame}
+use Rattle.std.proofs.Common.{◌++◌, ◌∷◌, []}
+use Rattle.frame_boxes.proofs.LastNotes.{frames-step}
 use Rattle.frame_boxes.proofs.Showing.{shown-live}
 use Rattle.frame_boxes.proofs.Starting.{never-fails}
 use Rattle.frame_boxes.proofs.shown_frames.ShownFramesFrameBox.step.Goals as goal
 
 pub unwrap-step-requires : goal.unwrap-step-requires
-unwrap-step-requires g c =
-    never-fails _ _ c.step-2.result (g.met.K.SteadyDisk.steady _) c.step-2.ensures.cause.failed
+unwrap-step-requires g c = never-fails _ _ c.step-2.result (g.met.K.SteadyDisk.steady _)
+    c.step-2.ensures.journal.cause.failed
 
 pub returns-clause-stands : goal.returns-clause-stands
 returns-clause-stands g c = λ setup line before. record {
-  notes = (rw c.unwrap-step.ensures at c.step-2.ensures.stands) setup line before.notes;
+  notes = ((rw c.unwrap-step.ensures at c.step-2.ensures.steps) setup line before.notes).stands;
   burst = c.step.ensures line before.burst;
   room = before.room;
 }
 
 pub returns-clause-answer : goal.returns-clause-answer
 returns-clause-answer g c = λ setup line before.
-    let notes = (rw c.unwrap-step.ensures at c.step-2.ensures.stands) setup line before.notes in
-    let stands = c.live.ensures _ setup (line ++ c.args.t ∷ []) notes in
+    let walking = g.X.LinkBox.walking in
+    let stepped = (rw c.unwrap-step.ensures at c.step-2.ensures.steps) setup line before.notes in
+    let now = line ++ c.args.t ∷ [] in
+    let live = c.live.ensures _ setup now stepped.stands in
     let burst = c.step.ensures line before.burst in
-    let bytes = shown-live g.R.LineRules _ _ _ (line ++ c.args.t ∷ []) before.room stands
-    (c.len-self.ensures _ stands) burst.kept in
-    subst (λ bytes. AnswersFrame (g.X.NotingBox.numbering setup) line c.args.t
-    c.unwrap-step.result bytes) (sym bytes) ((rw c.unwrap-step.ensures at
-    c.step-2.ensures.answer) setup line before.notes)
+    let bytes = shown-live g.R.LineRules _ _ _ now before.room live (c.len-self.ensures _ live)
+    burst.kept in
+    record {
+      tick_is = stepped.answers.tick;
+      frame_is = rw c.numbered.ensures
+          (frames-step (walking.walker setup)
+          (g.met.X.NotingBox.causal _ _ setup now stepped.stands) g.R.LineRules.rules
+          walking.frame_in walking.brief g.X.NotingBox.told (g.met.X.NotingBox.has_frames setup)
+          (walking.begun setup) line c.args.t _ bytes _ _ stepped.answers);
+    }

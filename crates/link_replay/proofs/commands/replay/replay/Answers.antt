@@ -27,22 +27,34 @@ pub replay_recordings-requires-in-Dnp3-Y24-clause-in_turn :
 replay_recordings-requires-in-Dnp3-Y24-clause-in_turn g c = λ setup line.
     sealed-numbered _ dnp_rules dnp_lawful setup.floor line
 
-pub returns-in-Rtu-Y18-clause-lists : goal.returns-in-Rtu-Y18-clause-lists
-returns-in-Rtu-Y18-clause-lists g c = rw (c.in-Rtu-Y18.is-0, c.in-Rtu-Y18.is-1)
-    (replays-so g.K.Source g.S.Source g.O.Sink Rtu Y18 c.args.dir _ _ _ _ _ _ _
-    c.replay_recordings.result c.replay_recordings.ensures.lists)
+pub returns-in-Rtu-Y18-clause-replays : goal.returns-in-Rtu-Y18-clause-replays
+returns-in-Rtu-Y18-clause-replays g c = rw (c.in-Rtu-Y18.is-0, c.in-Rtu-Y18.is-1) (record {
+  lists = replays-so g.K.Source g.S.Source g.O.Sink Rtu Y18 c.args.dir _ _ _ _ _ _ _
+      c.replay_recordings.result c.replay_recordings.ensures.lists;
+  log = c.replay_recordings.ensures.log;
+  disk = c.replay_recordings.ensures.disk;
+})
 
-pub returns-in-Dnp3-Y18-clause-lists : goal.returns-in-Dnp3-Y18-clause-lists
-returns-in-Dnp3-Y18-clause-lists g c = rw (c.in-Dnp3-Y18.is-0, c.in-Dnp3-Y18.is-1)
-    (replays-so g.K.Source g.S.Source g.O.Sink Dnp3 Y18 c.args.dir _ _ _ _ _ _ _
-    c.replay_recordings-in-Dnp3-Y18.result c.replay_recordings-in-Dnp3-Y18.ensures.lists)
+pub returns-in-Dnp3-Y18-clause-replays : goal.returns-in-Dnp3-Y18-clause-replays
+returns-in-Dnp3-Y18-clause-replays g c = rw (c.in-Dnp3-Y18.is-0, c.in-Dnp3-Y18.is-1) (record {
+  lists = replays-so g.K.Source g.S.Source g.O.Sink Dnp3 Y18 c.args.dir _ _ _ _ _ _ _
+      c.replay_recordings-in-Dnp3-Y18.result c.replay_recordings-in-Dnp3-Y18.ensures.lists;
+  log = c.replay_recordings-in-Dnp3-Y18.ensures.log;
+  disk = c.replay_recordings-in-Dnp3-Y18.ensures.disk;
+})
 
-pub returns-in-Rtu-Y24-clause-lists : goal.returns-in-Rtu-Y24-clause-lists
-returns-in-Rtu-Y24-clause-lists g c = rw (c.in-Rtu-Y24.is-0, c.in-Rtu-Y24.is-1)
-    (replays-so g.K.Source g.S.Source g.O.Sink Rtu Y24 c.args.dir _ _ _ _ _ _ _
-    c.replay_recordings-in-Rtu-Y24.result c.replay_recordings-in-Rtu-Y24.ensures.lists)
+pub returns-in-Rtu-Y24-clause-replays : goal.returns-in-Rtu-Y24-clause-replays
+returns-in-Rtu-Y24-clause-replays g c = rw (c.in-Rtu-Y24.is-0, c.in-Rtu-Y24.is-1) (record {
+  lists = replays-so g.K.Source g.S.Source g.O.Sink Rtu Y24 c.args.dir _ _ _ _ _ _ _
+      c.replay_recordings-in-Rtu-Y24.result c.replay_recordings-in-Rtu-Y24.ensures.lists;
+  log = c.replay_recordings-in-Rtu-Y24.ensures.log;
+  disk = c.replay_recordings-in-Rtu-Y24.ensures.disk;
+})
 
-pub returns-in-Dnp3-Y24-clause-lists : goal.returns-in-Dnp3-Y24-clause-lists
-returns-in-Dnp3-Y24-clause-lists g c = rw (c.in-Dnp3-Y24.is-0, c.in-Dnp3-Y24.is-1)
-    (replays-so g.K.Source g.S.Source g.O.Sink Dnp3 Y24 c.args.dir _ _ _ _ _ _ _
-    c.replay_recordings-in-Dnp3-Y24.result c.replay_recordings-in-Dnp3-Y24.ensures.lists)
+pub returns-in-Dnp3-Y24-clause-replays : goal.returns-in-Dnp3-Y24-clause-replays
+returns-in-Dnp3-Y24-clause-replays g c = rw (c.in-Dnp3-Y24.is-0, c.in-Dnp3-Y24.is-1) (record {
+  lists = replays-so g.K.Source g.S.Source g.O.Sink Dnp3 Y24 c.args.dir _ _ _ _ _ _ _
+      c.replay_recordings-in-Dnp3-Y24.result c.replay_recordings-in-Dnp3-Y24.ensures.lists;
+  log = c.replay_recordings-in-Dnp3-Y24.ensures.log;
+  disk = c.replay_recordings-in-Dnp3-Y24.ensures.disk;
+})

@@ -1,25 +1,24 @@
 use Rattle.std.proofs.Common.{◌≡◌, ◌∙◌, ℕ, List, [], ◌∷◌, map, take, sym, subst, arith}
 use Rattle.yasir_ticks.specs.declared.tick.Tick.TheVariants.{Byte}
-use Rattle.sequence_journal.specs.Journal.{journal_floor}
 use Rattle.seal_transmitter.specs.Runs.{HasTakenRun}
 use Rattle.seal_transmitter.proofs.Beginning.{first-of, begun-taken}
 use Rattle.seal_transmitter.proofs.RunSteps.{nothing-taken}
 use Rattle.seal_transmitter.proofs.sealer.Sealer.begin_some.Goals as goal
 
 pub returns-then-quiet-lt-T3_5_TICKS-clause-run : goal.returns-then-quiet-lt-T3_5_TICKS-clause-run
-returns-then-quiet-lt-T3_5_TICKS-clause-run g c = λ journal setup line stands.
-    nothing-taken g.R.LineRules g.M.Mac c.args.self.now (journal_floor journal) setup line stands
+returns-then-quiet-lt-T3_5_TICKS-clause-run g c = λ last setup line stands.
+    nothing-taken g.R.LineRules g.M.Mac c.args.self.now last setup line stands
 
 pub returns-then-ticks-self-clause-run : goal.returns-then-ticks-self-clause-run
-returns-then-ticks-self-clause-run g c = λ journal setup line stands.
-    nothing-taken g.R.LineRules g.M.Mac c.args.self.now (journal_floor journal) setup line stands
+returns-then-ticks-self-clause-run g c = λ last setup line stands.
+    nothing-taken g.R.LineRules g.M.Mac c.args.self.now last setup line stands
 
 pub returns-in_default-clause-run : goal.returns-in_default-clause-run
-returns-in_default-clause-run g c = λ journal setup line stands.
-    nothing-taken g.R.LineRules g.M.Mac c.args.self.now (journal_floor journal) setup line stands
+returns-in_default-clause-run g c = λ last setup line stands.
+    nothing-taken g.R.LineRules g.M.Mac c.args.self.now last setup line stands
 
 pub returns-clause-run : goal.returns-clause-run
-returns-clause-run g c = λ journal setup line stands.
+returns-clause-run g c = λ last setup line stands.
     let b : ℕ = c.in-Some.byte.now in
     let first : take 1 c.args.bytes.now ≡ b ∷ [] =
     first-of c.args.bytes.now b c.in-Some.ensures.value in
@@ -36,8 +35,8 @@ returns-clause-run g c = λ journal setup line stands.
     (g.R.LineRules.rules.label ∷ n ∷ b ∷ []) in
     let P : List ℕ → Type 0 = λ x. HasTakenRun g.R.LineRules g.M.Mac
     (record c.args.self.now { cut = c.step.new.self; mac = c.update.new.self })
-    (journal_floor journal) setup line (map Byte x) (map Byte x) in
+    last setup line (map Byte x) (map Byte x) in
     subst P (sym first)
-    (begun-taken g.R.LineRules g.M.Mac c.args.self.now (journal_floor journal) setup line stands
+    (begun-taken g.R.LineRules g.M.Mac c.args.self.now last setup line stands
     c.step.new.self c.update.new.self b (omega arith) (omega arith)
     (c.step.ensures.stands line stands.cuts) (λ text codes. subst D to (subst L label begun)))

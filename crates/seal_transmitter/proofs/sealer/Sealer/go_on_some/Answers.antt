@@ -2,25 +2,24 @@ use Rattle.std.proofs.Common.{◌≡◌, ◌∙◌, ◌++◌, ℕ, List, sym, su
 use Rattle.std.proofs.lemmas.Bool.{ltb-false}
 use Rattle.frame_ending.specs.SoFar.{start_so_far}
 use Rattle.yasir_ticks.specs.declared.tick.Tick.TheVariants.{Byte}
-use Rattle.sequence_journal.specs.Journal.{journal_floor}
 use Rattle.seal_transmitter.specs.Runs.{HasTakenRun}
 use Rattle.seal_transmitter.proofs.RunSteps.{nothing-taken, forward-taken}
 use Rattle.seal_transmitter.proofs.sealer.Sealer.go_on_some.Goals as goal
 
 pub returns-then-is_early-clause-run : goal.returns-then-is_early-clause-run
-returns-then-is_early-clause-run g c = λ journal setup line stands.
-    nothing-taken g.R.LineRules g.M.Mac c.args.self.now (journal_floor journal) setup line stands
+returns-then-is_early-clause-run g c = λ last setup line stands.
+    nothing-taken g.R.LineRules g.M.Mac c.args.self.now last setup line stands
 
 pub returns-then-count-eq0-clause-run : goal.returns-then-count-eq0-clause-run
-returns-then-count-eq0-clause-run g c = λ journal setup line stands.
+returns-then-count-eq0-clause-run g c = λ last setup line stands.
     let x : List ℕ = c.args.bytes.now in
     let n : ℕ = c.go_on_some-count.result in
     let zero : n ≡ 0 = omega arith in
     let P : ℕ → Type 0 = λ k. HasTakenRun g.R.LineRules g.M.Mac
-    (record c.args.self.now { cut = c.go_on_some-count.new.self }) (journal_floor journal) setup
+    (record c.args.self.now { cut = c.go_on_some-count.new.self }) last setup
     line (map Byte (take k x)) (map Byte (take k x)) in
     subst P zero
-    (forward-taken g.R.LineRules g.M.Mac c.args.self.now (journal_floor journal) setup line stands
+    (forward-taken g.R.LineRules g.M.Mac c.args.self.now last setup line stands
     c.go_on_some-count.new.self c.args.self.now.mac (take n x)
     (c.go_on_some-count.ensures.stands line stands.cuts)
     (c.go_on_some-count.ensures.live line stands.cuts)
@@ -30,8 +29,8 @@ returns-then-count-eq0-clause-run g c = λ journal setup line stands.
     (sym (ap (λ k. text ++ take k x) zero ∙ append-nil text)) codes))
 
 pub returns-clause-run : goal.returns-clause-run
-returns-clause-run g c = λ journal setup line stands.
-    forward-taken g.R.LineRules g.M.Mac c.args.self.now (journal_floor journal) setup line stands
+returns-clause-run g c = λ last setup line stands.
+    forward-taken g.R.LineRules g.M.Mac c.args.self.now last setup line stands
     c.go_on_some-count.new.self c.update.new.self (take c.go_on_some-count.result c.args.bytes.now)
     (c.go_on_some-count.ensures.stands line stands.cuts)
     (c.go_on_some-count.ensures.live line stands.cuts)

@@ -3,25 +3,24 @@ use Rattle.std.proofs.lemmas.Bool.{ltb-true}
 use Rattle.std.proofs.lemmas.List.{length-take-le, nil_from_length}
 use Rattle.frame_ending.specs.SoFar.{start_so_far}
 use Rattle.yasir_ticks.specs.Ticks.{silent}
-use Rattle.sequence_journal.specs.Journal.{journal_floor}
 use Rattle.link_format.specs.Trailers.{bytes_left}
 use Rattle.seal_transmitter.proofs.RunSteps.{sent, sent-silent, drop-none, nothing-taken}
 use Rattle.seal_transmitter.proofs.RunSteps.{early-taken}
 use Rattle.seal_transmitter.proofs.sealer.Sealer.hold.Goals as goal
 
 pub returns-then-left-gt0-clause-run : goal.returns-then-left-gt0-clause-run
-returns-then-left-gt0-clause-run g c = λ journal setup line stands.
-    nothing-taken g.R.LineRules g.M.Mac c.args.self.now (journal_floor journal) setup line stands
+returns-then-left-gt0-clause-run g c = λ last setup line stands.
+    nothing-taken g.R.LineRules g.M.Mac c.args.self.now last setup line stands
 
 pub returns-then-not-is_early-clause-run : goal.returns-then-not-is_early-clause-run
-returns-then-not-is_early-clause-run g c = λ journal setup line stands.
-    nothing-taken g.R.LineRules g.M.Mac c.args.self.now (journal_floor journal) setup line stands
+returns-then-not-is_early-clause-run g c = λ last setup line stands.
+    nothing-taken g.R.LineRules g.M.Mac c.args.self.now last setup line stands
 
 pub returns-clause-run : goal.returns-clause-run
-returns-clause-run g c = λ journal setup line stands.
+returns-clause-run g c = λ last setup line stands.
     let none : bytes_left c.args.self.now.trailer ≡ [] =
     sym c.left.ensures.left ∙ nil_from_length c.left.result.now (omega arith) in
-    early-taken g.R.LineRules g.M.Mac c.args.self.now (journal_floor journal) setup line stands
+    early-taken g.R.LineRules g.M.Mac c.args.self.now last setup line stands
     c.go_on_some.new.self c.args.self.now.trailer c.go_on_some.result
     (take c.go_on_some.result c.args.bytes.now) (silent c.go_on_some.result)
     (length-take-le c.go_on_some.result c.args.bytes.now c.go_on_some.ensures.within)

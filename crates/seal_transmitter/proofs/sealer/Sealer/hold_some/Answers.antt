@@ -1,14 +1,13 @@
 use Rattle.std.proofs.Common.{◌≡◌, ap, arith, map, take}
 use Rattle.yasir_ticks.specs.declared.tick.Tick.TheVariants.{Byte}
-use Rattle.sequence_journal.specs.Journal.{journal_floor}
 use Rattle.seal_transmitter.proofs.RunSteps.{run-behind}
 use Rattle.seal_transmitter.proofs.sealer.Sealer.hold_some.Goals as goal
 
 pub returns-clause-run : goal.returns-clause-run
-returns-clause-run g c = λ journal setup line stands.
+returns-clause-run g c = λ last setup line stands.
     let zero : c.hold-held.result ≡ 0 = omega arith in
-    run-behind g.R.LineRules g.M.Mac (journal_floor journal)
+    run-behind g.R.LineRules g.M.Mac last
     c.hold-held.new.self c.pass_over.new.self setup line _ _ _ _
     (ap (λ k. map Byte (take k c.args.bytes.now)) zero)
-    (c.hold-held.ensures.run journal setup line stands)
-    (λ still. c.pass_over.ensures.run journal setup line still)
+    (c.hold-held.ensures.run last setup line stands)
+    (λ still. c.pass_over.ensures.run last setup line still)

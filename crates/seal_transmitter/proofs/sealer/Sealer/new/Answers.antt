@@ -1,13 +1,12 @@
 use Rattle.std.proofs.Common.{refl, sym, subst, List, [], ℕ}
 use Rattle.link_format.specs.Setup.{Setup, setup_of}
-use Rattle.sequence_journal.specs.Journal.{journal_floor}
 use Rattle.seal_transmitter.specs.Stands.{Walks}
 use Rattle.seal_transmitter.proofs.Advancing.{walks-begun}
 use Rattle.seal_transmitter.proofs.sealer.Sealer.new.Goals as goal
 
 pub returns-clause-stands : goal.returns-clause-stands
-returns-clause-stands g c = λ journal.
-    let setup : Setup = setup_of c.args.key.now c.args.dir (journal_floor journal) in
+returns-clause-stands g c = λ floor.
+    let setup : Setup = setup_of c.args.key.now c.args.dir floor in
     let P : List ℕ → Type 0 = λ left.
     Walks g.R.LineRules g.M.Mac g.row.B setup.floor 0 left c.with_key.result setup [] in
     record {

@@ -1,21 +1,20 @@
 use Rattle.std.proofs.Common.{◌≡◌, ◌∙◌, [], sym, ap, take, arith}
 use Rattle.std.proofs.lemmas.List.{length-take-le, nil_from_length}
 use Rattle.yasir_ticks.specs.Ticks.{silent}
-use Rattle.sequence_journal.specs.Journal.{journal_floor}
 use Rattle.link_format.specs.Trailers.{bytes_left}
 use Rattle.seal_transmitter.proofs.RunSteps.{sent, sent-silent, drop-none, nothing-taken}
 use Rattle.seal_transmitter.proofs.RunSteps.{extra-taken}
 use Rattle.seal_transmitter.proofs.sealer.Sealer.pass_over.Goals as goal
 
 pub returns-then-left-gt0-clause-run : goal.returns-then-left-gt0-clause-run
-returns-then-left-gt0-clause-run g c = λ journal setup line stands.
-    nothing-taken g.R.LineRules g.M.Mac c.args.self.now (journal_floor journal) setup line stands
+returns-then-left-gt0-clause-run g c = λ last setup line stands.
+    nothing-taken g.R.LineRules g.M.Mac c.args.self.now last setup line stands
 
 pub returns-clause-run : goal.returns-clause-run
-returns-clause-run g c = λ journal setup line stands.
+returns-clause-run g c = λ last setup line stands.
     let none : bytes_left c.args.self.now.trailer ≡ [] =
     sym c.left.ensures.left ∙ nil_from_length c.left.result.now (omega arith) in
-    extra-taken g.R.LineRules g.M.Mac c.args.self.now (journal_floor journal) setup line stands
+    extra-taken g.R.LineRules g.M.Mac c.args.self.now last setup line stands
     c.pass_over_some.new.self c.args.self.now.trailer c.pass_over_some.result
     (take c.pass_over_some.result c.args.bytes.now) (silent c.pass_over_some.result)
     (length-take-le c.pass_over_some.result c.args.bytes.now c.pass_over_some.ensures.within)

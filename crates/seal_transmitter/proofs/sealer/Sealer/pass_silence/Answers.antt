@@ -2,27 +2,26 @@ use Rattle.std.proofs.Common.{map, sym, subst, List}
 use Rattle.yasir_ticks.specs.Ticks.{silent}
 use Rattle.yasir_ticks.specs.declared.tick.Tick.{Tick}
 use Rattle.yasir_ticks.specs.declared.tick.Tick.TheVariants.{Byte}
-use Rattle.sequence_journal.specs.Journal.{journal_floor}
 use Rattle.seal_transmitter.specs.Runs.{HasTakenRun}
 use Rattle.seal_transmitter.proofs.RunSteps.{answered-all, answered-none, nothing-taken}
 use Rattle.seal_transmitter.proofs.sealer.Sealer.pass_silence.Goals as goal
 
 pub returns-then-left-eq0-clause-run : goal.returns-then-left-eq0-clause-run
-returns-then-left-eq0-clause-run g c = λ journal setup line stands.
+returns-then-left-eq0-clause-run g c = λ last setup line stands.
     subst (λ (x : List Tick). HasTakenRun g.R.LineRules g.M.Mac c.args.self.now
-    (journal_floor journal) setup line (silent 0) x)
+    last setup line (silent 0) x)
     (answered-none 0 c.clear.new.self.items c.clear.ensures)
-    (nothing-taken g.R.LineRules g.M.Mac c.args.self.now (journal_floor journal) setup line stands)
+    (nothing-taken g.R.LineRules g.M.Mac c.args.self.now last setup line stands)
 
 pub returns-clause-run : goal.returns-clause-run
-returns-clause-run g c = λ journal setup line stands.
+returns-clause-run g c = λ last setup line stands.
     subst (λ (x : List Tick). HasTakenRun g.R.LineRules g.M.Mac c.send_some.new.self
-    (journal_floor journal) setup line
+    last setup line
     (silent c.put.result) x)
     (answered-all c.put.result c.send_some.result.items c.put.new.left.items
     c.put.ensures.count c.put.ensures.items)
     (subst (λ n. HasTakenRun g.R.LineRules g.M.Mac c.send_some.new.self
-    (journal_floor journal) setup line
+    last setup line
     (silent n) (map Byte c.send_some.result.items))
     (sym c.put.ensures.count)
-    (c.send_some.ensures.run journal setup line stands))
+    (c.send_some.ensures.run last setup line stands))

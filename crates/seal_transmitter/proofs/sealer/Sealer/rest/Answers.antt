@@ -1,21 +1,20 @@
 use Rattle.std.proofs.Common.{◌≡◌, ◌∙◌, [], sym, ap, arith}
 use Rattle.std.proofs.lemmas.List.{nil_from_length}
 use Rattle.yasir_ticks.specs.Ticks.{silent}
-use Rattle.sequence_journal.specs.Journal.{journal_floor}
 use Rattle.link_format.specs.Trailers.{bytes_left}
 use Rattle.seal_transmitter.proofs.RunSteps.{sent, sent-silent, drop-none, nothing-taken}
 use Rattle.seal_transmitter.proofs.RunSteps.{open-taken}
 use Rattle.seal_transmitter.proofs.sealer.Sealer.rest.Goals as goal
 
 pub returns-then-left-gt0-clause-run : goal.returns-then-left-gt0-clause-run
-returns-then-left-gt0-clause-run g c = λ journal setup line stands.
-    nothing-taken g.R.LineRules g.M.Mac c.args.self.now (journal_floor journal) setup line stands
+returns-then-left-gt0-clause-run g c = λ last setup line stands.
+    nothing-taken g.R.LineRules g.M.Mac c.args.self.now last setup line stands
 
 pub returns-clause-run : goal.returns-clause-run
-returns-clause-run g c = λ journal setup line stands.
+returns-clause-run g c = λ last setup line stands.
     let none : bytes_left c.args.self.now.trailer ≡ [] =
     sym c.left.ensures.left ∙ nil_from_length c.left.result.now (omega arith) in
-    open-taken g.R.LineRules g.M.Mac c.args.self.now (journal_floor journal) setup line stands
+    open-taken g.R.LineRules g.M.Mac c.args.self.now last setup line stands
     c.wait_open.new.cut c.args.self.now.trailer c.wait_open.result (silent c.wait_open.result)
     (c.wait_open.ensures.stands line stands.cuts) (c.wait_open.ensures.open line stands.cuts)
     (sym (drop-none c.wait_open.result (bytes_left c.args.self.now.trailer) none))

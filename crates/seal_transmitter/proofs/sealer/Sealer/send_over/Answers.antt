@@ -3,22 +3,21 @@ use Rattle.std.proofs.lemmas.Bool.{ltb-true}
 use Rattle.std.proofs.lemmas.List.{length-take-le, take-take}
 use Rattle.yasir_ticks.specs.declared.tick.Tick.TheVariants.{Byte}
 use Rattle.frame_ending.specs.SoFar.{start_so_far}
-use Rattle.sequence_journal.specs.Journal.{journal_floor}
 use Rattle.link_format.specs.Trailers.{bytes_left}
 use Rattle.seal_transmitter.specs.Runs.{HasTakenRun}
 use Rattle.seal_transmitter.proofs.RunSteps.{sent-bytes, nothing-taken, early-taken}
 use Rattle.seal_transmitter.proofs.sealer.Sealer.send_over.Goals as goal
 
 pub returns-then-not-is_early-clause-run : goal.returns-then-not-is_early-clause-run
-returns-then-not-is_early-clause-run g c = λ journal setup line stands.
+returns-then-not-is_early-clause-run g c = λ last setup line stands.
     let P : List ℕ → Type 0 = λ x. HasTakenRun g.R.LineRules g.M.Mac c.args.self.now
-    (journal_floor journal) setup line (map Byte (take (length x) c.args.bytes.now))
+    last setup line (map Byte (take (length x) c.args.bytes.now))
     (map Byte x) in
     subst P (sym c.new.ensures)
-    (nothing-taken g.R.LineRules g.M.Mac c.args.self.now (journal_floor journal) setup line stands)
+    (nothing-taken g.R.LineRules g.M.Mac c.args.self.now last setup line stands)
 
 pub returns-clause-run : goal.returns-clause-run
-returns-clause-run g c = λ journal setup line stands.
+returns-clause-run g c = λ last setup line stands.
     let count : ℕ = c.go_on_some-count.result in
     let left : List ℕ = bytes_left c.args.self.now.trailer in
     let among : List ℕ = take c.min-most.result c.args.bytes.now in
@@ -32,10 +31,10 @@ returns-clause-run g c = λ journal setup line stands.
     ap length c.send_some.ensures.sent ∙ length-take-le count left few in
     let P : List ℕ → Type 0 = λ x. HasTakenRun g.R.LineRules g.M.Mac
     (record c.args.self.now { cut = c.go_on_some-count.new.self; trailer = c.send_some.new.self })
-    (journal_floor journal) setup line (map Byte x) (map Byte c.send_some.result.items) in
+    last setup line (map Byte x) (map Byte c.send_some.result.items) in
     subst P (take-take count c.min-most.result c.args.bytes.now fewer
     ∙ ap (λ k. take k c.args.bytes.now) (sym long))
-    (early-taken g.R.LineRules g.M.Mac c.args.self.now (journal_floor journal) setup line stands
+    (early-taken g.R.LineRules g.M.Mac c.args.self.now last setup line stands
     c.go_on_some-count.new.self c.send_some.new.self count (take count among)
     (map Byte c.send_some.result.items) (length-take-le count among within)
     (c.go_on_some-count.ensures.stands line stands.cuts)

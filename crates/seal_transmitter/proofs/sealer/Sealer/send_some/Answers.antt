@@ -2,14 +2,13 @@ use Rattle.std.proofs.Common.{◌≡◌, ◌∙◌, ◌≤◌, ℕ, List, sym, a
 use Rattle.std.proofs.lemmas.List.{length-take-le}
 use Rattle.yasir_ticks.specs.Ticks.{silent}
 use Rattle.yasir_ticks.specs.declared.tick.Tick.TheVariants.{Byte}
-use Rattle.sequence_journal.specs.Journal.{journal_floor}
 use Rattle.link_format.specs.Trailers.{bytes_left}
 use Rattle.seal_transmitter.specs.Runs.{HasTakenRun}
 use Rattle.seal_transmitter.proofs.RunSteps.{sent-bytes, open-taken}
 use Rattle.seal_transmitter.proofs.sealer.Sealer.send_some.Goals as goal
 
 pub returns-clause-run : goal.returns-clause-run
-returns-clause-run g c = λ journal setup line stands.
+returns-clause-run g c = λ last setup line stands.
     let count : ℕ = c.wait_open-count.result in
     let left : List ℕ = bytes_left c.args.self.now.trailer in
     let within = c.wait_open-count.ensures.within in
@@ -19,9 +18,9 @@ returns-clause-run g c = λ journal setup line stands.
     ap length c.send_some.ensures.sent ∙ length-take-le count left few in
     let P : ℕ → Type 0 = λ k. HasTakenRun g.R.LineRules g.M.Mac
     (record c.args.self.now { cut = c.wait_open-count.new.cut; trailer = c.send_some.new.self })
-    (journal_floor journal) setup line (silent k) (map Byte c.send_some.result.items) in
+    last setup line (silent k) (map Byte c.send_some.result.items) in
     subst P (sym long)
-    (open-taken g.R.LineRules g.M.Mac c.args.self.now (journal_floor journal) setup line stands
+    (open-taken g.R.LineRules g.M.Mac c.args.self.now last setup line stands
     c.wait_open-count.new.cut c.send_some.new.self count (map Byte c.send_some.result.items)
     (c.wait_open-count.ensures.stands line stands.cuts)
     (c.wait_open-count.ensures.open line stands.cuts)

@@ -29,8 +29,9 @@ returns-in-Ok-clause-answer c = λ marks before now text met.
     let slice = take c.min-within.result kept in
     let n = c.feed_line-taken.result.taken in
     let fed = c.feed_line-taken.ensures in
-    let some : 0 < n = rw c.in-Ok.is at (fed.progress
-    (omega (arith, length-take c.min-within.result kept, ap length c.kept-kept.ensures))) in
+    let line = rw c.in-Ok.is at fed.fed in
+    let some : 0 < n = line.progress
+    (omega (arith, length-take c.min-within.result kept, ap length c.kept-kept.ensures)) in
     let whole = text_last text slice n fed.within some in
     let source = subst (λ l. before ≡ prepend_known text (prepend_known l now))
     (sym c.kept-kept.ensures) met.source in
@@ -39,8 +40,8 @@ returns-in-Ok-clause-answer c = λ marks before now text met.
       front = take (n - 1) slice;
       byte = get_or slice (n - 1) 0;
       met = subst (HasMet _ marks before now) (sym whole) (record {
-        stands = rw c.in-Ok.is at (fed.stands marks text met.stands);
-        begins = rw c.in-Ok.is at (fed.begins marks text met.stands);
+        stands = line.stands marks text met.stands;
+        begins = line.begins marks text met.stands;
         source = met_slice before now text kept _ c.min-within.result n fed.within rest source;
         open_end = c.skip.ensures.ended ∙ met.open_end;
         count = omega (
@@ -61,10 +62,9 @@ returns-in-Ok-clause-answer c = λ marks before now text met.
           c.min-within.ensures,
         );
       });
-      ended = ap ended_items whole ∙ (rw c.in-Ok.is at (fed.items marks text met.stands));
-      quiet = λ some. let last = rw c.in-Ok.is at (fed.last marks text met.stands) in
-          (last (λ none. some (ap (λ content. items_of_content content
-          (lent_bytes c.feed_line-taken.new.self)) none))).1;
+      ended = ap ended_items whole ∙ line.items marks text met.stands;
+      quiet = λ some. (line.last marks text met.stands (λ none. some (ap (λ content.
+          items_of_content content (lent_bytes c.feed_line-taken.new.self)) none))).1;
     }
 
 pub returns-in-Err-clause-answer : goal.returns-in-Err-clause-answer
@@ -72,7 +72,8 @@ returns-in-Err-clause-answer c = λ marks before now text met.
     let kept = c.kept-kept.result.now in
     let slice = take c.min-within.result kept in
     let n = c.feed_line-taken.result.taken in
-    let refused = rw c.in-Err.is at (c.feed_line-taken.ensures.refused marks text met.stands) in
+    let stop = rw c.in-Err.is at c.feed_line-taken.ensures.fed in
+    let refused = stop.refused marks text met.stands in
     let source = subst (λ l. before ≡ prepend_known text (prepend_known l now))
     (sym c.kept-kept.ensures) met.source in
     record {
@@ -80,12 +81,12 @@ returns-in-Err-clause-answer c = λ marks before now text met.
       refused = record {
         byte = get_or slice n 0;
         met = record {
-          came = met_slice_more before now text kept c.min-within.result n refused.0 source;
+          came = met_slice_more before now text kept c.min-within.result n stop.within source;
           within = omega (
             arith,
             met.count,
             met.within,
-            refused.0,
+            stop.within,
             length-append text (take n slice),
             length-take n slice,
             length-append (text ++ take n slice) (get_or slice n 0 ∷ []),
@@ -93,9 +94,9 @@ returns-in-Err-clause-answer c = λ marks before now text met.
             c.min-within.ensures,
           );
         };
-        refused = refused.1;
-        line = refused.2;
-        why = refused.3;
+        refused = refused.0;
+        line = refused.1;
+        why = refused.2;
       };
-      quiet = refused.4;
+      quiet = refused.3;
     }

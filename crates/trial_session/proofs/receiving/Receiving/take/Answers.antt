@@ -1,6 +1,7 @@
-use Rattle.std.proofs.Common.{◌∙◌, ◌++◌, ap, subst, sym, arith, length, take, append_assoc}
+use Rattle.std.proofs.Common.{◌∙◌, ◌++◌, ap, subst, sym, arith, length, take, drop, append_assoc}
 use Rattle.std.proofs.Common.{append-nil}
 use Rattle.std.proofs.lemmas.List.{take_all}
+use Rattle.yasir_ticks.specs.TickRun.{run_ticks}
 use Rattle.delay_ring.specs.DelayRing.{marked_ticks}
 use Rattle.trial_session.specs.Links.{link_sent}
 use Rattle.trial_session.specs.Sides.{IsReceiving}
@@ -22,9 +23,11 @@ loop-at-init g c = (
     );
   },
   omega arith,
-  λ link received. subst (IsReceiving g.C.CountingBox g.V.Device c.args.self.now
+  λ link received. subst (IsReceiving g.C.LinkBox g.C.CountingBox.counting g.V.Device
+      c.args.self.now
       c.new-waiting.result.items) (sym (append-nil link))
-      (receives-none g.C.CountingBox g.V.Device c.args.self.now c.new-waiting.result.items link
+      (receives-none g.C.LinkBox g.C.CountingBox.counting g.V.Device c.args.self.now
+      c.new-waiting.result.items link
       c.new-waiting.ensures received),
 )
 
@@ -32,15 +35,19 @@ pub loop-at-preserved : goal.loop-at-preserved
 loop-at-preserved g c =
     let at = c.loop-at.at in
     let ticks = link_sent c.args.link.now in
-    let n = c.take_run-at.result in
-    let before = c.loop-at.invariant in (
-      omega (arith, before.0, c.take_run-at.ensures.within),
-      c.take_run-at.ensures.able,
-      omega (arith, c.take_run-at.ensures.level, before.2),
-      λ line received. subst (IsReceiving g.C.CountingBox g.V.Device c.take_run-at.new.self
-          c.take_run-at.new.waiting.items)
-          (append_assoc line (take at ticks) _ ∙ ap (λ l. line ++ l) (sym (take-some at n ticks)))
-          (c.take_run-at.ensures.received _ (before.3 line received)),
+    let run = run_ticks c.run_from-run.result in
+    let before = c.loop-at.invariant in
+    let long = c.len-at.ensures in (
+      omega (arith, before.0, c.run_from-run.ensures.within, long),
+      c.take_run.ensures.able,
+      omega (arith, c.take_run.ensures.level, before.2, long),
+      λ line received. subst (IsReceiving g.C.LinkBox g.C.CountingBox.counting g.V.Device
+          c.take_run.new.self c.take_run.new.waiting.items)
+          (append_assoc line (take at ticks) run
+          ∙ ap (λ l. line ++ l) (ap (λ r. take at ticks ++ r) (sym c.run_from-run.ensures.ticks)
+          ∙ ap (λ n. take at ticks ++ take n (drop at ticks)) (sym long)
+          ∙ sym (take-some at c.len-at.result ticks)))
+          (c.take_run.ensures.received _ (before.3 line received)),
     )
 
 pub settle-requires-clause-few : goal.settle-requires-clause-few
@@ -66,7 +73,7 @@ pub returns-clause-received : goal.returns-clause-received
 returns-clause-received g c = λ line received.
     let link = c.args.link.now in
     let few = sent-few link.len (marked_ticks link.bytes link.marks) in
-    let so = subst (λ l. IsReceiving g.C.CountingBox g.V.Device c.loop-at.self
+    let so = subst (λ l. IsReceiving g.C.LinkBox g.C.CountingBox.counting g.V.Device c.loop-at.self
     c.loop-at.waiting.items (line ++ l))
     (take_all c.loop-at.at (link_sent link) (omega (
       arith,

@@ -12,10 +12,11 @@ returns-clause-run g c = λ drawing behind.
     (g.S.CountingBox.counting.other_line (session_line drawing seed 0)) in
     record {
       state_is = c.new.ensures ∙ sym (state-none drawing behind seed);
-      seals_line = subst (HasTaken g.S.CountingBox c.new-2.result) (sym none)
+      seals_line = subst (HasTaken g.S.LinkBox g.S.CountingBox.counting c.new-2.result) (sym none)
           c.new-2.ensures.taken;
       link_long = ap (λ l. length (g.S.CountingBox.counting.other_line l)) none
           ∙ ap length c.new-2.ensures.nothing.no_tick;
-      receives_link = subst (HasReceived g.C.CountingBox g.V.Device c.new-3.result) (sym link)
+      receives_link = subst (HasReceived g.C.LinkBox g.C.CountingBox.counting g.V.Device
+          c.new-3.result) (sym link)
           c.new-3.ensures.received;
     }

@@ -1,6 +1,8 @@
-use Rattle.std.proofs.Common.{ap, sym, ◌∙◌}
+use Rattle.std.proofs.Common.{◌∙◌, [], ap, replicate, subst, sym}
+use Rattle.sequence_journal.specs.Journal.{journal_floor}
 use Rattle.sequence_journal.specs.Slots.{greatest}
 use Rattle.sequence_journal.proofs.LoadLemmas.{blank_holds_none}
+use Rattle.trial_session.proofs.Counting.{counts-nothing}
 use Rattle.trial_session.proofs.Starting.{is-made, floor-of}
 use Rattle.trial_session.proofs.side.Side.new.Goals as goal
 
@@ -11,12 +13,20 @@ unwrap-journal-requires g c =
 
 pub returns-clause-taken : goal.returns-clause-taken
 returns-clause-taken g c =
-    let none = c.new.ensures.nothing in
+    let none = counts-nothing g.X.LinkBox.walking g.X.CountingBox.fate_of g.X.CountingBox.counting
+    g.met.X.CountingBox.counts in
     record {
-      stands = c.new.ensures.stands c.unwrap-journal.result
+      stands = subst (λ n. g.X.LinkBox.stands c.new.result
+          (journal_floor c.unwrap-journal.result)
+          (record { key = replicate 16 0; direction = 0; floor = n }) [])
           (floor-of c.init.result c.unwrap-journal.result c.unwrap-journal.ensures
-          c.init.ensures.floor);
+          c.init.ensures.floor)
+          (c.new.ensures.stands (journal_floor c.unwrap-journal.result));
       through_is = sym none.none_through;
       refused_is = sym none.none_refused;
       dropped_is = sym none.none_dropped;
     }
+
+pub returns-clause-nothing : goal.returns-clause-nothing
+returns-clause-nothing g c = counts-nothing g.X.LinkBox.walking g.X.CountingBox.fate_of
+    g.X.CountingBox.counting g.met.X.CountingBox.counts

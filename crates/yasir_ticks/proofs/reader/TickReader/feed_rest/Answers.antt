@@ -1,15 +1,12 @@
-use Rattle.std.proofs.Common.{◌∙◌, inl, inr, refl, arith}
+use Rattle.std.proofs.Common.{◌∙◌, arith}
 use Rattle.yasir_ticks.proofs.ManyBytes.{goes_on_slice, goes_on_byte, within_slice}
-use Rattle.yasir_ticks.proofs.WholeLines.{ends_after, stops_after}
+use Rattle.yasir_ticks.proofs.WholeLines.{ends_after, stops_after, line_ended, all_taken}
 use Rattle.yasir_ticks.proofs.reader.TickReader.feed_rest.Goals as goal
 
 pub returns-then-taken-bytes-clause-fed : goal.returns-then-taken-bytes-clause-fed
-returns-then-taken-bytes-clause-fed c = inr (record {
-  all = c.if-taken-bytes.true;
-  goes = goes_on_slice _ _ _ c.args.bytes.now _ _ c.loop-taken.invariant.goes
-      c.take_many-taken.ensures.goes;
-  none = refl;
-})
+returns-then-taken-bytes-clause-fed c = all_taken _ _ c.args.bytes.now _ c.if-taken-bytes.true
+    (goes_on_slice _ _ _ c.args.bytes.now _ _ c.loop-taken.invariant.goes
+    c.take_many-taken.ensures.goes)
 
 pub loop-taken-preserved : goal.loop-taken-preserved
 loop-taken-preserved c =
@@ -34,7 +31,7 @@ returns-in-Ok-Some-clause-fed c =
     c.take_many-taken.ensures.goes in
     let inside = within_slice c.args.bytes.now _ _ c.loop-taken.invariant.within
     c.take_many-taken.ensures.within c.if-taken-bytes.false in
-    inl (ends_after _ _ _ c.args.bytes.now _ inside goes _
+    line_ended _ _ c.args.bytes.now _ _ (ends_after _ _ _ c.args.bytes.now _ inside goes _
     (rw c.in-Ok-Some.field-0-is at c.in-Ok-Some.ensures.fed))
 
 pub returns-in-Err-clause-fed : goal.returns-in-Err-clause-fed

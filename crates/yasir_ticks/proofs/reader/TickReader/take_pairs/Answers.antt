@@ -1,5 +1,6 @@
 use Rattle.std.proofs.Common.{refl, arith}
-use Rattle.yasir_ticks.proofs.ManyBytes.{goes_on_then, goes_on_pair, take_pair}
+use Rattle.yasir_ticks.proofs.hex_digits.Decoding.{take_pair}
+use Rattle.yasir_ticks.proofs.ManyBytes.{goes_on_then, goes_on_pair}
 use Rattle.yasir_ticks.proofs.reader.TickReader.take_pairs.Goals as goal
 
 pub loop-taken-preserved : goal.loop-taken-preserved

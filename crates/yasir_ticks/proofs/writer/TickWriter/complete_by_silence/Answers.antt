@@ -1,21 +1,24 @@
-use Rattle.std.proofs.Common.{◌≡◌, ◌∙◌, ◌≤◌, ◌+◌, true, false, sym, ap}
+use Rattle.std.proofs.Common.{◌≡◌, ◌∙◌, ◌+◌, true, false, sym, ap, refl, arith}
 use Rattle.std.proofs.lemmas.Bool.{ltb-false}
+use borrow.Author.Tests.{ltb-true}
 use Rattle.yasir_ticks.specs.Line.{is_unfilled}
 use Rattle.yasir_ticks.specs.Writer.{joins}
 use Rattle.yasir_ticks.specs.declared.tick.Tick.TheVariants.{Silent}
-use Rattle.yasir_ticks.proofs.Writers.{silence_fills, silent_ends_bytes}
+use Rattle.yasir_ticks.proofs.Writers.{silence_filled, bytes_ended}
 use Rattle.yasir_ticks.proofs.writer.TickWriter.complete_by_silence.Goals as goal
 
 pub returns-in-Silence : goal.returns-in-Silence
 returns-in-Silence c =
-    let full : 1000000 ≤ c.in-Silence.field-0 + 1 =
-    ltb-false (c.in-Silence.field-0 + 1) 1000000
+    let n = c.in-Silence.field-0 in
+    let enough = ltb-false (n + 1) 1000000
     (sym (ap (λ run. joins run Silent) c.in-Silence.is) ∙ c.requires) in
-    silence_fills _ c.in-Silence.field-0 _ c.in-Silence.is c.args.self.now.room full
+    let few = ltb-true n 1000000 (sym (ap is_unfilled c.in-Silence.is) ∙ c.args.self.now.room) in
+    silence_filled _ n 1000000 _ c.in-Silence.is (omega (arith, enough, few)) refl
     c.count_line.ensures
 
 pub returns-in-Bytes : goal.returns-in-Bytes
-returns-in-Bytes c = silent_ends_bytes _ c.in-Bytes.line _ c.in-Bytes.is c.args.self.now.room
+returns-in-Bytes c = bytes_ended _ c.in-Bytes.line _ c.in-Bytes.is
+    (ltb-true _ 32 (sym (ap is_unfilled c.in-Bytes.is) ∙ c.args.self.now.room))
     c.hex_line-line.ensures
 
 pub returns-in-Nothing : goal.returns-in-Nothing

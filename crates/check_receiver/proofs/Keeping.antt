@@ -1,0 +1,81 @@
+-- What a step does to the journal and its disk, as a step of a box of a link; and runs as its runs.
+use Rattle.std.proofs.Common.{◌≡◌, ◌≤◌, ℕ, List, Ok, Err, Option, Some, None, ap, arith}
+use Rattle.yasir_ticks.specs.declared.tick.Tick.{Tick}
+use Rattle.yasir_io.specs.declared.disk.SlotDisk.{Ghosts as SlotDisk}
+use Rattle.burst_walk.specs.declared.box_step.BoxStep.{BoxStep}
+use Rattle.line_rules.specs.declared.line_rules.LineRules.{Ghosts as LineRules}
+use Rattle.hmac_tag.specs.declared.tag.Mac.{Ghosts as Mac}
+use Rattle.link_format.specs.Setup.{Setup}
+use Rattle.link_box.specs.Stepping.{KeepsJournal as KeepsBoxed}
+use Rattle.link_box.specs.Runs.{TakesRun}
+use Rattle.link_box.proofs.TakenRuns.{takes-as}
+use Rattle.sequence_journal.specs.declared.journal.Journal.{Journal}
+use Rattle.sequence_journal.specs.declared.journal.JournalFault.{JournalFault}
+use Rattle.sequence_journal.specs.Journal.{journal_floor}
+use Rattle.link_verdicts.specs.declared.note.CheckNote.{CheckNote}
+use Rattle.link_verdicts.specs.declared.note.CheckNote.TheVariants.{Passed, Refused, Dropped}
+use Rattle.check_receiver.specs.Checkings.{CommitsNoted, KeepsJournal}
+use Rattle.check_receiver.specs.Boxed.{check_walking}
+use Rattle.check_receiver.specs.Runs.{HasTakenRun}
+use Rattle.check_receiver.specs.Stands.{StandsAt}
+use Rattle.check_receiver.specs.declared.checker.Checker.{Checker}
+
+-- a step doesn't lower the journal's floor
+pub commits-rise : {S : Type 0} (d : SlotDisk S) (old new : Journal) (disk_old disk_new : S)
+    (note : Option CheckNote)
+    → CommitsNoted d old new disk_old disk_new note → journal_floor old ≤ journal_floor new
+commits-rise d old new disk_old disk_new None h = omega (arith, ap journal_floor h.0)
+commits-rise d old new disk_old disk_new (Some (Refused start why)) h =
+    omega (arith, ap journal_floor h.0)
+commits-rise d old new disk_old disk_new (Some (Dropped start why)) h =
+    omega (arith, ap journal_floor h.0)
+commits-rise d old new disk_old disk_new (Some (Passed number start len)) h =
+    omega (arith, h.above, h.floor)
+
+module _ {S : Type 0} (d : SlotDisk S) (old new : Journal) (disk_old disk_new : S) where
+  pub keeps-ok : (step : BoxStep CheckNote)
+      → KeepsJournal d old new disk_old disk_new (Ok step)
+      → KeepsBoxed d old new disk_old disk_new (Ok step)
+  keeps-ok step keeps = record {
+    link = keeps.link;
+    rises = commits-rise d old new disk_old disk_new step.note keeps.commits;
+    fits = keeps.fits;
+    crash_safe = keeps.crash_safe;
+    any_moment = keeps.any_moment;
+    cause = record {
+      never_falls = keeps.cause.never_falls;
+      failed = tt;
+      same = keeps.cause.same;
+    };
+  }
+
+  pub keeps-err : (fault : JournalFault)
+      → KeepsJournal d old new disk_old disk_new (Err fault)
+      → KeepsBoxed {A = BoxStep CheckNote} d old new disk_old disk_new (Err fault)
+  keeps-err fault keeps = record {
+    link = keeps.link;
+    rises = omega (arith, keeps.failed.1.floor);
+    fits = tt;
+    crash_safe = keeps.crash_safe;
+    any_moment = keeps.any_moment;
+    cause = record {
+      never_falls = keeps.cause.never_falls;
+      failed = keeps.cause.failed;
+      same = tt;
+    };
+  }
+
+module _ {R M : Type 0} (proto : LineRules R) (code : Mac M) {B D : ℕ}
+    (old new : Checker R M B D) where
+  -- A run that it takes is one of a box, by other names.
+  pub takes-run : (run answer front told : List Tick) → run ≡ front → answer ≡ told
+      → ((last : ℕ) (setup : Setup) (line : List Tick) → StandsAt proto code old last setup line
+      → HasTakenRun proto code new last setup line run answer)
+      → TakesRun (check_walking proto code B) (λ value. StandsAt proto code value) old new front
+      told
+  takes-run run answer front told run_is answer_is takes =
+      takes-as (check_walking proto code B) (λ value. StandsAt proto code value) old new run answer
+      front told run_is answer_is
+      (λ last setup line stands.
+      let taken = takes last setup line stands in
+      record { stands = taken.stands; answers = taken.answers })

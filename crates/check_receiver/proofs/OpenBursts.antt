@@ -1,0 +1,98 @@
+-- The burst whose verdict is open, as the machine holds it.
+use Rattle.std.proofs.Common.{◌≡◌, ◌∙◌, ℕ, ◌+◌, ◌-◌, ◌<◌, ◌≤◌, ◌==◌, Bool, false, List, ◌∷◌, ◌++◌}
+use Rattle.std.proofs.Common.{length, take, get_or, sym, ap, subst, arith, ⊎_elim, Option, Some}
+use Rattle.yasir_ticks.specs.Ticks.{silent, bytes_in}
+use Rattle.yasir_ticks.specs.Bursts.{Burst, bursts}
+use Rattle.yasir_ticks.specs.declared.tick.Tick.{Tick}
+use Rattle.yasir_ticks.specs.declared.tick.Tick.TheVariants.{Silent, Byte}
+use Rattle.line_rules.specs.declared.line_rules.LineRules.{Ghosts as LineRules}
+use Rattle.delay_ring.specs.DelayRing.{ring_ticks}
+use Rattle.delay_ring.specs.declared.delay_ring.DelayRing.{DelayRing}
+use Rattle.spoiler.specs.declared.outlet.Outlet.{Outlet}
+use Rattle.spoiler.specs.Outlet.{StandsFor as OutletStandsFor, owed_by}
+use Rattle.hmac_tag.specs.declared.tag.Mac.{Ghosts as Mac}
+use Rattle.link_format.specs.Profile.{profile_of}
+use Rattle.link_format.specs.Setup.{Setup}
+use Rattle.sequence_journal.specs.declared.numbers.TheConstants.{LIMIT}
+use Rattle.link_verdicts.specs.Holding.{HasWalked}
+use Rattle.link_verdicts.specs.Leaving.{leaves}
+use Rattle.link_verdicts.specs.Timely.{IsTimely}
+use Rattle.link_verdicts.specs.Turns.{HasTurned}
+use Rattle.link_verdicts.proofs.Flow.{flows}
+use Rattle.link_verdicts.proofs.Opened.{IsOpen}
+use Rattle.link_verdicts.proofs.Opening.{leaves-front}
+use Rattle.link_verdicts.proofs.Rings.{ring-first}
+use Rattle.check_receiver.specs.Stands.{Walks}
+use Rattle.check_receiver.specs.Turning.{Turned}
+use Rattle.check_receiver.specs.declared.arriving.Arriving.{Arriving}
+use Rattle.check_receiver.specs.declared.checker.Checker.{Checker}
+use Rattle.check_receiver.proofs.Machine.{some-left}
+
+-- a header is whole before its first byte leaves
+pub timely : {R M : Type 0} (proto : LineRules R) (code : Mac M) (B : ℕ) (setup : Setup) → 2 ≤ B
+    → IsTimely (profile_of proto code B LIMIT setup) proto.rules
+timely proto code B setup wide =
+    let short = proto.headed.short in
+    record {
+      in_time = ⊎_elim (λ twelve. omega arith) (λ sixteen. omega arith) code.tag_size;
+    }
+
+pub open-walks : {R M : Type 0} {proto : LineRules R} {code : Mac M} {B D last earliest : ℕ}
+    {waits passes : Bool} {mac : M} {arriving : Arriving B} {ring : DelayRing D} {until : ℕ}
+    {outlet : Outlet R} {setup : Setup} {line : List Tick}
+    (walks : Walks proto code B D last earliest waits passes mac arriving ring until outlet setup
+    line)
+    → 2 ≤ B → (d : Burst) → walks.waiting ≡ Some d
+    → IsOpen proto (profile_of proto code B LIMIT setup) setup.floor
+    (record { floor = last; earliest_start = earliest }) line passes walks.left walks.live
+    (owed_by outlet) d
+open-walks {R} {M} {proto} {code} {B} {D} {last} {earliest} {waits} {passes} {mac} {arriving} {ring}
+    {until} {outlet} {setup} {line} walks wide d is =
+    let W : Option Burst → Type 0 = λ o. HasWalked (profile_of proto code B LIMIT setup) proto.rules
+    setup.floor (length line) (bursts line) (record { floor = last; earliest_start = earliest })
+    passes walks.left walks.live (owed_by outlet) o in
+    record {
+      timely = timely proto code B setup wide;
+      some = omega arith;
+      walked = subst W is walks.walked;
+    }
+
+-- ---- the turn of a ring that holds more than one live tick: what isn't the last one leaves as it
+-- came, whatever the verdict
+
+turned-any : {R : Type 0} (proto : LineRules R) (old new : Outlet R) (p q : Bool) (x : List ℕ)
+    (answer u : Tick) → HasTurned proto old new false p x answer u
+    → HasTurned proto old new false q x answer u
+turned-any proto old new p q x answer Silent turned = turned
+turned-any proto old new p q x answer (Byte b) turned = turned
+
+pub record Moved {R : Type 0} (proto : LineRules R) (left : List ℕ) (live : List Tick)
+    (new : Outlet R) (answer : Tick) : Type 0 where
+  pub stands : OutletStandsFor proto new (left ++ bytes_in (take 1 live))
+  pub answer_is : answer ≡ get_or live 0 Silent
+  pub unowed : owed_by new ≡ 0
+
+pub moved : {R M : Type 0} (proto : LineRules R) {B D : ℕ} (base new : Checker R M B D)
+    (entering answer : Tick) → Turned proto base new entering answer
+    → (left : List ℕ) (live : List Tick) → OutletStandsFor proto base.outlet left
+    → ring_ticks base.ring ≡ live ++ silent (D - length live) → owed_by base.outlet ≡ 0
+    → (base.until == 0) ≡ false → 1 < length live
+    → length (left ++ bytes_in live) ≤ proto.rules.room (left ++ bytes_in live)
+    → Moved proto left live new.outlet answer
+moved proto {B} {D} base new entering answer turned left live stands ring_is none other more room =
+    let first = ap (λ l. get_or l 0 Silent) ring_is ∙ ring-first live (D - length live) in
+    let P : Bool → Type 0 = λ l. HasTurned proto base.outlet new.outlet l base.passed left answer
+    (get_or (ring_ticks base.ring) 0 Silent) in
+    let still : P false = subst P other (turned.out left stands) in
+    let Q : Tick → Type 0 = λ u. HasTurned proto base.outlet new.outlet false false left answer u in
+    let turn : Q (get_or live 0 Silent) = subst Q first (turned-any proto base.outlet new.outlet
+    base.passed false left answer (get_or (ring_ticks base.ring) 0 Silent) still) in
+    let flow = flows proto false left live base.outlet new.outlet false answer (λ there. none)
+    (λ there. sym (some-left live more)) (λ there. room) turn in
+    record {
+      stands = subst (λ x. OutletStandsFor proto new.outlet x) (flow.after_is none) flow.stands;
+      answer_is = flow.answer_is
+          ∙ (ap (λ n. get_or (leaves proto.rules false left live n) 0 Silent) none
+          ∙ leaves-front proto.rules false left live 0 (omega arith));
+      unowed = flow.unowed more;
+    }

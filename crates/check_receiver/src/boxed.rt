@@ -1,0 +1,50 @@
+//! The receiver as a box of a link.
+ghost use Rattle.std.specs.Prelude.{◌≡◌, ◌+◌, ◌≤◌};
+ghost use Rattle.link_format.specs.Profile.{IsWordLen};
+ghost use Rattle.check_receiver.specs.Boxed.{check_walking};
+ghost use Rattle.check_receiver.specs.Stands.{StandsAt, ticks_taken};
+
+use crate::{CheckNote, Checker};
+use burst_walk::{BoxStep, RunBytes};
+use hmac_tag::{Dir, Mac};
+use line_rules::LineRules;
+use link_box::LinkBox;
+use sequence_journal::{Journal, JournalFault};
+use yasir_io::SlotDisk;
+use yasir_ticks::{Tick, TickRun};
+
+impl<R: LineRules, M: Mac, const B: usize, const D: usize> LinkBox for Checker<R, M, B, D> {
+    type Note = CheckNote;
+
+    ghost stands = { λ value. StandsAt R.LineRules M.Mac value };
+
+    ghost taken = { λ value. ticks_taken value };
+
+    ghost walking = { check_walking R.LineRules M.Mac B };
+
+    ghost widths_fit = { IsWordLen B × (2 ≤ B) × (D ≡ 4 + B + M.TAG) };
+
+    fn new(key: &[u8], dir: Dir) -> Self {
+        Checker::new(key, dir)
+    }
+
+    #[inline(always)]
+    fn step<S: SlotDisk>(
+        &mut self,
+        t: Tick,
+        journal: &mut Journal,
+        disk: &mut S,
+    ) -> Result<BoxStep<CheckNote>, JournalFault> {
+        match Checker::step(self, t, journal, disk) {
+            Ok(step) => Ok(step),
+            Err(JournalFault) => Err(JournalFault),
+        }
+    }
+
+    fn pass(&mut self, run: TickRun<'_>, left: &mut RunBytes) -> usize {
+        match run {
+            TickRun::Bytes(bytes) => self.pass_bytes(bytes, left),
+            TickRun::Silence(ticks) => self.pass_silence(ticks, left) as usize,
+        }
+    }
+}

@@ -1,0 +1,244 @@
+//! Runs of ticks that the receiver takes at once, by what it is in: a burst whose verdict is open,
+//! live ticks that are still to leave, or neither.
+use super::{Checker, PAUSE};
+use crate::runs::{alike_along, begin_well, cut_some, lend, lend_along};
+use burst_walk::RunBytes;
+use hmac_tag::Mac;
+use line_rules::LineRules;
+use yasir_ticks::{MAX_TICKS, Tick};
+
+impl<R: LineRules, M: Mac, const B: usize, const D: usize> Checker<R, M, B, D> {
+    ghost use Rattle.std.specs.Prelude.{◌≡◌, ℕ, ◌+◌, ◌-◌, ◌<◌, ◌≤◌, List, [], ◌∷◌, ◌++◌, length};
+    ghost use Rattle.std.specs.Prelude.{true, false};
+    ghost use Rattle.yasir_ticks.specs.declared.tick.Tick.{Tick};
+    ghost use Rattle.yasir_ticks.specs.declared.tick.Tick.TheVariants.{Silent, Byte};
+    ghost use Rattle.frame_ending.specs.declared.cut.Cut.TheVariants.{Start, Live};
+    ghost use Rattle.frame_ending.specs.SoFar.{live_bytes_so_far};
+    ghost use Rattle.delay_ring.specs.DelayRing.{ring_ticks};
+    ghost use Rattle.link_format.specs.Setup.{Setup};
+    ghost use Rattle.check_receiver.specs.Stands.{ticks_taken};
+    ghost use Rattle.line_rules.specs.Rules.{head_of};
+    ghost use Rattle.check_receiver.specs.Runs.{KeepsHeader};
+    ghost use Rattle.frame_ending.specs.Cuts.{cut_of};
+    ghost use Rattle.line_rules.specs.declared.head.Head.TheVariants.{Bad};
+    ghost use Rattle.std.specs.Prelude.{slice_index_or};
+    ghost use Rattle.std.specs.Prelude.{map, take};
+    ghost use Rattle.yasir_ticks.specs.Ticks.{silent};
+    ghost use Rattle.spoiler.specs.Outlet.{owed_by};
+    ghost use Rattle.burst_walk.specs.Answered.{answered};
+    ghost use Rattle.check_receiver.specs.Stands.{StandsAt};
+    ghost use Rattle.check_receiver.specs.Runs.{HasTakenRun};
+
+    // Live bytes of the burst whose verdict is open.
+    pub(super) fn follow(&mut self, bytes: &[u8], left: &mut RunBytes) -> usize
+        requires room { ticks_taken self.old + length bytes.now ≤ MAX_TICKS }
+        requires waits { self.old.waits ≡ true }
+        requires empty { left.old.items ≡ [] }
+        ensures within { result ≤ length bytes.now }
+        ensures taken { ticks_taken self.new ≡ ticks_taken self.old + result }
+        ensures run { (last : ℕ) (setup : Setup) (line : List Tick)
+            → StandsAt R.LineRules M.Mac self.old last setup line
+            → HasTakenRun R.LineRules M.Mac self.new last setup line
+            (map Byte (take result bytes.now)) (answered result left.new.items) }
+    {
+        if !self.has_good_head() {
+            return 0;
+        }
+        self.follow_on(bytes, left)
+    }
+
+    // The same where the header stays a good one as far as it is whole.
+    #[inline]
+    fn follow_on(&mut self, bytes: &[u8], left: &mut RunBytes) -> usize
+        requires room { ticks_taken self.old + length bytes.now ≤ MAX_TICKS }
+        requires empty { left.old.items ≡ [] }
+        ensures within { result ≤ length bytes.now }
+        ensures taken { ticks_taken self.new ≡ ticks_taken self.old + result }
+        ensures run { (last : ℕ) (setup : Setup) (line : List Tick)
+            → StandsAt R.LineRules M.Mac self.old last setup line
+            → self.old.waits ≡ true
+            → KeepsHeader R.rules (live_bytes_so_far R.rules line) bytes.now
+            → HasTakenRun R.LineRules M.Mac self.new last setup line
+            (map Byte (take result bytes.now)) (answered result left.new.items) }
+        ensures silent { slice_index_or (ring_ticks self.old.ring) 0 Silent ≡ Silent
+            → left.new.items ≡ [] }
+    {
+        let count = alike_along(&self.ring, bytes);
+        let part = &bytes[..count];
+        let taken = self.cut.go_on_some(part);
+        if taken == 0 {
+            return 0;
+        }
+        let entering = &part[..taken];
+        lend_along(&self.ring, &mut self.outlet, bytes, taken, left);
+        self.mac.update(entering);
+        self.ring.pass_bytes(entering);
+        let whole = D as u8;
+        self.until = whole;
+        taken
+    }
+
+    // Bytes of the trailer of the burst whose verdict is open, but for the last one.
+    pub(super) fn hear_trailer(&mut self, bytes: &[u8], left: &mut RunBytes) -> usize
+        requires room { ticks_taken self.old + length bytes.now ≤ MAX_TICKS }
+        requires waits { self.old.waits ≡ true }
+        requires empty { left.old.items ≡ [] }
+        ensures within { result ≤ length bytes.now }
+        ensures taken { ticks_taken self.new ≡ ticks_taken self.old + result }
+        ensures run { (last : ℕ) (setup : Setup) (line : List Tick)
+            → StandsAt R.LineRules M.Mac self.old last setup line
+            → HasTakenRun R.LineRules M.Mac self.new last setup line
+            (map Byte (take result bytes.now)) (answered result left.new.items) }
+    {
+        let until = usize::from(self.until);
+        // the next byte is the trailer's last one
+        if until < 3 {
+            return 0;
+        }
+        if D < until + PAUSE {
+            return 0;
+        }
+        let most = bytes.len().min(until - 2).min(D);
+        let count = self.ring.front_alike(most);
+        let part = &bytes[..count];
+        let taken = self.cut.pass_over_some(part);
+        let heard = &part[..taken];
+        lend(&self.ring, &mut self.outlet, taken, left);
+        self.ring.pass_silence(taken);
+        self.arriving.take_some(heard);
+        self.until -= taken as u8;
+        taken
+    }
+
+    // Silence in the pause behind the live bytes of the burst whose verdict is open.
+    pub(super) fn pause_some(&mut self, ticks: u32, left: &mut RunBytes) -> u32
+        requires room { ticks_taken self.old + ticks ≤ MAX_TICKS }
+        requires waits { self.old.waits ≡ true }
+        requires empty { left.old.items ≡ [] }
+        ensures within { result ≤ ticks }
+        ensures taken { ticks_taken self.new ≡ ticks_taken self.old + result }
+        ensures run { (last : ℕ) (setup : Setup) (line : List Tick)
+            → StandsAt R.LineRules M.Mac self.old last setup line
+            → HasTakenRun R.LineRules M.Mac self.new last setup line
+            (silent result) (answered result left.new.items) }
+    {
+        if !self.has_good_head() {
+            return 0;
+        }
+        let until = usize::from(self.until);
+        if until + PAUSE <= D {
+            return 0;
+        }
+        let most = (ticks as usize).min(until + PAUSE - D).min(until);
+        let count = self.ring.front_alike(most.min(D));
+        lend(&self.ring, &mut self.outlet, count, left);
+        self.ring.pass_silence(count);
+        self.cut.wait_some(count as u32);
+        self.until -= count as u8;
+        count as u32
+    }
+
+    // Bytes of a burst that is noted, while live ticks still leave, but for the last of them.
+    pub(super) fn pass_over(&mut self, bytes: &[u8], left: &mut RunBytes) -> usize
+        requires room { ticks_taken self.old + length bytes.now ≤ MAX_TICKS }
+        requires rests { self.old.waits ≡ false }
+        requires unowed { owed_by self.old.outlet ≡ 0 }
+        requires some { 0 < self.old.until }
+        requires empty { left.old.items ≡ [] }
+        ensures within { result ≤ length bytes.now }
+        ensures taken { ticks_taken self.new ≡ ticks_taken self.old + result }
+        ensures run { (last : ℕ) (setup : Setup) (line : List Tick)
+            → StandsAt R.LineRules M.Mac self.old last setup line
+            → HasTakenRun R.LineRules M.Mac self.new last setup line
+            (map Byte (take result bytes.now)) (answered result left.new.items) }
+    {
+        let most = bytes.len().min(usize::from(self.until) - 1).min(D);
+        let count = self.ring.front_alike(most);
+        let taken = cut_some(&mut self.cut, &bytes[..count]);
+        lend(&self.ring, &mut self.outlet, taken, left);
+        self.ring.pass_silence(taken);
+        self.until -= taken as u8;
+        taken
+    }
+
+    // Bytes where nothing is left to leave: those of a burst that is noted, or the first ones of
+    // another burst, if they begin with a good header and the burst isn't early.
+    pub(super) fn start_some(&mut self, bytes: &[u8], left: &mut RunBytes) -> usize
+        requires room { ticks_taken self.old + length bytes.now ≤ MAX_TICKS }
+        requires rests { self.old.waits ≡ false }
+        requires unowed { owed_by self.old.outlet ≡ 0 }
+        requires none { self.old.until ≡ 0 }
+        requires empty { left.old.items ≡ [] }
+        ensures within { result ≤ length bytes.now }
+        ensures taken { ticks_taken self.new ≡ ticks_taken self.old + result }
+        ensures run { (last : ℕ) (setup : Setup) (line : List Tick)
+            → StandsAt R.LineRules M.Mac self.old last setup line
+            → HasTakenRun R.LineRules M.Mac self.new last setup line
+            (map Byte (take result bytes.now)) (answered result left.new.items) }
+    {
+        let passed = cut_some(&mut self.cut, bytes);
+        if passed > 0 {
+            return passed;
+        }
+        if bytes.is_empty() {
+            return 0;
+        }
+        if self.cut.ticks() < self.earliest_start {
+            return 0;
+        }
+        if !begin_well::<R>(bytes) {
+            return 0;
+        }
+        let first = bytes[0];
+        self.start(first);
+        1 + self.follow_on(&bytes[1..], left)
+    }
+
+    // The first byte of a burst that isn't early, and that doesn't begin with a bad header, while
+    // nothing is left to leave.
+    #[inline]
+    fn start(&mut self, first: u8)
+        requires room { ticks_taken self.old < MAX_TICKS }
+        ensures taken { ticks_taken self.new ≡ ticks_taken self.old + 1 }
+        ensures run { (last : ℕ) (setup : Setup) (line : List Tick)
+            → StandsAt R.LineRules M.Mac self.old last setup line
+            → cut_of R.rules line (Byte first) ≡ Start first
+            → self.old.until ≡ 0 → self.old.earliest_start ≤ length line
+            → (head_of R.rules (first ∷ []) ≡ Bad → ⊥)
+            → HasTakenRun R.LineRules M.Mac self.new last setup line
+            (Byte first ∷ []) (Silent ∷ [])
+            × (self.new.waits ≡ true)
+            × (slice_index_or (ring_ticks self.new.ring) 0 Silent ≡ Silent)
+            × (live_bytes_so_far R.rules (line ++ Byte first ∷ []) ≡ first ∷ []) }
+    {
+        let _ = self.cut.step(Tick::Byte(first));
+        let _ = self.begin(first);
+    }
+
+    // Silence while live ticks of a burst that is noted still leave, but for the last of them.
+    pub(super) fn rest_some(&mut self, ticks: u32, left: &mut RunBytes) -> u32
+        requires room { ticks_taken self.old + ticks ≤ MAX_TICKS }
+        requires rests { self.old.waits ≡ false }
+        requires unowed { owed_by self.old.outlet ≡ 0 }
+        requires some { 0 < self.old.until }
+        requires empty { left.old.items ≡ [] }
+        ensures within { result ≤ ticks }
+        ensures taken { ticks_taken self.new ≡ ticks_taken self.old + result }
+        ensures run { (last : ℕ) (setup : Setup) (line : List Tick)
+            → StandsAt R.LineRules M.Mac self.old last setup line
+            → HasTakenRun R.LineRules M.Mac self.new last setup line
+            (silent result) (answered result left.new.items) }
+    {
+        let still = usize::from(self.until) - 1;
+        if still == 0 {
+            return 0;
+        }
+        let most = (ticks as usize).min(still).min(D);
+        let count = self.ring.front_alike(most);
+        lend(&self.ring, &mut self.outlet, count, left);
+        self.ring.pass_silence(count);
+        self.cut.wait_some(count as u32);
+        self.until -= count as u8;
+        count as u32
+    }
+}

@@ -1,0 +1,33 @@
+use Rattle.std.proofs.Common.{◌≡◌, ◌++◌, take, subst, sym}
+use Rattle.std.proofs.lemmas.List.{take-map, take-replicate}
+use Rattle.yasir_ticks.specs.declared.tick.Tick.TheVariants.{Silent, Byte}
+use Rattle.device_model.specs.Frames.{frames_of}
+use Rattle.device_model.proofs.run.hear_run.Goals as goal
+
+pub returns-in-Bytes-clause-stands : goal.returns-in-Bytes-clause-stands
+returns-in-Bytes-clause-stands g c = rw c.in-Bytes.is (λ line before.
+    subst (λ l. g.V.Device.stands c.hear_some.new.self (line ++ l))
+    (sym (take-map Byte c.hear_some.result.taken c.in-Bytes.bytes.now))
+    (c.hear_some.ensures.stands line before))
+
+pub returns-in-Bytes-clause-answer : goal.returns-in-Bytes-clause-answer
+returns-in-Bytes-clause-answer g c = rw c.in-Bytes.is (λ line before.
+    subst (λ l. g.V.Device.reads (line ++ l)
+    ≡ g.V.Device.reads line ++ frames_of c.hear_some.result.frame)
+    (sym (take-map Byte c.hear_some.result.taken c.in-Bytes.bytes.now))
+    (c.hear_some.ensures.answer line before))
+
+pub returns-in-Silence-clause-stands : goal.returns-in-Silence-clause-stands
+returns-in-Silence-clause-stands g c = rw c.in-Silence.is (λ line before.
+    subst (λ l. g.V.Device.stands c.wait_some.new.self (line ++ l))
+    (sym (take-replicate c.wait_some.result.taken c.in-Silence.ticks Silent
+    c.wait_some.ensures.within))
+    (c.wait_some.ensures.stands line before))
+
+pub returns-in-Silence-clause-answer : goal.returns-in-Silence-clause-answer
+returns-in-Silence-clause-answer g c = rw c.in-Silence.is (λ line before.
+    subst (λ l. g.V.Device.reads (line ++ l)
+    ≡ g.V.Device.reads line ++ frames_of c.wait_some.result.frame)
+    (sym (take-replicate c.wait_some.result.taken c.in-Silence.ticks Silent
+    c.wait_some.ensures.within))
+    (c.wait_some.ensures.answer line before))

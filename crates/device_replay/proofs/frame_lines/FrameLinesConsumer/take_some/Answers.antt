@@ -1,0 +1,65 @@
+use Rattle.std.proofs.Common.{ap, refl, arith, length}
+use Rattle.yasir_ticks.proofs.TickRuns.{ticks_in-run}
+use Rattle.device_model.specs.Frames.{frames_of}
+use Rattle.tick_drive.proofs.Causes.{cause_none}
+use Rattle.device_replay.proofs.Printing.{none_read, one_read, one_failed}
+use Rattle.device_replay.proofs.frame_lines.FrameLinesConsumer.take_some.Goals as goal
+
+pub hear_run-taken-requires : goal.hear_run-taken-requires
+hear_run-taken-requires g c = omega (
+  arith,
+  c.requires.may.room,
+  ap length (ticks_in-run
+      c.args.run),
+)
+
+pub returns-in_default : goal.returns-in_default
+returns-in_default g c =
+    let heard = c.hear_run-taken in
+    none_read g.V.Device g.O.Sink _ _ c.args.run heard.result.taken (frames_of heard.result.frame)
+    (heard.ensures.some c.requires.some) heard.ensures.within heard.ensures.taken
+    heard.ensures.stands heard.ensures.answer (ap frames_of c.in_default.is) refl refl (record {
+      device = refl;
+      lines = refl;
+      out = refl;
+      cause = cause_none tt _;
+      flushes = refl;
+    })
+
+pub returns-in-Ok : goal.returns-in-Ok
+returns-in-Ok g c =
+    let heard = c.hear_run-taken in
+    let pushed = c.in-Ok.ensures in
+    one_read g.V.Device g.O.Sink _ _ c.args.run heard.result.taken (frames_of heard.result.frame)
+    (heard.ensures.some c.requires.some) heard.ensures.within heard.ensures.taken
+    heard.ensures.stands heard.ensures.answer _ (ap frames_of c.in-Some.is)
+    (λ start text waits. pushed.ok start text waits) (record {
+      device = refl;
+      lines = refl;
+      out = refl;
+      cause = record {
+        never_falls = pushed.cause.never_falls;
+        failed = tt;
+        same = pushed.cause.same;
+      };
+      flushes = pushed.flushes;
+    })
+
+pub returns-in-Err : goal.returns-in-Err
+returns-in-Err g c =
+    let heard = c.hear_run-taken in
+    let pushed = c.in-Err.ensures in
+    one_failed g.V.Device g.O.Sink _ _ c.args.run heard.result.taken
+    (frames_of heard.result.frame) (heard.ensures.some c.requires.some) heard.ensures.within
+    heard.ensures.taken heard.ensures.stands heard.ensures.answer _ (ap frames_of c.in-Some.is)
+    (λ start text waits. pushed.err start text waits) (record {
+      device = refl;
+      lines = refl;
+      out = refl;
+      cause = record {
+        never_falls = pushed.cause.never_falls;
+        failed = pushed.cause.failed;
+        same = tt;
+      };
+      flushes = pushed.flushes;
+    })

@@ -1,0 +1,22 @@
+-- A run of ticks that a box takes at once.
+use Rattle.std.specs.Prelude.{ℕ, List, ◌++◌}
+use Rattle.yasir_ticks.specs.declared.tick.Tick.{Tick}
+use Rattle.burst_walk.specs.Runs.{AnswersRun}
+use Rattle.link_format.specs.Setup.{Setup}
+use Rattle.link_box.specs.Walking.{Walking}
+
+-- The walk of a box; and what it is that, set up so, the box has taken a line, and that the last
+-- number that it used is this one.
+module _ {X A : Type 0} (walking : Walking A) (standing : X → ℕ → Setup → List Tick → Type 0) where
+  -- After this line the box has taken this run too, and used no number. The ticks of the other line
+  -- are these, and no note falls into them.
+  pub record HasTakenRun (value : X) (last : ℕ) (setup : Setup) (line run answer : List Tick) :
+      Type 0 where
+    pub stands : standing value last setup (line ++ run)
+    pub answers : AnswersRun (walking.walker setup) walking.brief (walking.begun setup) line run
+        answer
+
+  -- It does so whatever line it had taken.
+  abbrev pub TakesRun : X → X → List Tick → List Tick → Type 0
+  TakesRun old new run answer = (last : ℕ) (setup : Setup) (line : List Tick)
+      → standing old last setup line → HasTakenRun new last setup line run answer

@@ -1,0 +1,67 @@
+//! A run of ticks by both of a box's calls for runs.
+ghost use Rattle.std.specs.Prelude.{◌≡◌, ◌+◌, ◌≤◌, length, take};
+ghost use Rattle.yasir_ticks.specs.TickRun.{run_ticks};
+ghost use Rattle.burst_walk.specs.Answered.{answered};
+ghost use Rattle.link_box.specs.Runs.{TakesRun};
+
+use crate::LinkBox;
+use burst_walk::RunBytes;
+use yasir_ticks::{MAX_TICKS, TickRun};
+
+/// How many bytes are forwarded at once at most: as many as `RunBytes` has room for.
+const MAX_RUN: usize = 64;
+
+// Puts these bytes into `left` in place of what stands there.
+#[inline]
+fn put(left: &mut RunBytes, bytes: &[u8])
+    requires { length bytes.now ≤ 64 }
+    ensures { left.new.items ≡ bytes.now }
+{
+    left.clear();
+    let _ = left.try_extend_from_slice(bytes);
+}
+
+// Takes what the box forwards of the first of these ticks, and puts the bytes among them into
+// `left`.
+#[inline]
+fn forward_alike<X: LinkBox>(line_box: &mut X, run: TickRun<'_>, left: &mut RunBytes) -> usize
+    requires { X.taken line_box.old + length (run_ticks run) ≤ MAX_TICKS }
+    ensures within { result ≤ length (run_ticks run.entry) }
+    ensures taken { X.taken line_box.new ≡ X.taken line_box.old + result }
+    ensures run { TakesRun X.walking X.stands line_box.old line_box.new
+        (take result (run_ticks run.entry)) (answered result left.new.items) }
+{
+    match run {
+        TickRun::Bytes(bytes) => {
+            let front = &bytes[..bytes.len().min(MAX_RUN)];
+            let count = line_box.forward(TickRun::Bytes(front));
+            put(left, &front[..count]);
+            count
+        }
+        TickRun::Silence(ticks) => {
+            let count = line_box.forward(TickRun::Silence(ticks));
+            left.clear();
+            count
+        }
+    }
+}
+
+/// Takes the first of these ticks, as far as the box answers all of them with silence or all of
+/// them with bytes, without a note and without a number, and answers how many: what it forwards
+/// comes first, then what it doesn't. Puts the bytes of the answer into `left`, one for each tick,
+/// or none for silence. With 0 the caller goes on by `step`. At most `MAX_TICKS` ticks are taken
+/// then.
+#[inline]
+pub fn take_alike<X: LinkBox>(line_box: &mut X, run: TickRun<'_>, left: &mut RunBytes) -> usize
+    requires { X.taken line_box.old + length (run_ticks run) ≤ MAX_TICKS }
+    ensures within { result ≤ length (run_ticks run.entry) }
+    ensures taken { X.taken line_box.new ≡ X.taken line_box.old + result }
+    ensures run { TakesRun X.walking X.stands line_box.old line_box.new
+        (take result (run_ticks run.entry)) (answered result left.new.items) }
+{
+    let forwarded = forward_alike(line_box, run, left);
+    if forwarded > 0 {
+        return forwarded;
+    }
+    line_box.pass(run, left)
+}

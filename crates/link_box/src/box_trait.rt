@@ -1,0 +1,91 @@
+ghost use Rattle.std.specs.Prelude.{◌≡◌, ℕ, ◌+◌, ◌≤◌, List, [], length, take, OnOk, OnErr, IfOk};
+ghost use Rattle.yasir_ticks.specs.TickRun.{run_ticks};
+ghost use Rattle.yasir_ticks.specs.declared.tick.Tick.{Tick};
+ghost use Rattle.burst_walk.specs.Answered.{answered};
+ghost use Rattle.link_format.specs.Setup.{Setup, setup_of};
+ghost use Rattle.sequence_journal.specs.Journal.{journal_floor};
+ghost use Rattle.link_box.specs.Walking.{Walking};
+ghost use Rattle.link_box.specs.Stepping.{MayStep, Steps, FailsStep, KeepsJournal};
+ghost use Rattle.link_box.specs.Runs.{TakesRun};
+
+use burst_walk::{BoxStep, RunBytes};
+use hmac_tag::Dir;
+use sequence_journal::{Journal, JournalFault};
+use yasir_io::SlotDisk;
+use yasir_ticks::{MAX_TICKS, Tick, TickRun};
+
+/// A box between two lines, set up with a key and a direction: it takes one line tick by tick and
+/// answers the other one. The numbers that it uses come from a journal, which is that of the steps
+/// before.
+pub trait LinkBox: Drop {
+    /// What it notes in a step.
+    type Note: Copy;
+
+    /// Begun with this setup, the box has taken these ticks, and the last number that it used is
+    /// this one.
+    ghost stands: { Self → ℕ → Setup → List Tick → Type 0 };
+
+    /// How many ticks it has taken.
+    ghost taken: { Self → ℕ };
+
+    /// What it makes of a line.
+    ghost walking: { Walking Self.Note };
+
+    /// What must hold of the widths that it is made with.
+    ghost widths_fit: { Type 0 };
+
+    /// A box that has taken no tick, for a key of any length and a direction.
+    fn new(key: &[u8], dir: Dir) -> Self
+        requires { widths_fit }
+        ensures taken { taken result ≡ 0 }
+        ensures stands { (floor : ℕ) → stands result floor (setup_of key.now dir floor) [] };
+
+    /// Takes the next tick, and answers that of the other line at the same place, with the note
+    /// that falls into this step. The journal is that of the steps before, and the disk is the
+    /// journal's. Fewer than `MAX_TICKS` ticks were taken before.
+    ///
+    /// It fails where the number of a frame isn't committed. No step follows.
+    fn step<D: SlotDisk>(
+        &mut self,
+        t: Tick,
+        journal: &mut Journal,
+        disk: &mut D,
+    ) -> Result<BoxStep<Self::Note>, JournalFault>
+        requires { MayStep (taken self.old) journal.old (D.told disk.old) }
+        ensures taken { OnOk result (taken self.new ≡ taken self.old + 1) }
+        ensures steps { IfOk result (λ step. Steps walking stands
+            self.old (journal_floor journal.old) self.new (journal_floor journal.new)
+            t step.tick step.note) }
+        ensures fails { OnErr result (FailsStep walking stands self.old journal.old journal.new t
+            (D.told disk.old) (D.told disk.new)) }
+        ensures journal { KeepsJournal D.SlotDisk journal.old journal.new disk.old disk.new
+            result };
+
+    /// Takes the first of these ticks, as far as the box answers each with itself, without a note
+    /// and without a number, and answers how many. With 0 the caller goes on by another call. At
+    /// most `MAX_TICKS` ticks are taken then.
+    fn forward(&mut self, _run: TickRun<'_>) -> usize
+        requires { taken self.old + length (run_ticks _run) ≤ MAX_TICKS }
+        ensures within { result ≤ length (run_ticks _run.entry) }
+        ensures taken { taken self.new ≡ taken self.old + result }
+        ensures run { TakesRun walking stands self.old self.new
+            (take result (run_ticks _run.entry)) (take result (run_ticks _run.entry)) }
+    {
+        0
+    }
+
+    /// Takes the first of these ticks, as far as the box answers all of them with silence or all of
+    /// them with bytes, without a note and without a number, and answers how many. Puts the bytes of
+    /// the answer into `left`, one for each tick, or none for silence. With 0 the caller goes on by
+    /// another call. At most `MAX_TICKS` ticks are taken then.
+    fn pass(&mut self, _run: TickRun<'_>, left: &mut RunBytes) -> usize
+        requires { taken self.old + length (run_ticks _run) ≤ MAX_TICKS }
+        ensures within { result ≤ length (run_ticks _run.entry) }
+        ensures taken { taken self.new ≡ taken self.old + result }
+        ensures run { TakesRun walking stands self.old self.new
+            (take result (run_ticks _run.entry)) (answered result left.new.items) }
+    {
+        left.clear();
+        0
+    }
+}

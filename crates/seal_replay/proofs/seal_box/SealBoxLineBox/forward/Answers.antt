@@ -1,0 +1,37 @@
+use Rattle.std.proofs.Common.{refl}
+use Rattle.sequence_journal.specs.Journal.{journal_floor}
+use Rattle.box_replay.proofs.RunFronts.{front_bytes, front_silence}
+use Rattle.seal_replay.proofs.Runs.{stands-run, answers-run}
+use Rattle.seal_replay.proofs.seal_box.SealBoxLineBox.forward.Goals as goal
+
+pub returns-in-Bytes-clause-stands : goal.returns-in-Bytes-clause-stands
+returns-in-Bytes-clause-stands g c = λ journal setup line stands.
+    stands-run g.R.LineRules g.M.Mac c.args.self.now.sealer c.forward.new.self journal setup line
+    stands _ _ _ _ (front_bytes c.args.run c.in-Bytes.bytes c.forward.result c.in-Bytes.is)
+    (front_bytes c.args.run c.in-Bytes.bytes c.forward.result c.in-Bytes.is)
+    (c.forward.ensures.run (journal_floor journal) setup line stands)
+
+pub returns-in-Bytes-clause-answers : goal.returns-in-Bytes-clause-answers
+returns-in-Bytes-clause-answers g c = λ journal setup line stands.
+    answers-run g.R.LineRules g.M.Mac c.args.self.now.sealer c.forward.new.self journal setup line
+    stands _ _ _ _ (front_bytes c.args.run c.in-Bytes.bytes c.forward.result c.in-Bytes.is)
+    (front_bytes c.args.run c.in-Bytes.bytes c.forward.result c.in-Bytes.is)
+    (c.forward.ensures.run (journal_floor journal) setup line stands)
+
+pub returns-in-Silence-clause-stands : goal.returns-in-Silence-clause-stands
+returns-in-Silence-clause-stands g c = λ journal setup line stands.
+    stands-run g.R.LineRules g.M.Mac c.args.self.now.sealer c.rest.new.self journal setup line
+    stands _ _ _ _ (front_silence c.args.run c.in-Silence.ticks c.rest.result c.rest.ensures.within
+    c.in-Silence.is) (front_silence c.args.run c.in-Silence.ticks c.rest.result
+    c.rest.ensures.within
+    c.in-Silence.is)
+    (c.rest.ensures.run (journal_floor journal) setup line stands)
+
+pub returns-in-Silence-clause-answers : goal.returns-in-Silence-clause-answers
+returns-in-Silence-clause-answers g c = λ journal setup line stands.
+    answers-run g.R.LineRules g.M.Mac c.args.self.now.sealer c.rest.new.self journal setup line
+    stands _ _ _ _ (front_silence c.args.run c.in-Silence.ticks c.rest.result c.rest.ensures.within
+    c.in-Silence.is) (front_silence c.args.run c.in-Silence.ticks c.rest.result
+    c.rest.ensures.within
+    c.in-Silence.is)
+    (c.rest.ensures.run (journal_floor journal) setup line stands)

@@ -1,0 +1,78 @@
+-- What a step does to the journal and its disk, as a step of a box of a link; and runs as its runs.
+use Rattle.std.proofs.Common.{◌≡◌, ◌≤◌, ℕ, List, Ok, Err, Option, Some, None, ap, arith}
+use Rattle.yasir_ticks.specs.declared.tick.Tick.{Tick}
+use Rattle.yasir_io.specs.declared.disk.SlotDisk.{Ghosts as SlotDisk}
+use Rattle.burst_walk.specs.declared.box_step.BoxStep.{BoxStep}
+use Rattle.line_rules.specs.declared.line_rules.LineRules.{Ghosts as LineRules}
+use Rattle.hmac_tag.specs.declared.tag.Mac.{Ghosts as Mac}
+use Rattle.link_format.specs.Setup.{Setup}
+use Rattle.link_box.specs.Stepping.{KeepsJournal as KeepsBoxed}
+use Rattle.link_box.specs.Runs.{TakesRun}
+use Rattle.link_box.proofs.TakenRuns.{takes-as}
+use Rattle.sequence_journal.specs.declared.journal.Journal.{Journal}
+use Rattle.sequence_journal.specs.declared.journal.JournalFault.{JournalFault}
+use Rattle.sequence_journal.specs.Journal.{journal_floor}
+use Rattle.seal_transmitter.specs.Answers.{CommitsNoted, KeepsJournal}
+use Rattle.seal_transmitter.specs.declared.note.SealNote.{SealNote}
+use Rattle.seal_transmitter.specs.declared.note.SealNote.TheVariants.{Sealed, Unsealed}
+use Rattle.seal_transmitter.specs.Boxed.{seal_walking}
+use Rattle.seal_transmitter.specs.Runs.{HasTakenRun}
+use Rattle.seal_transmitter.specs.Stands.{StandsAt}
+use Rattle.seal_transmitter.specs.declared.sealer.Sealer.{Sealer}
+
+-- a step doesn't lower the journal's floor
+pub commits-rise : {D : Type 0} (d : SlotDisk D) (old new : Journal) (disk_old disk_new : D)
+    (note : Option SealNote)
+    → CommitsNoted d old new disk_old disk_new note → journal_floor old ≤ journal_floor new
+commits-rise d old new disk_old disk_new None h = omega (arith, ap journal_floor h.0)
+commits-rise d old new disk_old disk_new (Some (Unsealed start why)) h =
+    omega (arith, ap journal_floor h.0)
+commits-rise d old new disk_old disk_new (Some (Sealed number start len)) h =
+    omega (arith, h.1.above, h.1.floor)
+
+module _ {D : Type 0} (d : SlotDisk D) (old new : Journal) (disk_old disk_new : D) where
+  pub keeps-ok : (step : BoxStep SealNote)
+      → KeepsJournal d old new disk_old disk_new (Ok step)
+      → KeepsBoxed d old new disk_old disk_new (Ok step)
+  keeps-ok step keeps = record {
+    link = keeps.link;
+    rises = commits-rise d old new disk_old disk_new step.note keeps.commits;
+    fits = keeps.fits;
+    crash_safe = keeps.crash_safe;
+    any_moment = keeps.any_moment;
+    cause = record {
+      never_falls = keeps.cause.never_falls;
+      failed = tt;
+      same = keeps.cause.same;
+    };
+  }
+
+  pub keeps-err : (fault : JournalFault)
+      → KeepsJournal d old new disk_old disk_new (Err fault)
+      → KeepsBoxed {A = BoxStep SealNote} d old new disk_old disk_new (Err fault)
+  keeps-err fault keeps = record {
+    link = keeps.link;
+    rises = omega (arith, keeps.failed.floor);
+    fits = tt;
+    crash_safe = keeps.crash_safe;
+    any_moment = keeps.any_moment;
+    cause = record {
+      never_falls = keeps.cause.never_falls;
+      failed = keeps.cause.failed;
+      same = tt;
+    };
+  }
+
+module _ {R M : Type 0} (proto : LineRules R) (code : Mac M) {B : ℕ}
+    (old new : Sealer R M B) where
+  -- A run that it takes is one of a box, by other names.
+  pub takes-run : (run answer front told : List Tick) → run ≡ front → answer ≡ told
+      → ((last : ℕ) (setup : Setup) (line : List Tick) → StandsAt proto code old last setup line
+      → HasTakenRun proto code new last setup line run answer)
+      → TakesRun (seal_walking proto code B) (λ value. StandsAt proto code value) old new front told
+  takes-run run answer front told run_is answer_is takes =
+      takes-as (seal_walking proto code B) (λ value. StandsAt proto code value) old new run answer
+      front told run_is answer_is
+      (λ last setup line stands.
+      let taken = takes last setup line stands in
+      record { stands = taken.stands; answers = taken.answers })

@@ -1,0 +1,58 @@
+//! The transmitter as a box of a link.
+ghost use Rattle.std.specs.Prelude.{◌≡◌};
+ghost use Rattle.link_format.specs.Profile.{IsWordLen};
+ghost use Rattle.seal_transmitter.specs.Boxed.{seal_walking};
+ghost use Rattle.seal_transmitter.specs.Stands.{StandsAt, ticks_taken};
+
+use crate::{SealNote, Sealer};
+use burst_walk::{BoxStep, RunBytes};
+use hmac_tag::{Dir, Mac};
+use line_rules::LineRules;
+use link_box::LinkBox;
+use sequence_journal::{Journal, JournalFault};
+use yasir_io::SlotDisk;
+use yasir_ticks::{Tick, TickRun};
+
+impl<R: LineRules, M: Mac, const B: usize> LinkBox for Sealer<R, M, B> {
+    type Note = SealNote;
+
+    ghost stands = { λ value. StandsAt R.LineRules M.Mac value };
+
+    ghost taken = { λ value. ticks_taken value };
+
+    ghost walking = { seal_walking R.LineRules M.Mac B };
+
+    ghost widths_fit = { IsWordLen B };
+
+    fn new(key: &[u8], dir: Dir) -> Self {
+        Sealer::new(key, dir)
+    }
+
+    #[inline(always)]
+    fn step<D: SlotDisk>(
+        &mut self,
+        t: Tick,
+        journal: &mut Journal,
+        disk: &mut D,
+    ) -> Result<BoxStep<SealNote>, JournalFault> {
+        match Sealer::step(self, t, journal, disk) {
+            Ok(step) => Ok(step),
+            Err(JournalFault) => Err(JournalFault),
+        }
+    }
+
+    #[inline]
+    fn forward(&mut self, run: TickRun<'_>) -> usize {
+        match run {
+            TickRun::Bytes(bytes) => Sealer::forward(self, bytes),
+            TickRun::Silence(ticks) => self.rest(ticks) as usize,
+        }
+    }
+
+    fn pass(&mut self, run: TickRun<'_>, left: &mut RunBytes) -> usize {
+        match run {
+            TickRun::Bytes(bytes) => self.pass_bytes(bytes, left),
+            TickRun::Silence(ticks) => self.pass_silence(ticks, left) as usize,
+        }
+    }
+}

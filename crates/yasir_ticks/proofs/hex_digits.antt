@@ -1,0 +1,6 @@
+pub mod Decoding
+pub mod HexValues
+pub mod PairLanes
+pub mod DigitLookups
+pub mod DigitEncoding
+pub mod DigitsAdded

@@ -1,0 +1,131 @@
+//! Pairs of hex digits, 32 of them at a time, in vectors.
+ghost use Rattle.std.specs.Prelude.{◌≡◌, ◌↔◌, ℕ, ◌+◌, ◌*◌, ◌<◌, ◌≤◌, ◌++◌, length, take, Ok};
+ghost use Rattle.std.specs.Prelude.{slice_index};
+ghost use Rattle.std.specs.Int.{bit_at};
+ghost use Rattle.hex.specs.Hex.{decode_of};
+ghost use Rattle.memchr.specs.Lanes.{HasLanes};
+ghost use Rattle.yasir_ticks.specs.HexDigits.{HasValues, lane_pair, lane_greater, lane_raised};
+
+use std::simd::prelude::*;
+
+/// The bytes that pairs of digits spell.
+pub(crate) struct Decoded {
+    /// How many pairs stand at the front.
+    pub(crate) pairs: usize,
+    /// Their bytes; what stands behind them means nothing.
+    pub(crate) bytes: [u8; 32],
+}
+
+// The 32 bytes from a place on.
+#[inline(always)]
+fn load(s: &[u8], i: usize) -> u8x32
+    requires { i + 32 ≤ length s.now }
+    ensures { HasLanes result (λ k. slice_index s.now (i + k)) }
+{
+    u8x32::from_slice(&s[i..])
+}
+
+// The value of each hex digit of either case, and 16 or more of what is none: both what a decimal
+// digit and what a letter would have, of which one is 16 or more.
+#[inline(always)]
+fn values(c: u8x32) -> u8x32
+    ensures { HasValues result (λ k. slice_index c k) }
+{
+    let decimal = (c + u8x32::splat(198)).simd_max(u8x32::splat(6)) - u8x32::splat(246);
+    let from_a = (c & u8x32::splat(223)) - u8x32::splat(65);
+    let letter = from_a.simd_min(u8x32::splat(245)) + u8x32::splat(10);
+    decimal.simd_min(letter)
+}
+
+// The first byte of each pair.
+#[inline(always)]
+fn firsts(a: u8x32, b: u8x32) -> u8x32
+    ensures { HasLanes result (λ k. slice_index (a ++ b) (2 * k)) }
+{
+    a.shuffle(
+        b,
+        [
+            0, 2, 4, 6, 8, 10, 12, 14, 16, 18, 20, 22, 24, 26, 28, 30, 32, 34, 36, 38, 40, 42, 44,
+            46, 48, 50, 52, 54, 56, 58, 60, 62,
+        ],
+    )
+}
+
+// The second byte of each pair.
+#[inline(always)]
+fn seconds(a: u8x32, b: u8x32) -> u8x32
+    ensures { HasLanes result (λ k. slice_index (a ++ b) (2 * k + 1)) }
+{
+    a.shuffle(
+        b,
+        [
+            1, 3, 5, 7, 9, 11, 13, 15, 17, 19, 21, 23, 25, 27, 29, 31, 33, 35, 37, 39, 41, 43, 45,
+            47, 49, 51, 53, 55, 57, 59, 61, 63,
+        ],
+    )
+}
+
+// The byte of each pair of values.
+#[inline(always)]
+fn joined(high: u8x32, low: u8x32) -> u8x32
+    ensures { HasLanes result (λ k. lane_pair (slice_index high k) (slice_index low k)) }
+{
+    high * u8x32::splat(16) + low
+}
+
+// The greater of each two.
+#[inline(always)]
+fn greater(a: u8x32, b: u8x32) -> u8x32
+    ensures { HasLanes result (λ k. lane_greater (slice_index a k) (slice_index b k)) }
+{
+    a.simd_max(b)
+}
+
+// Each lane 112 greater, at most 255, so that what was 16 or more comes to be 128 or more.
+#[inline(always)]
+fn raised(v: u8x32) -> u8x32
+    ensures { HasLanes result (λ k. lane_raised (slice_index v k)) }
+{
+    v.simd_min(u8x32::splat(143)) + u8x32::splat(112)
+}
+
+// Bit k tells whether lane k is 128 or more.
+#[inline(always)]
+fn high_lanes(v: u8x32) -> u64
+    ensures bits { (k : ℕ) → (bit_at result k ≡ 1) ↔ (128 ≤ slice_index v k) }
+    ensures lanes { length v ≡ 32 }
+{
+    v.simd_ge(u8x32::splat(128)).to_bitmask()
+}
+
+// How many lanes at the front are below 128.
+#[inline(always)]
+fn low_lanes(v: u8x32) -> usize
+    ensures within { result ≤ 32 }
+    ensures low { (k : ℕ) → k < result → slice_index v k < 128 }
+{
+    let high = high_lanes(v);
+    if high == 0 {
+        32
+    } else {
+        high.trailing_zeros() as usize
+    }
+}
+
+/// The whole pairs of hex digits that 64 bytes begin with.
+#[inline(always)]
+pub(crate) fn decode_front(text: &[u8]) -> Decoded
+    requires { 64 ≤ length text.now }
+    ensures within { result.pairs ≤ 32 }
+    ensures decoded { decode_of (take (2 * result.pairs) text.now)
+        ≡ Ok (take result.pairs result.bytes) }
+{
+    let a = load(text, 0);
+    let b = load(text, 32);
+    let high = values(firsts(a, b));
+    let low = values(seconds(a, b));
+    Decoded {
+        pairs: low_lanes(raised(greater(high, low))),
+        bytes: joined(high, low).to_array(),
+    }
+}

@@ -1,0 +1,72 @@
+//! A run of ticks as one value.
+ghost use Rattle.std.specs.Prelude.{◌≡◌, ◌<◌, ◌≤◌, ◌==◌, ◌∷◌, length, take, drop};
+
+use crate::Tick;
+
+/// Ticks of one kind in a row, whose bytes are lent.
+#[derive(Clone, Copy)]
+pub enum TickRun<'a> {
+    /// These bytes, one a tick.
+    Bytes(&'a [u8]),
+    /// So many silent ticks.
+    Silence(u32),
+}
+
+impl<'a> TickRun<'a> {
+    ghost use Rattle.yasir_ticks.specs.TickRun.{run_ticks};
+
+    /// How many ticks these are.
+    #[inline]
+    pub fn len(self) -> usize
+        ensures { result ≡ length (run_ticks self.entry) }
+    {
+        match self {
+            TickRun::Bytes(bytes) => bytes.len(),
+            TickRun::Silence(ticks) => ticks as usize,
+        }
+    }
+
+    /// Whether there is no tick.
+    #[inline]
+    pub fn is_empty(self) -> bool
+        ensures { result ≡ (length (run_ticks self.entry) == 0) }
+    {
+        self.len() == 0
+    }
+
+    /// The first of these ticks, so many.
+    #[inline]
+    pub fn front(self, count: usize) -> TickRun<'a>
+        requires { count ≤ length (run_ticks self) }
+        ensures { run_ticks result ≡ take count (run_ticks self.entry) }
+    {
+        match self {
+            TickRun::Bytes(bytes) => TickRun::Bytes(&bytes[..count]),
+            TickRun::Silence(_) => TickRun::Silence(count as u32),
+        }
+    }
+
+    /// These ticks without the first ones, so many.
+    #[inline]
+    pub fn behind(self, count: usize) -> TickRun<'a>
+        requires { count ≤ length (run_ticks self) }
+        ensures { run_ticks result ≡ drop count (run_ticks self.entry) }
+    {
+        match self {
+            TickRun::Bytes(bytes) => TickRun::Bytes(&bytes[count..]),
+            TickRun::Silence(ticks) => TickRun::Silence(ticks - count as u32),
+        }
+    }
+
+    /// The first of these ticks, of which there is one at least.
+    #[inline]
+    pub fn first(self) -> Tick
+        requires { 0 < length (run_ticks self) }
+        ensures { run_ticks self.entry ≡ result ∷ drop 1 (run_ticks self.entry) }
+    {
+        match self {
+            TickRun::Bytes(bytes) => Tick::Byte(bytes[0]),
+            TickRun::Silence(_) => Tick::Silent,
+        }
+    }
+}
