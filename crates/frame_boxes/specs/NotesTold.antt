@@ -1,7 +1,7 @@
 -- The frames that notes tell of.
 use Rattle.std.specs.Prelude.{Option, Some, None}
-use Rattle.seal_transmitter.specs.declared.note.SealNote.{SealNote}
-use Rattle.seal_transmitter.specs.declared.note.SealNote.TheVariants.{Sealed, Unsealed}
+use Rattle.seal_judgements.specs.declared.note.SealNote.{SealNote}
+use Rattle.seal_judgements.specs.declared.note.SealNote.TheVariants.{Sealed, Unsealed}
 use Rattle.link_verdicts.specs.declared.note.CheckNote.{CheckNote}
 use Rattle.link_verdicts.specs.declared.note.CheckNote.TheVariants.{Passed, Refused, Dropped}
 use Rattle.replay_lists.specs.declared.frame_box.Numbered.{Numbered}

@@ -4,10 +4,10 @@ use Rattle.yasir_ticks.specs.Bursts.{Burst}
 use Rattle.line_rules.specs.Rules.{Rules}
 use Rattle.frame_ending.specs.LiveBytes.{live_bytes}
 use Rattle.link_format.specs.Profile.{Profile}
-use Rattle.seal_transmitter.specs.Sealing.{Judgement, sealer, sealed_in, judged}
-use Rattle.seal_transmitter.specs.Sealing.{FullNote as SealFull, note_by as seal_note_by}
-use Rattle.seal_transmitter.specs.Sealing.Judgement.{sealed_with, unsealed}
-use Rattle.seal_transmitter.specs.Sealing.FullNote.{sealed_note, unsealed_note}
+use Rattle.seal_judgements.specs.Sealing.{Judgement, sealer, sealed_in, judged}
+use Rattle.seal_judgements.specs.Sealing.{FullNote as SealFull, note_by as seal_note_by}
+use Rattle.seal_judgements.specs.Sealing.Judgement.{sealed_with, unsealed}
+use Rattle.seal_judgements.specs.Sealing.FullNote.{sealed_note, unsealed_note}
 use Rattle.seal_transmitter.specs.Answers.{brief_note as seal_brief}
 use Rattle.link_verdicts.specs.Verdicts.{Verdict, checked}
 use Rattle.link_verdicts.specs.Verdicts.Verdict.{passed_with, refused, dropped}

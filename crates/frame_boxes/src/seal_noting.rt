@@ -1,7 +1,7 @@
 ghost use Rattle.std.specs.Prelude.{◌≡◌};
 ghost use Rattle.link_format.specs.Profile.{profile_of};
 ghost use Rattle.sequence_journal.specs.declared.numbers.TheConstants.{LIMIT};
-ghost use Rattle.seal_transmitter.proofs.Causality.{sealer-causal};
+ghost use Rattle.seal_judgements.proofs.Causality.{sealer-causal};
 ghost use Rattle.frame_boxes.specs.NotesTold.{sealed_told};
 ghost use Rattle.frame_boxes.specs.NotingLaws.{sealer-has};
 

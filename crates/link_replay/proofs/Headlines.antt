@@ -17,7 +17,7 @@ use Rattle.link_format.specs.Profile.{Profile as LinkProfile, HasTags, delay}
 use Rattle.link_format.specs.Setup.{setup_of}
 use Rattle.link_format.proofs.Profiles.{y18-tags, y24-tags}
 use Rattle.sequence_journal.specs.declared.numbers.TheConstants.{LIMIT}
-use Rattle.seal_transmitter.specs.Sealing.{sealed}
+use Rattle.seal_judgements.specs.Sealing.{sealed}
 use Rattle.link_verdicts.specs.Checking.{passed, received_line}
 use Rattle.receiver_laws.specs.Headline.{ReadsWhatWasSealed}
 use Rattle.receiver_laws.proofs.Headline.{reads-sealed}

@@ -16,7 +16,7 @@ use Rattle.hmac_tag.specs.declared.dir.Dir.{Dir}
 use Rattle.link_format.specs.Profile.{Profile as LinkProfile}
 use Rattle.link_format.specs.Setup.{setup_of}
 use Rattle.sequence_journal.specs.declared.numbers.TheConstants.{LIMIT}
-use Rattle.seal_transmitter.specs.Sealing.{sealed}
+use Rattle.seal_judgements.specs.Sealing.{sealed}
 use Rattle.link_verdicts.specs.Checking.{passed, received_line}
 use Rattle.key_text.specs.KeyText.{IsKeyText}
 use Rattle.replay_lists.specs.Recordings.{before_mark}

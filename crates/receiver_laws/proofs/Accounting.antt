@@ -14,8 +14,8 @@ use Rattle.line_rules.specs.RulesLaws.{IsLawful}
 use Rattle.sequence_journal.specs.Uptimes.{RiseFrom}
 use Rattle.link_format.specs.NumberedFrame.{NumberedFrame, numbers_of}
 use Rattle.link_format.specs.Profile.{Profile}
-use Rattle.seal_transmitter.specs.Sealing.{sealed}
-use Rattle.seal_transmitter.proofs.Numbers.{sealed-numbered}
+use Rattle.seal_judgements.specs.Sealing.{sealed}
+use Rattle.seal_judgements.proofs.Numbers.{sealed-numbered}
 use Rattle.receiver_laws.specs.Accounted.{Pair, pair_of, pairs_of, is_same_pair, is_among}
 use Rattle.receiver_laws.specs.Accounted.{rightly_passed, IsSubsequence, IsAccountedFor}
 use Rattle.receiver_laws.specs.Accounted.IsSubsequence.{none, skip, keep}

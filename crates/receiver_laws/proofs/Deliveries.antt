@@ -17,8 +17,8 @@ use Rattle.burst_walk.specs.Walk.{walked, emitted, notes_before}
 use Rattle.burst_walk.proofs.LaidBursts.{bursts-laid, laid-later}
 use Rattle.burst_walk.proofs.Spread.{EndBy, bursts-spread, bursts-end}
 use Rattle.link_format.specs.Profile.{Profile, HasTags, pause_len, trailer_len, delay}
-use Rattle.seal_transmitter.specs.Sealing.{sealer, at_floor as seal_floor, link_line}
-use Rattle.seal_transmitter.proofs.Numbers.{frames_in as sealed_frames}
+use Rattle.seal_judgements.specs.Sealing.{sealer, at_floor as seal_floor, link_line}
+use Rattle.seal_judgements.proofs.Numbers.{frames_in as sealed_frames}
 use Rattle.link_verdicts.specs.Checking.{checker, at_floor as check_floor}
 use Rattle.receiver_laws.specs.Untouched.{IsUntouched, DeliversAll, untouched}
 use Rattle.receiver_laws.proofs.Notes.{frames_in}

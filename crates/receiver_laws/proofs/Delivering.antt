@@ -28,7 +28,7 @@ use Rattle.link_format.specs.NumberedFrame.{NumberedFrame}
 use Rattle.link_format.specs.Profile.{Profile, HasTags, pause_len, trailer_len, trailer, words}
 use Rattle.link_format.specs.Profile.{delay}
 use Rattle.link_format.proofs.Profiles.{length-trailer}
-use Rattle.seal_transmitter.specs.Sealing.{trailing}
+use Rattle.seal_judgements.specs.Sealing.{trailing}
 use Rattle.link_verdicts.specs.Verdicts.{CheckState, Verdict, after_live, checked}
 use Rattle.link_verdicts.specs.Verdicts.Verdict.{passed_with}
 use Rattle.link_verdicts.specs.Emissions.{delayed, emission_by}

@@ -26,10 +26,10 @@ use Rattle.burst_walk.proofs.LaidBursts.{bursts-laid}
 use Rattle.burst_walk.proofs.Spread.{AreSpread, EndBy, bursts-spread, bursts-end}
 use Rattle.link_format.specs.Profile.{Profile, HasTags, pause_len, trailer_len, trailer}
 use Rattle.link_format.proofs.Profiles.{length-trailer}
-use Rattle.seal_transmitter.specs.Sealing.{SealState, Judgement, judged, state_by, trailing}
-use Rattle.seal_transmitter.specs.Sealing.{emission_by, sealer, at_floor, link_line}
-use Rattle.seal_transmitter.specs.Sealing.Judgement.{sealed_with, unsealed}
-use Rattle.seal_transmitter.specs.declared.note.UnsealedWhy.TheVariants.{Early, Form, Spent}
+use Rattle.seal_judgements.specs.Sealing.{SealState, Judgement, judged, state_by, trailing}
+use Rattle.seal_judgements.specs.Sealing.{emission_by, sealer, at_floor, link_line}
+use Rattle.seal_judgements.specs.Sealing.Judgement.{sealed_with, unsealed}
+use Rattle.seal_judgements.specs.declared.note.UnsealedWhy.TheVariants.{Early, Form, Spent}
 use Rattle.link_verdicts.proofs.Spoiled.{contiguous-wider}
 use Rattle.receiver_laws.specs.Standing.{StandsOn, numbered_frame}
 use Rattle.receiver_laws.proofs.Packing.{packet, packet-length, packet-contiguous}

@@ -11,7 +11,7 @@ use Rattle.line_rules.specs.RulesLaws.{IsLawful}
 use Rattle.link_format.specs.NumberedFrame.{NumberedFrame}
 use Rattle.link_format.specs.Profile.{Profile}
 use Rattle.device_model.specs.Frames.{FrameRead}
-use Rattle.seal_transmitter.specs.Sealing.{sealed}
+use Rattle.seal_judgements.specs.Sealing.{sealed}
 use Rattle.link_verdicts.specs.Checking.{passed, received_line}
 use Rattle.receiver_laws.specs.Accounted.{pairs_of, IsSubsequence, rightly_passed, forged}
 use Rattle.receiver_laws.specs.Accounted.{IsAccountedFor, is_among}

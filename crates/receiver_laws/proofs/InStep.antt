@@ -23,10 +23,10 @@ use Rattle.link_format.specs.Profile.{word_of}
 use Rattle.link_format.proofs.Profiles.{length-trailer, word_of-trailer}
 use Rattle.sequence_journal.specs.Numbers.{least_with}
 use Rattle.sequence_journal.proofs.NumberLaws.{least-is}
-use Rattle.seal_transmitter.specs.Sealing.{SealState, Judgement, judged, sealer}
-use Rattle.seal_transmitter.specs.Sealing.{state_by as seal_by, emission_by as sent_by}
-use Rattle.seal_transmitter.specs.Sealing.Judgement.{sealed_with, unsealed}
-use Rattle.seal_transmitter.specs.declared.note.UnsealedWhy.TheVariants.{Early}
+use Rattle.seal_judgements.specs.Sealing.{SealState, Judgement, judged, sealer}
+use Rattle.seal_judgements.specs.Sealing.{state_by as seal_by, emission_by as sent_by}
+use Rattle.seal_judgements.specs.Sealing.Judgement.{sealed_with, unsealed}
+use Rattle.seal_judgements.specs.declared.note.UnsealedWhy.TheVariants.{Early}
 use Rattle.link_verdicts.specs.Verdicts.{CheckState, Verdict, trailer_of, checked}
 use Rattle.link_verdicts.specs.Verdicts.Verdict.{passed_with, refused, dropped}
 use Rattle.link_verdicts.specs.Emissions.{owed}

@@ -14,7 +14,7 @@ use Rattle.sequence_journal.specs.Uptimes.{RiseFrom, last_from, HasNoFloorBelow}
 use Rattle.sequence_journal.proofs.UptimeLaws.{rise-lower, rise-append, some_weaker}
 use Rattle.link_format.specs.NumberedFrame.{NumberedFrame, numbers_of, last_number}
 use Rattle.link_format.specs.Profile.{Profile}
-use Rattle.seal_transmitter.specs.Sealing.{sealed}
+use Rattle.seal_judgements.specs.Sealing.{sealed}
 use Rattle.link_verdicts.specs.Checking.{passed}
 use Rattle.receiver_laws.specs.Accounted.{IsAccountedFor}
 use Rattle.receiver_laws.specs.OverUptimes.{BoxUptime, frames_over, GoOnFrom, ShareDisk, BothGoOn}

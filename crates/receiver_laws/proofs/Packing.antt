@@ -20,12 +20,12 @@ use Rattle.burst_walk.proofs.Walks.{before-early}
 use Rattle.link_format.specs.NumberedFrame.{NumberedFrame}
 use Rattle.link_format.specs.Profile.{Profile, HasTags, pause_len, trailer_len, trailer}
 use Rattle.link_format.proofs.Profiles.{length-trailer}
-use Rattle.seal_transmitter.specs.Sealing.{SealState, FullNote, judged, state_by, note_by}
-use Rattle.seal_transmitter.specs.Sealing.{forwarded}
-use Rattle.seal_transmitter.specs.Sealing.{trailing, emission_by, sealer}
-use Rattle.seal_transmitter.specs.Sealing.Judgement.{sealed_with}
-use Rattle.seal_transmitter.proofs.Causality.{judge_by, judged-is}
-use Rattle.seal_transmitter.proofs.Numbers.{frames_in}
+use Rattle.seal_judgements.specs.Sealing.{SealState, FullNote, judged, state_by, note_by}
+use Rattle.seal_judgements.specs.Sealing.{forwarded}
+use Rattle.seal_judgements.specs.Sealing.{trailing, emission_by, sealer}
+use Rattle.seal_judgements.specs.Sealing.Judgement.{sealed_with}
+use Rattle.seal_judgements.proofs.Causality.{judge_by, judged-is}
+use Rattle.seal_judgements.proofs.Numbers.{frames_in}
 use Rattle.receiver_laws.specs.Untouched.{AreSpaced, numbered}
 
 -- the packet of a frame with a number, and those of several with the numbers after a floor

@@ -28,11 +28,11 @@ use Rattle.link_format.specs.NumberedFrame.{NumberedFrame, last_number}
 use Rattle.link_format.specs.Profile.{Profile, HasTags, pause_len, trailer_len, trailer}
 use Rattle.link_format.specs.Profile.{delay}
 use Rattle.link_format.proofs.Profiles.{length-trailer}
-use Rattle.seal_transmitter.specs.Sealing.{SealState, Judgement, judged, sealer, link_line}
-use Rattle.seal_transmitter.specs.Sealing.{at_floor as seal_floor_at, trailing, forwarded}
-use Rattle.seal_transmitter.specs.Sealing.{state_by as seal_by, emission_by as sent_by}
-use Rattle.seal_transmitter.specs.Sealing.Judgement.{sealed_with, unsealed}
-use Rattle.seal_transmitter.specs.declared.note.UnsealedWhy.TheVariants.{Early, Form, Spent}
+use Rattle.seal_judgements.specs.Sealing.{SealState, Judgement, judged, sealer, link_line}
+use Rattle.seal_judgements.specs.Sealing.{at_floor as seal_floor_at, trailing, forwarded}
+use Rattle.seal_judgements.specs.Sealing.{state_by as seal_by, emission_by as sent_by}
+use Rattle.seal_judgements.specs.Sealing.Judgement.{sealed_with, unsealed}
+use Rattle.seal_judgements.specs.declared.note.UnsealedWhy.TheVariants.{Early, Form, Spent}
 use Rattle.link_verdicts.specs.Checking.{checker, at_floor as check_floor_at, passed}
 use Rattle.link_verdicts.specs.Packet.{IsPacket}
 use Rattle.link_verdicts.specs.Verdicts.{CheckState}

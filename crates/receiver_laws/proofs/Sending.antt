@@ -12,13 +12,13 @@ use Rattle.burst_walk.specs.Walk.{Noted, walked, emitted, notes_before, state_af
 use Rattle.burst_walk.proofs.Walks.{before-early, before-late}
 use Rattle.link_format.specs.NumberedFrame.{NumberedFrame}
 use Rattle.link_format.specs.Profile.{Profile}
-use Rattle.seal_transmitter.specs.Sealing.{SealState, FullNote, Judgement, judged, state_by}
-use Rattle.seal_transmitter.specs.Sealing.{note_by}
-use Rattle.seal_transmitter.specs.Sealing.{forwarded, emission_by, sealer}
-use Rattle.seal_transmitter.specs.Sealing.Judgement.{sealed_with, unsealed}
-use Rattle.seal_transmitter.specs.declared.note.UnsealedWhy.TheVariants.{Early, Form, Spent}
-use Rattle.seal_transmitter.proofs.Causality.{judge_by, judged-is}
-use Rattle.seal_transmitter.proofs.Numbers.{frames_in}
+use Rattle.seal_judgements.specs.Sealing.{SealState, FullNote, Judgement, judged, state_by}
+use Rattle.seal_judgements.specs.Sealing.{note_by}
+use Rattle.seal_judgements.specs.Sealing.{forwarded, emission_by, sealer}
+use Rattle.seal_judgements.specs.Sealing.Judgement.{sealed_with, unsealed}
+use Rattle.seal_judgements.specs.declared.note.UnsealedWhy.TheVariants.{Early, Form, Spent}
+use Rattle.seal_judgements.proofs.Causality.{judge_by, judged-is}
+use Rattle.seal_judgements.proofs.Numbers.{frames_in}
 use Rattle.receiver_laws.specs.Standing.{numbered_frame}
 use Rattle.receiver_laws.proofs.Packing.{packet}
 

@@ -25,7 +25,7 @@ use Rattle.burst_walk.specs.Laid.{tick_at}
 use Rattle.burst_walk.specs.Walk.{Noted}
 use Rattle.link_format.specs.NumberedFrame.{NumberedFrame}
 use Rattle.link_format.specs.Profile.{Profile}
-use Rattle.seal_transmitter.specs.Sealing.{judged, link_line}
+use Rattle.seal_judgements.specs.Sealing.{judged, link_line}
 use Rattle.link_verdicts.specs.Shapes.{kept}
 use Rattle.link_verdicts.specs.Verdicts.{verdict_of, checked}
 use Rattle.link_verdicts.specs.Emissions.{spoiled}

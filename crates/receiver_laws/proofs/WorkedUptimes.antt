@@ -23,7 +23,7 @@ use Rattle.sequence_journal.specs.Slots.{own_floor, old_floor, floor_of}
 use Rattle.sequence_journal.specs.Uptimes.{IsUptime, IsIdle}
 use Rattle.sequence_journal.proofs.FloorLaws.{floor_beside}
 use Rattle.sequence_journal.proofs.SlotLemmas.{held}
-use Rattle.seal_transmitter.specs.Sealing.{judged, link_line, sealed}
+use Rattle.seal_judgements.specs.Sealing.{judged, link_line, sealed}
 use Rattle.link_verdicts.specs.Shapes.{kept}
 use Rattle.link_verdicts.specs.Verdicts.{verdict_of, checked}
 use Rattle.link_verdicts.specs.Emissions.{spoiled}

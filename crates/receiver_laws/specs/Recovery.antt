@@ -11,7 +11,7 @@ use Rattle.line_rules.specs.Bytes.{AreBytes}
 use Rattle.line_rules.specs.Rules.{Rules, left_of}
 use Rattle.link_format.specs.NumberedFrame.{NumberedFrame, last_number}
 use Rattle.link_format.specs.Profile.{Profile, words, delay}
-use Rattle.seal_transmitter.specs.Sealing.{link_line, sealed}
+use Rattle.seal_judgements.specs.Sealing.{link_line, sealed}
 use Rattle.link_verdicts.specs.Checking.{passed}
 use Rattle.receiver_laws.specs.Standing.{StandsOn}
 

@@ -1,7 +1,7 @@
 ghost use Rattle.std.specs.Prelude.{◌≡◌, ◌≤◌, ◌⊎◌, ◌∷◌, ◌++◌, ℕ, List, Contains};
 ghost use Rattle.yasir_ticks.specs.declared.TheConstants.{T3_5_TICKS};
 ghost use Rattle.yasir_ticks.specs.declared.tick.Tick.{Tick};
-ghost use Rattle.seal_transmitter.specs.Sealing.{sealed};
+ghost use Rattle.seal_judgements.specs.Sealing.{sealed};
 ghost use Rattle.yasir_ticks.specs.Bursts.{Burst, bursts};
 ghost use Rattle.rtu_frame.specs.Rules.{rtu_rules};
 ghost use Rattle.dnp_link_frame.specs.Rules.{dnp_rules};

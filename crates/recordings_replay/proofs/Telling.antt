@@ -17,7 +17,7 @@ use Rattle.sequence_journal.specs.Uptimes.{RiseFrom}
 use Rattle.device_model.specs.Frames.{FrameRead}
 use Rattle.link_format.specs.NumberedFrame.{NumberedFrame, numbers_of}
 use Rattle.link_format.specs.Profile.{Profile, HasTags, delay, words}
-use Rattle.seal_transmitter.specs.Sealing.{sealed, link_line}
+use Rattle.seal_judgements.specs.Sealing.{sealed, link_line}
 use Rattle.link_verdicts.specs.Checking.{passed, received_line}
 use Rattle.receiver_laws.specs.Accounted.{forged, is_among, is_same_pair}
 use Rattle.receiver_laws.specs.Headline.{ReadsWhatWasSealed}

@@ -13,12 +13,12 @@ use Rattle.sequence_journal.specs.declared.journal.Journal.{Journal}
 use Rattle.sequence_journal.specs.declared.journal.JournalFault.{JournalFault}
 use Rattle.sequence_journal.specs.declared.link.LinkId.{LinkId}
 use Rattle.sequence_journal.specs.Journal.{IsEitherFloor, journal_floor}
-use Rattle.seal_transmitter.specs.Sealing.{sealer, at_floor, sealed_in, sealed}
-use Rattle.seal_transmitter.specs.Sealing.FullNote.{sealed_note}
+use Rattle.seal_judgements.specs.Sealing.{sealer, at_floor, sealed_in, sealed}
+use Rattle.seal_judgements.specs.Sealing.FullNote.{sealed_note}
 use Rattle.seal_transmitter.specs.Answers.{AnswersTick, SealsWith, CommitsNoted, KeepsJournal}
 use Rattle.seal_transmitter.specs.Answers.{brief_note}
-use Rattle.seal_transmitter.specs.declared.note.SealNote.{SealNote}
-use Rattle.seal_transmitter.specs.declared.note.SealNote.TheVariants.{Sealed, Unsealed}
+use Rattle.seal_judgements.specs.declared.note.SealNote.{SealNote}
+use Rattle.seal_judgements.specs.declared.note.SealNote.TheVariants.{Sealed, Unsealed}
 use Rattle.burst_walk.specs.declared.box_step.BoxStep.{BoxStep}
 use Rattle.box_replay.specs.Boxes.{AnswersBox, FailsBox, line_of_note}
 use Rattle.box_replay.proofs.Walking.{walk-answers, walk-fails}

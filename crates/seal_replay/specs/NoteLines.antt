@@ -1,9 +1,9 @@
 -- The lines of the transmitter's notes.
 use Rattle.std.specs.Prelude.{ℕ, List, ◌++◌, codes, decimal}
-use Rattle.seal_transmitter.specs.declared.note.SealNote.{SealNote}
-use Rattle.seal_transmitter.specs.declared.note.SealNote.TheVariants.{Sealed, Unsealed}
-use Rattle.seal_transmitter.specs.declared.note.UnsealedWhy.{UnsealedWhy}
-use Rattle.seal_transmitter.specs.declared.note.UnsealedWhy.TheVariants.{Early, Form, Spent}
+use Rattle.seal_judgements.specs.declared.note.SealNote.{SealNote}
+use Rattle.seal_judgements.specs.declared.note.SealNote.TheVariants.{Sealed, Unsealed}
+use Rattle.seal_judgements.specs.declared.note.UnsealedWhy.{UnsealedWhy}
+use Rattle.seal_judgements.specs.declared.note.UnsealedWhy.TheVariants.{Early, Form, Spent}
 
 abbrev pub unsealed_word : UnsealedWhy → List ℕ
 unsealed_word Early = codes " early\n"

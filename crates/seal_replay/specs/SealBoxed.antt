@@ -10,7 +10,7 @@ use Rattle.link_format.specs.Setup.{Setup}
 use Rattle.burst_walk.specs.Walk.{Noted}
 use Rattle.burst_walk.specs.Answers.{told_notes}
 use Rattle.sequence_journal.specs.declared.numbers.TheConstants.{LIMIT}
-use Rattle.seal_transmitter.specs.Sealing.{FullNote, seal_notes, link_line, sealed}
+use Rattle.seal_judgements.specs.Sealing.{FullNote, seal_notes, link_line, sealed}
 use Rattle.seal_transmitter.specs.Answers.{brief_note}
 use Rattle.box_replay.specs.Boxes.{Boxed}
 use Rattle.seal_replay.specs.NoteLines.{seal_line}

@@ -16,11 +16,11 @@ use Rattle.sequence_journal.specs.declared.numbers.TheConstants.{LIMIT}
 use Rattle.sequence_journal.specs.Journal.{journal_floor}
 use Rattle.sequence_journal.specs.Uptimes.{RiseFrom}
 use Rattle.seal_transmitter.specs.Answers.{brief_note}
-use Rattle.seal_transmitter.specs.Sealing.{sealer, at_floor, sealed_in, sealed}
+use Rattle.seal_judgements.specs.Sealing.{sealer, at_floor, sealed_in, sealed}
 use Rattle.seal_transmitter.specs.Stands.{StandsFor}
 use Rattle.seal_transmitter.specs.declared.sealer.Sealer.{Sealer}
 use Rattle.seal_transmitter.proofs.Advancing.{number-is}
-use Rattle.seal_transmitter.proofs.Numbers.{sealed-numbered, sealed-extends}
+use Rattle.seal_judgements.proofs.Numbers.{sealed-numbered, sealed-extends}
 use Rattle.box_replay.specs.Boxes.{IsBoxed}
 use Rattle.box_replay.proofs.Walking.{walk-boxed}
 use Rattle.seal_replay.specs.NoteLines.{seal_line}

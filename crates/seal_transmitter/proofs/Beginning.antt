@@ -20,7 +20,7 @@ use Rattle.sequence_journal.specs.declared.numbers.TheConstants.{LIMIT}
 use Rattle.seal_transmitter.specs.Answers.{brief_note}
 use Rattle.seal_transmitter.specs.Between.{IsBetween}
 use Rattle.seal_transmitter.specs.Runs.{HasTakenRun}
-use Rattle.seal_transmitter.specs.Sealing.{sealer, at_floor}
+use Rattle.seal_judgements.specs.Sealing.{sealer, at_floor}
 use Rattle.seal_transmitter.specs.Stands.{StandsAt}
 use Rattle.seal_transmitter.specs.declared.sealer.Sealer.{Sealer}
 use Rattle.seal_transmitter.proofs.Advancing.{starts-now}

@@ -9,12 +9,12 @@ use Rattle.frame_ending.specs.LiveBytes.{live_bytes, has_extra}
 use Rattle.frame_ending.specs.SoFar.{last_burst, start_so_far, start_in, has_extra_so_far}
 use Rattle.frame_ending.specs.SoFar.{has_extra_in, live_bytes_so_far, live_bytes_in}
 use Rattle.link_format.specs.Profile.{Profile}
-use Rattle.seal_transmitter.specs.Sealing.{SealState, judged}
-use Rattle.seal_transmitter.specs.Sealing.Judgement.{sealed_with, unsealed}
+use Rattle.seal_judgements.specs.Sealing.{SealState, judged}
+use Rattle.seal_judgements.specs.Sealing.Judgement.{sealed_with, unsealed}
 use Rattle.seal_transmitter.specs.Between.{IsJudged, judgement_of}
-use Rattle.seal_transmitter.specs.declared.note.UnsealedWhy.{UnsealedWhy}
-use Rattle.seal_transmitter.specs.declared.note.UnsealedWhy.TheVariants.{Early, Form, Spent}
-use Rattle.seal_transmitter.proofs.Causality.{judge_by, judged-is}
+use Rattle.seal_judgements.specs.declared.note.UnsealedWhy.{UnsealedWhy}
+use Rattle.seal_judgements.specs.declared.note.UnsealedWhy.TheVariants.{Early, Form, Spent}
+use Rattle.seal_judgements.proofs.Causality.{judge_by, judged-is}
 
 module _ (profile : Profile) (rules : Rules) (last earliest : ℕ) where
   abbrev state : SealState

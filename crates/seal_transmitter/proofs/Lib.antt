@@ -1,7 +1,3 @@
-pub mod Worked
-mod WorkedWide
-pub mod Causality
-pub mod Numbers
 pub mod StepLemmas
 pub mod Steps
 pub mod Advancing

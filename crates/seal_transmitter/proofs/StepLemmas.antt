@@ -18,13 +18,13 @@ use Rattle.burst_walk.proofs.Emissions.{tick_at-none, tick_at-from}
 use Rattle.link_format.specs.NumberedFrame.{last_number}
 use Rattle.link_format.specs.Profile.{Profile, trailer}
 use Rattle.link_format.specs.Trailers.{first_of}
-use Rattle.seal_transmitter.specs.Sealing.{SealState, FullNote, Judgement, judged, state_by}
-use Rattle.seal_transmitter.specs.Sealing.{note_by}
-use Rattle.seal_transmitter.specs.Sealing.{emission_by, forwarded, trailing, sealer}
-use Rattle.seal_transmitter.specs.Sealing.Judgement.{sealed_with, unsealed}
+use Rattle.seal_judgements.specs.Sealing.{SealState, FullNote, Judgement, judged, state_by}
+use Rattle.seal_judgements.specs.Sealing.{note_by}
+use Rattle.seal_judgements.specs.Sealing.{emission_by, forwarded, trailing, sealer}
+use Rattle.seal_judgements.specs.Sealing.Judgement.{sealed_with, unsealed}
 use Rattle.seal_transmitter.specs.Stands.{sent_at}
-use Rattle.seal_transmitter.specs.declared.note.UnsealedWhy.TheVariants.{Early, Form, Spent}
-use Rattle.seal_transmitter.proofs.Numbers.{frames_in}
+use Rattle.seal_judgements.specs.declared.note.UnsealedWhy.TheVariants.{Early, Form, Spent}
+use Rattle.seal_judgements.proofs.Numbers.{frames_in}
 
 -- ---- ticks over one another
 

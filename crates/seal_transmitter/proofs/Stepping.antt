@@ -16,13 +16,13 @@ use Rattle.hmac_tag.specs.Tag.{direction_number}
 use Rattle.link_format.specs.declared.trailer.Trailer.{Trailer}
 use Rattle.link_format.specs.Setup.{Setup}
 use Rattle.link_format.specs.Trailers.{bytes_left, first_of}
-use Rattle.seal_transmitter.specs.Sealing.Judgement.{sealed_with, unsealed}
+use Rattle.seal_judgements.specs.Sealing.Judgement.{sealed_with, unsealed}
 use Rattle.seal_transmitter.specs.Between.{IsBetween, Judges, noteless}
 use Rattle.seal_transmitter.specs.Stands.{HasTaken}
-use Rattle.seal_transmitter.specs.declared.note.SealNote.TheVariants.{Sealed, Unsealed}
+use Rattle.seal_judgements.specs.declared.note.SealNote.TheVariants.{Sealed, Unsealed}
 use Rattle.burst_walk.specs.declared.box_step.BoxStep.{BoxStep}
-use Rattle.seal_transmitter.specs.declared.note.SealNote.{SealNote}
-use Rattle.seal_transmitter.specs.declared.note.UnsealedWhy.{UnsealedWhy}
+use Rattle.seal_judgements.specs.declared.note.SealNote.{SealNote}
+use Rattle.seal_judgements.specs.declared.note.UnsealedWhy.{UnsealedWhy}
 use Rattle.seal_transmitter.specs.declared.sealer.Sealer.{Sealer}
 use Rattle.seal_transmitter.proofs.Advancing.{WalksOn, number-is, advance-passing, advance-early}
 use Rattle.seal_transmitter.proofs.Advancing.{advance-begin, advance-live, advance-unsealed}

@@ -32,23 +32,23 @@ use Rattle.link_format.specs.NumberedFrame.{last_number}
 use Rattle.link_format.specs.Profile.{Profile, HasTags, trailer, trailer_len}
 use Rattle.link_format.specs.Trailers.{first_of}
 use Rattle.link_format.proofs.Profiles.{length-trailer}
-use Rattle.seal_transmitter.specs.Sealing.{SealState, FullNote, Judgement, judged, state_by}
-use Rattle.seal_transmitter.specs.Sealing.{note_by, emission_by}
-use Rattle.seal_transmitter.specs.Sealing.{forwarded, trailing, sealer, sealed_in, at_floor}
-use Rattle.seal_transmitter.specs.Sealing.{seal_notes}
-use Rattle.seal_transmitter.specs.Sealing.{start_after, sealed}
-use Rattle.seal_transmitter.specs.Sealing.Judgement.{sealed_with, unsealed}
+use Rattle.seal_judgements.specs.Sealing.{SealState, FullNote, Judgement, judged, state_by}
+use Rattle.seal_judgements.specs.Sealing.{note_by, emission_by}
+use Rattle.seal_judgements.specs.Sealing.{forwarded, trailing, sealer, sealed_in, at_floor}
+use Rattle.seal_judgements.specs.Sealing.{seal_notes}
+use Rattle.seal_judgements.specs.Sealing.{start_after, sealed}
+use Rattle.seal_judgements.specs.Sealing.Judgement.{sealed_with, unsealed}
 use Rattle.seal_transmitter.specs.Answers.{AnswersTick, SealsWith, brief_note}
 use Rattle.seal_transmitter.specs.Between.{noteless}
 use Rattle.seal_transmitter.specs.Stands.{HasWalked, sent_at}
-use Rattle.seal_transmitter.specs.declared.note.SealNote.TheVariants.{Sealed, Unsealed}
+use Rattle.seal_judgements.specs.declared.note.SealNote.TheVariants.{Sealed, Unsealed}
 use Rattle.burst_walk.specs.declared.box_step.BoxStep.{BoxStep}
-use Rattle.seal_transmitter.specs.declared.note.SealNote.{SealNote}
-use Rattle.seal_transmitter.specs.declared.note.UnsealedWhy.{UnsealedWhy}
-use Rattle.seal_transmitter.specs.declared.note.UnsealedWhy.TheVariants.{Early, Form, Spent}
-use Rattle.seal_transmitter.proofs.Causality.{judge_by, judged-is, sealed-right, no_extra}
-use Rattle.seal_transmitter.proofs.Causality.{sealer-causal, emission-judged, emission-early}
-use Rattle.seal_transmitter.proofs.Causality.{shown-from}
+use Rattle.seal_judgements.specs.declared.note.SealNote.{SealNote}
+use Rattle.seal_judgements.specs.declared.note.UnsealedWhy.{UnsealedWhy}
+use Rattle.seal_judgements.specs.declared.note.UnsealedWhy.TheVariants.{Early, Form, Spent}
+use Rattle.seal_judgements.proofs.Causality.{judge_by, judged-is, sealed-right, no_extra}
+use Rattle.seal_judgements.proofs.Causality.{sealer-causal, emission-judged, emission-early}
+use Rattle.seal_judgements.proofs.Causality.{shown-from}
 use Rattle.seal_transmitter.proofs.StepLemmas.{or_else, or_else-silent, sent-first, sent-later}
 use Rattle.seal_transmitter.proofs.StepLemmas.{noted-overlays, noted-number, sealed-from}
 use Rattle.seal_transmitter.proofs.StepLemmas.{forwarded-past}

@@ -7,8 +7,8 @@ use Rattle.sequence_journal.specs.Commits.{HasFailed}
 use Rattle.sequence_journal.specs.Journal.{journal_floor}
 use Rattle.sequence_journal.specs.Uptimes.{CommitsAnswered}
 use Rattle.seal_transmitter.specs.Answers.{CommitsNoted, KeepsJournal, numbers_noted}
-use Rattle.seal_transmitter.specs.declared.note.SealNote.{SealNote}
-use Rattle.seal_transmitter.specs.declared.note.SealNote.TheVariants.{Sealed, Unsealed}
+use Rattle.seal_judgements.specs.declared.note.SealNote.{SealNote}
+use Rattle.seal_judgements.specs.declared.note.SealNote.TheVariants.{Sealed, Unsealed}
 use Rattle.burst_walk.specs.declared.box_step.BoxStep.{BoxStep}
 
 module _ {D : Type 0} (d : SlotDisk D) (old new : Journal) (before after : D) where

@@ -20,7 +20,7 @@ use Rattle.seal_transmitter.specs.Answers.{SealsWith}
 use Rattle.seal_transmitter.specs.Stands.{StandsAt, HasTaken}
 use Rattle.seal_transmitter.specs.Between.{IsBetween}
 use Rattle.burst_walk.specs.declared.box_step.BoxStep.{BoxStep}
-use Rattle.seal_transmitter.specs.declared.note.SealNote.{SealNote}
+use Rattle.seal_judgements.specs.declared.note.SealNote.{SealNote}
 use Rattle.seal_transmitter.specs.declared.sealer.Sealer.{Sealer}
 
 module _ {R M : Type 0} (proto : LineRules R) (code : Mac M) {B : ℕ} (old : Sealer R M B) (last : ℕ)

@@ -13,10 +13,10 @@ use Rattle.sequence_journal.specs.declared.journal.JournalFault.{JournalFault}
 use Rattle.sequence_journal.specs.Commits.{HasCommitted, HasFailed}
 use Rattle.sequence_journal.specs.Journal.{journal_link, journal_floor, Fits, IsCrashSafe}
 use Rattle.sequence_journal.specs.Journal.{HasFloorFrom}
-use Rattle.seal_transmitter.specs.Sealing.{FullNote, sealer, at_floor, seal_notes}
-use Rattle.seal_transmitter.specs.Sealing.FullNote.{sealed_note, unsealed_note}
-use Rattle.seal_transmitter.specs.declared.note.SealNote.{SealNote}
-use Rattle.seal_transmitter.specs.declared.note.SealNote.TheVariants.{Sealed, Unsealed}
+use Rattle.seal_judgements.specs.Sealing.{FullNote, sealer, at_floor, seal_notes}
+use Rattle.seal_judgements.specs.Sealing.FullNote.{sealed_note, unsealed_note}
+use Rattle.seal_judgements.specs.declared.note.SealNote.{SealNote}
+use Rattle.seal_judgements.specs.declared.note.SealNote.TheVariants.{Sealed, Unsealed}
 use Rattle.burst_walk.specs.declared.box_step.BoxStep.{BoxStep}
 
 -- A note as it is answered: of a sealed frame it has the length alone.

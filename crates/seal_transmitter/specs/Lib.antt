@@ -1,4 +1,3 @@
-pub mod Sealing
 pub mod Answers
 pub mod Stands
 pub mod Boxed

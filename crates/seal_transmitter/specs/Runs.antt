@@ -9,7 +9,7 @@ use Rattle.link_format.specs.Profile.{profile_of}
 use Rattle.link_format.specs.Setup.{Setup}
 use Rattle.sequence_journal.specs.declared.numbers.TheConstants.{LIMIT}
 use Rattle.seal_transmitter.specs.Answers.{brief_note}
-use Rattle.seal_transmitter.specs.Sealing.{sealer, at_floor, sealed}
+use Rattle.seal_judgements.specs.Sealing.{sealer, at_floor, sealed}
 use Rattle.seal_transmitter.specs.Stands.{StandsAt}
 use Rattle.seal_transmitter.specs.declared.sealer.Sealer.{Sealer}
 

@@ -21,9 +21,9 @@ use Rattle.sequence_journal.specs.declared.journal.Journal.{Journal}
 use Rattle.sequence_journal.specs.declared.numbers.TheConstants.{LIMIT}
 use Rattle.sequence_journal.specs.Journal.{journal_floor}
 use Rattle.seal_transmitter.specs.Answers.{AnswersTick}
-use Rattle.seal_transmitter.specs.Sealing.{SealState, sealer, at_floor, sealed}
+use Rattle.seal_judgements.specs.Sealing.{SealState, sealer, at_floor, sealed}
 use Rattle.burst_walk.specs.declared.box_step.BoxStep.{BoxStep}
-use Rattle.seal_transmitter.specs.declared.note.SealNote.{SealNote}
+use Rattle.seal_judgements.specs.declared.note.SealNote.{SealNote}
 use Rattle.seal_transmitter.specs.declared.sealer.Sealer.{Sealer}
 
 -- tick i of the link, where these bytes are sent from tick m on

@@ -9,9 +9,9 @@ ghost use Rattle.sequence_journal.specs.declared.journal.JournalFault.{JournalFa
 ghost use Rattle.sequence_journal.specs.Journal.{journal_floor, IsCrashSafe};
 ghost use Rattle.sequence_journal.specs.Uptimes.{IsStepOf, last_from, numbers_answered};
 ghost use Rattle.burst_walk.specs.declared.box_step.BoxStep.{BoxStep};
-ghost use Rattle.seal_transmitter.specs.declared.note.SealNote.{SealNote};
+ghost use Rattle.seal_judgements.specs.declared.note.SealNote.{SealNote};
 ghost use Rattle.seal_transmitter.specs.Answers.{KeepsJournal, numbers_noted};
-ghost use Rattle.seal_transmitter.specs.Sealing.{sealer, at_floor, sealed};
+ghost use Rattle.seal_judgements.specs.Sealing.{sealer, at_floor, sealed};
 
 use hmac_tag::Mac;
 use line_rules::LineRules;

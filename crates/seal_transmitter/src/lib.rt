@@ -4,14 +4,13 @@
 
 mod boxed;
 mod laws;
-mod note;
 mod sealer;
 mod silence;
 
 pub use burst_walk::{BoxStep, RunBytes};
 pub use hmac_tag::Dir;
 pub use laws::{longer_lines, steps_are_of_an_uptime};
-pub use note::{SealNote, UnsealedWhy};
+pub use seal_judgements::{SealNote, UnsealedWhy};
 pub use sealer::Sealer;
 
 #[cfg(test)]

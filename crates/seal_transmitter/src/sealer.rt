@@ -55,7 +55,7 @@ impl<R: LineRules, M: Mac, const B: usize> Sealer<R, M, B> {
     ghost use Rattle.link_format.specs.Trailers.{bytes_left, first_of};
     ghost use Rattle.sequence_journal.specs.declared.numbers.TheConstants.{LIMIT};
     ghost use Rattle.sequence_journal.specs.Journal.{journal_floor, Fits};
-    ghost use Rattle.seal_transmitter.specs.Sealing.Judgement.{sealed_with, unsealed};
+    ghost use Rattle.seal_judgements.specs.Sealing.Judgement.{sealed_with, unsealed};
     ghost use Rattle.seal_transmitter.specs.Answers.{SealsWith, KeepsJournal};
     ghost use Rattle.seal_transmitter.specs.Stands.{StandsAt, StandsFor, HasTaken, ticks_taken};
     ghost use Rattle.seal_transmitter.specs.Runs.{HasTakenRun};

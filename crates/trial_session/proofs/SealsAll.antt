@@ -13,7 +13,7 @@ use Rattle.line_rules.specs.Rules.{Rules}
 use Rattle.line_rules.specs.RulesLaws.{IsLawful, IsFramed}
 use Rattle.device_model.specs.Frames.{FrameRead}
 use Rattle.link_format.specs.Profile.{Profile, HasTags, trailer_len}
-use Rattle.seal_transmitter.specs.Sealing.{sealer, at_floor, sealed, sealed_in}
+use Rattle.seal_judgements.specs.Sealing.{sealer, at_floor, sealed, sealed_in}
 use Rattle.link_verdicts.specs.Checking.{passed, received_line}
 use Rattle.receiver_laws.specs.Reading.{ReadsWhatPassed, delivered}
 use Rattle.receiver_laws.specs.Untouched.{AreSpaced, IsUntouched, numbered}

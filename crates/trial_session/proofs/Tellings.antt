@@ -6,7 +6,7 @@ use Rattle.dnp_link_frame.specs.RulesLaws.{dnp_lawful, dnp_framed}
 use Rattle.device_model.specs.DnpReads.{dnp_reads}
 use Rattle.device_model.specs.RtuReads.{rtu_reads}
 use Rattle.link_format.specs.Profile.{Profile, HasTags, pause_len, trailer_len}
-use Rattle.seal_transmitter.specs.Sealing.{link_line}
+use Rattle.seal_judgements.specs.Sealing.{link_line}
 use Rattle.receiver_laws.proofs.DnpReadings.{dnp_reads_what_passed}
 use Rattle.receiver_laws.proofs.RtuReadings.{rtu_reads_what_passed}
 use Rattle.trial_session.specs.DrawLaws.{rtu_are_frames, rtu_are_short}

@@ -9,10 +9,10 @@ use Rattle.burst_walk.specs.Walk.{Noted}
 use Rattle.link_format.specs.Profile.{Profile, profile_of}
 use Rattle.link_format.specs.Setup.{Setup}
 use Rattle.sequence_journal.specs.declared.numbers.TheConstants.{LIMIT}
-use Rattle.seal_transmitter.specs.Sealing.{FullNote as SealFull, seal_notes, link_line, sealed}
-use Rattle.seal_transmitter.specs.Sealing.FullNote.{sealed_note, unsealed_note}
-use Rattle.seal_transmitter.specs.declared.note.SealNote.{SealNote}
-use Rattle.seal_transmitter.specs.declared.note.SealNote.TheVariants.{Sealed, Unsealed}
+use Rattle.seal_judgements.specs.Sealing.{FullNote as SealFull, seal_notes, link_line, sealed}
+use Rattle.seal_judgements.specs.Sealing.FullNote.{sealed_note, unsealed_note}
+use Rattle.seal_judgements.specs.declared.note.SealNote.{SealNote}
+use Rattle.seal_judgements.specs.declared.note.SealNote.TheVariants.{Sealed, Unsealed}
 use Rattle.link_verdicts.specs.Checking.{FullNote as CheckFull, check_notes, passed, received_line}
 use Rattle.link_verdicts.specs.Checking.FullNote.{passed_note, refused_note, dropped_note}
 use Rattle.link_verdicts.specs.declared.note.CheckNote.{CheckNote}

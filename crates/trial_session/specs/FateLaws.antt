@@ -8,8 +8,8 @@ use Rattle.line_rules.specs.declared.line_rules.LineRules.{Ghosts as LineRules}
 use Rattle.hmac_tag.specs.declared.tag.Mac.{Ghosts as Mac}
 use Rattle.link_box.specs.Walking.{full_notes}
 use Rattle.seal_transmitter.specs.Boxed.{seal_walking}
-use Rattle.seal_transmitter.specs.Sealing.{FullNote as SealFull, sealed_in}
-use Rattle.seal_transmitter.specs.Sealing.FullNote.{sealed_note, unsealed_note}
+use Rattle.seal_judgements.specs.Sealing.{FullNote as SealFull, sealed_in}
+use Rattle.seal_judgements.specs.Sealing.FullNote.{sealed_note, unsealed_note}
 use Rattle.seal_transmitter.specs.Answers.{brief_note as seal_brief}
 use Rattle.link_verdicts.specs.Checking.{FullNote as CheckFull, passed_in}
 use Rattle.link_verdicts.specs.Checking.{brief_note as check_brief}

@@ -4,8 +4,8 @@ use Rattle.link_format.specs.Trailers.{bytes_left}
 use Rattle.sequence_journal.specs.Commits.{HasFailed}
 use Rattle.sequence_journal.specs.Journal.{journal_floor}
 use Rattle.seal_transmitter.specs.Answers.{CommitsNoted}
-use Rattle.seal_transmitter.specs.declared.note.SealNote.{SealNote}
-use Rattle.seal_transmitter.specs.Sealing.Judgement.{sealed_with}
+use Rattle.seal_judgements.specs.declared.note.SealNote.{SealNote}
+use Rattle.seal_judgements.specs.Sealing.Judgement.{sealed_with}
 use Rattle.seal_transmitter.specs.Between.{Judges}
 use Rattle.seal_transmitter.specs.Stands.{HasTaken}
 use Rattle.seal_transmitter.proofs.Advancing.{seals-with}

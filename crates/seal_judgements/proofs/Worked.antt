@@ -12,9 +12,9 @@ use Rattle.burst_walk.proofs.Rows.{Row, row, noted_at, AreNotes, AreOthers}
 use Rattle.link_format.specs.Profile.{Profile}
 use Rattle.link_format.proofs.Worked.{rtu, stand_in, profile_with, on_line, READ_TEN_REGISTERS}
 use Rattle.link_format.proofs.Worked.{READ_ONE_REGISTER}
-use Rattle.seal_transmitter.specs.Sealing.{FullNote, judged, seal_notes, link_line, sealed}
-use Rattle.seal_transmitter.specs.Sealing.FullNote.{sealed_note, unsealed_note}
-use Rattle.seal_transmitter.specs.declared.note.UnsealedWhy.TheVariants.{Early, Form, Spent}
+use Rattle.seal_judgements.specs.Sealing.{FullNote, judged, seal_notes, link_line, sealed}
+use Rattle.seal_judgements.specs.Sealing.FullNote.{sealed_note, unsealed_note}
+use Rattle.seal_judgements.specs.declared.note.UnsealedWhy.TheVariants.{Early, Form, Spent}
 
 abbrev profile : Profile
 profile = profile_with 2 12

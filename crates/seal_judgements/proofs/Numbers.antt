@@ -18,10 +18,10 @@ use Rattle.burst_walk.proofs.Spread.{AreSpread, bursts-spread}
 use Rattle.burst_walk.proofs.Walks.{before-early, before-late, none_before}
 use Rattle.link_format.specs.NumberedFrame.{NumberedFrame, AreNumberedFrom}
 use Rattle.link_format.specs.Profile.{Profile}
-use Rattle.seal_transmitter.specs.Sealing.{SealState, FullNote, Judgement, judged, state_by}
-use Rattle.seal_transmitter.specs.Sealing.{note_by, sealer, at_floor, sealed_in, seal_notes, sealed}
-use Rattle.seal_transmitter.specs.Sealing.Judgement.{sealed_with, unsealed}
-use Rattle.seal_transmitter.proofs.Causality.{judge_by, judged-is, sealer-causal, sealer-extends}
+use Rattle.seal_judgements.specs.Sealing.{SealState, FullNote, Judgement, judged, state_by}
+use Rattle.seal_judgements.specs.Sealing.{note_by, sealer, at_floor, sealed_in, seal_notes, sealed}
+use Rattle.seal_judgements.specs.Sealing.Judgement.{sealed_with, unsealed}
+use Rattle.seal_judgements.proofs.Causality.{judge_by, judged-is, sealer-causal, sealer-extends}
 
 sealed-number : (early wrong last : Bool) (number n : ℕ)
     → judge_by early wrong last number ≡ sealed_with n → n ≡ number

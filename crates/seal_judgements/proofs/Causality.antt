@@ -24,10 +24,10 @@ use Rattle.burst_walk.proofs.Emissions.{tick_at-none, tick_at-before, tick_at-fr
 use Rattle.burst_walk.proofs.Walks.{adds_one_tick}
 use Rattle.burst_walk.proofs.Longer.{extends}
 use Rattle.link_format.specs.Profile.{Profile, trailer}
-use Rattle.seal_transmitter.specs.Sealing.{SealState, Judgement, judged, forwarded, emission_by}
-use Rattle.seal_transmitter.specs.Sealing.{sealer}
-use Rattle.seal_transmitter.specs.Sealing.Judgement.{sealed_with, unsealed}
-use Rattle.seal_transmitter.specs.declared.note.UnsealedWhy.TheVariants.{Early, Form, Spent}
+use Rattle.seal_judgements.specs.Sealing.{SealState, Judgement, judged, forwarded, emission_by}
+use Rattle.seal_judgements.specs.Sealing.{sealer}
+use Rattle.seal_judgements.specs.Sealing.Judgement.{sealed_with, unsealed}
+use Rattle.seal_judgements.specs.declared.note.UnsealedWhy.TheVariants.{Early, Form, Spent}
 
 -- ---- judgements
 

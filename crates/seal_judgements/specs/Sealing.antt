@@ -13,8 +13,8 @@ use Rattle.frame_ending.specs.LiveBytes.{live_bytes, live_ticks, live_end, has_e
 use Rattle.burst_walk.specs.Walk.{Walker, Noted, notes_of, line_of}
 use Rattle.link_format.specs.Profile.{Profile, pause_len, trailer_len, trailer}
 use Rattle.link_format.specs.NumberedFrame.{NumberedFrame}
-use Rattle.seal_transmitter.specs.declared.note.UnsealedWhy.{UnsealedWhy}
-use Rattle.seal_transmitter.specs.declared.note.UnsealedWhy.TheVariants.{Early, Form, Spent}
+use Rattle.seal_judgements.specs.declared.note.UnsealedWhy.{UnsealedWhy}
+use Rattle.seal_judgements.specs.declared.note.UnsealedWhy.TheVariants.{Early, Form, Spent}
 
 -- what the transmitter knows between bursts
 pub record SealState : Type 0 where

@@ -1,0 +1,4 @@
+pub mod Worked
+mod WorkedWide
+pub mod Causality
+pub mod Numbers
