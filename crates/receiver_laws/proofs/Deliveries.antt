@@ -153,6 +153,13 @@ module _ (profile : Profile) (tags : HasTags profile) (some : 1 ≤ profile.word
       (omega arith)
       is.not_above is.near is.numbers
 
+  -- What the receiver emits is what the line carries, as late as the receiver is.
+  pub untouched-emits : emitted (checker profile rules) (check_floor behind) (bursts link)
+      ≡ map (later (delay profile)) ds
+  untouched-emits =
+      ap (λ es. emitted (checker profile rules) (check_floor behind) es) link-bursts
+      ∙ all-passed.emits
+
   pub delivers-all : DeliversAll profile rules floor behind line more rest
   delivers-all =
       let late : ℕ = delay profile in

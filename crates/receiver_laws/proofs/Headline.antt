@@ -53,7 +53,7 @@ bytes-paired [] = refl
 bytes-paired (f ∷ frames) = ap (λ l. f.frame ∷ l) (bytes-paired frames)
 
 -- where nothing is forged, the bytes of the passed frames are a subsequence of those sealed
-passed-sealed : (seal_floor check_floor : ℕ) (sealed_ones passed_ones : List NumberedFrame)
+pub passed-sealed : (seal_floor check_floor : ℕ) (sealed_ones passed_ones : List NumberedFrame)
     → IsAccountedFor seal_floor check_floor sealed_ones passed_ones
     → forged sealed_ones passed_ones ≡ []
     → IsSubsequence (bytes_sealed passed_ones) (bytes_sealed sealed_ones)

@@ -62,7 +62,7 @@ module _ (first second : ℕ) (rules : Rules) (headed : IsHeaded rules) (framed 
     (hunted : IsHunted first second rules) where
   -- ---- bytes that are taken together
 
-  frame-taken : (x : List ℕ) → rules.is_frame x ≡ true → IsTaken first second rules x
+  pub frame-taken : (x : List ℕ) → rules.is_frame x ≡ true → IsTaken first second rules x
   frame-taken x is =
       let head = framed.good_header x is in
       let long = good-long rules x head in
@@ -245,7 +245,7 @@ module _ (first second : ℕ) (rules : Rules) (headed : IsHeaded rules) (framed 
         (refused-taken s d why contiguous is, taken)
     emission-taken s d (dropped why) es contiguous is taken = taken
 
-    emissions-taken : (s : CheckState) (n : ℕ) (ds : List Burst) → AreSpread 4 n ds
+    pub emissions-taken : (s : CheckState) (n : ℕ) (ds : List Burst) → AreSpread 4 n ds
         → AreTaken first second rules (emitted (checker profile rules) s ds)
     emissions-taken s n [] spread = tt
     emissions-taken s n (d ∷ ds) spread =
