@@ -1,0 +1,253 @@
+-- How what becomes of the frames of a line goes on as the line does.
+use Rattle.std.proofs.Common.{◌≡◌, ◌∙◌, ℕ, ◌+◌, ◌<◌, ◌≤◌, List, [], ◌∷◌, ◌++◌}
+use Rattle.std.proofs.Common.{length, map, drop, max, fold, refl, sym, ap, subst, arith}
+use Rattle.std.proofs.Common.{append_assoc, length-append, true, false, ⊎_elim}
+use Rattle.std.proofs.lemmas.Bool.{cases_lt, le-leb, lt-leb, false≢true}
+use Rattle.std.proofs.lemmas.List.{append-nil, map-append, length-map}
+use Rattle.std.proofs.lemmas.List.Sums.{fold-append}
+use Rattle.yasir_ticks.specs.Bursts.{Burst}
+use Rattle.yasir_ticks.specs.declared.tick.Tick.{Tick}
+use Rattle.burst_walk.specs.Laid.{tick_at, laid}
+use Rattle.burst_walk.proofs.Emissions.{tick_at-none, tick_at-front, tick_at-before, laid-more}
+use Rattle.burst_walk.proofs.Emissions.{laid-same}
+use Rattle.device_model.specs.Frames.{FrameRead}
+use Rattle.line_spacer.specs.Arrivals.{Arrival, arriving, gained, arrivals_behind, arrivals}
+use Rattle.line_spacer.specs.Spacing.{Spaced, count_from, free_from, sent_from, take_in}
+use Rattle.line_spacer.specs.Spacing.{spaced, accepted_of}
+use Rattle.line_spacer.specs.Stands.{HasSent, TakesIn, taken_in, AnswersSpaced}
+use Rattle.line_spacer.specs.Stands.{Frame, frames_in}
+use Rattle.line_spacer.proofs.Sending.{waiting-count, frame-waits}
+
+-- ---- the frames of a line
+
+pub drop-front : (x y : List FrameRead) → drop (length x) (x ++ y) ≡ y
+drop-front [] y = refl
+drop-front (a ∷ x) y = drop-front x y
+
+module _ (reads : List Tick → List FrameRead) where
+  pub arrivals-append : (line x y : List Tick) → arrivals_behind reads line (x ++ y)
+      ≡ arrivals_behind reads line x ++ arrivals_behind reads (line ++ x) y
+  unfolding arrivals_behind
+  arrivals-append line [] y = ap (λ l. arrivals_behind reads l y) (sym (append-nil line))
+  arrivals-append line (t ∷ x) y =
+      let new : List Arrival = map (arriving (length line)) (gained reads line t) in
+      ap (λ a. new ++ a) (arrivals-append (line ++ t ∷ []) x y)
+      ∙ (sym (append_assoc new (arrivals_behind reads (line ++ t ∷ []) x)
+      (arrivals_behind reads (line ++ t ∷ [] ++ x) y))
+      ∙ ap (λ l. (new ++ arrivals_behind reads (line ++ t ∷ []) x) ++ arrivals_behind reads l y)
+      (append_assoc line (t ∷ []) x))
+
+  -- what one more tick brings
+  pub arrivals-one : (line : List Tick) (t : Tick) (frames : List FrameRead)
+      → reads (line ++ t ∷ []) ≡ reads line ++ frames
+      → arrivals reads (line ++ t ∷ [])
+      ≡ arrivals reads line ++ map (arriving (length line)) frames
+  unfolding arrivals_behind
+  arrivals-one line t frames is =
+      arrivals-append [] line (t ∷ [])
+      ∙ ap (λ a. arrivals reads line ++ a)
+      (append-nil (map (arriving (length line)) (gained reads line t))
+      ∙ ap (map (arriving (length line)))
+      (ap (drop (length (reads line))) is ∙ drop-front (reads line) frames))
+
+  module _ (gap cap : ℕ) where
+    pub spaced-one : (line : List Tick) (t : Tick) (frames : List FrameRead)
+        → reads (line ++ t ∷ []) ≡ reads line ++ frames
+        → spaced reads gap cap (line ++ t ∷ [])
+        ≡ taken_in gap cap (length line) (spaced reads gap cap line) frames
+    spaced-one line t frames is =
+        ap (fold (take_in gap cap) (record { accepted = []; lost = [] }))
+        (arrivals-one line t frames is)
+        ∙ fold-append (take_in gap cap) (record { accepted = []; lost = [] }) (arrivals reads line)
+        (map (arriving (length line)) frames)
+
+    -- the other line with one more tick
+    pub line-one : (line : List Tick) (t u : Tick) (frames lost : List FrameRead)
+        → reads (line ++ t ∷ []) ≡ reads line ++ frames
+        → tick_at (accepted_of reads gap cap line) (length line) ≡ u
+        → TakesIn gap cap (length line) (spaced reads gap cap line) frames lost
+        → AnswersSpaced reads gap cap line (t ∷ []) (u ∷ []) (length line) lost
+    line-one line t u frames lost is leaves takes =
+        let m : ℕ = length line in
+        let before : List Burst = accepted_of reads gap cap line in
+        let after : List Burst = accepted_of reads gap cap (line ++ t ∷ []) in
+        let one : length (line ++ t ∷ []) ≡ m + 1 = length-append line (t ∷ []) in
+        let next = spaced-one line t frames is in
+        record {
+          ticks_leave = ap (λ k. laid k after) one
+              ∙ (laid-same 0 (m + 1) (λ i. tick_at after i) (λ i. tick_at before i)
+              (λ i below. let within : i ≤ m = omega arith in
+              ap (λ s. tick_at s.accepted i) next ∙ takes.stays i within)
+              ∙ (laid-more m before ∙ ap (λ v. laid m before ++ v ∷ []) leaves));
+          are_lost = ap (λ s. s.lost) next ∙ takes.are_lost;
+        }
+
+-- ---- one frame, taken in
+
+module _ (gap cap step : ℕ) (s : Spaced) (frame : FrameRead) where
+  accepts : count_from (step + 1) s.accepted < cap
+      → take_in gap cap s (arriving step frame)
+      ≡ record {
+        accepted = s.accepted
+            ++ sent_from (max (step + 1) (free_from gap 0 s.accepted)) frame.frame ∷ [];
+        lost = s.lost;
+      }
+  unfolding take_in
+  accepts few = rw (lt-leb cap (count_from (step + 1) s.accepted) few) refl
+
+  loses : cap ≤ count_from (step + 1) s.accepted
+      → take_in gap cap s (arriving step frame)
+      ≡ record { accepted = s.accepted; lost = s.lost ++ arriving step frame ∷ [] }
+  unfolding take_in
+  loses many = rw (le-leb cap (count_from (step + 1) s.accepted) many) refl
+
+  -- the queue has room for it
+  module _ (left : List ℕ) (rest : ℕ) (queued : List (List ℕ))
+      (has : HasSent gap (step + 1) s.accepted left rest queued) where
+    few-wait : length queued < cap → count_from (step + 1) s.accepted < cap
+    few-wait few =
+        let count = waiting-count gap (step + 1) s.accepted left rest queued has in omega arith
+
+    pub kept-sent : length queued < cap
+        → HasSent gap (step + 1) (taken_in gap cap step s (frame ∷ [])).accepted left rest
+        (queued ++ frame.frame ∷ [])
+    kept-sent few =
+        let P : Spaced → Type 0 = λ x.
+        HasSent gap (step + 1) x.accepted left rest (queued ++ frame.frame ∷ []) in
+        subst P (sym (accepts (few-wait few)))
+        (frame-waits gap (step + 1) s.accepted left rest queued frame.frame has)
+
+    pub kept-takes : length queued < cap → TakesIn gap cap step s (frame ∷ []) []
+    kept-takes few =
+        let d : Burst =
+        sent_from (max (step + 1) (free_from gap 0 s.accepted)) frame.frame in
+        let same = accepts (few-wait few) in
+        record {
+          are_lost = ap (λ x. x.lost) same ∙ sym (append-nil s.lost);
+          stays = λ i within.
+              let early : i < d.start = grind arith in
+              ap (λ x. tick_at x.accepted i) same
+              ∙ (tick_at-front s.accepted (d ∷ []) [] i
+              (tick_at-before d i early ∙ sym (tick_at-none i))
+              ∙ ap (λ x. tick_at x i) (append-nil s.accepted));
+        }
+
+    many-wait : cap ≤ length queued → cap ≤ count_from (step + 1) s.accepted
+    many-wait many =
+        let count = waiting-count gap (step + 1) s.accepted left rest queued has in omega arith
+
+    pub lost-sent : cap ≤ length queued
+        → HasSent gap (step + 1) (taken_in gap cap step s (frame ∷ [])).accepted left rest queued
+    lost-sent many =
+        let P : Spaced → Type 0 = λ x. HasSent gap (step + 1) x.accepted left rest queued in
+        subst P (sym (loses (many-wait many))) has
+
+    pub lost-takes : cap ≤ length queued → TakesIn gap cap step s (frame ∷ []) (frame ∷ [])
+    lost-takes many =
+        let same = loses (many-wait many) in
+        record {
+          are_lost = ap (λ x. x.lost) same;
+          stays = λ i within. ap (λ x. tick_at x.accepted i) same;
+        }
+
+-- the same where the queue is one of buffers
+module _ (gap cap step : ℕ) (s : Spaced) (left : List ℕ) (rest : ℕ) (queue : List Frame)
+    (start : ℕ) (bytes : Frame)
+    (has : HasSent gap (step + 1) s.accepted left rest (frames_in queue)) where
+  abbrev read : FrameRead
+  read = record { start = start; frame = bytes.items }
+
+  count : length (frames_in queue) ≡ length queue
+  count = length-map queue (λ x. x.items)
+
+  pub queued-sent : length queue < cap
+      → HasSent gap (step + 1) (taken_in gap cap step s (read ∷ [])).accepted left rest
+      (frames_in (queue ++ bytes ∷ []))
+  queued-sent few =
+      let same = count in
+      let P : List (List ℕ) → Type 0 = λ x.
+      HasSent gap (step + 1) (taken_in gap cap step s (read ∷ [])).accepted left rest x in
+      subst P (sym (map-append (λ x. x.items) queue (bytes ∷ [])))
+      (kept-sent gap cap step s read left rest (frames_in queue) has (omega arith))
+
+  pub queued-takes : length queue < cap → TakesIn gap cap step s (read ∷ []) []
+  queued-takes few =
+      let same = count in
+      kept-takes gap cap step s read left rest (frames_in queue) has (omega arith)
+
+  pub full-sent : cap ≤ length queue
+      → HasSent gap (step + 1) (taken_in gap cap step s (read ∷ [])).accepted left rest
+      (frames_in queue)
+  full-sent many =
+      let same = count in
+      lost-sent gap cap step s read left rest (frames_in queue) has (omega arith)
+
+  pub full-takes : cap ≤ length queue → TakesIn gap cap step s (read ∷ []) (read ∷ [])
+  full-takes many =
+      let same = count in
+      lost-takes gap cap step s read left rest (frames_in queue) has (omega arith)
+
+pub is-full : (n cap : ℕ) → (n < cap → false ≡ true) → cap ≤ n
+is-full n cap not =
+    ⊎_elim (λ few. absurd (false≢true (not few))) (λ many. many) (cases_lt n cap)
+
+-- none is read
+pub none-taken : (gap cap step : ℕ) (s : Spaced) → TakesIn gap cap step s [] []
+none-taken gap cap step s = record {
+  are_lost = sym (append-nil s.lost);
+  stays = λ i within. refl;
+}
+
+-- ---- at the start
+
+pub nothing-begun : (gap : ℕ) → 0 < gap → HasSent gap 0 [] [] 0 []
+nothing-begun gap wide = record {
+  wide = wide;
+  begun = [];
+  waiting = [];
+  is = refl;
+  have_begun = tt;
+  sends = λ i from. tick_at-none i;
+  free = omega arith;
+  due = tt;
+  queue = refl;
+}
+
+pub begins-empty : (reads : List Tick → List FrameRead) (gap cap : ℕ) (items : List ℕ)
+    (queue : List Frame) → 0 < gap → items ≡ [] → queue ≡ []
+    → HasSent gap 0 (accepted_of reads gap cap []) items 0 (frames_in queue)
+unfolding arrivals_behind
+begins-empty reads gap cap items queue wide none empty =
+    let P : List ℕ → Type 0 = λ x. HasSent gap 0 [] x 0 (frames_in queue) in
+    let Q : List Frame → Type 0 = λ q. HasSent gap 0 [] [] 0 (frames_in q) in
+    subst P (sym none) (subst Q (sym empty) (nothing-begun gap wide))
+
+-- ---- a step
+
+module _ (reads : List Tick → List FrameRead) (gap cap room : ℕ) (line : List Tick) (t : Tick)
+    (frames : List FrameRead) (is : reads (line ++ t ∷ []) ≡ reads line ++ frames)
+    (fits : room ≡ cap) where
+  -- what has been sent, with the frames of the step
+  pub step-sent : (left : List ℕ) (rest : ℕ) (queued : List (List ℕ))
+      → HasSent gap (length line + 1)
+      (taken_in gap room (length line) (spaced reads gap cap line) frames).accepted left rest queued
+      → HasSent gap (length (line ++ t ∷ [])) (accepted_of reads gap cap (line ++ t ∷ [])) left rest
+      queued
+  step-sent left rest queued has =
+      let one : length (line ++ t ∷ []) ≡ length line + 1 = length-append line (t ∷ []) in
+      let next = spaced-one reads gap cap line t frames is in
+      let P : ℕ → Type 0 = λ c. HasSent gap (length line + 1)
+      (taken_in gap c (length line) (spaced reads gap cap line) frames).accepted left rest queued in
+      let Q : Spaced → Type 0 = λ s. HasSent gap (length line + 1) s.accepted left rest queued in
+      let R : ℕ → Type 0 = λ m.
+      HasSent gap m (accepted_of reads gap cap (line ++ t ∷ [])) left rest queued in
+      subst R (sym one) (subst Q (sym next) (subst P fits has))
+
+  pub step-answers : (u : Tick) (lost : List FrameRead)
+      → tick_at (accepted_of reads gap cap line) (length line) ≡ u
+      → TakesIn gap room (length line) (spaced reads gap cap line) frames lost
+      → AnswersSpaced reads gap cap line (t ∷ []) (u ∷ []) (length line) lost
+  step-answers u lost leaves takes =
+      let P : ℕ → Type 0 = λ c.
+      TakesIn gap c (length line) (spaced reads gap cap line) frames lost in
+      line-one reads gap cap line t u frames lost is leaves (subst P fits takes)

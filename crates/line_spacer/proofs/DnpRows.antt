@@ -1,0 +1,67 @@
+-- What is made of small lines of DNP3, computed: a reset of a link, sent twice without a gap, and
+-- three of which one alone may wait; and the same heard by a device to which 18 silent ticks end
+-- what was taken.
+use Rattle.std.proofs.Common.{◌≡◌, ℕ, List, [], ◌∷◌, ◌++◌, take, drop, refl}
+use Rattle.line_rules.specs.Crc.{bit_step, bit_steps, byte_step, crc}
+use Rattle.line_rules.specs.Endings.{ends_in_check}
+use Rattle.dnp_link_frame.specs.Blocks.{begins_right, is_good_header, end_in_crcs, is_frame}
+use Rattle.dnp_link_frame.proofs.Rows.{reset_link}
+use Rattle.yasir_ticks.specs.Ticks.{silent}
+use Rattle.yasir_ticks.specs.Bursts.{with_byte, bursts_from}
+use Rattle.yasir_ticks.specs.declared.tick.Tick.{Tick}
+use Rattle.burst_walk.specs.Laid.{tick_at}
+use Rattle.device_model.specs.DnpReads.{dnp_reads}
+use Rattle.device_model.specs.Hunt.{hunt}
+use Rattle.device_model.specs.HuntFamily.{dnp_family_reads}
+use Rattle.line_spacer.specs.Arrivals.{arrivals_behind}
+use Rattle.line_spacer.specs.Spacing.{sent_from, take_in, spaced, spaced_line, waiting_of}
+use Rattle.line_spacer.proofs.Sending.{on_line}
+
+-- Each is read with its last byte. The first one is sent in the ticks behind it, and the second one
+-- 21 silent ticks behind the first.
+pub two_are_spaced :
+    spaced_line dnp_reads 21 64 (on_line reset_link ++ on_line reset_link ++ silent 34)
+    ≡ silent 10 ++ on_line reset_link ++ silent 21 ++ on_line reset_link ++ silent 3
+unfolding bit_step bit_steps byte_step crc ends_in_check begins_right is_good_header end_in_crcs
+    is_frame hunt tick_at arrivals_behind take_in
+two_are_spaced = refl
+
+-- One waits while the first is sent, and the third is lost in the step in which it is read.
+pub third_is_lost :
+    spaced dnp_reads 21 1 (on_line reset_link ++ on_line reset_link ++ on_line reset_link)
+    ≡ record {
+      accepted = sent_from 10 reset_link ∷ sent_from 41 reset_link ∷ [];
+      lost = record { step = 29; frame = record { start = 20; frame = reset_link } } ∷ [];
+    }
+unfolding bit_step bit_steps byte_step crc ends_in_check begins_right is_good_header end_in_crcs
+    is_frame hunt arrivals_behind take_in
+third_is_lost = refl
+
+-- With 19 ticks the second one isn't read yet, with 20 it waits, and from tick 41 on it is sent.
+pub one_waits : waiting_of dnp_reads 21 1 (on_line reset_link ++ on_line reset_link) ≡ 1
+unfolding bit_step bit_steps byte_step crc ends_in_check begins_right is_good_header end_in_crcs
+    is_frame hunt arrivals_behind take_in
+one_waits = refl
+
+pub none_waits :
+    waiting_of dnp_reads 21 1 (on_line reset_link ++ on_line reset_link ++ silent 22) ≡ 0
+unfolding bit_step bit_steps byte_step crc ends_in_check begins_right is_good_header end_in_crcs
+    is_frame hunt arrivals_behind take_in
+none_waits = refl
+
+-- Silence inside a frame: 17 ticks are nothing to a device to which 18 end what was taken, and
+-- after 18 what is left is no frame.
+abbrev parted : ℕ → List Tick
+parted gap = on_line (take 5 reset_link) ++ silent gap ++ on_line (drop 5 reset_link)
+
+pub parted_by_less : spaced (dnp_family_reads 18) 21 64 (parted 17)
+    ≡ record { accepted = sent_from 27 reset_link ∷ []; lost = [] }
+unfolding bit_step bit_steps byte_step crc ends_in_check begins_right is_good_header end_in_crcs
+    is_frame hunt arrivals_behind take_in with_byte bursts_from
+parted_by_less = refl
+
+pub parted_by_more : spaced (dnp_family_reads 18) 21 64 (parted 18)
+    ≡ record { accepted = []; lost = [] }
+unfolding bit_step bit_steps byte_step crc ends_in_check begins_right is_good_header end_in_crcs
+    is_frame hunt arrivals_behind take_in with_byte bursts_from
+parted_by_more = refl

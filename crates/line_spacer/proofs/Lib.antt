@@ -1,0 +1,5 @@
+pub mod Sending
+pub mod Arriving
+pub mod DnpRows
+pub mod RtuRows
+pub mod Runs

@@ -1,0 +1,28 @@
+-- What is made of two queries of Modbus RTU that no more silence parts than ends the first one,
+-- computed.
+use Rattle.std.proofs.Common.{◌≡◌, ℕ, List, [], ◌∷◌, ◌++◌, refl}
+use Rattle.rtu_frame.specs.Crc.{bit_step, bit_steps, byte_step, crc}
+use Rattle.line_rules.specs.Endings.{ends_in_check}
+use Rattle.rtu_frame.specs.Frame.{is_frame, has_right_ending}
+use Rattle.yasir_ticks.specs.Ticks.{silent}
+use Rattle.yasir_ticks.specs.Bursts.{with_byte, bursts_from}
+use Rattle.burst_walk.specs.Laid.{tick_at}
+use Rattle.device_model.specs.RtuReads.{has_silence, rtu_reads}
+use Rattle.line_spacer.specs.Arrivals.{arrivals_behind}
+use Rattle.line_spacer.specs.Spacing.{take_in, spaced_line}
+use Rattle.line_spacer.proofs.Sending.{on_line}
+
+abbrev read_ten : List ℕ
+read_ten = 0x01 ∷ 0x03 ∷ 0x00 ∷ 0x00 ∷ 0x00 ∷ 0x0A ∷ 0xC5 ∷ 0xCD ∷ []
+
+abbrev read_one : List ℕ
+read_one = 0x01 ∷ 0x03 ∷ 0x00 ∷ 0x00 ∷ 0x00 ∷ 0x01 ∷ 0x84 ∷ 0x0A ∷ []
+
+-- Each is read with the fourth silent tick behind it, and sent from the next tick on, the second
+-- one 21 silent ticks behind the first.
+pub two_are_spaced :
+    spaced_line rtu_reads 21 64 (on_line read_ten ++ silent 4 ++ on_line read_one ++ silent 31)
+    ≡ silent 12 ++ on_line read_ten ++ silent 21 ++ on_line read_one ++ silent 2
+unfolding bit_step bit_steps byte_step crc is_frame has_right_ending ends_in_check with_byte
+    bursts_from has_silence tick_at arrivals_behind take_in
+two_are_spaced = refl

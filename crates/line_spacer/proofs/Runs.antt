@@ -1,0 +1,249 @@
+-- A run of ticks: what leaves in it, and what is read at its end.
+use Rattle.std.proofs.Common.{◌≡◌, ◌∙◌, ℕ, zero, suc, ◌+◌, ◌-◌, ◌<◌, ◌≤◌, List, [], ◌∷◌, ◌++◌}
+use Rattle.std.proofs.Common.{length}
+use Rattle.std.proofs.Common.{map, take, drop, fold, refl, sym, ap, subst, arith, append_assoc}
+use Rattle.std.proofs.Common.{length-append}
+use Rattle.std.proofs.Common.{length-drop, ⊎_elim}
+use Rattle.std.specs.Prelude.{Result, Ok, Err, IsOk, OnOk}
+use Rattle.std.proofs.lemmas.Bool.{cases_lt}
+use Rattle.std.proofs.lemmas.List.{append-nil, drop_all, length-replicate, length-map, drop-drop}
+use Rattle.std.proofs.lemmas.List.{length-take-le, take-take, take-map}
+use Rattle.std.proofs.lemmas.List.Sums.{fold-append}
+use Rattle.yasir_ticks.specs.Ticks.{silent}
+use Rattle.yasir_ticks.specs.Bursts.{Burst}
+use Rattle.yasir_ticks.specs.declared.tick.Tick.{Tick}
+use Rattle.yasir_ticks.specs.declared.tick.Tick.TheVariants.{Silent, Byte}
+use Rattle.burst_walk.specs.Answered.{answered}
+use Rattle.burst_walk.specs.Laid.{tick_at, laid}
+use Rattle.burst_walk.proofs.Emissions.{laid-more, laid-same}
+use Rattle.device_model.specs.Frames.{FrameRead}
+use Rattle.line_spacer.specs.Arrivals.{arriving, gained, arrivals_behind, arrivals}
+use Rattle.line_spacer.specs.Runs.{SendsRun}
+use Rattle.line_spacer.specs.Spacing.{Spaced, take_in, spaced, accepted_of}
+use Rattle.line_spacer.specs.Stands.{Frame, frames_in}
+use Rattle.line_spacer.specs.Stands.{HasSent, TakesIn, taken_in, AnswersSpaced}
+use Rattle.line_spacer.proofs.Arriving.{arrivals-append, drop-front}
+use Rattle.line_spacer.proofs.Sending.{on_line, byte-sent, rest-passes, nothing-sent}
+
+-- ---- what leaves
+
+module _ (gap : ℕ) (accepted : List Burst) where
+  run-none : (m : ℕ) (left : List ℕ) (rest : ℕ) (queued : List (List ℕ))
+      → HasSent gap m accepted left rest queued → SendsRun gap m accepted left rest queued []
+  run-none m left rest queued has =
+      let same : m ≡ m + 0 = omega arith in
+      record {
+        leave = ap (λ k. laid k accepted) (sym same) ∙ sym (append-nil (laid m accepted));
+        sent = subst (λ k. HasSent gap k accepted left rest queued) same has;
+      }
+
+  run-more : (m : ℕ) (left : List ℕ) (rest : ℕ) (queued : List (List ℕ)) (u : Tick)
+      (answer : List Tick) → tick_at accepted m ≡ u
+      → SendsRun gap (m + 1) accepted left rest queued answer
+      → SendsRun gap m accepted left rest queued (u ∷ answer)
+  run-more m left rest queued u answer leaves others =
+      let same : m + 1 + length answer ≡ m + length (u ∷ answer) = omega arith in
+      record {
+        leave = ap (λ k. laid k accepted) (sym same)
+            ∙ (others.leave
+            ∙ (ap (λ x. x ++ answer) (laid-more m accepted
+            ∙ ap (λ v. laid m accepted ++ v ∷ []) leaves)
+            ∙ append_assoc (laid m accepted) (u ∷ []) answer));
+        sent = subst (λ k. HasSent gap k accepted left rest queued) same others.sent;
+      }
+
+  bytes-run : (n m : ℕ) (left : List ℕ) (rest : ℕ) (queued : List (List ℕ)) → n ≤ length left
+      → HasSent gap m accepted left rest queued
+      → SendsRun gap m accepted (drop n left) rest queued (on_line (take n left))
+  bytes-run zero m left rest queued fits has = run-none m left rest queued has
+  bytes-run (suc n) m [] rest queued fits has = absurd (omega arith)
+  bytes-run (suc n) m (b ∷ left) rest queued fits has =
+      let one = byte-sent gap m accepted b left rest queued has in
+      run-more m (drop n left) rest queued (Byte b) (on_line (take n left)) one.leaves
+      (bytes-run n (m + 1) left rest queued (omega arith) one.sent)
+
+  rest-run : (n m rest : ℕ) (queued : List (List ℕ)) → n ≤ rest
+      → HasSent gap m accepted [] rest queued
+      → SendsRun gap m accepted [] (rest - n) queued (silent n)
+  rest-run zero m rest queued fits has =
+      let same : rest ≡ rest - 0 = omega arith in
+      subst (λ k. SendsRun gap m accepted [] k queued []) same (run-none m [] rest queued has)
+  rest-run (suc n) m zero queued fits has = absurd (omega arith)
+  rest-run (suc n) m (suc rest) queued fits has =
+      let one = rest-passes gap m accepted rest queued has in
+      let same : rest - n ≡ suc rest - suc n = omega arith in
+      subst (λ k. SendsRun gap m accepted [] k queued (silent (suc n))) same
+      (run-more m [] (rest - n) queued Silent (silent n) one.leaves
+      (rest-run n (m + 1) rest queued (omega arith) one.sent))
+
+  idle-run : (n m : ℕ) → HasSent gap m accepted [] 0 [] → SendsRun gap m accepted [] 0 [] (silent n)
+  idle-run zero m has = run-none m [] 0 [] has
+  idle-run (suc n) m has =
+      let one = nothing-sent gap m accepted has in
+      run-more m [] 0 [] Silent (silent n) one.leaves (idle-run n (m + 1) one.sent)
+
+-- ---- what is read
+
+module _ (reads : List Tick → List FrameRead) where
+  -- Nothing is read of these ticks before the last of them.
+  abbrev pub IsQuiet : List Tick → List Tick → Type 0
+  IsQuiet line x = (k : ℕ) → k < length x → reads (line ++ take k x) ≡ reads line
+
+  arrivals-run : (line x : List Tick) (frames : List FrameRead) → 0 < length x → IsQuiet line x
+      → reads (line ++ x) ≡ reads line ++ frames
+      → arrivals_behind reads line x
+      ≡ map (arriving (length line + (length x - 1))) frames
+  unfolding arrivals_behind
+  arrivals-run line [] frames some quiet is = absurd (omega arith)
+  arrivals-run line (t ∷ []) frames some quiet is =
+      let here : length line ≡ length line + (length (t ∷ []) - 1) = omega arith in
+      let new : gained reads line t ≡ frames =
+      ap (λ x. drop (length (reads line)) x) is ∙ drop-front (reads line) frames in
+      append-nil (map (arriving (length line)) (gained reads line t))
+      ∙ (ap (map (arriving (length line))) new ∙ ap (λ k. map (arriving k) frames) here)
+  arrivals-run line (t ∷ u ∷ x) frames some quiet is =
+      let next : List Tick = line ++ t ∷ [] in
+      let one : reads next ≡ reads line = quiet 1 (omega arith) in
+      let long = length-append line (t ∷ []) in
+      let here : length next + (length (u ∷ x) - 1)
+      ≡ length line + (length (t ∷ u ∷ x) - 1) = omega arith in
+      let none : gained reads line t ≡ [] =
+      ap (λ y. drop (length (reads line)) y) one
+      ∙ drop_all (length (reads line)) (reads line) (omega arith) in
+      let later : IsQuiet next (u ∷ x) = λ k within.
+      let more : suc k < length (t ∷ u ∷ x) = omega arith in
+      ap reads (append_assoc line (t ∷ []) (take k (u ∷ x))) ∙ (quiet (suc k) more ∙ sym one) in
+      ap (λ y. map (arriving (length line)) y ++ arrivals_behind reads next (u ∷ x)) none
+      ∙ (arrivals-run next (u ∷ x) frames (omega arith) later
+      (ap reads (append_assoc line (t ∷ []) (u ∷ x)) ∙ (is ∙ ap (λ y. y ++ frames) (sym one)))
+      ∙ ap (λ k. map (arriving k) frames) here)
+
+  module _ (gap cap room : ℕ) (fits : room ≡ cap) (line x : List Tick) (frames : List FrameRead)
+      (some : 0 < length x) (quiet : IsQuiet line x)
+      (is : reads (line ++ x) ≡ reads line ++ frames) where
+    abbrev last : ℕ
+    last = length line + (length x - 1)
+
+    spaced-run : spaced reads gap cap (line ++ x)
+        ≡ taken_in gap room last (spaced reads gap cap line) frames
+    spaced-run =
+        let start : Spaced = record { accepted = []; lost = [] } in
+        ap (fold (take_in gap cap) start) (arrivals-append reads [] line x
+        ∙ ap (λ y. arrivals reads line ++ y) (arrivals-run line x frames some quiet is))
+        ∙ (fold-append (take_in gap cap) start (arrivals reads line) (map (arriving last) frames)
+        ∙ ap (λ c. taken_in gap c last (spaced reads gap cap line) frames) (sym fits))
+
+    -- the line is as long as the ticks of the run
+    length-run : (answer : List Tick) → length answer ≡ length x
+        → length (line ++ x) ≡ length line + length answer
+    length-run answer same = let long = length-append line x in omega arith
+
+    -- before the frames of its last step are taken in
+    pub run-before : (accepted : List Burst) (left : List ℕ) (rest : ℕ) (queued : List (List ℕ))
+        (answer : List Tick) → length answer ≡ length x
+        → HasSent gap (length line + length answer) accepted left rest queued
+        → HasSent gap (last + 1) accepted left rest queued
+    run-before accepted left rest queued answer same has =
+        let end : length line + length answer ≡ last + 1 = omega arith in
+        subst (λ k. HasSent gap k accepted left rest queued) end has
+
+    pub run-sent : (left : List ℕ) (rest : ℕ) (queued : List (List ℕ))
+        → HasSent gap (last + 1)
+        (taken_in gap room last (spaced reads gap cap line) frames).accepted left rest queued
+        → HasSent gap (length (line ++ x)) (accepted_of reads gap cap (line ++ x)) left rest queued
+    run-sent left rest queued has =
+        let long = length-append line x in
+        let end : last + 1 ≡ length (line ++ x) = omega arith in
+        subst (λ k. HasSent gap k (accepted_of reads gap cap (line ++ x)) left rest queued) end
+        (subst (λ s. HasSent gap (last + 1) s.accepted left rest queued) (sym spaced-run) has)
+
+    pub run-answers : (answer : List Tick) (lost : List FrameRead) → length answer ≡ length x
+        → laid (length line + length answer) (accepted_of reads gap cap line)
+        ≡ laid (length line) (accepted_of reads gap cap line) ++ answer
+        → TakesIn gap room last (spaced reads gap cap line) frames lost
+        → AnswersSpaced reads gap cap line x answer last lost
+    run-answers answer lost same leave takes =
+        let before : List Burst = accepted_of reads gap cap line in
+        let after : List Burst = accepted_of reads gap cap (line ++ x) in
+        record {
+          ticks_leave = ap (λ k. laid k after) (length-run answer same)
+              ∙ (laid-same 0 (length line + length answer) (λ i. tick_at after i)
+              (λ i. tick_at before i)
+              (λ i below. let within : i ≤ last = omega arith in
+              ap (λ s. tick_at s.accepted i) spaced-run ∙ takes.stays i within)
+              ∙ leave);
+          are_lost = ap (λ s. s.lost) spaced-run ∙ takes.are_lost;
+        }
+
+-- ---- what a spacer sends
+
+-- a fact on the value of an `Ok` holds where it is one
+pub of-ok : {T E : Type 0} (r : Result T E) (P : Type 0) → IsOk r → OnOk r P → P
+of-ok (Ok x) P is fact = fact
+of-ok (Err e) P is fact = cc
+
+answered-bytes : (n : ℕ) (x : List ℕ) → 0 < length x → answered n x ≡ on_line x
+answered-bytes n [] some = absurd (omega arith)
+answered-bytes n (b ∷ x) some = refl
+
+module _ (gap m : ℕ) (accepted : List Burst) (items : List ℕ) (sent rest : ℕ) (queue : List Frame)
+    (has : HasSent gap m accepted (drop sent items) rest (frames_in queue)) where
+  pub bytes-leave : (n : ℕ) (new : List ℕ) → 0 < n → sent + n ≤ length items
+      → new ≡ take n (drop sent items)
+      → SendsRun gap m accepted (drop (sent + n) items) rest (frames_in queue) (answered n new)
+  bytes-leave n new some within is =
+      let left : List ℕ = drop sent items in
+      let long = length-drop sent items in
+      let few : length (take n left) ≡ n = length-take-le n left (omega arith) in
+      let count = ap length is in
+      let same : answered n new ≡ on_line (take n left) =
+      answered-bytes n new (omega arith) ∙ ap (λ x. on_line x) is in
+      subst (λ x. SendsRun gap m accepted (drop (sent + n) items) rest (frames_in queue) x)
+      (sym same)
+      (subst (λ x. SendsRun gap m accepted x rest (frames_in queue) (on_line (take n left)))
+      (drop-drop n sent items)
+      (bytes-run gap accepted n m left rest (frames_in queue) (omega arith) has))
+
+  pub silence-leaves : (n : ℕ) (new : List ℕ) → 0 < n → length items ≤ sent
+      → (0 < rest → n ≤ rest) → (rest ≤ 0 → 0 < n → queue ≡ []) → new ≡ []
+      → SendsRun gap m accepted (drop sent items) (rest - n) (frames_in queue) (answered n new)
+  silence-leaves n new some over quiet idle empty =
+      let none : drop sent items ≡ [] = drop_all sent items over in
+      let bare : HasSent gap m accepted [] rest (frames_in queue) =
+      subst (λ x. HasSent gap m accepted x rest (frames_in queue)) none has in
+      subst (λ y. SendsRun gap m accepted (drop sent items) (rest - n) (frames_in queue)
+      (answered n y))
+      (sym empty)
+      (subst (λ x. SendsRun gap m accepted x (rest - n) (frames_in queue) (silent n)) (sym none)
+      (⊎_elim
+      (λ some_rest. rest-run gap accepted n m rest (frames_in queue) (quiet some_rest) bare)
+      (λ no_rest.
+      let nothing : queue ≡ [] = idle no_rest some in
+      let zero_rest : rest ≡ 0 = omega arith in
+      let less : 0 ≡ rest - n = omega arith in
+      let P : ℕ → Type 0 = λ k. HasSent gap m accepted [] k (frames_in queue) in
+      let Q : List Frame → Type 0 = λ q. HasSent gap m accepted [] 0 (frames_in q) in
+      subst (λ q. SendsRun gap m accepted [] (rest - n) (frames_in q) (silent n)) (sym nothing)
+      (subst (λ k. SendsRun gap m accepted [] k [] (silent n)) less
+      (idle-run gap accepted n m (subst Q nothing (subst P zero_rest bare)))))
+      (cases_lt 0 rest)))
+
+-- ---- fronts of a run
+
+pub front-bytes : (k n most : ℕ) (bytes : List ℕ) → k ≤ n → n ≤ length (take most bytes)
+    → take k (on_line (take n (take most bytes))) ≡ on_line (take k (take most bytes))
+front-bytes k n most bytes le within =
+    take-map (λ b. Byte b) k (take n (take most bytes))
+    ∙ ap (λ x. on_line x) (take-take k n (take most bytes) le)
+
+pub front-silence : (k n : ℕ) → k ≤ n → take k (silent n) ≡ silent k
+front-silence zero n le = refl
+front-silence (suc k) zero le = absurd (omega arith)
+front-silence (suc k) (suc n) le = ap (λ x. Silent ∷ x) (front-silence k n (omega arith))
+
+pub answered-long : (n : ℕ) (x : List ℕ) → 0 < n → length x ≡ n → length (answered n x) ≡ n
+answered-long n [] some long = absurd (omega arith)
+answered-long n (b ∷ x) some long = length-map (b ∷ x) (λ c. Byte c) ∙ long
+
+pub answered-silent : (n : ℕ) (x : List ℕ) → x ≡ [] → length (answered n x) ≡ n
+answered-silent n x none = ap (λ y. length (answered n y)) none ∙ length-replicate n Silent

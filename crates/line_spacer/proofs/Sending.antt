@@ -1,0 +1,421 @@
+-- What a spacer sends, tick by tick: it goes on with the frame that has begun, rests behind it, has
+-- nothing to send, or begins with the next one.
+use Rattle.std.proofs.Common.{◌≡◌, ◌∙◌, ℕ, suc, ◌+◌, ◌-◌, ◌<◌, ◌≤◌, List, []}
+use Rattle.std.proofs.Common.{◌∷◌, ◌++◌, length, map, drop, max, refl, sym, ap, subst, arith}
+use Rattle.std.proofs.Common.{append_assoc, get_or, drop-cons, nat_le, nat_lt, ◌&&◌, true, false}
+use Rattle.std.specs.Prelude.{Some, None, slice_get}
+use Rattle.std.specs.List.{filter}
+use Rattle.std.proofs.lemmas.List.{append-nil, map-append, length-map, drop_all}
+use Rattle.std.proofs.lemmas.List.Elements.{filter-append}
+use Rattle.yasir_ticks.specs.Bursts.{Burst, end_of}
+use Rattle.yasir_ticks.specs.declared.tick.Tick.{Tick}
+use Rattle.yasir_ticks.specs.declared.tick.Tick.TheVariants.{Silent, Byte}
+use Rattle.burst_walk.specs.Laid.{tick_at}
+use Rattle.burst_walk.proofs.Emissions.{tick_at-none, tick_at-front, tick_at-before, tick_at-from}
+use Rattle.line_spacer.specs.Spacing.{count_from, free_from, sent_from}
+use Rattle.line_spacer.specs.Stands.{Frame, frames_in}
+use Rattle.line_spacer.specs.Stands.{tick_of, HaveBegun, AreDue, HasSent, Sends, rest_behind}
+
+abbrev pub on_line : List ℕ → List Tick
+on_line x = map (λ b. Byte b) x
+
+-- ---- bursts that are due
+
+-- what isn't due yet is silent
+pub due-silent : (gap n : ℕ) (ds : List Burst) (i : ℕ) → AreDue gap n ds → i < n
+    → tick_at ds i ≡ Silent
+due-silent gap n [] i due before = tick_at-none i
+due-silent gap n (d ∷ ds) i due before =
+    let start : d.start ≡ n = due.0 in
+    let early : i < d.start = omega arith in
+    let later : i < end_of d + gap = omega arith in
+    tick_at-front (d ∷ []) ds [] i
+    (due-silent gap (end_of d + gap) ds i due.1 later ∙ sym (tick_at-none i))
+    ∙ tick_at-before d i early
+
+-- so what stands in front of it is what is there
+pub due-hidden : (gap n : ℕ) (front ds : List Burst) (i : ℕ) → AreDue gap n ds → i < n
+    → tick_at (front ++ ds) i ≡ tick_at front i
+due-hidden gap n front ds i due before =
+    tick_at-front front ds [] i (due-silent gap n ds i due before ∙ sym (tick_at-none i))
+    ∙ ap (λ x. tick_at x i) (append-nil front)
+
+-- ---- bursts that have begun
+
+begun-later : (m n k l : ℕ) (ds : List Burst) → m ≤ k → n ≤ l → HaveBegun m n ds → HaveBegun k l ds
+begun-later m n k l [] more longer begun = tt
+begun-later m n k l (d ∷ ds) more longer begun =
+    let start : d.start < m = begun.0 in
+    let end : end_of d ≤ n = begun.1 in
+    (omega arith, omega arith, begun-later m n k l ds more longer begun.2)
+
+begun-append : (m n : ℕ) (ds es : List Burst) → HaveBegun m n ds → HaveBegun m n es
+    → HaveBegun m n (ds ++ es)
+begun-append m n [] es first second = second
+begun-append m n (d ∷ ds) es first second =
+    (first.0, first.1, begun-append m n ds es first.2 second)
+
+past-end : (a b i : ℕ) → b ≤ i → (nat_le a i && nat_lt i b) ≡ false
+past-end a b i past = grind arith
+
+behind-one : (d : Burst) (ds : List Burst) (i : ℕ) → end_of d ≤ i → tick_at (d ∷ ds) i
+    ≡ tick_at ds i
+unfolding tick_at
+behind-one d ds i past = rw (past-end d.start (end_of d) i past) refl
+
+-- behind the end of all of them there is what follows
+begun-over : (m n : ℕ) (ds es : List Burst) (i : ℕ) → HaveBegun m n ds → n ≤ i
+    → tick_at (ds ++ es) i ≡ tick_at es i
+begun-over m n [] es i begun over = refl
+begun-over m n (d ∷ ds) es i begun over =
+    let end : end_of d ≤ n = begun.1 in
+    let past : end_of d ≤ i = omega arith in
+    behind-one d (ds ++ es) i past ∙ begun-over m n ds es i begun.2 over
+
+-- ---- where the next frame may begin
+
+pub free_from-append : (gap n : ℕ) (ds es : List Burst)
+    → free_from gap n (ds ++ es) ≡ free_from gap (free_from gap n ds) es
+free_from-append gap n [] es = refl
+free_from-append gap n (d ∷ ds) es = free_from-append gap (end_of d + gap) ds es
+
+pub due-grows : (gap n : ℕ) (ds : List Burst) → AreDue gap n ds → n ≤ free_from gap n ds
+due-grows gap n [] due = omega arith
+due-grows gap n (d ∷ ds) due =
+    let start : d.start ≡ n = due.0 in
+    let more = due-grows gap (end_of d + gap) ds due.1 in
+    omega arith
+
+due-append : (gap n : ℕ) (ds : List Burst) (e : Burst) → AreDue gap n ds
+    → e.start ≡ free_from gap n ds → AreDue gap n (ds ++ e ∷ [])
+due-append gap n [] e due start = (start, tt)
+due-append gap n (d ∷ ds) e due start = (due.0, due-append gap (end_of d + gap) ds e due.1 start)
+
+-- ---- a tick
+
+module _ (gap m : ℕ) (accepted : List Burst) where
+  -- the frame that has begun goes on
+  pub byte-sent : (b : ℕ) (more : List ℕ) (rest : ℕ) (queued : List (List ℕ))
+      → HasSent gap m accepted (b ∷ more) rest queued
+      → Sends gap m accepted more rest queued (Byte b)
+  byte-sent b more rest queued has =
+      let from : m ≤ m = omega arith in
+      let here : m - m ≡ 0 = omega arith in
+      let free = has.free in
+      let late : m < m + length (b ∷ more) + rest = omega arith in
+      let due : AreDue gap (m + length (b ∷ more) + rest) has.waiting = has.due in
+      let same : m + length (b ∷ more) + rest ≡ m + 1 + length more + rest = omega arith in
+      record {
+        leaves = ap (λ x. tick_at x m) has.is
+            ∙ (due-hidden gap (m + length (b ∷ more) + rest) has.begun has.waiting m due late
+            ∙ (has.sends m from ∙ ap (λ k. get_or (on_line (b ∷ more)) k Silent) here));
+        sent = record {
+          wide = has.wide;
+          begun = has.begun;
+          waiting = has.waiting;
+          is = has.is;
+          have_begun = begun-later m (m + length (b ∷ more)) (m + 1) (m + 1 + length more) has.begun
+              (omega arith) (omega arith) has.have_begun;
+          sends = λ i past.
+              let before : m ≤ i = omega arith in
+              let next : i - m ≡ suc (i - (m + 1)) = omega arith in
+              has.sends i before ∙ ap (λ k. get_or (on_line (b ∷ more)) k Silent) next;
+          free = omega arith;
+          due = subst (λ k. AreDue gap k has.waiting) same due;
+          queue = has.queue;
+        };
+      }
+
+  -- the silence behind it goes on
+  pub rest-passes : (rest : ℕ) (queued : List (List ℕ)) → HasSent gap m accepted []
+      (suc rest) queued
+      → Sends gap m accepted [] rest queued Silent
+  rest-passes rest queued has =
+      let from : m ≤ m = omega arith in
+      let free = has.free in
+      let late : m < m + 0 + suc rest = omega arith in
+      let due : AreDue gap (m + 0 + suc rest) has.waiting = has.due in
+      let same : m + 0 + suc rest ≡ m + 1 + 0 + rest = omega arith in
+      record {
+        leaves = ap (λ x. tick_at x m) has.is
+            ∙ (due-hidden gap (m + 0 + suc rest) has.begun has.waiting m due late
+            ∙ has.sends m from);
+        sent = record {
+          wide = has.wide;
+          begun = has.begun;
+          waiting = has.waiting;
+          is = has.is;
+          have_begun = begun-later m (m + 0) (m + 1) (m + 1 + 0) has.begun
+              (omega arith) (omega arith) has.have_begun;
+          sends = λ i past. let before : m ≤ i = omega arith in has.sends i before;
+          free = omega arith;
+          due = subst (λ k. AreDue gap k has.waiting) same due;
+          queue = has.queue;
+        };
+      }
+
+  none-waits : (ds : List Burst) → map (λ d. d.body) ds ≡ [] → ds ≡ []
+  none-waits [] none = refl
+  none-waits (d ∷ ds) none = cc
+
+  -- there is nothing to send
+  pub nothing-sent : HasSent gap m accepted [] 0 [] → Sends gap m accepted [] 0 [] Silent
+  nothing-sent has =
+      let from : m ≤ m = omega arith in
+      let free = has.free in
+      let none : has.waiting ≡ [] = none-waits has.waiting has.queue in
+      record {
+        leaves = ap (λ x. tick_at x m) has.is
+            ∙ (ap (λ x. tick_at (has.begun ++ x) m) none
+            ∙ (ap (λ x. tick_at x m) (append-nil has.begun) ∙ has.sends m from));
+        sent = record {
+          wide = has.wide;
+          begun = has.begun;
+          waiting = has.waiting;
+          is = has.is;
+          have_begun = begun-later m (m + 0) (m + 1) (m + 1 + 0) has.begun
+              (omega arith) (omega arith) has.have_begun;
+          sends = λ i past. let before : m ≤ i = omega arith in has.sends i before;
+          free = omega arith;
+          due = subst (λ x. AreDue gap (m + 1 + 0 + 0) x) (sym none) tt;
+          queue = has.queue;
+        };
+      }
+
+  -- the next frame begins
+  module _ (frame : List ℕ) (queued : List (List ℕ)) (d : Burst) (ds begun : List Burst)
+      (wide : 0 < gap) (is : accepted ≡ begun ++ (d ∷ ds)) (have_begun : HaveBegun m (m + 0) begun)
+      (due : AreDue gap (m + 0 + 0) (d ∷ ds))
+      (queue : map (λ e. e.body) (d ∷ ds) ≡ map on_line (frame ∷ queued)) where
+    start : d.start ≡ m
+    start = let at : d.start ≡ m + 0 + 0 = due.0 in omega arith
+
+    body : d.body ≡ on_line frame
+    body = cc
+
+    others : map (λ e. e.body) ds ≡ map on_line queued
+    others = cc
+
+    -- what is sent of it behind its first byte, and the silence behind it
+    counts : (x : List ℕ) → length x + gap ≡ 1 + (length (drop 1 x) + rest_behind gap x)
+    counts [] = omega arith
+    counts (b ∷ x) = omega arith
+
+    one-less : (x : List ℕ) → length x ≤ 1 + length (drop 1 x)
+    one-less [] = omega arith
+    one-less (b ∷ x) = omega arith
+
+    first : (x : List ℕ) → d.body ≡ on_line x → tick_at (d ∷ ds) m ≡ tick_of 0 x 0
+    first [] at =
+        let none : length d.body ≡ 0 = ap length at in
+        let past : end_of d ≤ m = omega arith in
+        let late : m < end_of d + gap = omega arith in
+        behind-one d ds m past ∙ due-silent gap (end_of d + gap) ds m due.1 late
+    first (b ∷ x) at =
+        let some : length d.body ≡ suc (length (on_line x)) = ap length at in
+        let late : m < end_of d + gap = omega arith in
+        let from : d.start ≤ m = omega arith in
+        let here : m - d.start ≡ 0 = omega arith in
+        due-hidden gap (end_of d + gap) (d ∷ []) ds m due.1 late
+        ∙ (tick_at-from d m from
+        ∙ (ap (λ k. get_or d.body k Silent) here ∙ ap (λ y. get_or y 0 Silent) at))
+
+    behind : (x : List ℕ) (i : ℕ) → m + 1 ≤ i
+        → get_or (on_line x) (i - m) Silent ≡ tick_of (m + 1) (drop 1 x) i
+    behind [] i past = refl
+    behind (b ∷ x) i past =
+        let next : i - m ≡ suc (i - (m + 1)) = omega arith in
+        ap (λ k. get_or (on_line (b ∷ x)) k Silent) next
+
+    begins : Sends gap m accepted (drop 1 frame) (rest_behind gap frame) queued
+        (tick_of 0 frame 0)
+    begins =
+        let from : m ≤ m = omega arith in
+        let long : length d.body ≡ length frame = ap length body ∙ length-map frame (λ b. Byte b) in
+        let count = counts frame in
+        let few = one-less frame in
+        let at = start in
+        let end : end_of d ≤ m + 1 + length (drop 1 frame) = omega arith in
+        let over : m + 0 ≤ m = omega arith in
+        let same : end_of d + gap
+        ≡ m + 1 + length (drop 1 frame) + rest_behind gap frame = omega arith in
+        let free : free_from gap 0 (begun ++ d ∷ []) ≡ end_of d + gap =
+        free_from-append gap 0 begun (d ∷ []) in
+        record {
+          leaves = ap (λ x. tick_at x m) is
+              ∙ (begun-over m (m + 0) begun (d ∷ ds) m have_begun over ∙ first frame body);
+          sent = record {
+            wide = wide;
+            begun = begun ++ d ∷ [];
+            waiting = ds;
+            is = is ∙ sym (append_assoc begun (d ∷ []) ds);
+            have_begun = begun-append (m + 1) (m + 1 + length (drop 1 frame)) begun (d ∷ [])
+                (begun-later m (m + 0) (m + 1) (m + 1 + length (drop 1 frame)) begun
+                (omega arith) (omega arith) have_begun)
+                (omega arith, end, tt);
+            sends = λ i past.
+                let later : m + 0 ≤ i = omega arith in
+                let after : d.start ≤ i = omega arith in
+                let place : i - d.start ≡ i - m = omega arith in
+                begun-over m (m + 0) begun (d ∷ []) i have_begun later
+                ∙ (tick_at-from d i after
+                ∙ (ap (λ k. get_or d.body k Silent) place
+                ∙ (ap (λ y. get_or y (i - m) Silent) body ∙ behind frame i past)));
+            free = omega arith;
+            due = subst (λ k. AreDue gap k ds) same due.1;
+            queue = others;
+          };
+        }
+
+  begins-with : (frame : List ℕ) (queued : List (List ℕ)) (waiting begun : List Burst) → 0 < gap
+      → accepted ≡ begun ++ waiting → HaveBegun m (m + 0) begun → AreDue gap (m + 0 + 0) waiting
+      → map (λ e. e.body) waiting ≡ map on_line (frame ∷ queued)
+      → Sends gap m accepted (drop 1 frame) (rest_behind gap frame) queued (tick_of 0 frame 0)
+  begins-with frame queued [] begun wide is have_begun due queue = cc
+  begins-with frame queued (d ∷ ds) begun wide is have_begun due queue =
+      begins frame queued d ds begun wide is have_begun due queue
+
+  -- the next frame begins
+  pub frame-begins : (frame : List ℕ) (queued : List (List ℕ))
+      → HasSent gap m accepted [] 0 (frame ∷ queued)
+      → Sends gap m accepted (drop 1 frame) (rest_behind gap frame) queued (tick_of 0 frame 0)
+  frame-begins frame queued has =
+      begins-with frame queued has.waiting has.begun has.wide has.is has.have_begun has.due
+      has.queue
+
+-- ---- a frame that is read
+
+module _ (gap m : ℕ) (accepted : List Burst) (left : List ℕ) (rest : ℕ)
+    (queued : List (List ℕ)) where
+  -- where it may begin
+  earliest : (begun waiting : List Burst) → free_from gap 0 begun - m ≡ length left + rest
+      → AreDue gap (m + length left + rest) waiting
+      → max m (free_from gap 0 (begun ++ waiting))
+      ≡ free_from gap (m + length left + rest) waiting
+  earliest begun [] free due =
+      ap (λ x. max m (free_from gap 0 x)) (append-nil begun) ∙ grind arith
+  earliest begun (d ∷ ds) free due =
+      let start : d.start ≡ m + length left + rest = due.0 in
+      let more = due-grows gap (end_of d + gap) ds due.1 in
+      ap (λ n. max m n) (free_from-append gap 0 begun (d ∷ ds))
+      ∙ omega arith
+
+  -- it waits behind the others
+  pub frame-waits : (frame : List ℕ) → HasSent gap m accepted left rest queued
+      → HasSent gap m
+      (accepted ++ sent_from (max m (free_from gap 0 accepted)) frame ∷ []) left rest
+      (queued ++ frame ∷ [])
+  frame-waits frame has =
+      let at : ℕ = max m (free_from gap 0 accepted) in
+      let d : Burst = sent_from at frame in
+      let due : AreDue gap (m + length left + rest) has.waiting = has.due in
+      record {
+        wide = has.wide;
+        begun = has.begun;
+        waiting = has.waiting ++ d ∷ [];
+        is = ap (λ x. x ++ d ∷ []) has.is ∙ append_assoc has.begun has.waiting (d ∷ []);
+        have_begun = has.have_begun;
+        sends = has.sends;
+        free = has.free;
+        due = due-append gap (m + length left + rest) has.waiting d due
+            (ap (λ x. max m (free_from gap 0 x)) has.is
+            ∙ earliest has.begun has.waiting has.free due);
+        queue = map-append (λ e. e.body) has.waiting (d ∷ [])
+            ∙ (ap (λ x. x ++ on_line frame ∷ []) has.queue
+            ∙ sym (map-append on_line queued (frame ∷ [])));
+      }
+
+  none-from : (n : ℕ) (ds : List Burst) → HaveBegun m n ds → filter (λ d. nat_le m d.start) ds ≡ []
+  none-from n [] begun = refl
+  none-from n (d ∷ ds) begun =
+      let before : d.start < m = begun.0 in
+      let no : nat_le m d.start ≡ false = grind arith in
+      rw no (none-from n ds begun.2)
+
+  all-from : (n : ℕ) (ds : List Burst) → m ≤ n → AreDue gap n ds
+      → filter (λ d. nat_le m d.start) ds ≡ ds
+  all-from n [] from due = refl
+  all-from n (d ∷ ds) from due =
+      let start : d.start ≡ n = due.0 in
+      let later : m ≤ end_of d + gap = omega arith in
+      let yes : nat_le m d.start ≡ true = grind arith in
+      rw yes (ap (λ x. d ∷ x) (all-from (end_of d + gap) ds later due.1))
+
+  -- as many wait as are queued
+  pub waiting-count : HasSent gap m accepted left rest queued → count_from m accepted
+      ≡ length queued
+  waiting-count has =
+      let from : m ≤ m + length left + rest = omega arith in
+      ap (λ x. length (filter (λ d. nat_le m d.start) x)) has.is
+      ∙ (ap length (filter-append (λ d. nat_le m d.start) has.begun has.waiting)
+      ∙ (ap (λ x. length (x ++ filter (λ d. nat_le m d.start) has.waiting))
+      (none-from (m + length left) has.begun has.have_begun)
+      ∙ (ap length (all-from (m + length left + rest) has.waiting from has.due)
+      ∙ (sym (length-map has.waiting (λ d. d.body))
+      ∙ (ap length has.queue ∙ length-map queued on_line)))))
+
+-- ---- the same of what a spacer holds
+
+module _ (gap m : ℕ) (accepted : List Burst) (items : List ℕ) (sent rest : ℕ) (queue : List Frame)
+    (has : HasSent gap m accepted (drop sent items) rest (frames_in queue)) where
+  pub goes-on : sent < length items → (b : ℕ) → b ≡ get_or items sent b
+      → Sends gap m accepted (drop (sent + 1) items) rest (frames_in queue) (Byte b)
+  goes-on within b is =
+      let next : suc sent ≡ sent + 1 = omega arith in
+      let same : drop sent items ≡ b ∷ drop (sent + 1) items =
+      drop-cons items sent b within ∙ (ap (λ x. x ∷ drop (suc sent) items) (sym is)
+      ∙ ap (λ n. b ∷ drop n items) next) in
+      let P : List ℕ → Type 0 = λ x. HasSent gap m accepted x rest (frames_in queue) in
+      byte-sent gap m accepted b (drop (sent + 1) items) rest (frames_in queue) (subst P same has)
+
+  pub rests : length items ≤ sent → 0 < rest
+      → Sends gap m accepted (drop sent items) (rest - 1) (frames_in queue) Silent
+  rests over some =
+      let none : drop sent items ≡ [] = drop_all sent items over in
+      let more : rest ≡ suc (rest - 1) = omega arith in
+      let P : List ℕ → Type 0 = λ x. HasSent gap m accepted x rest (frames_in queue) in
+      let Q : ℕ → Type 0 = λ n. HasSent gap m accepted [] n (frames_in queue) in
+      let R : List ℕ → Type 0 = λ x.
+      Sends gap m accepted x (rest - 1) (frames_in queue) Silent in
+      subst R (sym none)
+      (rest-passes gap m accepted (rest - 1) (frames_in queue) (subst Q more (subst P none has)))
+
+  -- nothing is left of a frame, nor of the silence behind it
+  over : length items ≤ sent → rest ≤ 0 → HasSent gap m accepted [] 0 (frames_in queue)
+  over past done =
+      let none : drop sent items ≡ [] = drop_all sent items past in
+      let zero-rest : rest ≡ 0 = omega arith in
+      let P : List ℕ → Type 0 = λ x. HasSent gap m accepted x rest (frames_in queue) in
+      let Q : ℕ → Type 0 = λ n. HasSent gap m accepted [] n (frames_in queue) in
+      subst Q zero-rest (subst P none has)
+
+  pub idles : length items ≤ sent → rest ≤ 0 → None ≡ slice_get queue 0
+      → Sends gap m accepted (drop sent items) rest (frames_in (drop 1 queue)) Silent
+  idles past done empty =
+      let none : drop sent items ≡ [] = drop_all sent items past in
+      let zero-rest : rest ≡ 0 = omega arith in
+      let bare : queue ≡ [] = none-queued queue empty in
+      let R : List ℕ → Type 0 = λ x.
+      Sends gap m accepted x rest (frames_in (drop 1 queue)) Silent in
+      let S : ℕ → Type 0 = λ n. Sends gap m accepted [] n (frames_in (drop 1 queue)) Silent in
+      let T : List Frame → Type 0 = λ q. Sends gap m accepted [] 0 (frames_in (drop 1 q)) Silent in
+      let U : List Frame → Type 0 = λ q. HasSent gap m accepted [] 0 (frames_in q) in
+      subst R (sym none) (subst S (sym zero-rest) (subst T (sym bare)
+      (nothing-sent gap m accepted (subst U bare (over past done)))))
+    where
+      none-queued : (q : List Frame) → None ≡ slice_get q 0 → q ≡ []
+      none-queued [] is = refl
+      none-queued (f ∷ q) is = cc
+
+  pub begins-next : length items ≤ sent → rest ≤ 0 → (frame : Frame)
+      → Some frame ≡ slice_get queue 0
+      → Sends gap m accepted (drop 1 frame.items) (rest_behind gap frame.items)
+      (frames_in (drop 1 queue)) (tick_of 0 frame.items 0)
+  begins-next past done frame first =
+      let U : List Frame → Type 0 = λ q. HasSent gap m accepted [] 0 (frames_in q) in
+      frame-begins gap m accepted frame.items (frames_in (drop 1 queue))
+      (subst U (some-queued queue first) (over past done))
+    where
+      some-queued : (q : List Frame) → Some frame ≡ slice_get q 0 → q ≡ frame ∷ drop 1 q
+      some-queued [] is = cc
+      some-queued (f ∷ q) is = let same : frame ≡ f = cc in ap (λ x. x ∷ q) (sym same)

@@ -1,0 +1,105 @@
+use Rattle.std.proofs.Common.{◌≡◌, ◌∙◌, ◌<◌, ◌≤◌, ◌+◌, ◌-◌, ◌++◌, ℕ, List, length, map, take, drop}
+use Rattle.std.proofs.Common.{sym, ap, subst, arith, length-take}
+use Rattle.std.proofs.lemmas.List.{length-map, length-take-le, take-take}
+use Rattle.yasir_ticks.specs.declared.tick.Tick.{Tick}
+use Rattle.yasir_ticks.specs.declared.tick.Tick.TheVariants.{Byte}
+use Rattle.burst_walk.specs.Answered.{answered}
+use Rattle.device_model.specs.Frames.{frames_of}
+use Rattle.line_spacer.specs.Spacing.{spaced, accepted_of}
+use Rattle.line_spacer.specs.Stands.{StandsFor, AnswersSpaced, frames_in}
+use Rattle.line_spacer.proofs.Runs.{IsQuiet, front-bytes, run-before, run-sent, run-answers}
+use Rattle.line_spacer.proofs.spacer.Spacer.hear_some.Goals as goal
+
+pub returns-clause-stands : goal.returns-clause-stands
+returns-clause-stands g c = λ cap line stands.
+    let reads = g.V.Device.reads in
+    let gap = g.row.GAP in
+    let old = c.args.self.now in
+    let sent = c.send_some.new.self in
+    let new = c.keep-lost.new.self in
+    let heard = c.hear_some-taken in
+    let n : ℕ = heard.result.taken in
+    let bytes : List ℕ = c.args.bytes.now in
+    let most : ℕ = c.min-most.result in
+    let part : List ℕ = take most bytes in
+    let x : List Tick = map (λ b. Byte b) (take n part) in
+    let within : n ≤ length part = heard.ensures.within in
+    let count = length-take most bytes in
+    let least = c.min-most.ensures in
+    let there : 0 < length part = grind (arith, c.if-most-eq0.false) in
+    let one : 0 < n = heard.ensures.some there in
+    let long : length x ≡ n =
+    length-map (take n part) (λ b. Byte b) ∙ length-take-le n part within in
+    let some : 0 < length x = omega arith in
+    let quiet : IsQuiet reads line x = λ k early.
+    let before_end : k < n = omega arith in
+    let fewer : k ≤ n = omega arith in
+    ap (λ y. reads (line ++ y)) (front-bytes k n most bytes fewer within)
+    ∙ heard.ensures.before k before_end line stands.heard in
+    let taken : take n part ≡ take n bytes = take-take n most bytes (grind arith) in
+    let is = heard.ensures.answer line stands.heard in
+    let answer : List Tick = answered n c.send_some.new.left.items in
+    let as_long : length answer ≡ length x = c.send_some.ensures.long ∙ sym long in
+    let frames = frames_of heard.result.frame in
+    let fits = c.send_some.ensures.room ∙ stands.room in
+    let accepted = accepted_of reads gap cap line in
+    let run = c.send_some.ensures.sends (length line) accepted stands.sent in
+    let before = run-before reads gap cap sent.queue.capacity fits line x frames some quiet is
+    accepted (drop sent.sent sent.sending.items) sent.rest (frames_in sent.queue.items) answer
+    as_long run.sent in
+    let stands_now : StandsFor g.V.Device cap new (line ++ x) = record {
+      heard = rw (c.keep-lost.ensures.device, c.send_some.ensures.device)
+          (heard.ensures.stands line stands.heard);
+      room = c.keep-lost.ensures.room ∙ fits;
+      sent = run-sent reads gap cap sent.queue.capacity fits line x frames some quiet is
+          (drop new.sent new.sending.items) new.rest (frames_in new.queue.items)
+          (c.keep-lost.ensures.sent (length line + (length x - 1))
+          (spaced reads gap cap line) before);
+    } in
+    let P : List ℕ → Type 0 = λ y. StandsFor g.V.Device cap new (line ++ map (λ b. Byte b) y) in
+    subst P taken stands_now
+
+pub returns-clause-answer : goal.returns-clause-answer
+returns-clause-answer g c = λ cap line stands.
+    let reads = g.V.Device.reads in
+    let gap = g.row.GAP in
+    let old = c.args.self.now in
+    let sent = c.send_some.new.self in
+    let heard = c.hear_some-taken in
+    let n : ℕ = heard.result.taken in
+    let bytes : List ℕ = c.args.bytes.now in
+    let most : ℕ = c.min-most.result in
+    let part : List ℕ = take most bytes in
+    let x : List Tick = map (λ b. Byte b) (take n part) in
+    let within : n ≤ length part = heard.ensures.within in
+    let count = length-take most bytes in
+    let least = c.min-most.ensures in
+    let there : 0 < length part = grind (arith, c.if-most-eq0.false) in
+    let one : 0 < n = heard.ensures.some there in
+    let long : length x ≡ n =
+    length-map (take n part) (λ b. Byte b) ∙ length-take-le n part within in
+    let some : 0 < length x = omega arith in
+    let quiet : IsQuiet reads line x = λ k early.
+    let before_end : k < n = omega arith in
+    let fewer : k ≤ n = omega arith in
+    ap (λ y. reads (line ++ y)) (front-bytes k n most bytes fewer within)
+    ∙ heard.ensures.before k before_end line stands.heard in
+    let taken : take n part ≡ take n bytes = take-take n most bytes (grind arith) in
+    let is = heard.ensures.answer line stands.heard in
+    let answer : List Tick = answered n c.send_some.new.left.items in
+    let as_long : length answer ≡ length x = c.send_some.ensures.long ∙ sym long in
+    let frames = frames_of heard.result.frame in
+    let lost = frames_of c.keep-lost.result in
+    let fits = c.send_some.ensures.room ∙ stands.room in
+    let accepted = accepted_of reads gap cap line in
+    let run = c.send_some.ensures.sends (length line) accepted stands.sent in
+    let before = run-before reads gap cap sent.queue.capacity fits line x frames some quiet is
+    accepted (drop sent.sent sent.sending.items) sent.rest (frames_in sent.queue.items) answer
+    as_long run.sent in
+    let answers = run-answers reads gap cap sent.queue.capacity fits line x frames some quiet is
+    answer lost as_long run.leave
+    (c.keep-lost.ensures.takes (length line + (length x - 1)) (spaced reads gap cap line) before) in
+    let last : length line + (length x - 1) ≡ length line + (n - 1) = omega arith in
+    let P : List ℕ → Type 0 = λ y. AnswersSpaced reads gap cap line (map (λ b. Byte b) y) answer
+    (length line + (n - 1)) lost in
+    subst P taken (subst (λ k. AnswersSpaced reads gap cap line x answer k lost) last answers)

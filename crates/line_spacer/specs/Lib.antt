@@ -1,0 +1,4 @@
+pub mod Arrivals
+pub mod Spacing
+pub mod Stands
+pub mod Runs

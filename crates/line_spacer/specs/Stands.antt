@@ -1,0 +1,104 @@
+-- What a spacer stands for, and what its steps answer.
+use Rattle.std.specs.Prelude.{◌≡◌, ℕ, ◌+◌, ◌-◌, ◌<◌, ◌≤◌, List, [], ◌∷◌, ◌++◌, length, map, drop}
+use Rattle.std.specs.Prelude.{slice_index_or, fold}
+use Rattle.arrayvec.specs.declared.array_vec.ArrayVec.{ArrayVec}
+use Rattle.yasir_ticks.specs.Bursts.{Burst, end_of}
+use Rattle.yasir_ticks.specs.declared.tick.Tick.{Tick}
+use Rattle.yasir_ticks.specs.declared.tick.Tick.TheVariants.{Silent, Byte}
+use Rattle.burst_walk.specs.Laid.{tick_at}
+use Rattle.device_model.specs.Frames.{FrameRead}
+use Rattle.device_model.specs.declared.device.Device.{Ghosts as Device}
+use Rattle.line_spacer.specs.Arrivals.{arriving}
+use Rattle.line_spacer.specs.Spacing.{Spaced, free_from, take_in, accepted_of, lost_of}
+use Rattle.line_spacer.specs.Spacing.{spaced_line}
+use Rattle.line_spacer.specs.declared.spacer.Spacer.{Spacer}
+
+-- tick i of the other line, where these bytes are sent from tick m on
+abbrev pub tick_of : ℕ → List ℕ → ℕ → Tick
+tick_of m left i = slice_index_or (map (λ b. Byte b) left) (i - m) Silent
+
+-- Each of these bursts begins before tick m and ends by tick n.
+abbrev pub HaveBegun : ℕ → ℕ → List Burst → Type 0
+HaveBegun m n [] = Unit {0}
+HaveBegun m n (d ∷ ds) = (d.start < m) × (end_of d ≤ n) × HaveBegun m n ds
+
+-- The first of these bursts begins in tick n, and each one so many ticks behind the one before.
+abbrev pub AreDue : ℕ → ℕ → List Burst → Type 0
+AreDue gap n [] = Unit {0}
+AreDue gap n (d ∷ ds) = (d.start ≡ n) × AreDue gap (end_of d + gap) ds
+
+-- Before tick m, of these accepted frames some have begun, of the last of which these bytes are
+-- still to be sent, and behind them so many silent ticks are still to pass. The others wait.
+pub record HasSent (gap m : ℕ) (accepted : List Burst) (left : List ℕ) (rest : ℕ)
+    (queued : List (List ℕ)) : Type 0 where
+  pub wide : 0 < gap
+  pub begun : List Burst
+  pub waiting : List Burst
+  pub is : accepted ≡ begun ++ waiting
+  pub have_begun : HaveBegun m (m + length left) begun
+  pub sends : (i : ℕ) → m ≤ i → tick_at begun i ≡ tick_of m left i
+  pub free : free_from gap 0 begun - m ≡ length left + rest
+  pub due : AreDue gap (m + length left + rest) waiting
+  pub queue : map (λ d. d.body) waiting ≡ map (λ x. map (λ b. Byte b) x) queued
+
+-- Of a frame that has begun: the silent ticks that are still to pass behind its last byte.
+abbrev pub rest_behind : ℕ → List ℕ → ℕ
+rest_behind gap [] = gap - 1
+rest_behind gap (b ∷ frame) = gap
+
+-- It has sent so before the tick behind tick m, in which this leaves.
+pub record Sends (gap m : ℕ) (accepted : List Burst) (left : List ℕ) (rest : ℕ)
+    (queued : List (List ℕ)) (t : Tick) : Type 0 where
+  pub leaves : tick_at accepted m ≡ t
+  pub sent : HasSent gap (m + 1) accepted left rest queued
+
+-- room for a frame
+abbrev pub Frame : Type 0
+Frame = ArrayVec ℕ 292 (Unit {0})
+
+-- the frames that wait
+abbrev pub frames_in : List Frame → List (List ℕ)
+frames_in queue = map (λ x. x.items) queue
+
+-- Before tick m the spacer has sent so.
+abbrev pub SentBy : {V : Type 0} {GAP : ℕ} → Spacer V GAP → ℕ → List Burst → Type 0
+SentBy {V} {GAP} value m accepted =
+    HasSent GAP m accepted (drop value.sent value.sending.items) value.rest
+    (frames_in value.queue.items)
+
+-- In tick m this leaves, and the spacer has sent so before the tick behind it.
+abbrev pub SendsBy : {V : Type 0} {GAP : ℕ} → Spacer V GAP → ℕ → List Burst → Tick → Type 0
+SendsBy {V} {GAP} value m accepted t =
+    Sends GAP m accepted (drop value.sent value.sending.items) value.rest
+    (frames_in value.queue.items) t
+
+module _ {V : Type 0} (device : Device V) where
+  -- The spacer, with room for so many frames to wait, has taken this line.
+  pub record StandsFor {GAP : ℕ} (cap : ℕ) (value : Spacer V GAP) (line : List Tick) : Type 0 where
+    pub heard : device.stands value.device line
+    pub room : value.queue.capacity ≡ cap
+    pub sent : SentBy value (length line) (accepted_of device.reads GAP cap line)
+
+  -- how many ticks it has taken
+  abbrev pub ticks_taken : {GAP : ℕ} → Spacer V GAP → ℕ
+  ticks_taken value = device.taken value.device
+
+-- Behind a line these ticks come. In the same steps these ticks leave, and in the step of this tick
+-- these frames are lost.
+pub record AnswersSpaced (reads : List Tick → List FrameRead) (gap cap : ℕ)
+    (line ticks answer : List Tick) (step : ℕ) (lost : List FrameRead) : Type 0 where
+  pub ticks_leave : spaced_line reads gap cap (line ++ ticks)
+      ≡ spaced_line reads gap cap line ++ answer
+  pub are_lost : lost_of reads gap cap (line ++ ticks)
+      ≡ lost_of reads gap cap line ++ map (arriving step) lost
+
+-- what these frames, which are read in this step, make of what was accepted and lost before
+abbrev pub taken_in : ℕ → ℕ → ℕ → Spaced → List FrameRead → Spaced
+taken_in gap cap step s frames = fold (take_in gap cap) s (map (arriving step) frames)
+
+-- In this step these frames are read, and these of them are lost. What leaves in it and before it
+-- stays the same.
+pub record TakesIn (gap cap step : ℕ) (s : Spaced) (read lost : List FrameRead) : Type 0 where
+  pub are_lost : (taken_in gap cap step s read).lost ≡ s.lost ++ map (arriving step) lost
+  pub stays : (i : ℕ) → i ≤ step
+      → tick_at (taken_in gap cap step s read).accepted i ≡ tick_at s.accepted i

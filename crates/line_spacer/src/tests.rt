@@ -1,0 +1,335 @@
+ghost use Rattle.std.specs.Prelude.{◌≡◌, ◌<◌, ◌≤◌, ◌+◌, ℕ, length, OnOk};
+ghost use Rattle.yasir_ticks.specs.declared.TheConstants.{MAX_TICKS};
+
+use super::*;
+use device_model::{Device, DnpDevice, FrameAt, Hunted, HuntingFamily, RtuDevice};
+use dnp_link_frame::Dnp;
+use std::alloc::{AllocError, Global};
+use std::process::Abort;
+use std::test::Fail;
+use yasir_io::NoMemory;
+use yasir_ticks::Tick;
+
+// A device that hunts, to which 18 silent ticks end what it has taken.
+#[derive(Drop)]
+struct ForgetfulDevice<R>(HuntingFamily<R>);
+
+impl<R: Hunted> Device for ForgetfulDevice<R> {
+    ghost use Rattle.device_model.specs.HuntFamily.{hunt_family, FamilyStandsFor, family_ticks};
+
+    ghost reads = { hunt_family R.FIRST R.SECOND R.rules 18 };
+
+    ghost stands = { λ d. FamilyStandsFor R.LineRules R.FIRST R.SECOND 18 d.0 };
+
+    ghost taken = { λ d. family_ticks d.0 };
+
+    fn fresh() -> Self {
+        ForgetfulDevice(HuntingFamily::new(18))
+    }
+
+    fn step(&mut self, t: Tick) -> Option<FrameAt> {
+        self.0.step(t)
+    }
+}
+
+// A spacer that hears as some device, so that one loop serves all of them.
+trait Spaces {
+    ghost taken: { Self → ℕ };
+
+    fn take(&mut self, t: Tick) -> SpaceStep
+        requires { taken self.old < MAX_TICKS }
+        ensures { taken self.new ≡ taken self.old + 1 };
+
+    fn hear(&mut self, bytes: &[u8], left: &mut RunBytes) -> SpaceRun
+        requires room { taken self.old + length bytes.now ≤ MAX_TICKS }
+        requires some { 0 < length bytes.now }
+        ensures some { 0 < result.taken }
+        ensures within { result.taken ≤ length bytes.now }
+        ensures taken { taken self.new ≡ taken self.old + result.taken };
+
+    fn wait(&mut self, ticks: usize, left: &mut RunBytes) -> SpaceRun
+        requires room { taken self.old + ticks ≤ MAX_TICKS }
+        requires some { 0 < ticks }
+        ensures some { 0 < result.taken }
+        ensures within { result.taken ≤ ticks }
+        ensures taken { taken self.new ≡ taken self.old + result.taken };
+}
+
+impl<V: Device, const GAP: usize> Spaces for Spacer<V, GAP> {
+    ghost use Rattle.line_spacer.specs.Stands.{ticks_taken};
+
+    ghost taken = { λ spacer. ticks_taken V.Device spacer };
+
+    fn take(&mut self, t: Tick) -> SpaceStep {
+        self.step(t)
+    }
+
+    fn hear(&mut self, bytes: &[u8], left: &mut RunBytes) -> SpaceRun {
+        self.hear_some(bytes, left)
+    }
+
+    fn wait(&mut self, ticks: usize, left: &mut RunBytes) -> SpaceRun {
+        self.wait_some(ticks, left)
+    }
+}
+
+// A part of a line.
+#[derive(Drop)]
+enum Part {
+    Bytes(&'static [u8]),
+    Silence(usize),
+}
+
+use Part::{Bytes, Silence};
+
+fn add_part(line: &mut Vec<Tick>, part: &Part) -> Result<(), AllocError> {
+    match part {
+        Bytes(bytes) => {
+            for byte in *bytes {
+                line.push(Tick::Byte(*byte))?;
+            }
+        }
+        Silence(ticks) => {
+            for _ in 0..*ticks {
+                line.push(Tick::Silent)?;
+            }
+        }
+    }
+    Ok(())
+}
+
+fn line_of(alloc: Global, parts: &[Part]) -> Result<Vec<Tick>, AllocError> {
+    let mut line = Vec::new(alloc);
+    for part in parts {
+        add_part(&mut line, part)?;
+    }
+    Ok(line)
+}
+
+// The other line, and of each frame that is lost the step and the tick of its first byte.
+type Answers = (Vec<Tick>, Vec<(usize, u64)>);
+
+fn answers<B: Spaces>(alloc: Global, spacer: &mut B, line: &[Tick]) -> Result<Answers, AllocError>
+    requires fresh { B.taken spacer.old ≡ 0 }
+    requires short { length line.now < 1000 }
+{
+    let mut ticks = Vec::new(alloc);
+    let mut lost = Vec::new(alloc);
+    for (at, tick) in line.iter().enumerate() {
+        let step = spacer.take(*tick);
+        ticks.push(step.tick)?;
+        if let Some(frame) = step.lost {
+            lost.push((at, frame.start))?;
+        }
+    }
+    Ok((ticks, lost))
+}
+
+// The reset of a DNP3 link.
+const RESET_LINK: &[u8] = b"\x05\x64\x05\xC0\x01\x00\x00\x04\xE9\x21";
+
+const READ_TEN: &[u8] = b"\x01\x03\x00\x00\x00\x0A\xC5\xCD";
+
+const READ_ONE: &[u8] = b"\x01\x03\x00\x00\x00\x01\x84\x0A";
+
+// What comes in, what leaves, and what is lost.
+struct Row {
+    line: &'static [Part],
+    leaves: &'static [Part],
+    lost: &'static [(usize, u64)],
+}
+
+fn space<B: Spaces>(rt: &impl Abort, alloc: Global, spacer: &mut B, row: &Row) -> Result<(), Fail>
+    requires { B.taken spacer.old ≡ 0 }
+{
+    let line = line_of(alloc, row.line)?;
+    if line.len() >= 1000 {
+        return Err("a long line".into());
+    }
+    let (ticks, lost) = answers(alloc, spacer, line.as_slice())?;
+    assert_eq!(rt; ticks, line_of(alloc, row.leaves)?);
+    assert_eq!(rt; lost.as_slice(), row.lost);
+    Ok(())
+}
+
+// Two resets without a gap: each is sent behind its last byte, the second 21 silent ticks later.
+const TWO_RESETS: Row = Row {
+    line: &[Bytes(RESET_LINK), Bytes(RESET_LINK), Silence(40)],
+    leaves: &[
+        Silence(10),
+        Bytes(RESET_LINK),
+        Silence(21),
+        Bytes(RESET_LINK),
+        Silence(9),
+    ],
+    lost: &[],
+};
+
+// Two queries that four silent ticks part: each is sent behind the tick that ends it.
+const TWO_QUERIES: Row = Row {
+    line: &[Bytes(READ_TEN), Silence(4), Bytes(READ_ONE), Silence(40)],
+    leaves: &[
+        Silence(12),
+        Bytes(READ_TEN),
+        Silence(21),
+        Bytes(READ_ONE),
+        Silence(11),
+    ],
+    lost: &[],
+};
+
+// Three resets, where one may wait: the third is lost in the step in which it is read.
+const THREE_RESETS: Row = Row {
+    line: &[
+        Bytes(RESET_LINK),
+        Bytes(RESET_LINK),
+        Bytes(RESET_LINK),
+        Silence(30),
+    ],
+    leaves: &[
+        Silence(10),
+        Bytes(RESET_LINK),
+        Silence(21),
+        Bytes(RESET_LINK),
+        Silence(9),
+    ],
+    lost: &[(29, 20)],
+};
+
+// A reset with 17 silent ticks in it, and one with 18, which is none to the forgetful device.
+const PARTED_RESETS: Row = Row {
+    line: &[
+        Bytes(b"\x05\x64\x05"),
+        Silence(17),
+        Bytes(b"\xC0\x01\x00\x00\x04\xE9\x21"),
+        Silence(18),
+        Bytes(b"\x05\x64\x05"),
+        Silence(18),
+        Bytes(b"\xC0\x01\x00\x00\x04\xE9\x21"),
+        Silence(5),
+    ],
+    leaves: &[Silence(27), Bytes(RESET_LINK), Silence(41)],
+    lost: &[],
+};
+
+#[test]
+fn frames_are_spaced(rt: HostRuntime) -> Result<(), Fail> {
+    let alloc = rt.alloc();
+    let mut dnp = Spacer::<DnpDevice, 21>::new(alloc, 64)?;
+    space(&rt, alloc, &mut dnp, &TWO_RESETS)?;
+    let mut rtu = Spacer::<RtuDevice, 21>::new(alloc, 64)?;
+    space(&rt, alloc, &mut rtu, &TWO_QUERIES)?;
+    let mut narrow = Spacer::<DnpDevice, 21>::new(alloc, 1)?;
+    space(&rt, alloc, &mut narrow, &THREE_RESETS)?;
+    let mut forgetful = Spacer::<ForgetfulDevice<Dnp>, 21>::new(alloc, 64)?;
+    space(&rt, alloc, &mut forgetful, &PARTED_RESETS)?;
+    Ok(())
+}
+
+// A frame waits from the step in which it is read, and not any more once its first byte is sent.
+#[test]
+fn frames_wait(rt: HostRuntime) -> Result<(), Fail> {
+    let alloc = rt.alloc();
+    let read = line_of(alloc, &[Bytes(RESET_LINK)])?;
+    let begun = line_of(alloc, &[Bytes(RESET_LINK), Silence(1)])?;
+    assert_eq!(rt; (read.len(), begun.len()), (10, 11));
+    let mut spacer = Spacer::<DnpDevice, 21>::new(alloc, 1024)?;
+    assert_eq!(rt; spacer.waiting(), 0);
+    answers(alloc, &mut spacer, read.as_slice())?;
+    assert_eq!(rt; spacer.waiting(), 1);
+    let mut other = Spacer::<DnpDevice, 21>::new(alloc, 1024)?;
+    answers(alloc, &mut other, begun.as_slice())?;
+    assert_eq!(rt; other.waiting(), 0);
+    Ok(())
+}
+
+// What leaves in a run is added to the other line.
+fn add_run(line: &mut Vec<Tick>, run: &SpaceRun, left: &RunBytes) -> Result<(), AllocError> {
+    if left.is_empty() {
+        return add_part(line, &Silence(run.taken));
+    }
+    for byte in left.as_slice() {
+        line.push(Tick::Byte(*byte))?;
+    }
+    Ok(())
+}
+
+// The other line by runs, and how many runs a part took.
+fn hear_all<B: Spaces>(
+    spacer: &mut B,
+    bytes: &[u8],
+    line: &mut Vec<Tick>,
+) -> Result<u32, AllocError>
+    requires { B.taken spacer.old + length bytes.now ≤ MAX_TICKS }
+    ensures { OnOk result (B.taken spacer.new ≡ B.taken spacer.old + length bytes.now) }
+{
+    let mut left = RunBytes::new();
+    let mut at = 0;
+    let mut runs: u32 = 0;
+    while at < bytes.len() {
+        let run = spacer.hear(&bytes[at..], &mut left);
+        add_run(line, &run, &left)?;
+        at += run.taken;
+        runs = runs.saturating_add(1);
+    }
+    Ok(runs)
+}
+
+fn wait_all<B: Spaces>(
+    spacer: &mut B,
+    ticks: usize,
+    line: &mut Vec<Tick>,
+) -> Result<u32, AllocError>
+    requires { B.taken spacer.old + ticks ≤ MAX_TICKS }
+    ensures { OnOk result (B.taken spacer.new ≡ B.taken spacer.old + ticks) }
+{
+    let mut left = RunBytes::new();
+    let mut at = 0;
+    let mut runs: u32 = 0;
+    while at < ticks {
+        let run = spacer.wait(ticks - at, &mut left);
+        add_run(line, &run, &left)?;
+        at += run.taken;
+        runs = runs.saturating_add(1);
+    }
+    Ok(runs)
+}
+
+// Two resets, as they come in one run.
+const RESETS: &[u8] =
+    b"\x05\x64\x05\xC0\x01\x00\x00\x04\xE9\x21\x05\x64\x05\xC0\x01\x00\x00\x04\xE9\x21";
+
+// The first reset is heard in one run, whose last byte ends it. The next tick begins to send it;
+// then comes a run of its other nine bytes, at whose end the second one is read. Of the silence 21
+// ticks pass in a run; in the next tick the second one begins, its nine bytes follow, and then what
+// is left of the silence.
+#[test]
+fn runs_are_taken_at_once(rt: HostRuntime) -> Result<(), Fail> {
+    let alloc = rt.alloc();
+    let mut spacer = Spacer::<DnpDevice, 21>::new(alloc, 64)?;
+    let mut line = Vec::new(alloc);
+    let heard = hear_all(&mut spacer, RESETS, &mut line)?;
+    let waited = wait_all(&mut spacer, 40, &mut line)?;
+    assert_eq!(rt; (heard, waited), (3, 4));
+    let row = &TWO_RESETS;
+    assert_eq!(rt; line, line_of(alloc, row.leaves)?);
+    Ok(())
+}
+
+// Silence where nothing waits is one run.
+#[test]
+fn silence_is_one_run(rt: HostRuntime) -> Result<(), Fail> {
+    let alloc = rt.alloc();
+    let mut spacer = Spacer::<RtuDevice, 21>::new(alloc, 64)?;
+    let mut line = Vec::new(alloc);
+    assert_eq!(rt; wait_all(&mut spacer, 900, &mut line)?, 1);
+    assert_eq!(rt; line, line_of(alloc, &[Silence(900)])?);
+    Ok(())
+}
+
+#[test]
+fn memory_is_refused(rt: HostRuntime) -> Result<(), Fail> {
+    let refused = Spacer::<DnpDevice, 21>::new(rt.alloc(), usize::MAX);
+    assert!(rt; matches!(refused, Err(NoMemory)));
+    Ok(())
+}
