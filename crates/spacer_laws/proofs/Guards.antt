@@ -1,0 +1,75 @@
+-- The spacers of each protocol, behind the receiver.
+use Rattle.std.proofs.Common.{◌≡◌, ℕ, zero, suc, ◌≤◌, ◌⊎◌, inl, inr, List, arith}
+use Rattle.yasir_ticks.specs.Ticks.{bytes_in}
+use Rattle.yasir_ticks.specs.Bursts.{bursts}
+use Rattle.yasir_ticks.specs.declared.tick.Tick.{Tick}
+use Rattle.line_rules.specs.Rules.{Rules}
+use Rattle.line_rules.specs.RulesLaws.{IsLawful, IsHeaded, IsFramed}
+use Rattle.line_rules.specs.Spoiling.{IsSpoiling}
+use Rattle.rtu_frame.specs.Rules.{rtu_rules, rtu_lawful}
+use Rattle.burst_walk.specs.Walk.{emitted}
+use Rattle.burst_walk.proofs.Spread.{bursts-spread}
+use Rattle.device_model.specs.Frames.{FrameRead}
+use Rattle.device_model.specs.Hunt.{timed, hunt, hunt_anew}
+use Rattle.device_model.specs.HuntFamily.{hunt_family}
+use Rattle.device_model.specs.HuntLaws.{IsHunted}
+use Rattle.device_model.specs.RtuReads.{is_frame_body}
+use Rattle.link_format.specs.Profile.{Profile, delay}
+use Rattle.link_verdicts.specs.Checking.{checker, at_floor}
+use Rattle.receiver_laws.specs.Hunters.{IsHunter}
+use Rattle.receiver_laws.specs.Reading.{ReadsWhatPassed}
+use Rattle.receiver_laws.proofs.Anew.{anew-hunter, anew_reads_what_passed}
+use Rattle.receiver_laws.proofs.HunterReadings.{plain-hunter, emissions-taken}
+use Rattle.receiver_laws.proofs.HunterReadings.{hunt_reads_what_passed}
+use Rattle.receiver_laws.proofs.Hunters.{hunter-laid}
+use Rattle.receiver_laws.proofs.RtuReadings.{rtu_reads_what_passed}
+use Rattle.receiver_laws.proofs.Settled.{reads_with, reads-laid}
+use Rattle.spacer_laws.specs.SpacesOut.{ReadsFrames}
+use Rattle.spacer_laws.proofs.Guarding.{HearsEmissions, emissions-apart}
+use Rattle.spacer_laws.proofs.ReadFrames.{rtu-frames, family-frames}
+
+pub rtu-hears : (cut pause : ℕ) (profile : Profile) → 2 ≤ cut → cut ≤ delay profile → 2 ≤ pause
+    → HearsEmissions rtu_rules (reads_with cut pause) cut profile
+rtu-hears cut pause profile some near long = record {
+  sound = rtu-frames cut pause;
+  passes = rtu_reads_what_passed profile cut pause some near long;
+  whole = λ d. is_frame_body pause d.body;
+  emissions = λ floor link m. reads-laid cut pause m
+      (emitted (checker profile rtu_rules) (at_floor floor) (bursts link))
+      (emissions-apart cut profile rtu_rules rtu_lawful some near floor link);
+}
+
+module _ (first second : ℕ) (rules : Rules) (lawful : IsLawful rules) (headed : IsHeaded rules)
+    (framed : IsFramed rules) (spoiling : IsSpoiling rules) (hunted : IsHunted first second rules)
+    (profile : Profile) where
+  hunter-hears : (read : ℕ → List Tick → List FrameRead) → IsHunter first second rules read
+      → ReadsFrames rules (read 0)
+      → ((floor : ℕ) (link : List Tick) → ReadsWhatPassed rules (read 0) 0 profile floor link)
+      → HearsEmissions rules (read 0) 0 profile
+  hunter-hears read hunter sound passes =
+      let late : 2 ≤ delay profile = omega arith in
+      record {
+        sound = sound;
+        passes = passes;
+        whole = λ d. rules.is_frame (bytes_in d.body);
+        emissions = λ floor link m.
+            hunter-laid first second rules headed framed hunted read hunter m
+            (emitted (checker profile rules) (at_floor floor) (bursts link))
+            (emissions-apart 2 profile rules lawful (omega arith) late floor link)
+            (emissions-taken first second rules headed framed hunted profile lawful (at_floor floor)
+            0 (bursts link) (bursts-spread link));
+      }
+
+  pub family-hears : (cut : ℕ) → (cut ≡ 0) ⊎ (2 ≤ cut)
+      → HearsEmissions rules (hunt_family first second rules cut) 0 profile
+  family-hears zero member =
+      hunter-hears (λ n line. hunt first second rules 0 (timed n line))
+      (plain-hunter first second rules) (family-frames first second rules 0)
+      (λ floor link. hunt_reads_what_passed first second rules headed framed hunted profile lawful
+      spoiling floor link)
+  family-hears (suc cut) (inl none) = absurd (omega arith)
+  family-hears (suc cut) (inr some) =
+      hunter-hears (λ n line. hunt_anew first second rules (suc cut) n line)
+      (anew-hunter (suc cut) some first second rules) (family-frames first second rules (suc cut))
+      (λ floor link. anew_reads_what_passed (suc cut) some first second rules headed framed hunted
+      lawful spoiling profile floor link)

@@ -1,0 +1,11 @@
+pub mod Accepted
+pub mod Within
+pub mod ReadFrames
+pub mod Spaced
+pub mod Leaving
+pub mod Delivering
+pub mod LaidArrivals
+pub mod Guarding
+pub mod Guards
+pub mod GivingAll
+pub mod GivingUntouched

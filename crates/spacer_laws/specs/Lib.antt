@@ -1,0 +1,5 @@
+pub mod SpacesOut
+pub mod Leaving
+pub mod Delivering
+pub mod Guarding
+pub mod GivingAll

@@ -1,0 +1,98 @@
+ghost use Rattle.std.specs.Prelude.{◌≡◌, ◌≤◌, ◌⊎◌, ℕ, List};
+ghost use Rattle.yasir_ticks.specs.declared.TheConstants.{T3_5_TICKS};
+ghost use Rattle.yasir_ticks.specs.declared.tick.Tick.{Tick};
+ghost use Rattle.rtu_frame.specs.Rules.{rtu_rules};
+ghost use Rattle.dnp_link_frame.specs.Rules.{dnp_rules};
+ghost use Rattle.device_model.specs.DnpReads.{dnp_reads};
+ghost use Rattle.device_model.specs.HuntFamily.{dnp_family_reads, hunt_family};
+ghost use Rattle.device_model.specs.RtuFamily.{rtu_family_reads};
+ghost use Rattle.device_model.specs.RtuReads.{rtu_reads};
+ghost use Rattle.link_format.specs.Profile.{Profile, HasTags, delay};
+ghost use Rattle.receiver_laws.specs.Untouched.{IsUntouched};
+ghost use Rattle.spacer_laws.specs.GivingAll.{HasRoomFor, GivesAll};
+ghost use Rattle.spacer_laws.specs.Guarding.{GivesOnlySealed};
+
+use device_model::Hunted;
+
+/// A law of the definitions of spacer, transmitter and receiver, for each profile, floors, line of
+/// a device and link, at every moment, and each gap of at least the silence that parts bursts:
+/// however the link was altered, cut, repeated or reordered, all that a spacer gives that stands on
+/// the receiver's line is silence and frames that have passed, whole, in order, at least the gap
+/// apart and each number at most once; the last of them may not have been given as a whole yet. If
+/// none of those that passed is forged, they are frames that were sealed, in their order.
+///
+/// So this holds of any device behind the spacer, whatever it makes of bytes and silence. It holds
+/// where the spacer hears as a Modbus RTU or a DNP3 device does, and as a member of the family of
+/// either does: for Modbus RTU one for which a burst ends by two silent ticks together or more, up
+/// to the receiver's delay.
+pub fn only_sealed_frames_are_given()
+    ensures rtu { (profile : Profile) (gap cap seal_floor check_floor : ℕ) (line link : List Tick)
+        → T3_5_TICKS ≤ gap
+        → GivesOnlySealed profile rtu_rules rtu_reads gap cap seal_floor check_floor line link }
+    ensures dnp { (profile : Profile) (gap cap seal_floor check_floor : ℕ) (line link : List Tick)
+        → T3_5_TICKS ≤ gap
+        → GivesOnlySealed profile dnp_rules dnp_reads gap cap seal_floor check_floor line link }
+    ensures rtu_family { (cut pause : ℕ) (profile : Profile) (gap cap seal_floor check_floor : ℕ)
+        (line link : List Tick) → T3_5_TICKS ≤ gap → 2 ≤ cut → cut ≤ delay profile → 1 ≤ pause
+        → GivesOnlySealed profile rtu_rules (rtu_family_reads cut pause) gap cap seal_floor
+        check_floor line link }
+    ensures dnp_family { (cut : ℕ) (profile : Profile) (gap cap seal_floor check_floor : ℕ)
+        (line link : List Tick) → T3_5_TICKS ≤ gap → (cut ≡ 0) ⊎ (2 ≤ cut)
+        → GivesOnlySealed profile dnp_rules (dnp_family_reads cut) gap cap seal_floor check_floor
+        line link }
+{}
+
+/// The same law for the rules of each protocol whose devices hunt for frames, and a spacer that
+/// hears as any device does that hunts so.
+pub fn only_sealed_hunted_frames_are_given<R: Hunted>()
+    ensures { (cut : ℕ) (profile : Profile) (gap cap seal_floor check_floor : ℕ)
+        (line link : List Tick) → T3_5_TICKS ≤ gap → (cut ≡ 0) ⊎ (2 ≤ cut)
+        → GivesOnlySealed profile R.rules (hunt_family R.FIRST R.SECOND R.rules cut) gap cap
+        seal_floor check_floor line link }
+{}
+
+/// A law of the same definitions, for each profile, floors, and line of a device whose frames are
+/// spaced: where nothing is changed on the link, a spacer behind the receiver loses no frame, if as
+/// many may wait as come while the longest is sent. It gives all of them, in order, each as a whole
+/// and byte behind byte. It begins with each so many ticks after it began on the device's line at
+/// most: the receiver's delay, the ticks of the longest, and those behind its end in which it is
+/// read. So it is for the same spacers.
+pub fn untouched_link_gives_all()
+    ensures rtu { (profile : Profile) → HasTags profile → 1 ≤ profile.word_len
+        → (floor behind : ℕ) (line : List Tick) (more rest most gap cap : ℕ)
+        → IsUntouched profile rtu_rules floor behind line more
+        → HasRoomFor profile most gap cap line
+        → GivesAll profile rtu_rules rtu_reads T3_5_TICKS most gap cap floor behind line more rest }
+    ensures dnp { (profile : Profile) → HasTags profile → 1 ≤ profile.word_len
+        → (floor behind : ℕ) (line : List Tick) (more rest most gap cap : ℕ)
+        → IsUntouched profile dnp_rules floor behind line more
+        → HasRoomFor profile most gap cap line
+        → GivesAll profile dnp_rules dnp_reads 0 most gap cap floor behind line more rest }
+    ensures rtu_family { (cut pause : ℕ) (profile : Profile) → HasTags profile
+        → 1 ≤ profile.word_len
+        → (floor behind : ℕ) (line : List Tick) (more rest most gap cap : ℕ)
+        → IsUntouched profile rtu_rules floor behind line more
+        → HasRoomFor profile most gap cap line
+        → 2 ≤ cut → cut ≤ delay profile → 1 ≤ pause
+        → GivesAll profile rtu_rules (rtu_family_reads cut pause) cut
+        most gap cap floor behind line more rest }
+    ensures dnp_family { (cut : ℕ) (profile : Profile) → HasTags profile → 1 ≤ profile.word_len
+        → (floor behind : ℕ) (line : List Tick) (more rest most gap cap : ℕ)
+        → IsUntouched profile dnp_rules floor behind line more
+        → HasRoomFor profile most gap cap line
+        → (cut ≡ 0) ⊎ (2 ≤ cut)
+        → GivesAll profile dnp_rules (dnp_family_reads cut) 0
+        most gap cap floor behind line more rest }
+{}
+
+/// The same law for the rules of each protocol whose devices hunt for frames, and a spacer that
+/// hears as any device does that hunts so.
+pub fn untouched_link_gives_all_hunted<R: Hunted>()
+    ensures { (cut : ℕ) (profile : Profile) → HasTags profile → 1 ≤ profile.word_len
+        → (floor behind : ℕ) (line : List Tick) (more rest most gap cap : ℕ)
+        → IsUntouched profile R.rules floor behind line more
+        → HasRoomFor profile most gap cap line
+        → (cut ≡ 0) ⊎ (2 ≤ cut)
+        → GivesAll profile R.rules (hunt_family R.FIRST R.SECOND R.rules cut) 0
+        most gap cap floor behind line more rest }
+{}

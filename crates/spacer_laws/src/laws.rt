@@ -1,0 +1,84 @@
+ghost use Rattle.std.specs.Prelude.{◌≡◌, ◌+◌, ◌*◌, ◌≤◌, ◌⊎◌, ℕ, List, length};
+ghost use Rattle.yasir_ticks.specs.Ticks.{AreTicks};
+ghost use Rattle.yasir_ticks.specs.declared.TheConstants.{T3_5_TICKS};
+ghost use Rattle.yasir_ticks.specs.declared.tick.Tick.{Tick};
+ghost use Rattle.rtu_frame.specs.Rules.{rtu_rules};
+ghost use Rattle.dnp_link_frame.specs.Rules.{dnp_rules};
+ghost use Rattle.device_model.specs.DnpReads.{dnp_reads};
+ghost use Rattle.device_model.specs.Frames.{FrameRead};
+ghost use Rattle.device_model.specs.HuntFamily.{dnp_family_reads, hunt_family};
+ghost use Rattle.device_model.specs.RtuFamily.{rtu_family_reads};
+ghost use Rattle.device_model.specs.RtuReads.{rtu_reads};
+ghost use Rattle.link_format.specs.Profile.{Profile, HasTags};
+ghost use Rattle.line_spacer.specs.Spacing.{accepted_of};
+ghost use Rattle.spacer_laws.specs.Delivering.{IsSpacedForSealing, DeliversSpaced};
+ghost use Rattle.spacer_laws.specs.Leaving.{AllLeave};
+ghost use Rattle.spacer_laws.specs.SpacesOut.{ReadsFrames, SpacesOut};
+
+use device_model::Hunted;
+use line_rules::LineRules;
+
+/// A law of the spacer's definitions, for each line, at every moment, and each gap of at least the
+/// silence that parts bursts: the spaced line carries whole frames of the protocol, at least the
+/// gap apart, and nothing else. Its bursts are they, and a device as the spacer hears reads each of
+/// them once it has ended. So it is for the members of the families of both devices.
+pub fn frames_are_spaced()
+    ensures rtu { (gap cap : ℕ) (line : List Tick) → T3_5_TICKS ≤ gap
+        → SpacesOut rtu_rules rtu_reads rtu_reads T3_5_TICKS gap cap line }
+    ensures dnp { (gap cap : ℕ) (line : List Tick) → T3_5_TICKS ≤ gap
+        → SpacesOut dnp_rules dnp_reads dnp_reads 0 gap cap line }
+    ensures rtu_family { (cut pause gap cap : ℕ) (line : List Tick) → T3_5_TICKS ≤ gap
+        → 2 ≤ cut → cut ≤ gap → 1 ≤ pause
+        → SpacesOut rtu_rules (rtu_family_reads cut pause) (rtu_family_reads cut pause) cut gap cap
+        line }
+    ensures dnp_family { (cut gap cap : ℕ) (line : List Tick) → T3_5_TICKS ≤ gap
+        → (cut ≡ 0) ⊎ (2 ≤ cut)
+        → SpacesOut dnp_rules (dnp_family_reads cut) (dnp_family_reads cut) 0 gap cap line }
+{}
+
+/// The same law for the rules of each protocol whose devices hunt for frames, and each device that
+/// hunts so: one that takes no notice of silence, with a cut of 0, and one to which two or more
+/// silent ticks together end what was taken.
+pub fn hunted_frames_are_spaced<R: Hunted>()
+    ensures { (cut gap cap : ℕ) (line : List Tick) → T3_5_TICKS ≤ gap → (cut ≡ 0) ⊎ (2 ≤ cut)
+        → SpacesOut R.rules (hunt_family R.FIRST R.SECOND R.rules cut)
+        (hunt_family R.FIRST R.SECOND R.rules cut) 0 gap cap line }
+{}
+
+/// A law of the spacer's definitions, for each line and each gap: all frames that are accepted of
+/// it have left once so many silent ticks follow that a frame more than may wait would fit into
+/// them, each of the longest, with its gap. For Modbus RTU the silence that ends the last frame
+/// comes first. So it is for the members of the families of both devices.
+pub fn accepted_frames_leave()
+    ensures rtu { (gap cap : ℕ) (line : List Tick) (rest : ℕ)
+        → (cap + 1) * (256 + gap) + T3_5_TICKS ≤ rest → AllLeave rtu_reads gap cap line rest }
+    ensures dnp { (gap cap : ℕ) (line : List Tick) (rest : ℕ) → AreTicks line
+        → (cap + 1) * (292 + gap) ≤ rest → AllLeave dnp_reads gap cap line rest }
+    ensures rtu_family { (cut pause gap cap : ℕ) (line : List Tick) (rest : ℕ)
+        → (cap + 1) * (256 + gap) + cut ≤ rest
+        → AllLeave (rtu_family_reads cut pause) gap cap line rest }
+    ensures dnp_family { (cut gap cap : ℕ) (line : List Tick) (rest : ℕ) → AreTicks line
+        → (cap + 1) * (292 + gap) ≤ rest → AllLeave (dnp_family_reads cut) gap cap line rest }
+{}
+
+/// The same law for the rules of each protocol whose devices hunt for frames, and each device that
+/// hunts so.
+pub fn hunted_accepted_frames_leave<R: Hunted>()
+    ensures { (cut gap cap : ℕ) (line : List Tick) (rest : ℕ) → AreTicks line
+        → (cap + 1) * (R.rules.longest + gap) ≤ rest
+        → AllLeave (hunt_family R.FIRST R.SECOND R.rules cut) gap cap line rest }
+{}
+
+/// A law of the spacer's, the transmitter's and the receiver's definitions, for the rules of each
+/// protocol, each profile, and whatever the spacer hears, if it is frames of the protocol: with the
+/// gap of the profile, once all accepted frames have left, the transmitter seals exactly them, in
+/// order. On a link on which nothing is changed all of them pass, and the receiver's line is the
+/// spaced line, later by the receiver's delay.
+pub fn spaced_frames_are_sealed<R: LineRules>()
+    ensures { (profile : Profile) → HasTags profile → 1 ≤ profile.word_len
+        → (heard : List Tick → List FrameRead) → ReadsFrames R.rules heard
+        → (gap cap floor behind : ℕ) (line : List Tick) (more rest : ℕ)
+        → IsSpacedForSealing profile gap floor behind (length line) (accepted_of heard gap cap line)
+        more
+        → DeliversSpaced profile R.rules heard gap cap floor behind line more rest }
+{}
