@@ -15,10 +15,8 @@ use Rattle.spacer_laws.specs.Leaving.{HaveLeft}
 
 -- The gap is that of the profile: the silence that ends a frame's burst, a pause, and a trailer fit
 -- into it. All accepted frames have left, so many silent ticks follow that the last trailer is
--- sent,
--- and there are numbers enough; the receiver's floor isn't above the transmitter's, nor so far
--- below
--- it that words don't tell.
+-- sent, and there are numbers enough; the receiver's floor isn't above the transmitter's, nor so
+-- far below it that words don't tell.
 pub record IsSpacedForSealing (profile : Profile) (gap floor behind m : ℕ) (accepted : List Burst)
     (more : ℕ) : Type 0 where
   pub fits : delay profile + 3 ≤ gap

@@ -31,8 +31,7 @@ pub record HasRoomFor (profile : Profile) (most gap cap : ℕ) (line : List Tick
 -- Of what is sealed of a line and passes on an untouched link, a spacer behind the receiver loses
 -- nothing. It gives each frame as a whole, and begins with it so many ticks after it began on the
 -- line at most: the receiver's delay, the ticks of the longest burst, and the ticks behind its end
--- in
--- which it is read. All have left once as many silent ticks follow.
+-- in which it is read. All have left once as many silent ticks follow.
 pub record GivesAll (profile : Profile) (rules : Rules) (heard : List Tick → List FrameRead)
     (ends most gap cap floor behind : ℕ) (line : List Tick) (more rest : ℕ) : Type 0 where
   pub none_lost : ends ≤ more - delay profile + rest
