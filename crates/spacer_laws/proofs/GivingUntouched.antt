@@ -20,7 +20,7 @@ use Rattle.device_model.specs.Frames.{FrameRead}
 use Rattle.device_model.specs.RtuReads.{frame_in}
 use Rattle.device_model.proofs.ReadLaws.{frames_ended}
 use Rattle.link_format.specs.Profile.{Profile, HasTags, pause_len, trailer_len, delay}
-use Rattle.seal_transmitter.specs.Sealing.{link_line}
+use Rattle.seal_judgements.specs.Sealing.{link_line}
 use Rattle.link_verdicts.specs.Checking.{checker, at_floor, passed, received_line}
 use Rattle.receiver_laws.specs.Reading.{delivered}
 use Rattle.receiver_laws.specs.Untouched.{AreSpaced, IsUntouched, numbered, untouched}

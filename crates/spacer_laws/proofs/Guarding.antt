@@ -21,7 +21,7 @@ use Rattle.device_model.proofs.ReadLaws.{frames_ended}
 use Rattle.sequence_journal.specs.Uptimes.{RiseFrom}
 use Rattle.link_format.specs.NumberedFrame.{NumberedFrame, numbers_of}
 use Rattle.link_format.specs.Profile.{Profile, delay}
-use Rattle.seal_transmitter.specs.Sealing.{sealed}
+use Rattle.seal_judgements.specs.Sealing.{sealed}
 use Rattle.link_verdicts.specs.Checking.{checker, at_floor, passed, received_line}
 use Rattle.link_verdicts.proofs.Apart.{emissions-spread}
 use Rattle.receiver_laws.specs.Accounted.{IsSubsequence}

@@ -6,7 +6,7 @@ use Rattle.yasir_ticks.specs.declared.tick.Tick.{Tick}
 use Rattle.line_rules.specs.Rules.{Rules}
 use Rattle.device_model.specs.Frames.{FrameRead}
 use Rattle.link_format.specs.Profile.{Profile, words, delay}
-use Rattle.seal_transmitter.specs.Sealing.{sealed}
+use Rattle.seal_judgements.specs.Sealing.{sealed}
 use Rattle.link_verdicts.specs.Checking.{received_line, passed}
 use Rattle.receiver_laws.specs.Headline.{bytes_sealed}
 use Rattle.receiver_laws.specs.Untouched.{numbered, untouched}
