@@ -20,12 +20,13 @@ use Rattle.tick_drive.proofs.ItemLaws.{ticks_in-append, ticks_in-front, length-f
 use Rattle.box_replay.specs.Boxes.{Boxed, AnswersBoxRun}
 use Rattle.box_replay.specs.BoxLines.{State, writing_at, driving}
 use Rattle.box_replay.specs.BoxLinesLaws.{images_none}
-use Rattle.box_replay.specs.Sending.{SendsBoxed, HasSentFronts}
-use Rattle.box_replay.specs.Texts.{waiting_in, writing, texts_held, Pushes}
+use Rattle.box_replay.specs.Sending.{made_by, SendsBoxed, HasSentFronts}
+use Rattle.line_texts.specs.Texts.{waiting_in, writing, texts_held, Pushes}
 use Rattle.box_replay.specs.declared.line_box.LineBox.{Ghosts as LineBox}
-use Rattle.box_replay.specs.declared.texts.Texts.{Texts}
-use Rattle.box_replay.proofs.PushedRuns.{pushed_none}
-use Rattle.box_replay.proofs.Sending.{run_noted, sends_more, sent_in_part}
+use Rattle.line_texts.specs.declared.texts.Texts.{Texts}
+use Rattle.line_texts.proofs.PushedRuns.{pushed_none}
+use Rattle.line_texts.proofs.Sending.{sends_more, sent_in_part}
+use Rattle.box_replay.proofs.AnsweredRuns.{run_noted}
 
 -- a box answers no tick with no tick
 answers_none : (box : Boxed) (line run : List Tick) → run ≡ [] → AnswersBoxRun box line run []
@@ -77,7 +78,7 @@ module _ {B N O L D : Type 0} (b : LineBox B N) (o : Sink O) (l : Sink L) (d : S
               (steps old.lines.journal origin.setup (ticks_in before) drives.steps);
           sends = subst (SendsBoxed (b.boxed origin.setup) (waiting_in texts) origin.texts
               (texts_held o l (writing texts out log))) (more before)
-              (sends_more (b.boxed origin.setup) (ticks_in before) ticks answer []
+              (sends_more (made_by (b.boxed origin.setup)) (ticks_in before) ticks answer []
               (run_noted (b.boxed origin.setup) (ticks_in before) ticks answer
               (answers old.lines.journal origin.setup (ticks_in before) drives.steps))
               (waiting_in old.lines.texts) (waiting_in texts) origin.texts
@@ -127,7 +128,7 @@ module _ {B N O L D : Type 0} (b : LineBox B N) (o : Sink O) (l : Sink L) (d : S
                 record {
                   sent = subst (HasSentFronts (b.boxed origin.setup) origin.texts
                       (texts_held o l (writing texts out log))) next
-                      (sent_in_part (b.boxed origin.setup) (ticks_in before) ticks answer []
+                      (sent_in_part (made_by (b.boxed origin.setup)) (ticks_in before) ticks answer []
                       (run_noted (b.boxed origin.setup) (ticks_in before) ticks answer
                       (answers old.lines.journal origin.setup (ticks_in before) drives.steps))
                       (waiting_in old.lines.texts) (waiting_in texts) origin.texts

@@ -1,7 +1,5 @@
-pub mod Sending
-pub mod PushedRuns
+pub mod AnsweredRuns
 pub mod Begun
-pub mod RunFronts
 pub mod Fronts
 pub mod Behind
 pub mod Floors

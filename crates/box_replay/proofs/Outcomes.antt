@@ -37,11 +37,12 @@ use Rattle.replay_status.specs.Endings.{status_of}
 use Rattle.replay_status.specs.declared.status.Status.{Status}
 use Rattle.replay_status.specs.declared.status.Status.TheVariants.{Done, WriteFault}
 use Rattle.box_replay.specs.Boxes.{Boxed, IsBoxed, FailsBox}
-use Rattle.box_replay.specs.Sending.{SinkTexts, SendsBoxed, HasSent, HasSentFronts}
+use Rattle.line_texts.specs.Sending.{SinkTexts}
+use Rattle.box_replay.specs.Sending.{made_by, SendsBoxed, HasSent, HasSentFronts}
 use Rattle.box_replay.specs.BoxLines.{BoxOrigin, Outputs, ToldFloor, DrivesBox, StopsAtNumber}
 use Rattle.box_replay.specs.BoxLines.{StopsAtWrite, KeepsImages, driving, state_of}
 use Rattle.box_replay.specs.BoxLinesLaws.{floor_from_less}
-use Rattle.box_replay.specs.Texts.{waiting_in}
+use Rattle.line_texts.specs.Texts.{waiting_in}
 use Rattle.box_replay.specs.ReplaysBox.{Around, KeepsFloor, KeepsFloorFromLoad, LeavesUptime}
 use Rattle.box_replay.specs.ReplaysBox.{KeepsFloorThroughout}
 use Rattle.box_replay.specs.ReplaysBox.{boxed_with, texts_of}
@@ -49,7 +50,7 @@ use Rattle.box_replay.specs.ReplaysBox.{EndsBox, FailsAtNumber, WritesFronts, Ru
 use Rattle.box_replay.specs.declared.line_box.LineBox.{Ghosts as LineBox}
 use Rattle.box_replay.specs.declared.box_lines.BoxLines.{BoxLines}
 use Rattle.box_replay.proofs.Floors.{told_before, keeps_floor, keeps_from_load, keeps_throughout}
-use Rattle.box_replay.proofs.Sending.{notes_all}
+use Rattle.line_texts.proofs.Sending.{notes_all}
 
 -- ---- whole lines
 
@@ -123,7 +124,7 @@ fronts_of_all box before now line sent = record {
     got = sent.note_text;
     all = sym (append-nil _);
   };
-  notes_first = notes_all box line (canonical_text (box.other_line line)) [] sent.are
+  notes_first = notes_all (made_by box) line (canonical_text (box.other_line line)) [] sent.are
       (sym (append-nil _));
 }
 

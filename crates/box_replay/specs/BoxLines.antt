@@ -18,8 +18,9 @@ use Rattle.tick_drive.specs.declared.consumer.Stop.{Stop}
 use Rattle.tick_drive.specs.declared.consumer.Stop.TheVariants.{WriteFault, JournalFault}
 use Rattle.tick_drive.specs.declared.consumer.Stop.TheVariants.{NoMemory}
 use Rattle.box_replay.specs.Boxes.{FailsBox}
-use Rattle.box_replay.specs.Sending.{SinkTexts, sink_texts, SendsBoxed, HasSentFronts}
-use Rattle.box_replay.specs.Texts.{waiting_in, Writing, writing}
+use Rattle.line_texts.specs.Sending.{SinkTexts, sink_texts}
+use Rattle.box_replay.specs.Sending.{SendsBoxed, HasSentFronts}
+use Rattle.line_texts.specs.Texts.{waiting_in, Writing, writing}
 use Rattle.box_replay.specs.declared.line_box.LineBox.{Ghosts as LineBox}
 use Rattle.box_replay.specs.declared.box_lines.BoxLines.{BoxLines}
 

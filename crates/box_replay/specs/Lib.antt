@@ -1,7 +1,5 @@
 pub mod Boxes
 pub mod Sending
-pub mod Texts
-pub mod Runs
 pub mod BoxLines
 pub mod BoxLinesLaws
 pub mod DrivenBox

@@ -32,7 +32,8 @@ use Rattle.replay_status.specs.declared.status.Status.TheVariants.{WriteFault, J
 use Rattle.replay_status.specs.declared.status.Status.TheVariants.{TooLong, BadKey, BadJournal}
 use Rattle.replay_status.specs.declared.status.Status.TheVariants.{WrongLink}
 use Rattle.box_replay.specs.Boxes.{Boxed, FailsBox}
-use Rattle.box_replay.specs.Sending.{SinkTexts, sink_texts, HasSent, HasSentFronts}
+use Rattle.line_texts.specs.Sending.{SinkTexts, sink_texts}
+use Rattle.box_replay.specs.Sending.{HasSent, HasSentFronts}
 use Rattle.box_replay.specs.BoxLines.{ToldFloor}
 
 -- what a box's run is handed beside the box's key

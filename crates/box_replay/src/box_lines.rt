@@ -6,14 +6,14 @@ ghost use Rattle.link_format.specs.Setup.{setup_of};
 ghost use Rattle.sequence_journal.specs.declared.link.LinkId.{LinkId};
 ghost use Rattle.sequence_journal.specs.Journal.{journal_link, journal_floor, Fits};
 ghost use Rattle.tick_drive.specs.Consumers.{MayTake, Gives, GivesFront, GivesSome};
-ghost use Rattle.box_replay.specs.Sending.{SinkTexts};
+ghost use Rattle.line_texts.specs.Sending.{SinkTexts};
 ghost use Rattle.box_replay.specs.BoxLines.{driving, state_of, DrivesBox};
 
 use crate::line_box::LineBox;
-use crate::runs::{answer_run, push_run};
-use crate::texts::{Texts, push_step};
+use crate::noted::push_step;
 use burst_walk::RunBytes;
 use hmac_tag::Dir;
+use line_texts::{Texts, answer_run, push_run};
 use sequence_journal::{Journal, JournalFault};
 use tick_drive::Stop;
 use yasir_io::{Failed, Sink, SlotDisk};

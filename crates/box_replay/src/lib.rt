@@ -7,8 +7,7 @@ mod command;
 mod driven_box;
 mod laws;
 mod line_box;
-mod runs;
-mod texts;
+mod noted;
 
 pub use burst_walk::{BoxStep, RunBytes};
 pub use command::replay_box;

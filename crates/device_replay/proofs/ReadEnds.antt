@@ -21,7 +21,7 @@ use Rattle.device_replay.specs.FrameLines.{PrintsReads, printing}
 use Rattle.device_replay.specs.PrintsFrames.{DrivesFrames, PrintsFrames, LinesAtEnd, read_rest}
 use Rattle.device_replay.specs.declared.frame_lines.FrameLines.{FrameLines}
 use Rattle.replay_status.specs.Endings.{status_of}
-use Rattle.replay_status.proofs.Printing.{printed, append_known-nil}
+use Rattle.yasir_io.proofs.OutputLemmas.{printed, append_known-nil}
 use Rattle.replay_status.specs.declared.status.Status.{Status}
 use Rattle.replay_status.specs.declared.status.Status.TheVariants.{Done, WriteFault}
 
@@ -34,7 +34,7 @@ module _ {V O : Type 0} (device : Device V) (o : Sink O)
     hears = hears;
     lines = record {
       front = [];
-      got = append_known-nil (o.held old.out.now);
+      got = sym (append_known-nil (o.held old.out.now));
       all = ap frame_lines nothing ∙ sym empty;
     };
   }

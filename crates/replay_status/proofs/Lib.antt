@@ -2,4 +2,3 @@ pub mod Logging
 pub mod EndCauses
 pub mod FlushLaws
 pub mod Readable
-pub mod Printing

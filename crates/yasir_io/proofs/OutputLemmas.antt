@@ -104,3 +104,16 @@ pub piece_prefix : (start now after : Option (List ℕ)) (text piece : List ℕ)
 piece_prefix start now after text piece so_far got =
     prefix_written start now after piece (text ++ piece) (more_waits start now [] text piece so_far)
     got
+
+-- a text that was pushed whole, where nothing waits
+pub printed : (start now : Option (List ℕ)) (text : List ℕ) → Buffered start now [] text
+    → now ≡ append_known start text
+printed start now text buffered =
+    subst (λ front. now ≡ append_known start front) (sym (buffered.all ∙ append-nil buffered.front))
+    buffered.got
+
+pub front_of_buffered : (start now : Option (List ℕ)) (waits text : List ℕ)
+    → Buffered start now waits text
+    → GotPrefix start now text
+front_of_buffered start now waits text so_far =
+    record { front = so_far.front; rest = waits; got = so_far.got; all = so_far.all }

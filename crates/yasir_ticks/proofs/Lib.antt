@@ -12,6 +12,7 @@ pub mod WholeLines
 pub mod BurstsOfLaws
 pub mod SilenceLaws
 pub mod TickRuns
+pub mod RunFronts
 pub mod Worked
 pub mod TextLaws
 pub mod Writing

@@ -226,6 +226,7 @@ impl TickWriter {
     }
 
     // The line that a byte completes: it fills it, or ends one of silence.
+    #[inline(always)]
     fn complete_by_byte(&mut self, b: u8) -> LineText
         requires { joins self.old.unfilled (Byte b) ≡ false }
         ensures is_tick { IsTick (Byte b) }
@@ -249,6 +250,7 @@ impl TickWriter {
     }
 
     // The line that a silent tick completes: it fills it, or ends one of bytes.
+    #[inline(always)]
     fn complete_by_silence(&mut self) -> LineText
         requires { joins self.old.unfilled Silent ≡ false }
         ensures { Writes self.old.unfilled (Silent ∷ []) result.items self.new.unfilled }
@@ -271,6 +273,7 @@ impl TickWriter {
     /// Takes a tick that completes a line, and answers this line. A tick completes the line that it
     /// fills (32 bytes, or 1000000 silent ticks), and else the unfilled line of the other kind that
     /// stands before it.
+    #[inline(always)]
     pub fn complete(&mut self, t: Tick) -> LineText
         requires { has_room_for self.old t ≡ false }
         ensures { (ticks : List Tick) (answered : List ℕ) → HasWritten self.old ticks answered

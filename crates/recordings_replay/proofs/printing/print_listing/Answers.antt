@@ -1,6 +1,6 @@
 use Rattle.std.proofs.Common.{◌∙◌, [], inl, refl}
 use Rattle.replay_status.proofs.FlushLaws.{flushes_of_whole}
-use Rattle.replay_status.proofs.Printing.{printed}
+use Rattle.yasir_io.proofs.OutputLemmas.{printed}
 use Rattle.recordings_replay.specs.Listing.{listing_text}
 use Rattle.recordings_replay.proofs.InOrder.{prints-by}
 use Rattle.recordings_replay.proofs.printing.print_listing.Goals as goal

@@ -3,7 +3,7 @@ use Rattle.yasir_ticks.specs.TickRun.{run_ticks}
 use Rattle.yasir_ticks.proofs.TickRuns.{ticks_in-run}
 use Rattle.box_replay.specs.BoxLines.{state_of}
 use Rattle.box_replay.proofs.Fronts.{run_given, run_stopped, none_taken}
-use Rattle.box_replay.proofs.PushedRuns.{pushed_as}
+use Rattle.line_texts.proofs.PushedRuns.{pushed_as}
 use Rattle.box_replay.proofs.box_lines.BoxLines.forward.Goals as goal
 
 pub forward-count-requires : goal.forward-count-requires

@@ -4,8 +4,9 @@ use Rattle.yasir_ticks.specs.Ticks.Item.{tick}
 use Rattle.sequence_journal.specs.Journal.{journal_floor}
 use Rattle.box_replay.specs.Boxes.{line_of_note, FailsBox}
 use Rattle.box_replay.specs.BoxLines.{ToldFloor}
-use Rattle.box_replay.specs.Sending.{SendsBoxed, HasSentFronts}
-use Rattle.box_replay.proofs.Sending.{step_noted, sends_more, sent_in_part}
+use Rattle.box_replay.specs.Sending.{made_by, SendsBoxed, HasSentFronts}
+use Rattle.line_texts.proofs.Sending.{sends_more, sent_in_part}
+use Rattle.box_replay.proofs.AnsweredRuns.{step_noted}
 use Rattle.box_replay.proofs.Begun.{one_more}
 use Rattle.box_replay.proofs.box_lines.BoxLines.step.Goals as goal
 
@@ -50,7 +51,7 @@ returns-in-Ok-push_step g c = record {
         steps = subst (g.B.LineBox.stands c.step.new.self c.step.new.journal origin.setup) more
             (c.in-Ok.ensures.stands origin.setup (ticks_in items) before.steps);
         sends = subst (SendsBoxed (g.B.LineBox.boxed origin.setup) _ origin.texts _) more
-            (sends_more (g.B.LineBox.boxed origin.setup) (ticks_in items) (c.args.tick ∷ [])
+            (sends_more (made_by (g.B.LineBox.boxed origin.setup)) (ticks_in items) (c.args.tick ∷ [])
             (c.in-Ok.step.tick ∷ [])
             (line_of_note g.B.LineBox.line_of c.in-Ok.step.note)
             (step_noted _ _ _ _ _
@@ -87,7 +88,7 @@ returns-in-Err-push_step g c = record {
     at = λ origin items before.
         let more = sym (one_more items c.args.tick) in record {
           sent = subst (HasSentFronts (g.B.LineBox.boxed origin.setup) origin.texts _) more
-              (sent_in_part (g.B.LineBox.boxed origin.setup) (ticks_in items) (c.args.tick ∷ [])
+              (sent_in_part (made_by (g.B.LineBox.boxed origin.setup)) (ticks_in items) (c.args.tick ∷ [])
               (c.in-Ok.step.tick ∷ [])
               (line_of_note g.B.LineBox.line_of c.in-Ok.step.note)
               (step_noted _ _ _ _ _

@@ -1,5 +1,5 @@
 use Rattle.sequence_journal.specs.Journal.{journal_floor}
-use Rattle.box_replay.proofs.RunFronts.{front_bytes, front_silence}
+use Rattle.yasir_ticks.proofs.RunFronts.{front_bytes, front_silence}
 use Rattle.check_replay.proofs.Runs.{stands-run, answers-run}
 use Rattle.check_replay.proofs.check_box.CheckBoxLineBox.pass.Goals as goal
 

@@ -1,6 +1,6 @@
 use Rattle.std.proofs.Common.{refl}
 use Rattle.sequence_journal.specs.Journal.{journal_floor}
-use Rattle.box_replay.proofs.RunFronts.{front_bytes, front_silence}
+use Rattle.yasir_ticks.proofs.RunFronts.{front_bytes, front_silence}
 use Rattle.seal_replay.proofs.Runs.{stands-run, answers-run}
 use Rattle.seal_replay.proofs.seal_box.SealBoxLineBox.forward.Goals as goal
 

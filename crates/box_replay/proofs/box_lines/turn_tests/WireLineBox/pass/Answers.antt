@@ -4,7 +4,7 @@ use Rattle.std.proofs.lemmas.List.{length-take-le}
 use Rattle.yasir_ticks.specs.Ticks.{silent}
 use Rattle.yasir_ticks.specs.declared.tick.Tick.TheVariants.{Byte}
 use Rattle.burst_walk.specs.Answered.{answered}
-use Rattle.box_replay.proofs.RunFronts.{front_bytes}
+use Rattle.yasir_ticks.proofs.RunFronts.{front_bytes}
 use Rattle.box_replay.proofs.box_lines.turn_tests.WireLineBox.pass.Goals as goal
 
 -- the bytes themselves answer a run of them

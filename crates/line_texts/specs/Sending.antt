@@ -1,0 +1,113 @@
+-- The two texts of what is made of a line: another line, whose text goes to `out`, and notes, whose
+-- lines go to the log.
+use Rattle.std.specs.Prelude.{◌≡◌, ℕ, ◌≤◌, ◌⊎◌, List, [], ◌++◌, Option, Result, OnOk, OnErr}
+use Rattle.std.specs.Io.KnownBytes.{append_known}
+use Rattle.yasir_io.specs.Causes.{Rose}
+use Rattle.yasir_io.specs.Output.{Buffered, GotPrefix}
+use Rattle.yasir_ticks.specs.Ticks.{AreTicks}
+use Rattle.yasir_ticks.specs.CanonicalText.{canonical_text}
+use Rattle.yasir_ticks.specs.Writer.{HasWritten}
+use Rattle.yasir_ticks.specs.declared.tick.Tick.{Tick}
+use Rattle.yasir_ticks.specs.declared.writer.TickWriter.{TickWriter}
+
+-- what is made of a line: another line, and the lines of notes
+pub record LineAndNotes : Type 0 where
+  pub other_line : List Tick → List Tick
+  pub note_lines : List Tick → List ℕ
+
+-- Behind a line these ticks come. They are answered with these ticks of the other line, and this is
+-- noted in them.
+pub record AnswersNoted (made : LineAndNotes) (line run answer : List Tick) (note : List ℕ) :
+    Type 0 where
+  pub ticks_are : made.other_line (line ++ run) ≡ made.other_line line ++ answer
+  pub note_is : made.note_lines (line ++ run) ≡ made.note_lines line ++ note
+
+-- what the two sinks hold, each where it is told
+pub record SinkTexts : Type 0 where
+  pub out : Option (List ℕ)
+  pub log : Option (List ℕ)
+
+abbrev pub sink_texts : Option (List ℕ) → Option (List ℕ) → SinkTexts
+sink_texts out log = record { out = out; log = log }
+
+-- what waits for a sink: the ticks of the last line, which isn't filled, and the bytes of the lines
+-- and the notes before
+pub record Waiting : Type 0 where
+  pub writer : TickWriter
+  pub ticks : List ℕ
+  pub notes : List ℕ
+
+abbrev pub waiting : TickWriter → List ℕ → List ℕ → Waiting
+waiting writer ticks notes = record { writer = writer; ticks = ticks; notes = notes }
+
+-- The text of these ticks is on its way to `out`.
+pub record WritesTicks (waits : Waiting) (before now : Option (List ℕ)) (ticks : List Tick) :
+    Type 0 where
+  pub answered : List ℕ
+  pub written : HasWritten waits.writer ticks answered
+  pub text : Buffered before now waits.ticks answered
+
+-- Of the ticks that `out` has got a byte of, each note that falls into their steps stands in the
+-- log: after some first ticks of the line, what `out` has got is of their text, and what the log
+-- has got begins with all their notes.
+pub record NotesFirst (made : LineAndNotes) (line : List Tick) (front note_front : List ℕ) : Type 0 where
+  pub early : List Tick
+  pub later : List Tick
+  pub is : line ≡ early ++ later
+  pub are : AreTicks (made.other_line early)
+  pub rest : List ℕ
+  pub text : canonical_text (made.other_line early) ≡ front ++ rest
+  pub more : List ℕ
+  pub notes : note_front ≡ made.note_lines early ++ more
+
+-- What is made of a line is on its way to the two sinks, the notes first.
+pub record SendsTexts (made : LineAndNotes) (waits : Waiting) (before now : SinkTexts) (line : List Tick) :
+    Type 0 where
+  pub text : WritesTicks waits before.out now.out (made.other_line line)
+  pub note_text : Buffered before.log now.log waits.notes (made.note_lines line)
+  pub notes_first : NotesFirst made line text.text.front note_text.front
+
+-- The sinks have got it, all of it.
+pub record HasSent (made : LineAndNotes) (before now : SinkTexts) (line : List Tick) : Type 0 where
+  pub are : AreTicks (made.other_line line)
+  pub text : now.out ≡ append_known before.out (canonical_text (made.other_line line))
+  pub note_text : now.log ≡ append_known before.log (made.note_lines line)
+
+-- The sinks have got a front of each, the notes first.
+pub record HasSentFronts (made : LineAndNotes) (before now : SinkTexts) (line : List Tick) : Type 0 where
+  pub are : AreTicks (made.other_line line)
+  pub text : GotPrefix before.out now.out (canonical_text (made.other_line line))
+  pub note_text : GotPrefix before.log now.log (made.note_lines line)
+  pub notes_first : NotesFirst made line text.front note_text.front
+
+-- A call that writes to both sinks fails only where the count of one rose, and any other answer
+-- leaves both as they were.
+pub record HaveCause {T E : Type 0} (out_before out_now log_before log_now : ℕ)
+    (result : Result T E) : Type 0 where
+  pub out_never_falls : out_before ≤ out_now
+  pub log_never_falls : log_before ≤ log_now
+  pub failed : OnErr result (Rose out_before out_now ⊎ Rose log_before log_now)
+  pub out_same : OnOk result (out_now ≡ out_before)
+  pub log_same : OnOk result (log_now ≡ log_before)
+
+-- The text of the ticks, and of the notes, is on its way, or a front of it where a write failed.
+-- Either nothing has gone out, or all notes went to the log before.
+pub record PushesTexts {T E : Type 0} (before now : SinkTexts)
+    (ticks_wait notes_wait text notes : List ℕ)
+    (result : Result T E) : Type 0 where
+  pub text_goes : OnOk result (Buffered before.out now.out ticks_wait text)
+  pub text_stops : OnErr result (GotPrefix before.out now.out text)
+  pub notes_go : OnOk result (Buffered before.log now.log notes_wait notes)
+  pub notes_stop : OnErr result (GotPrefix before.log now.log notes)
+  pub notes_first : ((now.out ≡ before.out) × OnOk result (ticks_wait ≡ text))
+      ⊎ ((now.log ≡ append_known before.log notes) × OnOk result (notes_wait ≡ []))
+
+-- A run of ticks and a note were added: the lines that the ticks complete go to the text of the
+-- ticks.
+pub record PushesTicks {T E : Type 0} (old new : Waiting) (before now : SinkTexts)
+    (run : List Tick) (note : List ℕ) (result : Result T E) : Type 0 where
+  pub line : List ℕ
+  pub written : (ticks : List Tick) (answered : List ℕ) → HasWritten old.writer ticks answered
+      → HasWritten new.writer (ticks ++ run) (answered ++ line)
+  pub pushes : PushesTexts before now new.ticks new.notes (old.ticks ++ line) (old.notes ++ note)
+      result
