@@ -21,6 +21,8 @@ pub fn hear_run<V: Device>(device: &mut V, run: TickRun<'_>) -> Heard
     ensures answer { (line : List Tick) → V.stands device.old line
         → V.reads (line ++ take result.taken (run_ticks run.entry))
         ≡ V.reads line ++ frames_of result.frame }
+    ensures before { (n : ℕ) → n < result.taken → (line : List Tick) → V.stands device.old line
+        → V.reads (line ++ take n (run_ticks run.entry)) ≡ V.reads line }
 {
     match run {
         TickRun::Bytes(bytes) => device.hear_some(bytes),

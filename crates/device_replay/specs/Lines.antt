@@ -5,10 +5,14 @@ use Rattle.hex.specs.Hex.{encode_lower}
 use Rattle.device_model.specs.Frames.{FrameRead}
 use Rattle.device_model.specs.declared.device.FrameAt.{FrameAt}
 
--- a frame that a device reads, with the tick of its first byte
-abbrev pub frame_line : FrameRead → List ℕ
-frame_line read = codes "read at " ++ decimal read.start ++ codes " " ++ encode_lower read.frame
+-- a frame with the tick of its first byte, behind some words
+abbrev pub frame_line_of : List ℕ → FrameRead → List ℕ
+frame_line_of words read = words ++ decimal read.start ++ codes " " ++ encode_lower read.frame
     ++ codes "\n"
+
+-- a frame that a device reads
+abbrev pub frame_line : FrameRead → List ℕ
+frame_line read = frame_line_of (codes "read at ") read
 
 -- the frame of a step's answer
 abbrev pub read_at : FrameAt → FrameRead

@@ -6,4 +6,4 @@ mod frame_lines;
 mod text;
 
 pub use command::read_frames;
-pub use text::write_read_line;
+pub use text::{write_frame_line, write_read_line};

@@ -228,18 +228,7 @@ module _ (gap m : ℕ) (accepted : List Burst) (items : List ℕ) (sent rest : �
       (idle-run gap accepted n m (subst Q nothing (subst P zero_rest bare)))))
       (cases_lt 0 rest)))
 
--- ---- fronts of a run
-
-pub front-bytes : (k n most : ℕ) (bytes : List ℕ) → k ≤ n → n ≤ length (take most bytes)
-    → take k (on_line (take n (take most bytes))) ≡ on_line (take k (take most bytes))
-front-bytes k n most bytes le within =
-    take-map (λ b. Byte b) k (take n (take most bytes))
-    ∙ ap (λ x. on_line x) (take-take k n (take most bytes) le)
-
-pub front-silence : (k n : ℕ) → k ≤ n → take k (silent n) ≡ silent k
-front-silence zero n le = refl
-front-silence (suc k) zero le = absurd (omega arith)
-front-silence (suc k) (suc n) le = ap (λ x. Silent ∷ x) (front-silence k n (omega arith))
+-- ---- as many ticks as were taken
 
 pub answered-long : (n : ℕ) (x : List ℕ) → 0 < n → length x ≡ n → length (answered n x) ≡ n
 answered-long n [] some long = absurd (omega arith)

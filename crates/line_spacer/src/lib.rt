@@ -4,7 +4,7 @@
 
 mod spacer;
 
-pub use spacer::{RunBytes, SpaceRun, SpaceStep, Spacer};
+pub use spacer::{SpaceRun, SpaceStep, Spacer};
 
 #[cfg(test)]
 mod tests;

@@ -1,9 +1,10 @@
 use arrayvec::ArrayVec;
+use burst_walk::RunBytes;
 use circular_buffer::HeapCircularBuffer;
-use device_model::{Device, FrameAt, Heard};
+use device_model::{Device, FrameAt, Heard, hear_run};
 use std::alloc::Global;
 use yasir_io::NoMemory;
-use yasir_ticks::{MAX_TICKS, Tick};
+use yasir_ticks::{MAX_TICKS, Tick, TickRun};
 
 /// What a spacer answers to a tick.
 #[derive(Drop)]
@@ -16,9 +17,6 @@ pub struct SpaceStep {
 
 /// How many bytes leave in a run at most.
 const MAX_RUN: usize = 64;
-
-/// The bytes that leave in a run of ticks, one in each; none where silence leaves.
-pub type RunBytes = ArrayVec<u8, 64>;
 
 /// What a spacer answers to some ticks.
 #[derive(Drop)]
@@ -45,9 +43,8 @@ pub struct Spacer<V, const GAP: usize> {
 
 impl<V: Device, const GAP: usize> Spacer<V, GAP> {
     ghost use Rattle.std.specs.Prelude.{◌≡◌, ℕ, ◌+◌, ◌<◌, ◌≤◌, List, [], ◌∷◌, ◌++◌, length, drop};
-    ghost use Rattle.std.specs.Prelude.{IfOk, ◌-◌, map, take};
-    ghost use Rattle.yasir_ticks.specs.Ticks.{silent};
-    ghost use Rattle.yasir_ticks.specs.declared.tick.Tick.TheVariants.{Byte};
+    ghost use Rattle.std.specs.Prelude.{IfOk, ◌-◌, take};
+    ghost use Rattle.yasir_ticks.specs.TickRun.{run_ticks};
     ghost use Rattle.burst_walk.specs.Answered.{answered};
     ghost use Rattle.line_spacer.specs.Runs.{StaysAlike, SendsRunBy};
     ghost use Rattle.yasir_ticks.specs.Bursts.{Burst};
@@ -199,57 +196,33 @@ impl<V: Device, const GAP: usize> Spacer<V, GAP> {
         self.rest = self.rest.saturating_sub(ticks);
     }
 
-    /// Takes the first of these bytes, one a tick, at least one of them, and no further than the
-    /// other line stays alike, all bytes or all silence, and no frame is read before the last of
-    /// them. `left` gets the bytes that leave, one in each tick, or none where silence leaves.
+    /// Takes the first ticks of this run, at least one of them, and no further than the other line
+    /// stays alike, all bytes or all silence, and no frame is read before the last of them. `left`
+    /// gets the bytes that leave, one in each tick, or none where silence leaves.
     #[inline]
-    pub fn hear_some(&mut self, bytes: &[u8], left: &mut RunBytes) -> SpaceRun
-        requires room { ticks_taken V.Device self.old + length bytes.now ≤ MAX_TICKS }
-        requires some { 0 < length bytes.now }
+    pub fn take_some(&mut self, run: TickRun<'_>, left: &mut RunBytes) -> SpaceRun
+        requires room { ticks_taken V.Device self.old + length (run_ticks run) ≤ MAX_TICKS }
+        requires some { 0 < length (run_ticks run) }
         ensures some { 0 < result.taken }
-        ensures within { result.taken ≤ length bytes.now }
+        ensures within { result.taken ≤ length (run_ticks run.entry) }
         ensures taken { ticks_taken V.Device self.new
             ≡ ticks_taken V.Device self.old + result.taken }
         ensures stands { (cap : ℕ) (line : List Tick) → StandsFor V.Device cap self.old line
-            → StandsFor V.Device cap self.new (line ++ map Byte (take result.taken bytes.now)) }
+            → StandsFor V.Device cap self.new
+            (line ++ take result.taken (run_ticks run.entry)) }
         ensures answer { (cap : ℕ) (line : List Tick) → StandsFor V.Device cap self.old line
-            → AnswersSpaced V.reads GAP cap line (map Byte (take result.taken bytes.now))
+            → AnswersSpaced V.reads GAP cap line (take result.taken (run_ticks run.entry))
             (answered result.taken left.new.items) (length line + (result.taken - 1))
             (frames_of result.lost) }
     {
         left.clear();
-        let most = self.alike().min(bytes.len());
+        let most = self.alike().min(run.len());
         if most == 0 {
-            return self.take_one(Tick::Byte(bytes[0]), left);
+            let first = run.first();
+            return self.take_one(first, left);
         }
-        let Heard { taken, frame } = self.device.hear_some(&bytes[..most]);
-        self.send_some(taken, left);
-        let lost = self.keep(frame);
-        SpaceRun { taken, lost }
-    }
-
-    /// The same of so many silent ticks.
-    #[inline]
-    pub fn wait_some(&mut self, ticks: usize, left: &mut RunBytes) -> SpaceRun
-        requires room { ticks_taken V.Device self.old + ticks ≤ MAX_TICKS }
-        requires some { 0 < ticks }
-        ensures some { 0 < result.taken }
-        ensures within { result.taken ≤ ticks }
-        ensures taken { ticks_taken V.Device self.new
-            ≡ ticks_taken V.Device self.old + result.taken }
-        ensures stands { (cap : ℕ) (line : List Tick) → StandsFor V.Device cap self.old line
-            → StandsFor V.Device cap self.new (line ++ silent result.taken) }
-        ensures answer { (cap : ℕ) (line : List Tick) → StandsFor V.Device cap self.old line
-            → AnswersSpaced V.reads GAP cap line (silent result.taken)
-            (answered result.taken left.new.items) (length line + (result.taken - 1))
-            (frames_of result.lost) }
-    {
-        left.clear();
-        let most = self.alike().min(ticks);
-        if most == 0 {
-            return self.take_one(Tick::Silent, left);
-        }
-        let Heard { taken, frame } = self.device.wait_some(most);
+        let front = run.front(most);
+        let Heard { taken, frame } = hear_run(&mut self.device, front);
         self.send_some(taken, left);
         let lost = self.keep(frame);
         SpaceRun { taken, lost }

@@ -1,14 +1,16 @@
 ghost use Rattle.std.specs.Prelude.{◌≡◌, ◌<◌, ◌≤◌, ◌+◌, ℕ, length, OnOk};
+ghost use Rattle.yasir_ticks.specs.TickRun.{run_ticks};
 ghost use Rattle.yasir_ticks.specs.declared.TheConstants.{MAX_TICKS};
 
 use super::*;
+use burst_walk::RunBytes;
 use device_model::{Device, DnpDevice, FrameAt, Hunted, HuntingFamily, RtuDevice};
 use dnp_link_frame::Dnp;
 use std::alloc::{AllocError, Global};
 use std::process::Abort;
 use std::test::Fail;
 use yasir_io::NoMemory;
-use yasir_ticks::Tick;
+use yasir_ticks::{Tick, TickRun};
 
 // A device that hunts, to which 18 silent ticks end what it has taken.
 #[derive(Drop)]
@@ -40,18 +42,11 @@ trait Spaces {
         requires { taken self.old < MAX_TICKS }
         ensures { taken self.new ≡ taken self.old + 1 };
 
-    fn hear(&mut self, bytes: &[u8], left: &mut RunBytes) -> SpaceRun
-        requires room { taken self.old + length bytes.now ≤ MAX_TICKS }
-        requires some { 0 < length bytes.now }
+    fn take_some(&mut self, run: TickRun<'_>, left: &mut RunBytes) -> SpaceRun
+        requires room { taken self.old + length (run_ticks run) ≤ MAX_TICKS }
+        requires some { 0 < length (run_ticks run) }
         ensures some { 0 < result.taken }
-        ensures within { result.taken ≤ length bytes.now }
-        ensures taken { taken self.new ≡ taken self.old + result.taken };
-
-    fn wait(&mut self, ticks: usize, left: &mut RunBytes) -> SpaceRun
-        requires room { taken self.old + ticks ≤ MAX_TICKS }
-        requires some { 0 < ticks }
-        ensures some { 0 < result.taken }
-        ensures within { result.taken ≤ ticks }
+        ensures within { result.taken ≤ length (run_ticks run.entry) }
         ensures taken { taken self.new ≡ taken self.old + result.taken };
 }
 
@@ -64,12 +59,8 @@ impl<V: Device, const GAP: usize> Spaces for Spacer<V, GAP> {
         self.step(t)
     }
 
-    fn hear(&mut self, bytes: &[u8], left: &mut RunBytes) -> SpaceRun {
-        self.hear_some(bytes, left)
-    }
-
-    fn wait(&mut self, ticks: usize, left: &mut RunBytes) -> SpaceRun {
-        self.wait_some(ticks, left)
+    fn take_some(&mut self, run: TickRun<'_>, left: &mut RunBytes) -> SpaceRun {
+        Spacer::take_some(self, run, left)
     }
 }
 
@@ -254,42 +245,23 @@ fn add_run(line: &mut Vec<Tick>, run: &SpaceRun, left: &RunBytes) -> Result<(), 
     Ok(())
 }
 
-// The other line by runs, and how many runs a part took.
-fn hear_all<B: Spaces>(
+// Adds the other line by runs, and answers how many runs it took.
+fn take_all<B: Spaces>(
     spacer: &mut B,
-    bytes: &[u8],
+    run: TickRun<'_>,
     line: &mut Vec<Tick>,
 ) -> Result<u32, AllocError>
-    requires { B.taken spacer.old + length bytes.now ≤ MAX_TICKS }
-    ensures { OnOk result (B.taken spacer.new ≡ B.taken spacer.old + length bytes.now) }
+    requires { B.taken spacer.old + length (run_ticks run) ≤ MAX_TICKS }
+    ensures { OnOk result (B.taken spacer.new
+        ≡ B.taken spacer.old + length (run_ticks run.entry)) }
 {
     let mut left = RunBytes::new();
-    let mut at = 0;
+    let mut rest = run;
     let mut runs: u32 = 0;
-    while at < bytes.len() {
-        let run = spacer.hear(&bytes[at..], &mut left);
-        add_run(line, &run, &left)?;
-        at += run.taken;
-        runs = runs.saturating_add(1);
-    }
-    Ok(runs)
-}
-
-fn wait_all<B: Spaces>(
-    spacer: &mut B,
-    ticks: usize,
-    line: &mut Vec<Tick>,
-) -> Result<u32, AllocError>
-    requires { B.taken spacer.old + ticks ≤ MAX_TICKS }
-    ensures { OnOk result (B.taken spacer.new ≡ B.taken spacer.old + ticks) }
-{
-    let mut left = RunBytes::new();
-    let mut at = 0;
-    let mut runs: u32 = 0;
-    while at < ticks {
-        let run = spacer.wait(ticks - at, &mut left);
-        add_run(line, &run, &left)?;
-        at += run.taken;
+    while !rest.is_empty() {
+        let some = spacer.take_some(rest, &mut left);
+        add_run(line, &some, &left)?;
+        rest = rest.behind(some.taken);
         runs = runs.saturating_add(1);
     }
     Ok(runs)
@@ -308,8 +280,8 @@ fn runs_are_taken_at_once(rt: HostRuntime) -> Result<(), Fail> {
     let alloc = rt.alloc();
     let mut spacer = Spacer::<DnpDevice, 21>::new(alloc, 64)?;
     let mut line = Vec::new(alloc);
-    let heard = hear_all(&mut spacer, RESETS, &mut line)?;
-    let waited = wait_all(&mut spacer, 40, &mut line)?;
+    let heard = take_all(&mut spacer, TickRun::Bytes(RESETS), &mut line)?;
+    let waited = take_all(&mut spacer, TickRun::Silence(40), &mut line)?;
     assert_eq!(rt; (heard, waited), (3, 4));
     let row = &TWO_RESETS;
     assert_eq!(rt; line, line_of(alloc, row.leaves)?);
@@ -322,7 +294,7 @@ fn silence_is_one_run(rt: HostRuntime) -> Result<(), Fail> {
     let alloc = rt.alloc();
     let mut spacer = Spacer::<RtuDevice, 21>::new(alloc, 64)?;
     let mut line = Vec::new(alloc);
-    assert_eq!(rt; wait_all(&mut spacer, 900, &mut line)?, 1);
+    assert_eq!(rt; take_all(&mut spacer, TickRun::Silence(900), &mut line)?, 1);
     assert_eq!(rt; line, line_of(alloc, &[Silence(900)])?);
     Ok(())
 }

@@ -13,7 +13,7 @@ use Rattle.link_replay.specs.declared.words.Proto.{Proto}
 use Rattle.link_replay.specs.declared.words.Proto.TheVariants.{Rtu, Dnp3}
 use Rattle.link_replay.specs.declared.words.Command.{Command}
 use Rattle.link_replay.specs.declared.words.Command.TheVariants.{Init, Read, Vectors, Seal, Check}
-use Rattle.link_replay.specs.declared.words.Command.TheVariants.{Replay, Trial}
+use Rattle.link_replay.specs.declared.words.Command.TheVariants.{Replay, Trial, Space}
 
 -- A word as one number, so that two words are told apart by a test.
 abbrev number_of : List ℕ → ℕ
@@ -47,7 +47,8 @@ command_by verb first second third =
     (Check (proto_by first) (profile_by first) (dir_by second))
     (cond (is_word (codes "trial") verb)
     (Trial (proto_by first) (profile_by first) (digits_value 10 second) (digits_value 10 third))
-    (Replay (proto_by first) (profile_by first) (dir_by second)))))))
+    (cond (is_word (codes "space") verb) (Space (proto_by first) (profile_by first))
+    (Replay (proto_by first) (profile_by first) (dir_by second))))))))
 
 abbrev word_at : ℕ → List (List ℕ) → List ℕ
 word_at zero [] = []
@@ -94,6 +95,8 @@ command-in words Vectors h = ap command_in h
 command-in words (Seal proto profile dir) h = ap command_in h.4 ∙ box-by Seal proto profile dir
 command-in words (Check proto profile dir) h = ap command_in h.4 ∙ box-by Check proto profile dir
 command-in words (Replay proto profile dir) h = ap command_in h.2 ∙ box-by Replay proto profile dir
+command-in words (Space proto profile) h =
+    ap command_in h ∙ rw (proto-by proto profile, profile-by proto profile) refl
 command-in words (Trial proto profile seed count) h =
     ap command_in h.3 ∙ rw (
       proto-by proto profile,

@@ -10,6 +10,8 @@ use Rattle.yasir_io.specs.declared.sink.Sink.{Ghosts as Sink}
 use Rattle.sequence_journal.specs.declared.link.LinkId.{LinkId}
 use Rattle.device_model.specs.Frames.{FrameRead}
 use Rattle.device_replay.specs.PrintsFrames.{PrintsFrames}
+use Rattle.line_texts.specs.Sending.{LineAndNotes, SinkTexts}
+use Rattle.space_replay.specs.SpacesLine.{SpacesLine}
 use Rattle.replay_status.specs.Causes.{InputCause, ReadsCause, DiskCause}
 use Rattle.replay_status.specs.declared.status.Status.{Status}
 use Rattle.replay_status.specs.declared.status.Status.TheVariants.{Done, ReadFault, WriteFault}
@@ -96,3 +98,10 @@ pub disk-of-frames : (reads : List Tick → List FrameRead)
     → DiskCause disk disk status
 disk-of-frames reads left_before left_now out_before out_now disk JournalFault h = absurd h
 disk-of-frames reads left_before left_now out_before out_now disk status h = refl
+
+pub disk-of-spacing : (made : LineAndNotes) (left_before left_now : Option (List ℕ))
+    (held_before held_now : SinkTexts) (disk : ℕ) (status : Status)
+    → SpacesLine made left_before left_now held_before held_now status
+    → DiskCause disk disk status
+disk-of-spacing made left_before left_now held_before held_now disk JournalFault h = absurd h
+disk-of-spacing made left_before left_now held_before held_now disk status h = refl

@@ -4,6 +4,7 @@ pub mod Flushing
 pub mod Headlines
 pub mod Links
 pub mod Listable
+pub mod Spaced
 pub mod Trials
 pub mod Numbers
 pub mod Paths

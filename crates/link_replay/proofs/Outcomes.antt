@@ -25,14 +25,17 @@ use Rattle.replay_status.specs.declared.status.Status.TheVariants.{Done, WriteFa
 use Rattle.replay_status.specs.declared.status.Status.TheVariants.{HasJournal}
 use Rattle.link_replay.specs.declared.words.Command.{Command}
 use Rattle.link_replay.specs.declared.words.Command.TheVariants.{Init, Read, Vectors, Seal, Check}
-use Rattle.link_replay.specs.declared.words.Command.TheVariants.{Replay, Trial}
+use Rattle.link_replay.specs.declared.words.Command.TheVariants.{Replay, Trial, Space}
 use Rattle.replay_status.proofs.Logging.{sinks_after}
 use Rattle.replay_status.proofs.FlushLaws.{flushes_after}
 use Rattle.device_replay.proofs.Readable.{readable_done}
 use Rattle.box_replay.proofs.Replayable.{replayable_done}
 use Rattle.link_replay.specs.Protocols.{link_of}
 use Rattle.link_replay.proofs.Links.{link-right}
+use Rattle.space_replay.proofs.Readable.{spaced_done}
+use Rattle.link_replay.specs.SpaceCommand.{spaced_by}
 use Rattle.link_replay.proofs.Listable.{listable_done}
+use Rattle.link_replay.proofs.Spaced.{whole-spaces}
 
 module _ (key0 key1 in0 in1 out0 out1 log0 log1 disk0 disk1 : ℕ)
     (calm : NoneRose key0 key1 in0 in1 out0 out1 log0 log1 disk0 disk1) where
@@ -80,6 +83,7 @@ module _ {K S O L D : Type 0} (k : Source K) (s : Source S) (o : Sink O) (l : Si
   own-after (Some (Check proto profile dir)) before after noted status h = h
   own-after (Some (Replay proto profile dir)) before after noted status h = h
   own-after (Some (Trial proto profile seed count)) before after noted status h = h
+  own-after (Some (Space proto profile)) before after noted status h = h
   own-after None before after noted status h = h
   own-after (Some (Init proto profile dir)) before after noted status h = h
   own-after (Some (Read proto)) before after noted status h = h
@@ -139,6 +143,9 @@ module _ {K S O L D : Type 0} (k : Source K) (s : Source S) (o : Sink O) (l : Si
       does causes.streams.reads causes.own causes.streams.sinks
   asked_done (Some (Trial proto profile seed count)) before after status may calm does causes =
       line_done _ _ _ _ _ _ _ _ _ _ calm _ _ _ status does.line causes.streams.sinks
+  asked_done (Some (Space proto profile)) before after status may calm does causes =
+      spaced_done (spaced_by proto profile) _ _ _ _ _ _ _ _ _ _ _ _ _ _ may calm status
+      (whole-spaces proto profile _ _ _ _ status does.line) causes.own.0 causes.streams.sinks
   asked_done (Some (Replay proto profile dir)) before after status may calm does causes =
       listable_done k s o l d proto profile dir before after may calm status does
       causes.streams.reads causes.streams.sinks

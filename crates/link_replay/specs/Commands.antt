@@ -19,16 +19,18 @@ use Rattle.link_replay.specs.SealCommand.{Seals}
 use Rattle.link_replay.specs.CheckCommand.{Checks}
 use Rattle.link_replay.specs.ReplayCommand.{Replays, IsListable}
 use Rattle.link_replay.specs.TrialCommand.{Tries}
+use Rattle.link_replay.specs.SpaceCommand.{Spaces}
 use Rattle.replay_status.specs.declared.status.Status.{Status}
 use Rattle.replay_status.specs.declared.status.Status.TheVariants.{Usage, Done, NoMemory}
 use Rattle.link_replay.specs.declared.words.Command.{Command}
 use Rattle.link_replay.specs.declared.words.Command.TheVariants.{Init, Read, Vectors, Seal, Check}
-use Rattle.link_replay.specs.declared.words.Command.TheVariants.{Replay, Trial}
+use Rattle.link_replay.specs.declared.words.Command.TheVariants.{Replay, Trial, Space}
 
 -- How a command ends that is given what is right, and where nothing outside fails. Of all commands
--- `replay` alone takes memory, and there may be none.
+-- `replay` and `space` alone take memory, and there may be none.
 abbrev pub EndsWell : Option Command → Status → Type 0
 EndsWell (Some (Replay proto profile dir)) status = (status ≡ Done) ⊎ (status ≡ NoMemory)
+EndsWell (Some (Space proto profile)) status = (status ≡ Done) ⊎ (status ≡ NoMemory)
 EndsWell asked status = status ≡ Done
 
 -- What a crash may leave of the disk, at any moment of the run or at its end.
@@ -58,6 +60,8 @@ module _ {K S O L D : Type 0} (k : Source K) (s : Source S) (o : Sink O) (l : Si
       Replays k s o l proto profile dir before after status
   Does (Some (Trial proto profile seed count)) before after status =
       Tries o l proto profile seed count before after status
+  Does (Some (Space proto profile)) before after status =
+      Spaces s o l proto profile before after status
 
   -- What a run does: what was asked for, and then the fault line in the log, where the status has
   -- one.
@@ -82,6 +86,7 @@ module _ {K S O L D : Type 0} (k : Source K) (s : Source S) (o : Sink O) (l : Si
       IsReplayable (link_of proto profile dir) (k.left before.key) (d.told before.disk)
       (s.left before.input)
   MayDo (Some (Trial proto profile seed count)) before = Unit {0}
+  MayDo (Some (Space proto profile)) before = IsReadable (s.left before.input)
   MayDo (Some (Replay proto profile dir)) before = IsListable (k.left before.key)
       (s.left before.input)
 

@@ -2,6 +2,7 @@ pub mod Words
 pub mod Protocols
 pub mod InitCommand
 pub mod ReadCommand
+pub mod SpaceCommand
 pub mod VectorsCommand
 pub mod SealCommand
 pub mod CheckCommand

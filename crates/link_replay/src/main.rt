@@ -16,6 +16,8 @@ mod recording_tests;
 #[cfg(test)]
 mod running;
 #[cfg(test)]
+mod space_tests;
+#[cfg(test)]
 mod tests;
 #[cfg(test)]
 mod trial_tests;

@@ -12,6 +12,7 @@ use crate::commands::init::make_journal;
 use crate::commands::read::read_line;
 use crate::commands::replay::replay;
 use crate::commands::seal::seal;
+use crate::commands::space::space;
 use crate::commands::tables::print_tables;
 use crate::commands::trial::try_link;
 use crate::{Command, read_words};
@@ -43,6 +44,7 @@ fn perform<K: Source, S: Source, O: Sink, L: Sink, D: SlotDisk>(
         Command::Trial(proto, profile, seed, count) => {
             try_link(proto, profile, seed, count, ends)
         }
+        Command::Space(proto, profile) => space(alloc, proto, profile, ends),
     }
 }
 
@@ -77,8 +79,8 @@ fn asked_by(words: &[String]) -> Option<Command>
 }
 
 /// The program: reads its words, those after the program's name, and does what they ask for. No
-/// memory is taken but by `replay`, whose clause in `runs` is the program's headline: the record
-/// `Headline` of `specs/ReplayCommand.antt`.
+/// memory is taken but by `space` and by `replay`, whose clause in `runs` is the program's headline:
+/// the record `Headline` of `specs/ReplayCommand.antt`.
 pub fn run<K: Source, S: Source, O: Sink, L: Sink, D: SlotDisk>(
     alloc: Global,
     words: &[String],
@@ -102,7 +104,7 @@ pub fn run<K: Source, S: Source, O: Sink, L: Sink, D: SlotDisk>(
         → KeepsDisk D.SlotDisk asked disk.old disk.new }
 
     // Where all that the command is given is right and nothing outside fails, it is done; or, of
-    // `replay` alone, there is no memory.
+    // `replay` and `space` alone, there is no memory.
     ensures done { (asked : Option Command) → Asks (map string_bytes words.now) asked
         → MayDo K.Source S.Source O.Sink L.Sink D.SlotDisk asked
         (outside key.old input.old out.old log.old disk.old)

@@ -48,6 +48,8 @@ pub enum Command {
     Replay(Proto, Profile, Dir),
     /// Tries a link over frames that are drawn from a seed, so many of them.
     Trial(Proto, Profile, u32, u32),
+    /// Sends the frames of a line spaced as the profile asks for.
+    Space(Proto, Profile),
 }
 
 /// The words name no command.
@@ -112,6 +114,10 @@ fn read_two(first: &str, second: &str) -> Result<Command, Usage>
     ensures usage { OnErr result ((command : Command)
         → IsCommand (first.now ∷ second.now ∷ []) command → ⊥) }
 {
+    if first == "space" {
+        let (proto, profile) = read_link(second)?;
+        return Ok(Command::Space(proto, profile));
+    }
     if first != "read" {
         return Err(Usage);
     }
@@ -269,7 +275,7 @@ pub fn key_word(words: &[String]) -> Option<usize>
 {
     match read_words(words) {
         Ok(Command::Init(..) | Command::Read(_) | Command::Vectors) => None,
-        Ok(Command::Trial(..)) => None,
+        Ok(Command::Trial(..) | Command::Space(..)) => None,
         Ok(Command::Seal(..) | Command::Check(..) | Command::Replay(..)) => Some(3),
         Err(Usage) => None,
     }
@@ -286,7 +292,7 @@ pub fn journal_word(words: &[String]) -> Option<usize>
         Ok(Command::Init(..)) => Some(3),
         Ok(Command::Seal(..) | Command::Check(..)) => Some(4),
         Ok(Command::Read(_) | Command::Vectors) => None,
-        Ok(Command::Replay(..) | Command::Trial(..)) => None,
+        Ok(Command::Replay(..) | Command::Trial(..) | Command::Space(..)) => None,
         Err(Usage) => None,
     }
 }
@@ -298,7 +304,7 @@ pub fn makes_journal(words: &[String]) -> bool
 {
     match read_words(words) {
         Ok(Command::Init(..)) => true,
-        Ok(Command::Read(_) | Command::Vectors | Command::Trial(..)) => false,
+        Ok(Command::Read(_) | Command::Vectors | Command::Trial(..) | Command::Space(..)) => false,
         Ok(Command::Seal(..) | Command::Check(..) | Command::Replay(..)) => false,
         Err(Usage) => false,
     }

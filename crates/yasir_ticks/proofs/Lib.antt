@@ -18,3 +18,4 @@ pub mod TextLaws
 pub mod Writing
 pub mod Writers
 pub mod CanonicalLaws
+pub mod TextTicks

@@ -5,5 +5,6 @@ pub mod init;
 pub mod read;
 pub mod replay;
 pub mod seal;
+pub mod space;
 pub mod tables;
 pub mod trial;

@@ -1,6 +1,7 @@
-use Rattle.std.proofs.Common.{◌≡◌, ◌++◌, take, subst, sym}
+use Rattle.std.proofs.Common.{◌≡◌, ◌∙◌, ◌≤◌, ◌++◌, take, ap, arith, subst, sym}
 use Rattle.std.proofs.lemmas.List.{take-map, take-replicate}
 use Rattle.yasir_ticks.specs.declared.tick.Tick.TheVariants.{Silent, Byte}
+use Rattle.yasir_ticks.proofs.RunFronts.{front_bytes, front_silence}
 use Rattle.device_model.specs.Frames.{frames_of}
 use Rattle.device_model.proofs.run.hear_run.Goals as goal
 
@@ -16,6 +17,18 @@ returns-in-Bytes-clause-answer g c = rw c.in-Bytes.is (λ line before.
     ≡ g.V.Device.reads line ++ frames_of c.hear_some.result.frame)
     (sym (take-map Byte c.hear_some.result.taken c.in-Bytes.bytes.now))
     (c.hear_some.ensures.answer line before))
+
+pub returns-in-Bytes-clause-before : goal.returns-in-Bytes-clause-before
+returns-in-Bytes-clause-before g c = λ n early line before.
+    ap (λ l. g.V.Device.reads (line ++ l)) (front_bytes c.args.run c.in-Bytes.bytes n c.in-Bytes.is)
+    ∙ c.hear_some.ensures.before n early line before
+
+pub returns-in-Silence-clause-before : goal.returns-in-Silence-clause-before
+returns-in-Silence-clause-before g c = λ n early line before.
+    let few : n ≤ c.in-Silence.ticks = omega (arith, c.wait_some.ensures.within) in
+    ap (λ l. g.V.Device.reads (line ++ l))
+    (front_silence c.args.run c.in-Silence.ticks n few c.in-Silence.is)
+    ∙ c.wait_some.ensures.before n early line before
 
 pub returns-in-Silence-clause-stands : goal.returns-in-Silence-clause-stands
 returns-in-Silence-clause-stands g c = rw c.in-Silence.is (λ line before.

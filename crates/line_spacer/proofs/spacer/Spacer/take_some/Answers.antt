@@ -1,36 +1,41 @@
-use Rattle.std.proofs.Common.{◌≡◌, ◌∙◌, ◌<◌, ◌≤◌, ◌+◌, ◌-◌, ◌++◌, ℕ, List, length, drop}
+use Rattle.std.proofs.Common.{◌≡◌, ◌∙◌, ◌<◌, ◌≤◌, ◌+◌, ◌-◌, ◌++◌, ℕ, List, length, take, drop}
 use Rattle.std.proofs.Common.{sym, ap, subst, arith}
-use Rattle.std.proofs.lemmas.List.{length-replicate}
+use Rattle.std.proofs.lemmas.List.{length-take, length-take-le, take-take}
+use Rattle.yasir_ticks.specs.TickRun.{run_ticks}
 use Rattle.yasir_ticks.specs.declared.tick.Tick.{Tick}
-use Rattle.yasir_ticks.specs.declared.tick.Tick.TheVariants.{Silent}
-use Rattle.yasir_ticks.specs.Ticks.{silent}
 use Rattle.burst_walk.specs.Answered.{answered}
 use Rattle.device_model.specs.Frames.{frames_of}
 use Rattle.line_spacer.specs.Spacing.{spaced, accepted_of}
 use Rattle.line_spacer.specs.Stands.{StandsFor, AnswersSpaced, frames_in}
-use Rattle.line_spacer.proofs.Runs.{IsQuiet, front-silence, run-before, run-sent, run-answers}
-use Rattle.line_spacer.proofs.spacer.Spacer.wait_some.Goals as goal
+use Rattle.line_spacer.proofs.Runs.{IsQuiet, run-before, run-sent, run-answers}
+use Rattle.line_spacer.proofs.spacer.Spacer.take_some.Goals as goal
 
 pub returns-clause-stands : goal.returns-clause-stands
 returns-clause-stands g c = λ cap line stands.
     let reads = g.V.Device.reads in
     let gap = g.row.GAP in
-    let old = c.args.self.now in
     let sent = c.send_some.new.self in
-    let new = c.keep-lost.new.self in
-    let heard = c.wait_some-taken in
-    let n : ℕ = heard.result.taken in
-    let x : List Tick = silent n in
-    let within : n ≤ c.min-most.result = heard.ensures.within in
-    let there : 0 < c.min-most.result = grind (arith, c.if-most-eq0.false) in
+    let heard = c.hear_run-taken in
+    let all = run_ticks c.args.run in
+    let most = c.min-most.result in
+    let n = heard.result.taken in
+    let part = run_ticks c.front-front.result in
+    let size = ap length c.front-front.ensures in
+    let cut = length-take most all in
+    let least = c.min-most.ensures in
+    let few : n ≤ most = omega (arith, heard.ensures.within, size, cut) in
+    let x = take n part in
+    let long : length x ≡ n = length-take-le n part heard.ensures.within in
+    let there : 0 < length part =
+    grind (arith, c.if-most-eq0.false, size, cut, c.requires.some, c.len.ensures) in
     let one : 0 < n = heard.ensures.some there in
-    let long : length x ≡ n = length-replicate n Silent in
-    let some : 0 < length x = omega arith in
+    let some : 0 < length x = omega (arith, long, one) in
     let quiet : IsQuiet reads line x = λ k early.
-    let before_end : k < n = omega arith in
-    let fewer : k ≤ n = omega arith in
-    ap (λ y. reads (line ++ y)) (front-silence k n fewer)
+    let before_end : k < n = omega (arith, early, long) in
+    let fewer : k ≤ n = omega (arith, before_end) in
+    ap (λ y. reads (line ++ y)) (take-take k n part fewer)
     ∙ heard.ensures.before k before_end line stands.heard in
+    let same : x ≡ take n all = ap (take n) c.front-front.ensures ∙ take-take n most all few in
     let is = heard.ensures.answer line stands.heard in
     let answer : List Tick = answered n c.send_some.new.left.items in
     let as_long : length answer ≡ length x = c.send_some.ensures.long ∙ sym long in
@@ -41,6 +46,7 @@ returns-clause-stands g c = λ cap line stands.
     let before = run-before reads gap cap sent.queue.capacity fits line x frames some quiet is
     accepted (drop sent.sent sent.sending.items) sent.rest (frames_in sent.queue.items) answer
     as_long run.sent in
+    let new = c.keep-lost.new.self in
     let stands_now : StandsFor g.V.Device cap new (line ++ x) = record {
       heard = rw (c.keep-lost.ensures.device, c.send_some.ensures.device)
           (heard.ensures.stands line stands.heard);
@@ -50,40 +56,49 @@ returns-clause-stands g c = λ cap line stands.
           (c.keep-lost.ensures.sent (length line + (length x - 1))
           (spaced reads gap cap line) before);
     } in
-    stands_now
+    subst (λ y. StandsFor g.V.Device cap new (line ++ y)) same stands_now
 
 pub returns-clause-answer : goal.returns-clause-answer
 returns-clause-answer g c = λ cap line stands.
     let reads = g.V.Device.reads in
     let gap = g.row.GAP in
-    let old = c.args.self.now in
     let sent = c.send_some.new.self in
-    let heard = c.wait_some-taken in
-    let n : ℕ = heard.result.taken in
-    let x : List Tick = silent n in
-    let within : n ≤ c.min-most.result = heard.ensures.within in
-    let there : 0 < c.min-most.result = grind (arith, c.if-most-eq0.false) in
+    let heard = c.hear_run-taken in
+    let all = run_ticks c.args.run in
+    let most = c.min-most.result in
+    let n = heard.result.taken in
+    let part = run_ticks c.front-front.result in
+    let size = ap length c.front-front.ensures in
+    let cut = length-take most all in
+    let least = c.min-most.ensures in
+    let few : n ≤ most = omega (arith, heard.ensures.within, size, cut) in
+    let x = take n part in
+    let long : length x ≡ n = length-take-le n part heard.ensures.within in
+    let there : 0 < length part =
+    grind (arith, c.if-most-eq0.false, size, cut, c.requires.some, c.len.ensures) in
     let one : 0 < n = heard.ensures.some there in
-    let long : length x ≡ n = length-replicate n Silent in
-    let some : 0 < length x = omega arith in
+    let some : 0 < length x = omega (arith, long, one) in
     let quiet : IsQuiet reads line x = λ k early.
-    let before_end : k < n = omega arith in
-    let fewer : k ≤ n = omega arith in
-    ap (λ y. reads (line ++ y)) (front-silence k n fewer)
+    let before_end : k < n = omega (arith, early, long) in
+    let fewer : k ≤ n = omega (arith, before_end) in
+    ap (λ y. reads (line ++ y)) (take-take k n part fewer)
     ∙ heard.ensures.before k before_end line stands.heard in
+    let same : x ≡ take n all = ap (take n) c.front-front.ensures ∙ take-take n most all few in
     let is = heard.ensures.answer line stands.heard in
     let answer : List Tick = answered n c.send_some.new.left.items in
     let as_long : length answer ≡ length x = c.send_some.ensures.long ∙ sym long in
     let frames = frames_of heard.result.frame in
-    let lost = frames_of c.keep-lost.result in
     let fits = c.send_some.ensures.room ∙ stands.room in
     let accepted = accepted_of reads gap cap line in
     let run = c.send_some.ensures.sends (length line) accepted stands.sent in
     let before = run-before reads gap cap sent.queue.capacity fits line x frames some quiet is
     accepted (drop sent.sent sent.sending.items) sent.rest (frames_in sent.queue.items) answer
     as_long run.sent in
+    let lost = frames_of c.keep-lost.result in
     let answers = run-answers reads gap cap sent.queue.capacity fits line x frames some quiet is
     answer lost as_long run.leave
     (c.keep-lost.ensures.takes (length line + (length x - 1)) (spaced reads gap cap line) before) in
-    let last : length line + (length x - 1) ≡ length line + (n - 1) = omega arith in
-    subst (λ k. AnswersSpaced reads gap cap line x answer k lost) last answers
+    let last : length line + (length x - 1) ≡ length line + (n - 1) =
+    ap (λ k. length line + (k - 1)) long in
+    subst (λ y. AnswersSpaced reads gap cap line y answer (length line + (n - 1)) lost) same
+    (subst (λ k. AnswersSpaced reads gap cap line x answer k lost) last answers)

@@ -1,0 +1,76 @@
+-- What a whole run of `space` leaves: all accepted frames have left.
+use Rattle.std.proofs.Common.{◌≡◌, ◌∙◌, ◌≤◌, ◌+◌, ◌*◌, ℕ, List, ◌++◌, length, Option, ap, sym, subst}
+use Rattle.std.proofs.Common.{arith, refl}
+use Rattle.yasir_ticks.specs.Ticks.{Item, ticks_in, silent, AreTicks}
+use Rattle.yasir_ticks.specs.declared.tick.Tick.{Tick}
+use Rattle.yasir_ticks.specs.declared.tick_run.TickRun.TheVariants.{Silence}
+use Rattle.yasir_ticks.proofs.TextTicks.{text-ticks}
+use Rattle.yasir_ticks.proofs.TickRuns.{ticks_in-run}
+use Rattle.dnp_link_frame.specs.Rules.{dnp_rules}
+use Rattle.dnp_link_frame.specs.RulesLaws.{dnp_lawful, dnp_framed}
+use Rattle.tick_drive.specs.Input.{Takes}
+use Rattle.tick_drive.specs.Items.{silent_items}
+use Rattle.tick_drive.specs.declared.end.End.TheVariants.{Whole}
+use Rattle.tick_drive.proofs.ItemLaws.{ticks_in-append}
+use Rattle.line_spacer.specs.Spacing.{accepted_of}
+use Rattle.spacer_laws.specs.Leaving.{HaveLeft, AllLeave}
+use Rattle.spacer_laws.proofs.Leaving.{rtu-leave, hunt-leave}
+use Rattle.line_texts.specs.Sending.{SinkTexts}
+use Rattle.replay_status.specs.Outside.{outside}
+use Rattle.replay_status.specs.declared.status.Status.{Status}
+use Rattle.replay_status.specs.declared.status.Status.TheVariants.{Done}
+use Rattle.space_replay.specs.SpacedTexts.{most_waiting}
+use Rattle.space_replay.specs.SpacesLine.{SpacesLine, space_rest}
+use Rattle.link_replay.specs.ReadCommand.{device_reads}
+use Rattle.link_replay.specs.SpaceCommand.{gap_of, spaced_by, SpacesBy}
+use Rattle.link_replay.specs.declared.words.Profile.{Profile}
+use Rattle.link_replay.specs.declared.words.Profile.TheVariants.{Y18, Y24}
+use Rattle.link_replay.specs.declared.words.Proto.{Proto}
+use Rattle.link_replay.specs.declared.words.Proto.TheVariants.{Rtu, Dnp3}
+
+-- the silence behind an input is long enough
+all-leave : (proto : Proto) (profile : Profile) (line : List Tick) → AreTicks line
+    → AllLeave (device_reads proto) (gap_of profile) most_waiting line space_rest
+all-leave Rtu Y18 line are = rtu-leave 4 2 21 64 line 21000 (omega arith)
+all-leave Rtu Y24 line are = rtu-leave 4 2 27 64 line 21000 (omega arith)
+all-leave Dnp3 Y18 line are =
+    hunt-leave 0x05 0x64 dnp_rules dnp_lawful dnp_framed 21 0 64 line 21000 are (omega arith)
+all-leave Dnp3 Y24 line are =
+    hunt-leave 0x05 0x64 dnp_rules dnp_lawful dnp_framed 27 0 64 line 21000 are (omega arith)
+
+whole-left : (proto : Proto) (profile : Profile) (before now : Option (List ℕ)) (items : List Item)
+    → Takes 0 space_rest before now items Whole
+    → HaveLeft (length (ticks_in items))
+    (accepted_of (device_reads proto) (gap_of profile) most_waiting (ticks_in items))
+whole-left proto profile before now items whole =
+    let line = ticks_in whole.told in
+    let all : ticks_in items ≡ line ++ silent space_rest =
+    ap ticks_in whole.are ∙ ticks_in-append whole.told (silent_items space_rest)
+    ∙ ap (λ x. line ++ x) (ticks_in-run (Silence space_rest)) in
+    subst (λ l. HaveLeft (length l)
+    (accepted_of (device_reads proto) (gap_of profile) most_waiting l)) (sym all)
+    (all-leave proto profile line (text-ticks 0 whole.text whole.told whole.right))
+
+module _ (proto : Proto) (profile : Profile) (in_before in_now : Option (List ℕ))
+    (before now : SinkTexts) where
+  pub spaces-by : (status : Status)
+      → SpacesLine (spaced_by proto profile) in_before in_now before now status
+      → SpacesBy proto profile in_before in_now before now status
+  spaces-by Done h = record {
+    items = h.items;
+    takes = h.takes;
+    sent = h.sent;
+    left = whole-left proto profile in_before in_now h.items h.takes;
+  }
+  spaces-by status h = h
+
+  pub whole-spaces : (status : Status) → SpacesBy proto profile in_before in_now before now status
+      → SpacesLine (spaced_by proto profile) in_before in_now before now status
+  whole-spaces Done h = record { items = h.items; takes = h.takes; sent = h.sent }
+  whole-spaces status h = h
+
+-- what is as it was
+pub outside-same : {K S O L D : Type 0} (key : K) (s0 s1 : S) (o0 o1 : O) (l0 l1 : L) (disk : D)
+    → (s1 ≡ s0) × ((o1 ≡ o0) × (l1 ≡ l0))
+    → outside key s1 o1 l1 disk ≡ outside key s0 o0 l0 disk
+outside-same key s0 s1 o0 o1 l0 l1 disk same = rw (same.0, same.1, same.2) refl

@@ -1,0 +1,57 @@
+-- The command `space`: the frames of a recorded line, sent again with silence between them.
+use Rattle.std.specs.Prelude.{◌≡◌, ℕ, List, length, Option}
+use Rattle.yasir_io.specs.declared.source.Source.{Ghosts as Source}
+use Rattle.yasir_io.specs.declared.sink.Sink.{Ghosts as Sink}
+use Rattle.yasir_ticks.specs.Ticks.{Item, ticks_in}
+use Rattle.tick_drive.specs.Input.{Takes}
+use Rattle.tick_drive.specs.declared.end.End.TheVariants.{Whole}
+use Rattle.line_spacer.specs.Spacing.{accepted_of}
+use Rattle.spacer_laws.specs.Leaving.{HaveLeft}
+use Rattle.line_texts.specs.Sending.{LineAndNotes, SinkTexts, sink_texts, HasSent}
+use Rattle.replay_status.specs.Outside.{Outside}
+use Rattle.replay_status.specs.declared.status.Status.{Status}
+use Rattle.replay_status.specs.declared.status.Status.TheVariants.{Done, NoMemory}
+use Rattle.space_replay.specs.SpacedTexts.{spaced_texts, most_waiting}
+use Rattle.space_replay.specs.SpacesLine.{SpacesLine, space_rest}
+use Rattle.link_replay.specs.ReadCommand.{device_reads}
+use Rattle.link_replay.specs.declared.words.Profile.{Profile}
+use Rattle.link_replay.specs.declared.words.Profile.TheVariants.{Y18, Y24}
+use Rattle.link_replay.specs.declared.words.Proto.{Proto}
+
+-- how many silent ticks a profile asks for between frames that are to be sealed: those that end a
+-- frame, a pause, and a trailer fit into them
+abbrev pub gap_of : Profile → ℕ
+gap_of Y18 = 21
+gap_of Y24 = 27
+
+-- what is made of a line: the spaced line, and the lines of the frames that are lost
+abbrev pub spaced_by : Proto → Profile → LineAndNotes
+spaced_by proto profile = spaced_texts (device_reads proto) (gap_of profile)
+
+module _ (proto : Proto) (profile : Profile) (in_before in_now : Option (List ℕ))
+    (before now : SinkTexts) where
+  -- All of the input was taken, and the sinks have got the texts of it. Each accepted frame stands
+  -- in them as a whole: it has left before the last tick.
+  pub record SpacesWhole : Type 0 where
+    pub items : List Item
+    pub takes : Takes 0 space_rest in_before in_now items Whole
+    pub sent : HasSent (spaced_by proto profile) before now (ticks_in items)
+    pub left : HaveLeft (length (ticks_in items))
+        (accepted_of (device_reads proto) (gap_of profile) most_waiting (ticks_in items))
+
+  -- What each status says.
+  abbrev pub SpacesBy : Status → Type 0
+  SpacesBy Done = SpacesWhole
+  SpacesBy status = SpacesLine (spaced_by proto profile) in_before in_now before now status
+
+module _ {K S O L D : Type 0} (s : Source S) (o : Sink O) (l : Sink L) where
+  -- What `space` does: neither the key nor the disk is reached, and where there is no memory
+  -- nothing else is.
+  pub record Spaces (proto : Proto) (profile : Profile) (before after : Outside K S O L D)
+      (status : Status) : Type 0 where
+    pub line : SpacesBy proto profile (s.left before.input) (s.left after.input)
+        (sink_texts (o.held before.out) (l.held before.log))
+        (sink_texts (o.held after.out) (l.held after.log)) status
+    pub untouched : status ≡ NoMemory → after ≡ before
+    pub key : after.key ≡ before.key
+    pub disk : after.disk ≡ before.disk

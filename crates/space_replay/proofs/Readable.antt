@@ -1,0 +1,34 @@
+-- A right input, and no fault outside, give `Done`, or there is no memory.
+use Rattle.std.proofs.Common.{◌≡◌, ◌⊎◌, ℕ, inl, inr, List, Option, refl}
+use Rattle.line_texts.specs.Sending.{LineAndNotes, SinkTexts}
+use Rattle.replay_status.specs.Causes.{InputCause, SinkCause, NoneRose}
+use Rattle.replay_status.specs.Readable.{IsReadable}
+use Rattle.replay_status.specs.declared.status.Status.{Status}
+use Rattle.replay_status.specs.declared.status.Status.TheVariants.{Done, Usage, BadTicks, ReadFault}
+use Rattle.replay_status.specs.declared.status.Status.TheVariants.{WriteFault, JournalFault}
+use Rattle.replay_status.specs.declared.status.Status.TheVariants.{TooLong, HasJournal, BadKey}
+use Rattle.replay_status.specs.declared.status.Status.TheVariants.{BadJournal, WrongLink, NoMemory}
+use Rattle.replay_status.proofs.Readable.{not_refused, not_too_long}
+use Rattle.space_replay.specs.SpacesLine.{SpacesLine, space_rest}
+
+module _ (made : LineAndNotes) (before now : Option (List ℕ)) (held_before held_now : SinkTexts)
+    (key0 key1 in0 in1 out0 out1 log0 log1 disk0 disk1 : ℕ) (readable : IsReadable before)
+    (calm : NoneRose key0 key1 in0 in1 out0 out1 log0 log1 disk0 disk1) where
+  pub spaced_done : (status : Status) → SpacesLine made before now held_before held_now status
+      → InputCause in0 in1 status → SinkCause out0 out1 log0 log1 status
+      → (status ≡ Done) ⊎ (status ≡ NoMemory)
+  spaced_done Done h input sinks = inl refl
+  spaced_done NoMemory h input sinks = inr refl
+  spaced_done (BadTicks bad) h input sinks =
+      absurd (not_refused space_rest before now h.items readable bad h.takes)
+  spaced_done (TooLong what count) h input sinks =
+      absurd (not_too_long space_rest before now h.items readable what count h.takes)
+  spaced_done ReadFault h input sinks = absurd (calm.input input.0)
+  spaced_done WriteFault h input sinks =
+      elim sinks [ inl out ↦ absurd (calm.out out) | inr log ↦ absurd (calm.log log) ]
+  spaced_done Usage h input sinks = absurd h
+  spaced_done JournalFault h input sinks = absurd h
+  spaced_done (HasJournal floor) h input sinks = absurd h
+  spaced_done (BadKey place) h input sinks = absurd h
+  spaced_done (BadJournal a b) h input sinks = absurd h
+  spaced_done (WrongLink slot) h input sinks = absurd h

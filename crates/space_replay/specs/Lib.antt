@@ -1,0 +1,4 @@
+pub mod SpacedTexts
+pub mod SpacedLines
+pub mod SpacedLinesLaws
+pub mod SpacesLine

@@ -1,0 +1,56 @@
+-- What is said of a consumer that drives a spacer by references to it and to what it writes to.
+use Rattle.std.specs.Prelude.{◌≡◌, List, ⊤, Result}
+use Rattle.yasir_io.specs.Flushed.{NoneFlushed}
+use Rattle.yasir_io.specs.declared.sink.Sink.{Ghosts as Sink}
+use Rattle.yasir_ticks.specs.Ticks.{Item, ticks_in}
+use Rattle.tick_drive.specs.Consumers.{Consuming, IsSinkCause, is_write_fault}
+use Rattle.tick_drive.specs.declared.consumer.Stop.{Stop}
+use Rattle.tick_drive.specs.declared.consumer.Stop.TheVariants.{WriteFault}
+use Rattle.line_texts.specs.Sending.{SinkTexts, SendsTexts, HasSentFronts}
+use Rattle.line_texts.specs.Texts.{Writing, writing, texts_held, waiting_in}
+use Rattle.space_replay.specs.SpacedTexts.{spaced_texts}
+use Rattle.space_replay.specs.declared.spacers.LineSpacer.{Ghosts as LineSpacer}
+use Rattle.space_replay.specs.declared.spaced_lines.SpacedLines.{SpacedLines}
+
+-- the texts and the two sinks, behind the references
+abbrev pub writing_behind : {B O L : Type 0} → SpacedLines B O L → Writing O L
+writing_behind lines = writing lines.texts.now lines.out.now lines.log.now
+
+-- What is held is what was held before. A sink failed where this is the answer, and none was
+-- flushed.
+pub record KeepsHeld {B O L : Type 0} (o : Sink O) (l : Sink L) (old new : SpacedLines B O L)
+    (result : Result (Unit {0}) Stop) : Type 0 where
+  pub spacer : new.spacer.ghost_name ≡ old.spacer.ghost_name
+  pub texts : new.texts.ghost_name ≡ old.texts.ghost_name
+  pub out : new.out.ghost_name ≡ old.out.ghost_name
+  pub log : new.log.ghost_name ≡ old.log.ghost_name
+  pub sinks : IsSinkCause (o.faults old.out.now) (o.faults new.out.now) (l.faults old.log.now)
+      (l.faults new.log.now) (is_write_fault result)
+  pub flushes : NoneFlushed o l old.out.now new.out.now old.log.now new.log.now
+
+module _ {B O L : Type 0} (b : LineSpacer B) (o : Sink O) (l : Sink L) where
+  -- The spacer has taken these items' ticks, and its texts are on their way to the two sinks, which
+  -- held this at the start.
+  pub record SpacesItems (lines : SpacedLines B O L) (start : SinkTexts) (items : List Item) :
+      Type 0 where
+    pub hears : b.stands lines.spacer.now (ticks_in items)
+    pub sends : SendsTexts (spaced_texts b.reads b.gap) (waiting_in lines.texts.now) start
+        (texts_held o l (writing_behind lines)) (ticks_in items)
+
+  -- A write failed at the last of these items: the sinks have got a front of each text.
+  pub record StopsSpacing (lines : SpacedLines B O L) (stop : Stop) (start : SinkTexts)
+      (items : List Item) : Type 0 where
+    pub why : stop ≡ WriteFault
+    pub sent : HasSentFronts (spaced_texts b.reads b.gap) start
+        (texts_held o l (writing_behind lines)) (ticks_in items)
+
+  -- What is said of such a consumer.
+  abbrev pub spacing : Consuming (SpacedLines B O L)
+  spacing = record {
+    Origin = SinkTexts;
+    stands = SpacesItems;
+    stopped = StopsSpacing;
+    taken = λ lines. b.taken lines.spacer.now;
+    able = λ lines. ⊤;
+    went = KeepsHeld o l;
+  }

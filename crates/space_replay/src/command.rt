@@ -1,0 +1,87 @@
+ghost use Rattle.std.specs.Prelude.{◌≡◌, []};
+ghost use Rattle.yasir_io.specs.Flushed.{NoneFlushed};
+ghost use Rattle.tick_drive.specs.Consumers.{IsSinkCause, is_write_fault};
+ghost use Rattle.tick_drive.specs.Drive.{answer_of};
+ghost use Rattle.tick_drive.specs.Input.{IsReadCause, is_read_fault};
+ghost use Rattle.line_texts.specs.Sending.{SinkTexts, sink_texts, SendsTexts};
+ghost use Rattle.line_texts.specs.Texts.{waiting_in};
+ghost use Rattle.replay_status.specs.Causes.{InputCause, SinkCause};
+ghost use Rattle.replay_status.specs.Flushes.{FlushesAtEnd};
+ghost use Rattle.replay_status.specs.declared.status.Status.TheVariants.{NoMemory as no_memory};
+ghost use Rattle.space_replay.specs.SpacedTexts.{spaced_texts};
+ghost use Rattle.space_replay.specs.SpacesLine.{DrivesSpacer, SpacesLine};
+
+use crate::spacers::LineSpacer;
+use crate::spaced_lines::SpacedLines;
+use line_texts::Texts;
+use replay_status::{Status, flush_both, status_of};
+use std::alloc::Global;
+use tick_drive::{End, drive_to_rest};
+use yasir_io::{Failed, Sink, Source};
+
+/// How many silent ticks stand behind a whole input, so that all frames leave: 65 of the longest
+/// with their gaps.
+const REST: u32 = 21_000;
+
+// Drives the input into the spacer. Its texts are on their way to the two sinks.
+fn drive_spacer<B: LineSpacer, S: Source, O: Sink, L: Sink>(
+    spacer: &mut B,
+    texts: &mut Texts,
+    input: &mut S,
+    out: &mut O,
+    log: &mut L,
+) -> End
+    requires fresh { B.taken spacer.old ≡ 0 }
+    requires stands { B.stands spacer.old [] }
+    requires nothing { (held : SinkTexts) → SendsTexts (spaced_texts B.reads B.gap)
+        (waiting_in texts.old) held held [] }
+    ensures driven { DrivesSpacer (spaced_texts B.reads B.gap) (S.left input.old)
+        (S.left input.new) (sink_texts (O.held out.old) (L.held log.old))
+        (sink_texts (O.held out.new) (L.held log.new)) (waiting_in texts.new) result }
+    ensures read { IsReadCause (S.faults input.old) (S.faults input.new) (is_read_fault result) }
+    ensures sinks { IsSinkCause (O.faults out.old) (O.faults out.new) (L.faults log.old)
+        (L.faults log.new) (is_write_fault (answer_of result)) }
+    ensures flushes { NoneFlushed O.Sink L.Sink out.old out.new log.old log.new }
+{
+    let mut lines = SpacedLines::new(spacer, texts, out, log);
+    drive_to_rest(0, REST, input, &mut lines)
+}
+
+/// Sends the frames of the input's line spaced: the text of the spaced line goes to `out`, and a
+/// line for each frame that is lost to the log. Where there is no memory for the spacer, nothing is
+/// read or written.
+pub fn space_frames<B: LineSpacer, S: Source, O: Sink, L: Sink>(
+    alloc: Global,
+    input: &mut S,
+    out: &mut O,
+    log: &mut L,
+) -> Status
+    requires { B.gap_fits }
+    ensures spaces { SpacesLine (spaced_texts B.reads B.gap) (S.left input.old) (S.left input.new)
+        (sink_texts (O.held out.old) (L.held log.old))
+        (sink_texts (O.held out.new) (L.held log.new)) result }
+    ensures untouched { result ≡ no_memory
+        → (input.new ≡ input.old) × ((out.new ≡ out.old) × (log.new ≡ log.old)) }
+    ensures input { InputCause (S.faults input.old) (S.faults input.new) result }
+    ensures sinks { SinkCause (O.faults out.old) (O.faults out.new)
+        (L.faults log.old) (L.faults log.new) result }
+    ensures flushes { FlushesAtEnd O.Sink L.Sink out.old out.new log.old log.new result }
+{
+    let mut spacer = match B::new(alloc) {
+        Ok(spacer) => spacer,
+        Err(_) => return Status::NoMemory,
+    };
+    let mut texts = Texts::new();
+    let end = drive_spacer(&mut spacer, &mut texts, input, out, log);
+    if let End::Stopped(_) = end {
+        return Status::WriteFault;
+    }
+    match texts.finish(out, log) {
+        Ok(()) => {}
+        Err(Failed) => return Status::WriteFault,
+    }
+    match end {
+        End::Whole => flush_both(out, log),
+        _ => status_of(end),
+    }
+}

@@ -1,0 +1,118 @@
+ghost use Rattle.std.specs.Prelude.{◌≡◌};
+ghost use Rattle.yasir_ticks.specs.TickRun.{run_ticks};
+ghost use Rattle.device_model.specs.Frames.{frames_of};
+ghost use Rattle.device_replay.specs.Lines.{read_at};
+ghost use Rattle.line_texts.specs.Texts.{writing, Pushes};
+ghost use Rattle.space_replay.specs.SpacedTexts.{lost_line, lost_lines};
+
+use crate::spacers::LineSpacer;
+use burst_walk::RunBytes;
+use device_model::FrameAt;
+use device_replay::write_frame_line;
+use line_spacer::SpaceRun;
+use line_texts::{Texts, answer_run, push_run};
+use replay_status::Line;
+use tick_drive::{Consumer, Stop};
+use yasir_io::{Failed, Sink};
+use yasir_ticks::TickRun;
+
+// How many ticks a spacer is given at once at most.
+const MAX_RUN: usize = 4_294_967_295;
+
+/// Drives a spacer: the spaced line goes on as canonical tick text, and a line for each frame that
+/// is lost to the log.
+#[derive(Drop)]
+pub struct SpacedLines<'a, B, O, L> {
+    spacer: &'a mut B,
+    texts: &'a mut Texts,
+    out: &'a mut O,
+    log: &'a mut L,
+}
+
+// Adds the line of a frame that is lost, and behind it the ticks of the run in which it is read.
+fn push_lost<O: Sink, L: Sink>(
+    texts: &mut Texts,
+    out: &mut O,
+    log: &mut L,
+    frame: &FrameAt,
+    answer: TickRun<'_>,
+) -> Result<(), Failed>
+    ensures { Pushes O.Sink L.Sink (writing texts.old out.old log.old)
+        (writing texts.new out.new log.new) (run_ticks answer.entry) (lost_line (read_at frame.now))
+        result }
+{
+    let mut line = Line::new();
+    write_frame_line(&mut line, b"lost at ", frame.start, frame.bytes.as_slice());
+    texts.push_noted(out, log, line.as_slice(), answer)
+}
+
+// Adds the ticks of a run, and before them the line of the frame that is lost in it.
+#[inline]
+fn push_answer<O: Sink, L: Sink>(
+    texts: &mut Texts,
+    out: &mut O,
+    log: &mut L,
+    lost: Option<FrameAt>,
+    answer: TickRun<'_>,
+) -> Result<(), Failed>
+    ensures { Pushes O.Sink L.Sink (writing texts.old out.old log.old)
+        (writing texts.new out.new log.new) (run_ticks answer.entry) (lost_lines (frames_of lost))
+        result }
+{
+    match lost {
+        None => push_run(texts, out, log, answer),
+        Some(frame) => push_lost(texts, out, log, &frame, answer),
+    }
+}
+
+impl<'a, B, O, L> SpacedLines<'a, B, O, L> {
+    /// Drives this spacer, whose texts go to these sinks.
+    pub fn new(
+        spacer: &'a mut B,
+        texts: &'a mut Texts,
+        out: &'a mut O,
+        log: &'a mut L,
+    ) -> SpacedLines<'a, B, O, L>
+        ensures spacer { result.spacer ≡ spacer.entry }
+        ensures texts { result.texts ≡ texts.entry }
+        ensures out { result.out ≡ out.entry }
+        ensures log { result.log ≡ log.entry }
+    {
+        SpacedLines {
+            spacer,
+            texts,
+            out,
+            log,
+        }
+    }
+}
+
+impl<'a, B: LineSpacer, O: Sink, L: Sink> Consumer for SpacedLines<'a, B, O, L> {
+    ghost use Rattle.space_replay.specs.SpacedLines.{spacing};
+    ghost use Rattle.space_replay.specs.SpacedLinesLaws.{holds-none, holds-then};
+
+    ghost meaning = { spacing B.LineSpacer O.Sink L.Sink };
+
+    // Takes a run as far as the spacer answers it at once.
+    #[inline]
+    fn take_some(&mut self, run: TickRun<'_>) -> Result<usize, Stop> {
+        let mut left = RunBytes::new();
+        let most = run.len().min(MAX_RUN);
+        let front = run.front(most);
+        let SpaceRun { taken, lost } = self.spacer.take_front(front, &mut left);
+        let answer = answer_run(taken as u32, left.as_slice());
+        match push_answer(self.texts, self.out, self.log, lost, answer) {
+            Ok(()) => Ok(taken),
+            Err(Failed) => Err(Stop::WriteFault),
+        }
+    }
+
+    // A mark is no tick of the line.
+    fn take_mark(&mut self) -> Result<(), Stop> {
+        Ok(())
+    }
+
+    ghost went_none = { holds-none B.LineSpacer O.Sink L.Sink };
+
+    ghost went_then = { holds-then B.LineSpacer O.Sink L.Sink };
+}

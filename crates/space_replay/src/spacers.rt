@@ -1,0 +1,82 @@
+ghost use Rattle.std.specs.Prelude.{◌≡◌, ◌+◌, ◌-◌, ◌<◌, ◌≤◌, ℕ, List, [], ◌++◌, length, take, IfOk};
+ghost use Rattle.yasir_ticks.specs.TickRun.{run_ticks};
+ghost use Rattle.yasir_ticks.specs.declared.TheConstants.{MAX_TICKS};
+ghost use Rattle.yasir_ticks.specs.declared.tick.Tick.{Tick};
+ghost use Rattle.burst_walk.specs.Answered.{answered};
+ghost use Rattle.device_model.specs.Frames.{FrameRead, frames_of};
+ghost use Rattle.line_spacer.specs.Stands.{AnswersSpaced};
+ghost use Rattle.space_replay.specs.SpacedTexts.{most_waiting};
+
+use burst_walk::RunBytes;
+use device_model::Device;
+use line_spacer::{SpaceRun, Spacer};
+use std::alloc::Global;
+use yasir_io::NoMemory;
+use yasir_ticks::TickRun;
+
+/// How many frames may wait.
+const MOST_WAITING: usize = 64;
+
+/// A spacer as a command drives it, with room for 64 frames to wait. So a function that is generic
+/// over spacers takes no type with a constant parameter.
+pub trait LineSpacer: Drop {
+    /// What the device reads that it hears as.
+    ghost reads: { List Tick → List FrameRead };
+
+    /// How many silent ticks stand between frames at least.
+    ghost gap: { ℕ };
+
+    /// There are some.
+    ghost gap_fits: { Type 0 };
+
+    /// It has taken these ticks.
+    ghost stands: { Self → List Tick → Type 0 };
+
+    /// How many ticks it has taken.
+    ghost taken: { Self → ℕ };
+
+    /// A spacer that has taken no tick. It takes its memory here, and none later.
+    fn new(alloc: Global) -> Result<Self, NoMemory>
+        requires { gap_fits }
+        ensures taken { IfOk result (λ spacer. taken spacer ≡ 0) }
+        ensures stands { IfOk result (λ spacer. stands spacer []) };
+
+    /// Takes the first ticks of this run, at least one of them, as far as the other line stays all
+    /// bytes or all silence, up to the first one in which a frame is read. `left` gets the bytes
+    /// that leave, one in each tick, or none where silence leaves.
+    fn take_front(&mut self, run: TickRun<'_>, left: &mut RunBytes) -> SpaceRun
+        requires room { taken self.old + length (run_ticks run) ≤ MAX_TICKS }
+        requires some { 0 < length (run_ticks run) }
+        ensures some { 0 < result.taken }
+        ensures within { result.taken ≤ length (run_ticks run.entry) }
+        ensures taken { taken self.new ≡ taken self.old + result.taken }
+        ensures stands { (line : List Tick) → stands self.old line
+            → stands self.new (line ++ take result.taken (run_ticks run.entry)) }
+        ensures answer { (line : List Tick) → stands self.old line
+            → AnswersSpaced reads gap most_waiting line (take result.taken (run_ticks run.entry))
+            (answered result.taken left.new.items) (length line + (result.taken - 1))
+            (frames_of result.lost) };
+}
+
+impl<V: Device + Drop, const GAP: usize> LineSpacer for Spacer<V, GAP> {
+    ghost use Rattle.line_spacer.specs.Stands.{StandsFor, ticks_taken};
+
+    ghost reads = { V.reads };
+
+    ghost gap = { GAP };
+
+    ghost gap_fits = { 0 < GAP };
+
+    ghost stands = { StandsFor V.Device most_waiting };
+
+    ghost taken = { ticks_taken V.Device };
+
+    fn new(alloc: Global) -> Result<Self, NoMemory> {
+        Spacer::new(alloc, MOST_WAITING)
+    }
+
+    #[inline(always)]
+    fn take_front(&mut self, run: TickRun<'_>, left: &mut RunBytes) -> SpaceRun {
+        self.take_some(run, left)
+    }
+}
