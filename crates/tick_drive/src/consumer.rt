@@ -37,6 +37,7 @@ pub trait Consumer {
         ensures { Gives meaning self.old self.new (mark ∷ []) result };
 
     /// Takes the ticks of this run in order.
+    #[inline(always)]
     fn take_run(&mut self, run: TickRun<'_>) -> Result<(), Stop>
         requires { MayTake meaning self.old (run_items run) }
         ensures { Gives meaning self.old self.new (run_items run.entry) result }

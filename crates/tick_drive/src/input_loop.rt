@@ -1,6 +1,8 @@
 ghost use Rattle.std.specs.Prelude.{◌≡◌, ℕ, ◌≤◌, length, IfOk};
 ghost use Rattle.yasir_ticks.specs.Ticks.{items_of_run, ticks_in};
 ghost use Rattle.yasir_ticks.specs.Reader.{items_of_content};
+ghost use Rattle.yasir_ticks.specs.TickRun.{run_items};
+ghost use Rattle.yasir_ticks.specs.declared.tick_run.TickRun.TheVariants.{Silence};
 ghost use Rattle.tick_drive.specs.Input.{IsReadCause, is_read_fault, max_ticks};
 ghost use Rattle.tick_drive.specs.Consumers.{MayTake, Gives};
 ghost use Rattle.tick_drive.specs.Drive.{Drives, IsFresh, HandAnswer};
@@ -26,6 +28,16 @@ fn ticks_of(content: Content, bytes: &[u8]) -> u32
     }
 }
 
+// Gives silent ticks to the consumer. It stands apart, so that each kind of run is compiled for
+// itself.
+#[inline(never)]
+fn give_silence<C: Consumer>(ticks: u32, consumer: &mut C) -> Result<(), Stop>
+    requires { MayTake C.meaning consumer.old (run_items (Silence ticks)) }
+    ensures { Gives C.meaning consumer.old consumer.new (run_items (Silence ticks)) result }
+{
+    consumer.take_run(TickRun::Silence(ticks))
+}
+
 // Gives a line of this content to the consumer.
 #[inline(always)]
 fn give<C: Consumer>(content: Content, bytes: &[u8], consumer: &mut C) -> Result<(), Stop>
@@ -36,7 +48,7 @@ fn give<C: Consumer>(content: Content, bytes: &[u8], consumer: &mut C) -> Result
     match content {
         Content::NoTick => Ok(()),
         Content::KeptBytes => consumer.take_run(TickRun::Bytes(bytes)),
-        Content::SilentTicks(ticks) => consumer.take_run(TickRun::Silence(ticks)),
+        Content::SilentTicks(ticks) => give_silence(ticks, consumer),
         Content::OneMark => consumer.take_mark(),
     }
 }
