@@ -13,7 +13,7 @@ use Rattle.replay_status.specs.declared.status.Status.TheVariants.{Done, BadTick
 use Rattle.replay_status.specs.declared.status.Status.TheVariants.{WriteFault, TooLong, BadKey}
 use Rattle.replay_status.specs.declared.status.Status.TheVariants.{NoMemory}
 use Rattle.replay_status.proofs.Readable.{not_refused, not_too_long}
-use Rattle.box_replay.proofs.Replayable.{no_key_refused}
+use Rattle.box_command.proofs.Replayable.{no_key_refused}
 use Rattle.link_replay.specs.ReplayCommand.{Replays, IsListable}
 use Rattle.link_replay.specs.declared.words.Profile.{Profile}
 use Rattle.link_replay.specs.declared.words.Proto.{Proto}

@@ -29,7 +29,7 @@ use Rattle.link_replay.specs.declared.words.Command.TheVariants.{Replay, Trial, 
 use Rattle.replay_status.proofs.Logging.{sinks_after}
 use Rattle.replay_status.proofs.FlushLaws.{flushes_after}
 use Rattle.device_replay.proofs.Readable.{readable_done}
-use Rattle.box_replay.proofs.Replayable.{replayable_done}
+use Rattle.box_command.proofs.Replayable.{replayable_done}
 use Rattle.link_replay.specs.Protocols.{link_of}
 use Rattle.link_replay.proofs.Links.{link-right}
 use Rattle.space_replay.proofs.Readable.{spaced_done}

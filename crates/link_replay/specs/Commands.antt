@@ -13,7 +13,7 @@ use Rattle.link_replay.specs.InitCommand.{Inits, IsBlank}
 use Rattle.replay_status.specs.Readable.{IsReadable}
 use Rattle.link_replay.specs.ReadCommand.{Reads}
 use Rattle.link_replay.specs.VectorsCommand.{Tabulates}
-use Rattle.box_replay.specs.ReplaysBox.{BoxDiskCause, IsReplayable, KeepsFloorThroughout}
+use Rattle.box_command.specs.ReplaysBox.{BoxDiskCause, IsReplayable, KeepsFloorThroughout}
 use Rattle.link_replay.specs.Protocols.{link_of}
 use Rattle.link_replay.specs.SealCommand.{Seals}
 use Rattle.link_replay.specs.CheckCommand.{Checks}

@@ -8,9 +8,9 @@ use Rattle.link_format.specs.Setup.{Setup}
 use Rattle.sequence_journal.specs.declared.numbers.TheConstants.{LIMIT}
 use Rattle.replay_status.specs.Outside.{Outside}
 use Rattle.replay_status.specs.declared.status.Status.{Status}
-use Rattle.box_replay.specs.Boxes.{Boxed}
-use Rattle.box_replay.specs.ReplaysBox.{ReplaysBox}
-use Rattle.seal_replay.specs.SealBoxed.{sealing}
+use Rattle.box_command.specs.Boxes.{Boxed}
+use Rattle.box_command.specs.ReplaysBox.{ReplaysBox}
+use Rattle.box_command.specs.SealBoxed.{sealing}
 use Rattle.link_replay.specs.declared.words.Profile.{Profile}
 use Rattle.link_replay.specs.declared.words.Proto.{Proto}
 use Rattle.link_replay.specs.Protocols.{rules_of, format_of, delay_of, link_of}

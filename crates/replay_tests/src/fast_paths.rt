@@ -8,16 +8,15 @@ ghost use Rattle.yasir_ticks.specs.declared.TheConstants.{MAX_TICKS};
 use crate::over_boxes::KEY;
 use crate::packets::{self, DNP_PACKET, LINKS, Link, RTU_PACKET, packet_of};
 use crate::receiver_runs::{alike, link_of};
-use box_replay::{LineBox, replay_box};
+use box_command::{LineBox, replay_box};
+use burst_walk::RunBytes;
 use check_receiver::Checker;
-use check_replay::CheckBox;
 use dnp_link_frame::Dnp;
 use frame_boxes::ShownFrames;
 use hmac_tag::{Dir, HmacSha1, HmacSha256};
 use replay_lists::FrameBox;
 use replay_status::{Ends, Status};
 use rtu_frame::Rtu;
-use seal_replay::SealBox;
 use seal_transmitter::Sealer;
 use sequence_journal::{Journal, LinkId, slot_of};
 use std::alloc::Global;
@@ -91,7 +90,7 @@ impl<B: LineBox> Turning for Journaled<B> {
         if count > 0 {
             return Ok(count);
         }
-        let mut left = box_replay::RunBytes::new();
+        let mut left = RunBytes::new();
         let count = self.line_box.pass(run, &mut left);
         if count > 0 {
             return Ok(count);
@@ -109,7 +108,7 @@ impl<B: LineBox> Turning for Journaled<B> {
         if count > 0 {
             return Ok(count);
         }
-        let mut left = box_replay::RunBytes::new();
+        let mut left = RunBytes::new();
         let count = self.line_box.pass(run, &mut left).min(ticks as usize) as u32;
         if count > 0 {
             return Ok(count);
@@ -243,19 +242,19 @@ fn seals(
 ) -> Result<(), Fail> {
     match link {
         Link::Rtu => {
-            let line_box: Journaled<SealBox<Rtu, HmacSha1, 2>> = Journaled::new()?;
+            let line_box: Journaled<Sealer<Rtu, HmacSha1, 2>> = Journaled::new()?;
             takes(rt, alloc, line_box, ticks, most)
         }
         Link::Dnp => {
-            let line_box: Journaled<SealBox<Dnp, HmacSha1, 2>> = Journaled::new()?;
+            let line_box: Journaled<Sealer<Dnp, HmacSha1, 2>> = Journaled::new()?;
             takes(rt, alloc, line_box, ticks, most)
         }
         Link::WideRtu => {
-            let line_box: Journaled<SealBox<Rtu, HmacSha256, 4>> = Journaled::new()?;
+            let line_box: Journaled<Sealer<Rtu, HmacSha256, 4>> = Journaled::new()?;
             takes(rt, alloc, line_box, ticks, most)
         }
         Link::WideDnp => {
-            let line_box: Journaled<SealBox<Dnp, HmacSha256, 4>> = Journaled::new()?;
+            let line_box: Journaled<Sealer<Dnp, HmacSha256, 4>> = Journaled::new()?;
             takes(rt, alloc, line_box, ticks, most)
         }
     }
@@ -271,19 +270,19 @@ fn checks(
 ) -> Result<(), Fail> {
     match link {
         Link::Rtu => {
-            let line_box: Journaled<CheckBox<Rtu, HmacSha1, 2, 18>> = Journaled::new()?;
+            let line_box: Journaled<Checker<Rtu, HmacSha1, 2, 18>> = Journaled::new()?;
             takes(rt, alloc, line_box, ticks, most)
         }
         Link::Dnp => {
-            let line_box: Journaled<CheckBox<Dnp, HmacSha1, 2, 18>> = Journaled::new()?;
+            let line_box: Journaled<Checker<Dnp, HmacSha1, 2, 18>> = Journaled::new()?;
             takes(rt, alloc, line_box, ticks, most)
         }
         Link::WideRtu => {
-            let line_box: Journaled<CheckBox<Rtu, HmacSha256, 4, 24>> = Journaled::new()?;
+            let line_box: Journaled<Checker<Rtu, HmacSha256, 4, 24>> = Journaled::new()?;
             takes(rt, alloc, line_box, ticks, most)
         }
         Link::WideDnp => {
-            let line_box: Journaled<CheckBox<Dnp, HmacSha256, 4, 24>> = Journaled::new()?;
+            let line_box: Journaled<Checker<Dnp, HmacSha256, 4, 24>> = Journaled::new()?;
             takes(rt, alloc, line_box, ticks, most)
         }
     }
@@ -482,7 +481,7 @@ fn text_goes_out_by_full_buffers(rt: HostRuntime) -> Result<(), Fail> {
         disk: &mut disk,
     };
     let status = replay_box::<
-        SealBox<Rtu, HmacSha1, 2>,
+        Sealer<Rtu, HmacSha1, 2>,
         SteadySource,
         SteadySource,
         CountedSink,

@@ -3,14 +3,14 @@ ghost use Rattle.sequence_journal.specs.Links.{IsLink};
 
 use crate::outside::{Failing, STEADY, plan};
 use crate::reading::has_read;
-use box_replay::{LineBox, replay_box};
-use check_replay::CheckBox;
+use box_command::{LineBox, replay_box};
+use check_receiver::Checker;
 use device_model::Device;
 use dnp_link_frame::Dnp;
 use hmac_tag::{Dir, HmacSha1, HmacSha256};
 use replay_status::{Ends, Status, write_fault};
 use rtu_frame::Rtu;
-use seal_replay::SealBox;
+use seal_transmitter::Sealer;
 use sequence_journal::{Journal, LIMIT, LinkId, slot_of};
 use std::alloc::Global;
 use std::process::Abort;
@@ -191,38 +191,38 @@ pub fn replay_on(
     let link = link_of(kind, dir);
     match kind {
         BoxKind::SealRtu => {
-            replay_by::<SealBox<Rtu, HmacSha1, 2>>(alloc, 24, &link, dir, key, disk, text, failing)
+            replay_by::<Sealer<Rtu, HmacSha1, 2>>(alloc, 24, &link, dir, key, disk, text, failing)
         }
         BoxKind::SealDnp => {
-            replay_by::<SealBox<Dnp, HmacSha1, 2>>(alloc, 24, &link, dir, key, disk, text, failing)
+            replay_by::<Sealer<Dnp, HmacSha1, 2>>(alloc, 24, &link, dir, key, disk, text, failing)
         }
         BoxKind::SealRtu24 => {
-            replay_by::<SealBox<Rtu, HmacSha256, 4>>(
+            replay_by::<Sealer<Rtu, HmacSha256, 4>>(
                 alloc, 30, &link, dir, key, disk, text, failing,
             )
         }
         BoxKind::SealDnp24 => {
-            replay_by::<SealBox<Dnp, HmacSha256, 4>>(
+            replay_by::<Sealer<Dnp, HmacSha256, 4>>(
                 alloc, 30, &link, dir, key, disk, text, failing,
             )
         }
         BoxKind::CheckRtu => {
-            replay_by::<CheckBox<Rtu, HmacSha1, 2, 18>>(
+            replay_by::<Checker<Rtu, HmacSha1, 2, 18>>(
                 alloc, 320, &link, dir, key, disk, text, failing,
             )
         }
         BoxKind::CheckDnp => {
-            replay_by::<CheckBox<Dnp, HmacSha1, 2, 18>>(
+            replay_by::<Checker<Dnp, HmacSha1, 2, 18>>(
                 alloc, 320, &link, dir, key, disk, text, failing,
             )
         }
         BoxKind::CheckRtu24 => {
-            replay_by::<CheckBox<Rtu, HmacSha256, 4, 24>>(
+            replay_by::<Checker<Rtu, HmacSha256, 4, 24>>(
                 alloc, 320, &link, dir, key, disk, text, failing,
             )
         }
         BoxKind::CheckDnp24 => {
-            replay_by::<CheckBox<Dnp, HmacSha256, 4, 24>>(
+            replay_by::<Checker<Dnp, HmacSha256, 4, 24>>(
                 alloc, 320, &link, dir, key, disk, text, failing,
             )
         }

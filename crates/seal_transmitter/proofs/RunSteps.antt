@@ -18,7 +18,6 @@ use Rattle.frame_ending.specs.Cuts.{cut_of, cuts_after, IsPassing}
 use Rattle.frame_ending.specs.SoFar.{start_so_far}
 use Rattle.frame_ending.specs.Stands.{StandsFor as CutStandsFor}
 use Rattle.frame_ending.proofs.Runs.{live-start}
-use Rattle.burst_walk.specs.Answered.{answered}
 use Rattle.burst_walk.specs.Runs.{AnswersRun}
 use Rattle.burst_walk.proofs.Runs.{run-none, run-joined, run-tick}
 use Rattle.hmac_tag.specs.declared.tag.Mac.{Ghosts as Mac}
@@ -343,23 +342,6 @@ bytes-then n k x =
     ap (λ y. y ++ take k (drop n x)) (sym front)
     ∙ (ap (λ y. take n all ++ y) (sym rest) ∙ take-append-drop n all) in
     sym (map-append Byte (take n x) (take k (drop n x))) ∙ ap (λ y. map Byte y) whole
-
--- ---- runs as they are lent
-
--- as many bytes as there are ticks are answered as they are
-answered-bytes : (x : List ℕ) → answered (length x) x ≡ map Byte x
-answered-bytes [] = refl
-answered-bytes (b ∷ x) = refl
-
-pub answered-all : (n : ℕ) (x lent : List ℕ) → n ≡ length x → lent ≡ x
-    → map Byte x ≡ answered n lent
-answered-all n x lent count items =
-    sym (ap (λ k. answered k lent) count ∙ (ap (λ l. answered (length x) l) items
-    ∙ answered-bytes x))
-
--- none are answered as silence
-pub answered-none : (n : ℕ) (lent : List ℕ) → lent ≡ [] → silent n ≡ answered n lent
-answered-none n lent none = sym (ap (λ l. answered n l) none)
 
 -- a run behind one of no tick
 pub run-behind : {R M : Type 0} (proto : LineRules R) (code : Mac M) {B : ℕ} (last : ℕ)

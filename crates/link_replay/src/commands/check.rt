@@ -1,6 +1,6 @@
 ghost use Rattle.std.specs.Prelude.{Some};
 ghost use Rattle.replay_status.specs.Ends.{outside_before, outside_after};
-ghost use Rattle.box_replay.specs.ReplaysBox.{KeepsFloorThroughout};
+ghost use Rattle.box_command.specs.ReplaysBox.{KeepsFloorThroughout};
 ghost use Rattle.link_replay.specs.declared.words.Command.TheVariants.{Check};
 ghost use Rattle.link_replay.specs.Commands.{HasCauses};
 ghost use Rattle.link_replay.specs.Protocols.{link_of};
@@ -8,8 +8,8 @@ ghost use Rattle.link_replay.specs.CheckCommand.{Checks};
 
 use crate::link::link_of;
 use crate::{Profile, Proto};
-use box_replay::replay_box;
-use check_replay::CheckBox;
+use box_command::replay_box;
+use check_receiver::Checker;
 use dnp_link_frame::Dnp;
 use hmac_tag::{Dir, HmacSha1, HmacSha256};
 use replay_status::{Ends, Status};
@@ -38,17 +38,17 @@ pub fn check<K: Source, S: Source, O: Sink, L: Sink, D: SlotDisk>(
 {
     let link = link_of(proto, profile, dir);
     match (proto, profile) {
-        (Proto::Rtu, Profile::Y18) => replay_box::<CheckBox<Rtu, HmacSha1, 2, 18>, K, S, O, L, D>(
+        (Proto::Rtu, Profile::Y18) => replay_box::<Checker<Rtu, HmacSha1, 2, 18>, K, S, O, L, D>(
             &link, dir, REST, ends,
         ),
-        (Proto::Dnp3, Profile::Y18) => replay_box::<CheckBox<Dnp, HmacSha1, 2, 18>, K, S, O, L, D>(
+        (Proto::Dnp3, Profile::Y18) => replay_box::<Checker<Dnp, HmacSha1, 2, 18>, K, S, O, L, D>(
             &link, dir, REST, ends,
         ),
-        (Proto::Rtu, Profile::Y24) => replay_box::<CheckBox<Rtu, HmacSha256, 4, 24>, K, S, O, L, D>(
+        (Proto::Rtu, Profile::Y24) => replay_box::<Checker<Rtu, HmacSha256, 4, 24>, K, S, O, L, D>(
             &link, dir, REST, ends,
         ),
         (Proto::Dnp3, Profile::Y24) => {
-            replay_box::<CheckBox<Dnp, HmacSha256, 4, 24>, K, S, O, L, D>(&link, dir, REST, ends)
+            replay_box::<Checker<Dnp, HmacSha256, 4, 24>, K, S, O, L, D>(&link, dir, REST, ends)
         }
     }
 }

@@ -3,7 +3,8 @@ use Rattle.yasir_ticks.specs.Ticks.{silent}
 use Rattle.yasir_ticks.specs.declared.tick.Tick.{Tick}
 use Rattle.yasir_ticks.specs.declared.tick.Tick.TheVariants.{Byte}
 use Rattle.seal_transmitter.specs.Runs.{HasTakenRun}
-use Rattle.seal_transmitter.proofs.RunSteps.{answered-all, answered-none, nothing-taken}
+use Rattle.link_box.proofs.Answered.{answered-all, answered-none}
+use Rattle.seal_transmitter.proofs.RunSteps.{nothing-taken}
 use Rattle.seal_transmitter.proofs.sealer.Sealer.pass_silence.Goals as goal
 
 pub returns-then-left-eq0-clause-run : goal.returns-then-left-eq0-clause-run

@@ -1,0 +1,12 @@
+pub mod AnsweredRuns
+pub mod Walking
+pub mod Begun
+pub mod Fronts
+pub mod Turns
+pub mod Stepped
+pub mod Behind
+pub mod Floors
+pub mod Outcomes
+pub mod Replayable
+pub mod RunsAreUptimes
+pub mod Shown

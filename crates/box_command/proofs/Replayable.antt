@@ -1,0 +1,131 @@
+-- A right key, a number in a slot and a right input are refused by nothing but a fault outside.
+use Rattle.std.proofs.Common.{◌≡◌, ◌∙◌, ℕ, ◌+◌, ◌*◌, ◌≤◌, inl, inr, List, length, length-append}
+use Rattle.std.proofs.Common.{Option, Some, None, subst, sym, ap, refl, arith}
+use Rattle.hex.proofs.HexLemmas.{decode_of-ok}
+use Rattle.yasir_io.specs.declared.disk.Slot.{Slot}
+use Rattle.yasir_io.specs.Disks.{Slots}
+use Rattle.yasir_io.specs.declared.source.Source.{Ghosts as Source}
+use Rattle.yasir_io.specs.declared.sink.Sink.{Ghosts as Sink}
+use Rattle.yasir_io.specs.declared.disk.SlotDisk.{Ghosts as SlotDisk}
+use Rattle.hmac_tag.specs.declared.dir.Dir.{Dir}
+use Rattle.link_format.specs.Setup.{Setup}
+use Rattle.sequence_journal.specs.declared.link.LinkId.{LinkId}
+use Rattle.sequence_journal.specs.Links.{IsLink}
+use Rattle.sequence_journal.specs.Slots.{own_floor, any_floor, old_floor, any_number_held, greater}
+use Rattle.sequence_journal.specs.Slots.{floor_by, floor_of, place_of_greater, wrong_by}
+use Rattle.sequence_journal.specs.Loading.{FindsNone, FindsOther}
+use Rattle.sequence_journal.proofs.SlotLemmas.{no_own_floor}
+use Rattle.key_text.specs.KeyText.{IsKeyText, IsKeyMet, IsNoKey}
+use Rattle.replay_status.specs.Outside.{Outside}
+use Rattle.replay_status.specs.Causes.{ReadsCause, SinkCause, NoneRose}
+use Rattle.replay_status.specs.declared.status.Status.{Status}
+use Rattle.replay_status.specs.declared.status.Status.TheVariants.{Done, Usage, BadTicks, ReadFault}
+use Rattle.replay_status.specs.declared.status.Status.TheVariants.{WriteFault, JournalFault}
+use Rattle.replay_status.specs.declared.status.Status.TheVariants.{TooLong, HasJournal, BadKey}
+use Rattle.replay_status.specs.declared.status.Status.TheVariants.{BadJournal, WrongLink, NoMemory}
+use Rattle.replay_status.proofs.Readable.{met_of_told, all_of_told, not_refused, not_too_long}
+use Rattle.box_command.specs.Boxes.{Boxed}
+use Rattle.box_command.specs.ReplaysBox.{ReplaysBox, BoxDiskCause, IsReplayable}
+
+key_text_short : (text key : List ℕ) → IsKeyText text key → length text ≤ 130
+key_text_short text key is =
+    let twice : length is.digits ≡ 2 * length key = (decode_of-ok is.digits key is.decodes).2 in
+    let few : length is.ending ≤ 2 = elim is.ends [
+      | inl none ↦ omega (arith, ap length none)
+      | inr (inl lf) ↦ omega (arith, ap length lf)
+      | inr (inr cr) ↦ omega (arith, ap length cr)
+    ] in
+    let all : length text ≡ length is.digits + length is.ending =
+    ap length is.all ∙ length-append is.digits is.ending in
+    omega (arith, is.short, twice, few, all)
+
+pub no_key_refused : (text key met : List ℕ) (now : Option (List ℕ)) (place : ℕ) → IsKeyText text
+    key
+    → IsKeyMet (Some text) now met
+    → IsNoKey met place → ⊥
+no_key_refused text key met now place right is none = elim is.whole [
+  | inl ended ↦ none.none (
+    key,
+    subst (λ t. IsKeyText t key) (all_of_told text met now is.met ended)
+        right,
+  )
+  | inr long ↦
+      let rest = met_of_told text met now is.met in
+      let all : length text ≡ length met + length rest.0 =
+      ap length rest.1 ∙ length-append met rest.0 in
+      let short : length text ≤ 130 = key_text_short text key right in
+      absurd (omega (arith, long, all, short))
+]
+
+no_journal_refused : (link : LinkId) (slots : Slots) (floor : ℕ) (a b : List ℕ) → IsLink link
+    → floor_of link slots ≡ Some floor → FindsNone (Some slots) a b → ⊥
+no_journal_refused link slots floor a b right has finds =
+    let no_own : own_floor link finds.read ≡ None = no_own_floor link finds.read right finds.none in
+    let no_floor : floor_of link finds.read ≡ None =
+    rw (no_own, finds.none, finds.none_old) refl in
+    let both : Some floor ≡ None = sym has ∙ ap (floor_of link) finds.are_read ∙ no_floor in
+    cc
+
+other_link_has_no_floor : (own any old : Option ℕ) (a b : Option ℕ) (place : Slot)
+    → wrong_by own (place_of_greater a b) ≡ Some place → any ≡ greater a b
+    → floor_by own any old ≡ None
+other_link_has_no_floor (Some m) any old a b place wrong is = absurd cc
+other_link_has_no_floor None any old None None place wrong is = absurd cc
+other_link_has_no_floor None any old None (Some b) place wrong is = rw is refl
+other_link_has_no_floor None any old (Some a) None place wrong is = rw is refl
+other_link_has_no_floor None any old (Some a) (Some b) place wrong is = rw is refl
+
+wrong_link_refused : (link : LinkId) (slots : Slots) (floor : ℕ) (slot : List ℕ)
+    → floor_of link slots ≡ Some floor → FindsOther link (Some slots) slot → ⊥
+wrong_link_refused link slots floor slot has finds =
+    let no_floor : floor_of link finds.read ≡ None =
+    other_link_has_no_floor (own_floor link finds.read) (any_floor finds.read)
+    (old_floor finds.read) (any_number_held finds.read.a) (any_number_held finds.read.b)
+    finds.place finds.wrong refl in
+    let both : Some floor ≡ None = sym has ∙ ap (floor_of link) finds.are_read ∙ no_floor in
+    cc
+
+module _ {K S O L D : Type 0} (k : Source K) (s : Source S) (o : Sink O) (l : Sink L)
+    (d : SlotDisk D) (boxed : Setup → Boxed) (link : LinkId) (is_link : IsLink link)
+    (dir : Dir) (rest : ℕ) (before after : Outside K S O L D)
+    (right : IsReplayable link (k.left before.key) (d.told before.disk) (s.left before.input))
+    (calm : NoneRose (k.faults before.key) (k.faults after.key) (s.faults before.input)
+    (s.faults after.input)
+    (o.faults before.out) (o.faults after.out) (l.faults before.log) (l.faults after.log)
+    (d.faults before.disk) (d.faults after.disk)) where
+  pub replayable_done : (status : Status) → ReplaysBox k s o l d boxed link dir rest before after
+      status
+      → ReadsCause (k.faults before.key) (k.faults after.key) (s.faults before.input)
+      (s.faults after.input) status
+      → BoxDiskCause (d.faults before.disk) (d.faults after.disk) status
+      → SinkCause (o.faults before.out) (o.faults after.out) (l.faults before.log)
+      (l.faults after.log) status → status ≡ Done
+  replayable_done Done h reads disk sinks = refl
+  replayable_done Usage h reads disk sinks = absurd h.runs
+  replayable_done (HasJournal floor) h reads disk sinks = absurd h.runs
+  replayable_done NoMemory h reads disk sinks = absurd h.runs
+  replayable_done (BadTicks bad) h reads disk sinks =
+      absurd (not_refused rest (s.left before.input) (s.left after.input) h.runs.items right.input
+      bad h.runs.takes)
+  replayable_done (TooLong what count) h reads disk sinks =
+      absurd (not_too_long rest (s.left before.input) (s.left after.input) h.runs.items right.input
+      what count h.runs.takes)
+  replayable_done ReadFault h reads disk sinks = elim reads.0 [
+    | inl key ↦ absurd (calm.key key)
+    | inr read ↦ absurd (calm.input read)
+  ]
+  replayable_done WriteFault h reads disk sinks = elim sinks [
+    | inl out ↦ absurd (calm.out out)
+    | inr log ↦ absurd (calm.log log)
+  ]
+  replayable_done JournalFault h reads disk sinks = absurd (calm.disk disk)
+  replayable_done (BadKey place) h reads disk sinks =
+      absurd (no_key_refused right.text right.key h.text (k.left after.key) place
+      right.key_right (subst (λ left. IsKeyMet left (k.left after.key) h.text) right.key_told h.met)
+      h.refused)
+  replayable_done (BadJournal a b) h reads disk sinks =
+      absurd (no_journal_refused link right.slots right.floor a b is_link right.has_floor
+      (subst (λ told. FindsNone told a b) right.slots_told h.runs.0))
+  replayable_done (WrongLink slot) h reads disk sinks =
+      absurd (wrong_link_refused link right.slots right.floor slot right.has_floor
+      (subst (λ told. FindsOther link told slot) right.slots_told h.runs.0))

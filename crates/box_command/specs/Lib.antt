@@ -1,0 +1,15 @@
+pub mod Boxes
+pub mod Sending
+pub mod LinkBoxed
+pub mod NoteLines
+pub mod SealLines
+pub mod SealBoxed
+pub mod SealLaws
+pub mod CheckLines
+pub mod CheckBoxed
+pub mod CheckLaws
+pub mod BoxLines
+pub mod BoxLinesLaws
+pub mod DrivenBox
+pub mod ReplaysBox
+pub mod Uptimes

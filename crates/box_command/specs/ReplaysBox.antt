@@ -1,0 +1,234 @@
+-- A command that replays its input through a box: what each status says of the key, the input, the
+-- two sinks and the journal's disk.
+use Rattle.std.specs.Prelude.{◌≡◌, ℕ, ◌+◌, ◌≤◌, ◌⊎◌, List, [], ◌∷◌, ◌++◌, length, take, Option}
+use Rattle.std.specs.Prelude.{Some, IfSome}
+use Rattle.yasir_io.specs.Causes.{Rose}
+use Rattle.yasir_io.specs.Disks.{Slots, NoMore, OneImage, LeavesOnly}
+use Rattle.yasir_io.specs.declared.source.Source.{Ghosts as Source}
+use Rattle.yasir_io.specs.declared.sink.Sink.{Ghosts as Sink}
+use Rattle.yasir_io.specs.declared.disk.SlotDisk.{Ghosts as SlotDisk}
+use Rattle.yasir_ticks.specs.Ticks.{Item, ticks_in}
+use Rattle.yasir_ticks.specs.TickText.{ended_items}
+use Rattle.yasir_ticks.specs.declared.tick.Tick.{Tick}
+use Rattle.hmac_tag.specs.declared.dir.Dir.{Dir}
+use Rattle.link_format.specs.Setup.{Setup, setup_of}
+use Rattle.sequence_journal.specs.declared.link.LinkId.{LinkId}
+use Rattle.sequence_journal.specs.Slots.{floor_of}
+use Rattle.sequence_journal.specs.Journal.{HasFloorAtLeast, IsEitherFloor}
+use Rattle.sequence_journal.specs.Loading.{MayTakeOver, FindsNone, FindsOther, MayLeaveLoading}
+use Rattle.sequence_journal.specs.Loading.{KeepsLoadable}
+use Rattle.sequence_journal.specs.Uptimes.{IsUptime}
+use Rattle.tick_drive.specs.Input.{Takes}
+use Rattle.tick_drive.specs.declared.consumer.Stop.TheVariants as stops
+use Rattle.tick_drive.specs.declared.end.End.{End}
+use Rattle.tick_drive.specs.declared.end.End.TheVariants.{Whole, Refused, Stopped}
+use Rattle.tick_drive.specs.declared.end.End.TheVariants as ends
+use Rattle.key_text.specs.KeyText.{IsKeyMet, IsKeyText, IsNoKey, IsCutShort}
+use Rattle.replay_status.specs.Outside.{Outside}
+use Rattle.replay_status.specs.Readable.{IsReadable}
+use Rattle.replay_status.specs.declared.status.Status.{Status}
+use Rattle.replay_status.specs.declared.status.Status.TheVariants.{Done, BadTicks, ReadFault}
+use Rattle.replay_status.specs.declared.status.Status.TheVariants.{WriteFault, JournalFault}
+use Rattle.replay_status.specs.declared.status.Status.TheVariants.{TooLong, BadKey, BadJournal}
+use Rattle.replay_status.specs.declared.status.Status.TheVariants.{WrongLink}
+use Rattle.box_command.specs.Boxes.{Boxed, FailsBox}
+use Rattle.line_texts.specs.Sending.{SinkTexts, sink_texts}
+use Rattle.box_command.specs.Sending.{HasSent, HasSentFronts}
+use Rattle.box_command.specs.BoxLines.{ToldFloor}
+
+-- what a box's run is handed beside the box's key
+pub record Around (S O L D : Type 0) : Type 0 where
+  pub input : S
+  pub out : O
+  pub log : L
+  pub disk : D
+
+abbrev pub around : {S O L D : Type 0} → S → O → L → D → Around S O L D
+around input out log disk = record { input = input; out = out; log = log; disk = disk }
+
+abbrev pub around_of : {K S O L D : Type 0} → Outside K S O L D → Around S O L D
+around_of outside = around outside.input outside.out outside.log outside.disk
+
+-- what a box makes of a line, with this key and direction, for a floor of its journal
+abbrev pub boxed_with : (Setup → Boxed) → List ℕ → Dir → ℕ → Boxed
+boxed_with boxed key dir floor = boxed (setup_of key dir floor)
+
+module _ {D : Type 0} (d : SlotDisk D) (link : LinkId) where
+  -- Where a crash before the run left the slots as read, none at its end leaves a floor below this
+  -- number.
+  abbrev pub KeepsFloor : ℕ → D → D → Type 0
+  KeepsFloor n old new = OneImage (d.told old) (d.may_leave old)
+      → (image : Slots) → d.may_leave new image → HasFloorAtLeast link n image
+
+  -- Where a crash before the run left the slots as read, each image that one leaves now makes the
+  -- whole an uptime with these numbers.
+  abbrev pub LeavesUptime : List ℕ → D → D → Type 0
+  LeavesUptime numbers old new = OneImage (d.told old) (d.may_leave old) → (begins : Slots)
+      → d.told old ≡ Some begins
+      → (image : Slots) → d.may_leave new image → IsUptime link begins numbers image
+
+  -- Where a crash before the run left the slots as read, and they have a floor, the slots that one
+  -- at any moment of it leaves have none below, or were being taken over.
+  abbrev pub KeepsFloorThroughout : D → D → Type 0
+  KeepsFloorThroughout old new = OneImage (d.told old) (d.may_leave old)
+      → (slots : Slots) (floor : ℕ) → d.told old ≡ Some slots → floor_of link slots ≡ Some floor
+      → LeavesOnly d.moment d.left_since old new (KeepsLoadable link slots floor)
+
+  -- From the end of the load on, where a crash before the run left the slots as read, one at any
+  -- moment leaves no floor below the one loaded.
+  pub record KeepsFloorFromLoad (floor : ℕ) (old new : D) : Type 0 where
+    pub loaded : D
+    pub found : MayTakeOver link (d.told old) (d.told loaded)
+    pub keeps : OneImage (d.told old) (d.may_leave old)
+        → LeavesOnly d.moment d.left_since loaded new (HasFloorAtLeast link floor)
+
+abbrev pub texts_of : {S O L D : Type 0} → Sink O → Sink L → Around S O L D → SinkTexts
+texts_of o l at = sink_texts (o.held at.out) (l.held at.log)
+
+module _ {S O L D : Type 0} (s : Source S) (o : Sink O) (l : Sink L) (d : SlotDisk D)
+    (link : LinkId) where
+  -- The sinks have got all that the box makes of this line, and each image of the disk has the last
+  -- number of it, and makes an uptime with the numbers of it.
+  pub record Replays (box : Boxed) (before after : Around S O L D) (line : List Tick) : Type 0 where
+    pub sent : HasSent box (texts_of o l before) (texts_of o l after) line
+    pub images : KeepsFloor d link (box.number line) before.disk after.disk
+    pub uptime : LeavesUptime d link (box.numbers line) before.disk after.disk
+
+  -- The box by the floor of its journal, and how many silent ticks stand behind a whole input.
+  module _ (box : ℕ → Boxed) (rest : ℕ) (before after : Around S O L D) where
+    -- The input ended so, and the box has answered each of its ticks.
+    pub record EndsBox (end : End) : Type 0 where
+      pub floor : ℕ
+      pub items : List Item
+      pub floor_before : ToldFloor link floor (d.told before.disk)
+      pub takes : Takes 0 rest (s.left before.input) (s.left after.input) items end
+      pub replays : Replays (box floor) before after (ticks_in items)
+      pub from_load : KeepsFloorFromLoad d link floor before.disk after.disk
+      pub floor_told : ToldFloor link ((box floor).number (ticks_in items)) (d.told after.disk)
+
+    -- The disk failed as a step used its number: the sinks have got what the box makes of the ticks
+    -- before it.
+    pub record FailsAtNumber : Type 0 where
+      pub floor : ℕ
+      pub items : List Item
+      pub line : List Tick
+      pub last : Tick
+      pub more : List Tick
+      pub floor_before : ToldFloor link floor (d.told before.disk)
+      pub takes : Takes 0 rest (s.left before.input) (s.left after.input) items
+          (Stopped stops.JournalFault)
+      pub all : ticks_in items ≡ (line ++ last ∷ []) ++ more
+      pub replays : Replays (box floor) before after line
+      pub from_load : KeepsFloorFromLoad d link floor before.disk after.disk
+      pub fails : FailsBox link (box floor) line last (d.told after.disk)
+
+    -- A write failed: of what the box makes of so many ticks the sinks have got a front. Its last
+    -- number is committed, and it may be that of the next tick is; each image makes an uptime with
+    -- the numbers of these ticks. Nor has an image a floor below the last number within the whole
+    -- lines that `out` got: as many ticks as stand in these lines were answered there, since a box
+    -- answers each tick with one.
+    pub record WritesFronts : Type 0 where
+      pub floor : ℕ
+      pub items : List Item
+      pub end : End
+      pub ticks : ℕ
+      pub floor_before : ToldFloor link floor (d.told before.disk)
+      pub takes : Takes 0 rest (s.left before.input) (s.left after.input) items end
+      pub sent : HasSentFronts (box floor) (texts_of o l before) (texts_of o l after)
+          (take ticks (ticks_in items))
+      pub images : KeepsFloor d link ((box floor).number (take ticks (ticks_in items)))
+          before.disk after.disk
+      pub uptime : LeavesUptime d link ((box floor).numbers (take ticks (ticks_in items)))
+          before.disk after.disk
+      pub from_load : KeepsFloorFromLoad d link floor before.disk after.disk
+      pub lines : KeepsFloor d link ((box floor).number
+          (take (length (ticks_in (ended_items sent.text.front))) (ticks_in items)))
+          before.disk after.disk
+      pub floor_told : IfSome (d.told after.disk)
+          (IsEitherFloor link ((box floor).number (take ticks (ticks_in items)))
+          ((box floor).number (take (ticks + 1) (ticks_in items))))
+
+    -- The journal was looked at, and nothing else was touched.
+    pub record LooksAtJournal : Type 0 where
+      pub input : after.input ≡ before.input
+      pub out : after.out ≡ before.out
+      pub log : after.log ≡ before.log
+      pub told : d.told after.disk ≡ d.told before.disk
+      pub images : NoMore (d.may_leave before.disk) (d.may_leave after.disk)
+      pub images_back : NoMore (d.may_leave after.disk) (d.may_leave before.disk)
+
+    -- The disk failed as the journal was loaded: nothing else was touched, and an old journal may
+    -- be taken over, in part or whole.
+    pub record FailsAtLoad : Type 0 where
+      pub input : after.input ≡ before.input
+      pub out : after.out ≡ before.out
+      pub log : after.log ≡ before.log
+      pub told : MayTakeOver link (d.told before.disk) (d.told after.disk)
+      pub images : (c : Slots) → d.may_leave after.disk c
+          → MayLeaveLoading (d.told before.disk) (d.may_leave before.disk) c
+
+    -- What each status says of a run with this key and direction, from the journal on.
+    abbrev pub RunsBox : Status → Type 0
+    RunsBox Done = EndsBox Whole
+    RunsBox (BadTicks bad) = EndsBox (Refused bad)
+    RunsBox (TooLong what count) = EndsBox (ends.TooLong what count)
+    RunsBox ReadFault = EndsBox ends.ReadFault
+    -- in a step, or as the journal was loaded
+    RunsBox JournalFault = FailsAtNumber ⊎ FailsAtLoad
+    RunsBox WriteFault = WritesFronts
+    RunsBox (BadJournal a b) = FindsNone (d.told before.disk) a b × LooksAtJournal
+    RunsBox (WrongLink slot) = FindsOther link (d.told before.disk) slot × LooksAtJournal
+    RunsBox status = ⊥
+
+module _ {K S O L D : Type 0} (k : Source K) (s : Source S) (o : Sink O) (l : Sink L)
+    (d : SlotDisk D)
+    (boxed : Setup → Boxed) (link : LinkId) (dir : Dir) (rest : ℕ)
+    (before after : Outside K S O L D) where
+  -- A right key text was met, and with its key the status says this.
+  pub record RunsKeyed (status : Status) : Type 0 where
+    pub text : List ℕ
+    pub key : List ℕ
+    pub met : IsKeyMet (k.left before.key) (k.left after.key) text
+    pub right : IsKeyText text key
+    pub calm : k.faults after.key ≡ k.faults before.key
+    pub runs : RunsBox s o l d link (boxed_with boxed key dir) rest (around_of before)
+        (around_of after) status
+
+  -- What was met of the key is no key text, and nothing else was touched.
+  pub record RefusesKey (place : ℕ) : Type 0 where
+    pub text : List ℕ
+    pub met : IsKeyMet (k.left before.key) (k.left after.key) text
+    pub refused : IsNoKey text place
+    pub same : around_of after ≡ around_of before
+
+  -- A read of the key failed, and nothing else was touched.
+  pub record FailsAtKey : Type 0 where
+    pub rose : Rose (k.faults before.key) (k.faults after.key)
+    pub cut : IsCutShort (k.left before.key) (k.left after.key)
+    pub same : around_of after ≡ around_of before
+
+  -- What each status says of the command.
+  abbrev pub ReplaysBox : Status → Type 0
+  ReplaysBox (BadKey place) = RefusesKey place
+  ReplaysBox ReadFault = FailsAtKey ⊎ RunsKeyed ReadFault
+  ReplaysBox status = RunsKeyed status
+
+-- The disk's count rose where a commit or a read of the journal failed. A write may fail after it.
+abbrev pub BoxDiskCause : ℕ → ℕ → Status → Type 0
+BoxDiskCause before now WriteFault = before ≤ now
+BoxDiskCause before now JournalFault = Rose before now
+BoxDiskCause before now status = now ≡ before
+
+-- All that the command is given is right: a key text, slots that have a floor for the link, and an
+-- input within the limits.
+pub record IsReplayable (link : LinkId) (key_before : Option (List ℕ)) (told : Option Slots)
+    (in_before : Option (List ℕ)) : Type 0 where
+  pub text : List ℕ
+  pub key : List ℕ
+  pub slots : Slots
+  pub floor : ℕ
+  pub key_told : key_before ≡ Some text
+  pub key_right : IsKeyText text key
+  pub slots_told : told ≡ Some slots
+  pub has_floor : floor_of link slots ≡ Some floor
+  pub input : IsReadable in_before

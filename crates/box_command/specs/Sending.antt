@@ -1,0 +1,22 @@
+-- The texts of what a box makes of a line, on their way to two sinks.
+use Rattle.std.specs.Prelude.{List}
+use Rattle.yasir_ticks.specs.declared.tick.Tick.{Tick}
+use Rattle.line_texts.specs.Sending as texts
+use Rattle.line_texts.specs.Sending.{LineAndNotes, SinkTexts, Waiting, SendsTexts}
+use Rattle.box_command.specs.Boxes.{Boxed}
+
+-- the line and the notes that a box makes
+abbrev pub made_by : Boxed → LineAndNotes
+made_by box = record { other_line = box.other_line; note_lines = box.note_lines }
+
+-- they are on their way to the two sinks, the notes first
+abbrev pub SendsBoxed : Boxed → Waiting → SinkTexts → SinkTexts → List Tick → Type 0
+SendsBoxed box = SendsTexts (made_by box)
+
+-- the sinks have got them, all of them
+abbrev pub HasSent : Boxed → SinkTexts → SinkTexts → List Tick → Type 0
+HasSent box = texts.HasSent (made_by box)
+
+-- the sinks have got a front of each, the notes first
+abbrev pub HasSentFronts : Boxed → SinkTexts → SinkTexts → List Tick → Type 0
+HasSentFronts box = texts.HasSentFronts (made_by box)

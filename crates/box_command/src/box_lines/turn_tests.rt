@@ -1,0 +1,133 @@
+//! How often the loops over a text call a box: a run is handed over whole, so that each line of the
+//! text costs a few calls. No clause says so.
+ghost use Rattle.std.specs.Prelude.{◌≡◌};
+
+use super::BoxLines;
+use crate::driven_box::DrivenBox;
+use crate::line_box::LineBox;
+use crate::note_lines::NoteLine;
+use burst_walk::{BoxStep, RunBytes};
+use check_receiver::Checker;
+use hmac_tag::{Dir, HmacSha1};
+use link_box::LinkBox;
+use rtu_frame::Rtu;
+use seal_transmitter::Sealer;
+use sequence_journal::{Journal, JournalFault, LinkId, slot_of};
+use std::alloc::Global;
+use std::test::Fail;
+use tick_drive::{End, drive};
+use yasir_io::{MemSink, Plan, SlotDisk, SteadySlots, SteadySource};
+use yasir_ticks::{Tick, TickRun};
+
+/// How often a box was asked to forward a run, how often to answer one, and how often it took a
+/// single tick.
+#[derive(Clone, Copy, Debug, PartialEq, Eq)]
+struct Calls {
+    forward: u32,
+    pass: u32,
+    step: u32,
+}
+
+const NO_CALLS: Calls = Calls {
+    forward: 0,
+    pass: 0,
+    step: 0,
+};
+
+/// A box, and how often it was called.
+#[derive(Drop)]
+struct Counted<X> {
+    inner: X,
+    calls: Calls,
+}
+
+impl<X: LinkBox> LinkBox for Counted<X> {
+    type Note = X::Note;
+
+    ghost stands = { λ value. X.stands value.inner };
+
+    ghost taken = { λ value. X.taken value.inner };
+
+    ghost walking = { X.walking };
+
+    ghost widths_fit = { X.widths_fit };
+
+    fn new(key: &[u8], dir: Dir) -> Self {
+        Counted {
+            inner: X::new(key, dir),
+            calls: NO_CALLS,
+        }
+    }
+
+    fn step<D: SlotDisk>(
+        &mut self,
+        t: Tick,
+        journal: &mut Journal,
+        disk: &mut D,
+    ) -> Result<BoxStep<X::Note>, JournalFault> {
+        self.calls.step = self.calls.step.saturating_add(1);
+        self.inner.step(t, journal, disk)
+    }
+
+    fn forward(&mut self, run: TickRun<'_>) -> usize {
+        self.calls.forward = self.calls.forward.saturating_add(1);
+        self.inner.forward(run)
+    }
+
+    fn pass(&mut self, run: TickRun<'_>, left: &mut RunBytes) -> usize {
+        self.calls.pass = self.calls.pass.saturating_add(1);
+        self.inner.pass(run, left)
+    }
+}
+
+impl<X: LineBox> LineBox for Counted<X> {
+    ghost line_of = { X.line_of };
+
+    fn note_line(note: &X::Note) -> NoteLine {
+        X::note_line(note)
+    }
+
+    ghost rising = { X.rising };
+
+    ghost causal = { λ value. X.causal value.inner };
+}
+
+// Two lines of bytes, and two of silence, one of them as long as a line of silence may be.
+const TEXT: &[u8] = b"+000102030405060708090a0b0c0d0e0f101112131415161718191a1b1c1d1e1f\n\
+      -1000000\n\
+      # no tick\n\
+      +41\n\
+      -40\n";
+
+// The calls of a box as the text is driven into it.
+fn calls_of<X: LineBox>(alloc: Global) -> Result<Calls, Fail>
+    requires { X.widths_fit }
+{
+    let served = LinkId::of_no_file();
+    let mut disk = SteadySlots::new(slot_of(0, &served), [0; 24]);
+    let journal = Journal::load(&mut disk, &served)?;
+    let mut lines: BoxLines<Counted<X>> = BoxLines::new(&[0; 16], Dir::Ab, journal);
+    let mut input = SteadySource::new(TEXT);
+    let mut out = MemSink::with_room(alloc, 200, 512, Plan::new())?;
+    let mut log = MemSink::with_room(alloc, 200, 512, Plan::new())?;
+    let mut driven = DrivenBox::new(&mut lines, &mut out, &mut log, &mut disk);
+    match drive(0, &mut input, &mut driven) {
+        End::Whole => Ok(lines.line_box.calls),
+        _ => Err(Fail::from("the text isn't whole")),
+    }
+}
+
+// Each of the four lines with ticks is handed over at once. Both boxes take alone the tick in which
+// a burst is judged, and the receiver the one in which a burst begins; all else they take in runs,
+// the transmitter by forwarding it.
+#[test]
+fn a_line_of_text_costs_few_calls_of_the_box(rt: HostRuntime) -> Result<(), Fail> {
+    let sealing = calls_of::<Sealer<Rtu, HmacSha1, 2>>(rt.alloc())?;
+    assert!(rt; sealing.step <= 2, "{sealing:?}");
+    assert!(rt; sealing.forward <= 10, "{sealing:?}");
+    assert!(rt; sealing.pass <= 2, "{sealing:?}");
+    let checking = calls_of::<Checker<Rtu, HmacSha1, 2, 18>>(rt.alloc())?;
+    assert!(rt; checking.step <= 4, "{checking:?}");
+    assert!(rt; checking.pass <= 14, "{checking:?}");
+    Ok(())
+}

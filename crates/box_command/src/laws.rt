@@ -1,0 +1,32 @@
+ghost use Rattle.std.specs.Prelude.{◌≡◌, ℕ, Some};
+ghost use Rattle.yasir_io.specs.Disks.{Slots, OneImage};
+ghost use Rattle.hmac_tag.specs.declared.dir.Dir.{Dir};
+ghost use Rattle.link_format.specs.Setup.{Setup};
+ghost use Rattle.sequence_journal.specs.declared.link.LinkId.{LinkId};
+ghost use Rattle.sequence_journal.specs.Links.{IsLink};
+ghost use Rattle.replay_status.specs.Outside.{Outside};
+ghost use Rattle.replay_status.specs.declared.status.Status.{Status};
+ghost use Rattle.box_command.specs.Boxes.{Boxed};
+ghost use Rattle.box_command.specs.ReplaysBox.{ReplaysBox};
+ghost use Rattle.box_command.specs.Uptimes.{IsUptimeOrNone};
+
+use yasir_io::{Sink, SlotDisk, Source};
+
+/// A law of what each status says of a box's command, for every box, over a disk that tells its
+/// slots and of which a crash before the run would have left them as they read: each image that a
+/// crash may leave at the run's end, however it ended, makes the run an uptime of the box, or is
+/// the slots as they were, or, where a fault cut the taking over of an old journal off, makes the
+/// run an uptime that has loaded no floor. So the runs of a command over one disk are uptimes that
+/// share it.
+pub fn runs_are_uptimes<K: Source, S: Source, O: Sink, L: Sink, D: SlotDisk>()
+    ensures { (boxed : Setup → Boxed) (link : LinkId) (dir : Dir) (rest : ℕ)
+        (before after : Outside K S O L D) (status : Status) (begins image : Slots)
+        → IsLink link
+        → ReplaysBox K.Source S.Source O.Sink L.Sink D.SlotDisk boxed link dir rest before after
+        status
+        → D.told before.disk ≡ Some begins
+        → OneImage (D.told before.disk) (D.may_leave before.disk)
+        → D.may_leave after.disk image
+        → IsUptimeOrNone K.Source S.Source O.Sink L.Sink D.SlotDisk boxed link dir rest before
+        after status begins image }
+{}

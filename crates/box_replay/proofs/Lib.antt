@@ -1,9 +1,0 @@
-pub mod AnsweredRuns
-pub mod Begun
-pub mod Fronts
-pub mod Behind
-pub mod Floors
-pub mod Outcomes
-pub mod Replayable
-pub mod Walking
-pub mod RunsAreUptimes

@@ -1,2 +1,0 @@
-pub mod Checkings
-pub mod Runs

@@ -1,3 +1,0 @@
-pub mod NoteLines
-pub mod CheckBoxed
-pub mod CheckBoxedLaws

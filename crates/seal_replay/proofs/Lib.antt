@@ -1,2 +1,0 @@
-pub mod Sealings
-pub mod Runs

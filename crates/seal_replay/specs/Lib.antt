@@ -1,3 +1,0 @@
-pub mod NoteLines
-pub mod SealBoxed
-pub mod SealBoxedLaws
