@@ -1,4 +1,4 @@
-"""A model of transmitter, receiver and devices, over whole lines: the rules of docs/LINK.md, written anew in Python.
+"""A model of transmitter, receiver, spacer and devices, over whole lines: the rules of docs/LINK.md, written anew in Python.
 
 It shares nothing with the program, so that the two can be compared (random_lines.py). A line is a list of ticks: a byte,
 or None for silence. The tags are by hashlib.
@@ -9,6 +9,9 @@ LIMIT = (1 << 48) - 1
 
 # Silent ticks that end a burst, and that stand between a frame and its trailer; those that the program takes to follow a link.
 CUT, PAUSE, LINK_REST = 4, 3, 320
+
+# Frames that may wait in the spacer of the program, and the silent ticks that it takes to follow a line.
+WAITING, SPACER_REST = 64, 21000
 
 # Bytes of a word and of a tag, the hash, and the ticks by which the receiver is late.
 Profile = collections.namedtuple("Profile", "name word tag hash delay")
@@ -54,14 +57,13 @@ class Rtu:
         return len(data)
 
     @classmethod
-    def reads(cls, line):
-        """Frames that a device reads, with the tick of their first byte; four silent ticks follow the line."""
-        line = line + [None] * CUT
+    def arrivals(cls, line):
+        """Frames that a device reads of this line: the step in which each is read, the tick of its first byte, its bytes."""
         for start, end in bursts(line):
             body = line[start:end + 1]
             frame = [byte for byte in body if byte is not None]
             if end + CUT < len(line) and first_pause(body) is None and cls.is_frame(frame):
-                yield start, frame
+                yield end + CUT, start, frame
 
 
 class Dnp3:
@@ -107,8 +109,8 @@ class Dnp3:
         return cls.ends_in_crc(data[last:])
 
     @classmethod
-    def reads(cls, line):
-        """Frames that a device reads, with the tick of their first byte: it hunts for 05 64, and silence is nothing to it."""
+    def arrivals(cls, line):
+        """The same of a DNP3 device: it hunts for 05 64, and silence is nothing to it."""
         found = [(tick, byte) for tick, byte in enumerate(line) if byte is not None]
         data, place = [byte for _, byte in found], 0
         while place < len(data):
@@ -124,8 +126,13 @@ class Dnp3:
             if len(data) - place < size:
                 return
             if cls.is_frame(data[place:place + size]):
-                yield found[place][0], data[place:place + size]
+                yield found[place + size - 1][0], found[place][0], data[place:place + size]
             place += size
+
+
+def reads(proto, line):
+    """Frames that a device reads, with the tick of their first byte; four silent ticks follow the line."""
+    return [(start, frame) for _, start, frame in proto.arrivals(line + [None] * CUT)]
 
 
 def bursts(line):
@@ -247,6 +254,22 @@ def check(proto, key, direction, floor, link, profile=Y18):
     return [sent.get(tick) for tick in range(len(link))], told, floor, passed
 
 
+def space(proto, line, profile=Y18, cap=WAITING, rest=SPACER_REST):
+    """The spaced line, the notes of the frames that are lost, and the accepted ones: the step in which each is read, where it
+    begins, and its bytes."""
+    line, gap = line + [None] * rest, profile.delay + PAUSE
+    spaced, lost, accepted = [None] * len(line), [], []
+    for step, start, frame in proto.arrivals(line):
+        if sum(begin > step for _, begin, _ in accepted) >= cap:
+            lost.append("lost at %d %s" % (start, bytes(frame).hex()))
+            continue
+        free = accepted[-1][1] + len(accepted[-1][2]) + gap if accepted else 0
+        accepted.append((step, max(step + 1, free), frame))
+    for _, begin, frame in accepted:
+        spaced[begin:begin + len(frame)] = frame
+    return spaced[:len(line)], lost, accepted
+
+
 def replay(proto, key, direction, line, link, profile=Y18):
     """The lines that `replay` writes: the frames that are sealed, passed, read and forged."""
     sealed = seal(proto, key, direction, 0, line, profile)[3]
@@ -254,7 +277,7 @@ def replay(proto, key, direction, line, link, profile=Y18):
     known = {(number, bytes(frame)) for number, _, frame in sealed}
     forged = [entry for entry in passed if (entry[0], bytes(entry[2])) not in known]
     numbered = lambda word, entries: ["%s %d at %d %s" % (word, number, start, bytes(frame).hex()) for number, start, frame in entries]
-    read = ["read at %d %s" % (start, bytes(frame).hex()) for start, frame in proto.reads(received)]
+    read = ["read at %d %s" % (start, bytes(frame).hex()) for start, frame in reads(proto, received)]
     return numbered("sealed", sealed) + numbered("passed", passed) + read + numbered("forged", forged)
 
 

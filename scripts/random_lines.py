@@ -4,9 +4,10 @@
     python3 scripts/random_lines.py [LINES] [PROGRAM] [SEED]
 
 A line has frames, packets (altered, cut, repeated or whole), noise and silence, with the lengths at which rules change.
-Compared are `read`, `seal`, `check` and `replay` with both profiles: standard output, the notes, and the floor of the journal
-after the run. A journal is one of the link, or an old one that is taken over. A link that `replay` gets is that of its device's
-line, altered here and there, or one of its own.
+Compared are `read`, and `seal`, `check`, `space` and `replay` with both profiles: standard output, the notes, and the floor of
+the journal after the run. A journal is one of the link, or an old one that is taken over. A link that `replay` gets is that of its device's
+line, altered here and there, or one of its own. A line that `space` gets is one of these, or has many close frames, some of them
+cut, so that more would have to wait than may.
 It is no part of the gate.
 """
 import os, random, subprocess, sys, tempfile
@@ -16,7 +17,7 @@ from killed import KEY, floor_of, old_slot_of, slot_of
 from model import LIMIT, PAUSE, Y18, Y24, Dnp3, Rtu
 
 # The words of notes and printed frames by which runs are counted.
-WORDS = ("sealed", "unsealed", "passed", "refused", "dropped", "read", "forged", "early", "form", "spent", "trailer", "number", "tag", "busy", "head")
+WORDS = ("sealed", "unsealed", "passed", "refused", "dropped", "read", "forged", "early", "form", "spent", "trailer", "number", "tag", "busy", "head", "lost")
 
 
 def some_frame(proto, chance):
@@ -71,6 +72,23 @@ def some_line(proto, key, direction, floor, packets, chance, profile=Y18):
     return line
 
 
+def some_crowd(proto, chance):
+    """A line of many close frames, most of them short, with cut ones and noise between."""
+    line, gaps = [], chance.choice([[4], [4, 5, 9], [4, 20, 21, 22], [0, 3, 4]] + [[0], [0, 1, 2], [0, 40]] * (proto is Dnp3))
+    frames = [some_frame(proto, chance) for _ in range(8)]
+    short = min(frames, key=len)
+    for _ in range(chance.choice([3, 66, 67, 100, 200, 300])):
+        kind, frame = chance.randrange(60), chance.choice(frames) if chance.random() < 0.2 else short
+        if kind == 0:
+            frame = altered(frame, chance)
+        elif kind == 1:
+            frame = with_gaps(frame, chance)
+        elif kind == 2:
+            frame = [chance.randrange(256) for _ in range(chance.randrange(1, 300))]
+        line += frame + [None] * chance.choice(gaps)
+    return line + [None] * chance.choice([0, 0, 10, 5000])
+
+
 def some_link(proto, key, direction, line, chance, profile):
     """What stands on the link behind the transmitter of this line: parts of what it sent, some altered, or a link of its own."""
     link, parts = model.seal(proto, key, direction, 0, line, profile)[0], []
@@ -86,7 +104,7 @@ def some_link(proto, key, direction, line, chance, profile):
 
 def run(program, words, text, journal, floor, old):
     """What the program writes, and the journal's floor after it, from a journal at this floor on, which may be an old one."""
-    link = tuple(words[1:3]) if words[0] != "read" else ("rtu", "ab")
+    link = tuple(words[1:3]) if words[0] not in ("read", "space") else ("rtu", "ab")
     with open(journal, "wb") as file:
         file.write(old_slot_of(floor) if old else bytes(32) + slot_of(floor, link))
     ran = subprocess.run([program] + words, input=text, capture_output=True, text=True)
@@ -95,9 +113,12 @@ def run(program, words, text, journal, floor, old):
 
 def expected(proto, profile, command, key, direction, lines, floor):
     if command == "read":
-        return 0, "".join("read at %d %s\n" % (start, bytes(frame).hex()) for start, frame in proto.reads(lines[0])), [], floor
+        return 0, "".join("read at %d %s\n" % (start, bytes(frame).hex()) for start, frame in model.reads(proto, lines[0])), [], floor
     if command == "replay":
         return 0, "".join(line + "\n" for line in model.replay(proto, key, direction, lines[0], lines[1], profile)), [], floor
+    if command == "space":
+        spaced, lost, _ = model.space(proto, lines[0], profile)
+        return 0, model.canonical(spaced), lost, floor
     box = model.seal if command == "seal" else model.check
     other, notes, floor, _ = box(proto, key, direction, floor, lines[0], profile)
     return 0, model.canonical(other), notes, floor
@@ -106,7 +127,7 @@ def expected(proto, profile, command, key, direction, lines, floor):
 def words_of(proto, profile, command, direction, key_file, journal):
     name = {"rtu": "rtu", "dnp3": "dnp"}[proto.word] + profile.name if profile.name and command != "read" else proto.word
     named = [["ab", "ba"][direction], key_file] + [journal] * (command != "replay")
-    return [command, name] + named * (command != "read")
+    return [command, name] + named * (command not in ("read", "space"))
 
 
 def main():
@@ -118,10 +139,12 @@ def main():
         open(key_file, "w").write(KEY)
         for _ in range(lines):
             proto, direction, profile = chance.choice([Rtu, Dnp3]), chance.randrange(2), chance.choice([Y18, Y18, Y24])
-            command = chance.choice(["read", "seal", "check", "check", "replay"])
+            command = chance.choice(["read", "seal", "check", "check", "replay", "space"])
             floor = 0 if command == "replay" else chance.choice([0, 0, 5, 65530, 70000, LIMIT - 3, LIMIT])
             old = chance.random() < 0.25
             given = [some_line(proto, key, direction, floor, command == "check", chance, profile)]
+            if command == "space" and chance.random() < 0.5:
+                given = [some_crowd(proto, chance)]
             if command == "replay":
                 given.append(some_link(proto, key, direction, given[0], chance, profile))
             words, text = words_of(proto, profile, command, direction, key_file, journal), "%\n".join(map(model.canonical, given))
