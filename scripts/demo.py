@@ -124,6 +124,19 @@ def show_altered(name, protocol, what, reader, folder):
     return show_received(name, protocol, "ab", reader, link, folder)
 
 
+def show_guarded(name, folder):
+    """Shows a spacer behind the receiver, over a link with right frames that have one byte more, and says what a device that counts bytes makes of both lines."""
+    same = show_altered(name, "rtu", "A link of Modbus RTU with one byte behind a frame, and one in front of it", "device", folder)
+    print("A device that waits for silence reads these two frames. One that counts bytes acts on 01050000ff008c3a twice, from ticks")
+    print("68 and 119 on: the frame has left whole each time, though both bursts were refused. It isn't protected.\n")
+    line, lost = run(["space", "rtu"], os.path.join(folder, name + ".received.ticks"))
+    if lost:
+        raise RuntimeError("a frame is lost that shouldn't be: %s" % lost.strip())
+    same &= show("check rtu ab | space rtu: the line that the spacer sends on", line, name + ".guarded.ticks")
+    print("Behind this spacer any device, also one that counts bytes, is given the two frames that passed, and silence.\n")
+    return same
+
+
 def show_session(name, protocol, line, link, what, folder):
     """Shows both boxes over a line and a link at once: what was sealed, passed and read, and what passed and was never sealed."""
     print("== %s\n" % what)
@@ -199,6 +212,7 @@ def main():
         same &= show_altered("altered", "rtu", "The first of these links again", "device", folder)
         same &= show_side("outstation", "dnp3", "ab", "From the control centre to a DNP3 outstation", "outstation", folder)
         same &= show_altered("outstation_altered", "dnp3", "This link again", "outstation", folder)
+        same &= show_guarded("byte_behind", folder)
         same &= show_wrong_link(folder)
         same &= show_taken_over(folder)
         same &= show_sessions(folder)
