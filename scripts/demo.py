@@ -125,10 +125,10 @@ def show_altered(name, protocol, what, reader, folder):
 
 
 def show_guarded(name, folder):
-    """Shows a spacer behind the receiver, over a link with right frames that have one byte more, and says what a device that counts bytes makes of both lines."""
-    same = show_altered(name, "rtu", "A link of Modbus RTU with one byte behind a frame, and one in front of it", "device", folder)
-    print("A device that waits for silence reads these two frames. One that counts bytes acts on 01050000ff008c3a twice, from ticks")
-    print("68 and 119 on: the frame has left whole each time, though both bursts were refused. It isn't protected.\n")
+    """Shows a spacer behind the receiver, over a link with a right frame and one byte more, and says what a device that counts bytes makes of both lines."""
+    same = show_altered(name, "rtu", "A link with a frame and one byte directly behind it", "device", folder)
+    print("A device that waits for silence reads these two frames. One that counts bytes takes eight bytes from tick 68 on, finds their")
+    print("CRC right, and acts on 01050000ff008c3a too, though that burst was refused. The receiver alone doesn't protect it.\n")
     line, lost = run(["space", "rtu"], os.path.join(folder, name + ".received.ticks"))
     if lost:
         raise RuntimeError("a frame is lost that shouldn't be: %s" % lost.strip())
