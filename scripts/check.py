@@ -14,7 +14,7 @@ part of the gate, and none of it proves anything.
 """
 import collections, os, shutil, subprocess, sys, time
 
-import browser
+import browser, guard
 
 ROOT = os.path.dirname(os.path.dirname(os.path.abspath(__file__)))
 LOGS = os.path.join(ROOT, "out", "check")
@@ -41,6 +41,7 @@ CHECKS = [
     Check("killed_seal", ("program", "memory"), None, ["40", "PROGRAM", "MEMORY"], ["400", "PROGRAM", "MEMORY"]),
     Check("killed_check", ("program", "memory"), None, ["40", "PROGRAM", "MEMORY"], ["400", "PROGRAM", "MEMORY"]),
     Check("refused_memory", ("program", "cc"), None, ["PROGRAM"], ["PROGRAM"]),
+    Check("guard", ("program", "libmodbus"), None, ["PROGRAM"], ["PROGRAM", "2000", "2"]),
     Check("timeline_check", ("chromium",), None, [], []),
     Check("tag_instructions", ("program", "valgrind"), None, None, ["PROGRAM"]),
     Check("limits", ("program",), None, None, ["PROGRAM"]),
@@ -55,6 +56,8 @@ def lacking(need, program):
         return "there is no folder in memory, %s" % MEMORY
     if need == "chromium" and browser.find() is None:
         return "no Chromium is on the path"
+    if need == "libmodbus":
+        return guard.lacking()
     if need in ("cc", "valgrind") and shutil.which(need) is None:
         return "%s isn't on the path" % need
     return None
