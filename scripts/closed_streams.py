@@ -26,6 +26,7 @@ COMMANDS = [
     ("init rtu ab JOURNAL", None, ()),
     ("init rtu ab JOURNAL", NEW, ()),
     ("read rtu", NEW, (0, 1)),
+    ("space rtu", NEW, (0, 1)),
     ("replay rtu ab KEY", NEW, (0, 1)),
     ("vectors", NEW, (1,)),
     ("trial rtu 7 3", NEW, (1,)),

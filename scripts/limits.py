@@ -76,7 +76,7 @@ def run(program, words, parts, folder):
 
 def main():
     program = sys.argv[1] if len(sys.argv) > 1 else "crates/link_replay/out/link_replay"
-    commands = ["init rtu ab NEW", "vectors", "trial rtu 7 10000", "trial dnp3 7 10000", "read rtu", "read dnp3"]
+    commands = ["init rtu ab NEW", "vectors", "trial rtu 7 10000", "trial dnp3 7 10000", "read rtu", "read dnp3", "space rtu", "space dnp3"]
     for box in ("seal %s ab KEY JOURNAL", "check %s ab KEY JOURNAL", "replay %s ab KEY"):
         commands += [box % proto for proto in ("rtu", "dnp3")]
     wrong = 0

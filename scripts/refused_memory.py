@@ -4,9 +4,10 @@
     python3 scripts/refused_memory.py [PROGRAM]
 
 A small library, compiled by `cc` and loaded before the C library's, counts the calls that take or grow memory: of a run, the
-N-th is refused alone, or it and each one behind it, for every N up to the last call that a whole run makes. `replay` must
-answer NoMemory with nothing in its output and its fault line in the log, or what it answers when nothing is refused; the
-other commands take no memory once their words are read. It ends with 1 where a run ends otherwise. It is no part of the gate.
+N-th is refused alone, or it and each one behind it, for every N up to the last call that a whole run makes. `replay` and
+`space` must answer NoMemory with nothing in their output and their fault line in the log, or what they answer when nothing is
+refused; the other commands take no memory once their words are read. It ends with 1 where a run ends otherwise. It is no part
+of the gate.
 """
 import os, subprocess, sys, tempfile
 
@@ -116,6 +117,7 @@ def main():
     long = b"%\n".join([b"+01030000000ac5cd\n-40\n" * 3000] * 2)
     cases = [
         ("replay rtu ab KEY", requests), ("replay dnp3 ab KEY", device), ("replay rtu ab KEY", long), ("read rtu", requests.split(b"%\n")[0]),
+        ("space rtu", requests.split(b"%\n")[0]), ("space dnp24", device.split(b"%\n")[0]),
         ("seal rtu ab KEY JOURNAL", requests.split(b"%\n")[0]), ("check rtu ab KEY JOURNAL", requests.split(b"%\n")[1]), ("vectors", b""), ("trial rtu 7 20", b""),
     ]
     wrong = 0
@@ -129,7 +131,7 @@ def main():
                 for behind in (False, True):
                     end = runs.run(words, text, n, behind)[:3]
                     right = end == (status, out, log) or end[:2] == (NO_WORDS, b"") or end == (NO_MEMORY, b"", b"")
-                    if words[0] == "replay":
+                    if words[0] in ("replay", "space"):
                         right = right or end == (NO_MEMORY, b"", b"fault: memory\n")
                     ends[end[0]] = ends.get(end[0], 0) + 1
                     if not right:
