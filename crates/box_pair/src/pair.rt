@@ -1,0 +1,122 @@
+ghost use Rattle.std.specs.Prelude.{◌≡◌};
+ghost use Rattle.box_pair.specs.Directions.{opposite_of};
+
+use hmac_tag::Dir;
+use link_box::LinkBox;
+use sequence_journal::{Journal, JournalFault};
+use yasir_io::SlotDisk;
+use yasir_ticks::Tick;
+
+/// In which direction a number wasn't committed.
+#[derive(Clone, Copy, Debug, PartialEq, Eq)]
+pub enum DuplexFault {
+    /// That of the frame which is sealed in the step: the journal of the outgoing line failed.
+    Outgoing,
+    /// That of the frame which passes in the step: the journal of the incoming line failed.
+    Incoming,
+}
+
+/// What a step of both directions answers.
+#[derive(Clone, Copy, Debug, PartialEq, Eq)]
+pub struct PairStep<A, B> {
+    /// The tick that is sent on the link.
+    pub link: Tick,
+    /// The tick that the device is sent.
+    pub device: Tick,
+    /// The note of the outgoing direction that falls into this step.
+    pub sealed: Option<A>,
+    /// The note of the incoming one.
+    pub checked: Option<B>,
+}
+
+/// A box of the outgoing direction of a line, and a box of the incoming one, under one key.
+#[derive(Drop)]
+pub struct BoxPair<S, C> {
+    outgoing: Dir,
+    sender: S,
+    receiver: C,
+}
+
+// The other direction of a line.
+fn opposite(dir: Dir) -> Dir
+    ensures { result ≡ opposite_of dir }
+{
+    match dir {
+        Dir::Ab => Dir::Ba,
+        Dir::Ba => Dir::Ab,
+    }
+}
+
+impl<S: LinkBox, C: LinkBox> BoxPair<S, C> {
+    ghost use Rattle.std.specs.Prelude.{◌≡◌, ℕ, []};
+    ghost use Rattle.link_format.specs.Setup.{setup_of};
+    ghost use Rattle.link_box.specs.Stepping.{MayStep};
+    ghost use Rattle.box_pair.specs.Directions.{opposite_of, AreOfLine};
+    ghost use Rattle.box_pair.specs.Pairs.{outgoing_direction, outgoing_box, incoming_box};
+    ghost use Rattle.box_pair.specs.Pairs.{ways_of, StepsBoth};
+
+    /// Two boxes that have taken no tick, for a key of any length: the one of the line's direction
+    /// `outgoing`, and one of its other direction.
+    pub fn new(key: &[u8], outgoing: Dir) -> BoxPair<S, C>
+        requires outgoing_fits { S.widths_fit }
+        requires incoming_fits { C.widths_fit }
+
+        ensures direction { outgoing_direction result ≡ outgoing }
+        ensures none_sent { S.taken (outgoing_box result) ≡ 0 }
+        ensures none_got { C.taken (incoming_box result) ≡ 0 }
+        ensures sends { (floor : ℕ) → S.stands (outgoing_box result) floor
+            (setup_of key.now outgoing floor) [] }
+        ensures gets { (floor : ℕ) → C.stands (incoming_box result) floor
+            (setup_of key.now (opposite_of outgoing) floor) [] }
+    {
+        BoxPair {
+            outgoing,
+            sender: S::new(key, outgoing),
+            receiver: C::new(key, opposite(outgoing)),
+        }
+    }
+
+    /// Takes the next tick of the device and the next one of the link, the outgoing direction first,
+    /// and answers what leaves in both directions with the notes that fall into this step. `sent`
+    /// and `sent_disk` are the journal of the outgoing direction and its disk, `got` and `got_disk`
+    /// those of the incoming one, each as the steps before left it. Fewer than `MAX_TICKS` ticks
+    /// were taken before in each direction.
+    ///
+    /// It fails where the number of a frame isn't committed. No step follows.
+    #[inline(always)]
+    pub fn step<X: SlotDisk, Y: SlotDisk>(
+        &mut self,
+        from_device: Tick,
+        from_link: Tick,
+        sent: &mut Journal,
+        sent_disk: &mut X,
+        got: &mut Journal,
+        got_disk: &mut Y,
+    ) -> Result<PairStep<S::Note, C::Note>, DuplexFault>
+        requires journals { AreOfLine (outgoing_direction self.old) sent.old got.old }
+        requires outgoing { MayStep (S.taken (outgoing_box self.old)) sent.old
+            (X.told sent_disk.old) }
+        requires incoming { MayStep (C.taken (incoming_box self.old)) got.old
+            (Y.told got_disk.old) }
+
+        ensures direction { outgoing_direction self.new ≡ outgoing_direction self.old }
+        ensures steps { StepsBoth S.LinkBox C.LinkBox X.SlotDisk Y.SlotDisk from_device from_link
+            (ways_of self.old sent.old sent_disk.old got.old got_disk.old)
+            (ways_of self.new sent.new sent_disk.new got.new got_disk.new) result }
+    {
+        let sealed = match self.sender.step(from_device, sent, sent_disk) {
+            Ok(step) => step,
+            Err(JournalFault) => return Err(DuplexFault::Outgoing),
+        };
+        let checked = match self.receiver.step(from_link, got, got_disk) {
+            Ok(step) => step,
+            Err(JournalFault) => return Err(DuplexFault::Incoming),
+        };
+        Ok(PairStep {
+            link: sealed.tick,
+            device: checked.tick,
+            sealed: sealed.note,
+            checked: checked.note,
+        })
+    }
+}
