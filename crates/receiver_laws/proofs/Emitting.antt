@@ -173,21 +173,21 @@ module _ (profile : Profile) (tags : HasTags profile) (some : 1 ≤ profile.word
     abbrev pub its : List Burst
     its = emitted (sealer profile rules) (at_floor floor) (bursts line)
 
-    abbrev link : List Tick
+    abbrev pub link : List Tick
     link = link_line profile rules floor line
 
-    abbrev more : ℕ
+    abbrev pub more : ℕ
     more = pause_len + trailer_len profile
 
     -- the link, as long as the last trailer needs
-    abbrev longer : List Tick
+    abbrev pub longer : List Tick
     longer = laid (length line + more) its
 
     its-spread : AreSpread 4 0 its
     its-spread = emissions-spread (at_floor floor) 0 0 (bursts line) (bursts-spread line)
         (λ x after late. omega arith)
 
-    longer-are : AreBursts 4 0 longer its
+    pub longer-are : AreBursts 4 0 longer its
     longer-are =
         let same : length line + pause_len + trailer_len profile ≡ length line + more = omega arith
         in
@@ -199,7 +199,7 @@ module _ (profile : Profile) (tags : HasTags profile) (some : 1 ≤ profile.word
         (bursts-spread line) (bursts-end line))))
         (bursts_from-are 4 0 longer)
 
-    longer-is : (rest : List Tick) × (longer ≡ link ++ rest)
+    pub longer-is : (rest : List Tick) × (longer ≡ link ++ rest)
     longer-is = laid-longer its (length line) more (length line + more) refl
 
     pub link-length : length link ≡ length line

@@ -24,6 +24,8 @@ pub mod Headline
 pub mod Parting
 pub mod Sending
 pub mod Emitting
+pub mod CutLinks
+pub mod Reflecting
 pub mod InStep
 pub mod QuietLines
 pub mod Recovering

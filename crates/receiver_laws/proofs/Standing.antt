@@ -66,7 +66,7 @@ bytes-kept (suc n) (Byte b ∷ x) whole =
     let rest = bytes-kept n x (omega arith) in
     (b ∷ rest.0, rest.1, ap (λ y. Byte b ∷ y) rest.2, ap suc rest.3)
 
-shape-kept : (j n : ℕ) (x : List Tick) → 0 < n
+pub shape-kept : (j n : ℕ) (x : List Tick) → 0 < n
     → j + n ≤ kept (replicate j false ++ replicate n true) x
     → (bytes : List ℕ) × (more : List Tick) × (x ≡ silent j ++ (byte_ticks bytes ++ more))
     × (length bytes ≡ n)

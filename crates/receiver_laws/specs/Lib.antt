@@ -7,3 +7,4 @@ pub mod Accounted
 pub mod Headline
 pub mod OverUptimes
 pub mod Recovery
+pub mod Reflected

@@ -10,6 +10,7 @@ mod hunting_laws;
 mod laws;
 mod profiles;
 mod recovery;
+mod reflection;
 mod untouched;
 mod uptime_laws;
 
@@ -23,5 +24,6 @@ pub use laws::{
 };
 pub use profiles::stated_profiles_are_fit;
 pub use recovery::{lacking_bytes_are_bounded, untouched_link_recovers};
+pub use reflection::reflected_links_pass_nothing;
 pub use untouched::untouched_link_delivers_all;
 pub use uptime_laws::{device_reads_what_was_sealed_over_uptimes, uptimes_are_accounted_for};

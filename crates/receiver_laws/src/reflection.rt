@@ -1,0 +1,39 @@
+ghost use Rattle.std.specs.Prelude.{◌≡◌, ◌≢◌, ℕ, List, [], All};
+ghost use Rattle.yasir_ticks.specs.declared.tick.Tick.{Tick};
+ghost use Rattle.hmac_tag.specs.Tag.{tag_text};
+ghost use Rattle.link_format.specs.NumberedFrame.{NumberedFrame};
+ghost use Rattle.link_format.specs.Profile.{Profile};
+ghost use Rattle.seal_judgements.specs.Sealing.{link_line, sealed};
+ghost use Rattle.link_verdicts.specs.Checking.{passed};
+ghost use Rattle.receiver_laws.specs.Accounted.{forged};
+ghost use Rattle.receiver_laws.specs.Fitting.{IsFit};
+ghost use Rattle.receiver_laws.specs.Reflected.{with_tags, TagsMatch, IsReflected};
+
+use line_rules::LineRules;
+
+/// A law of the transmitter's and the receiver's definitions, for the rules of each protocol, each
+/// profile, floors and line of a device: a link that is sent back the way it came, so that the
+/// receiver of the line's other direction takes it under the same key, passes nothing, unless tags
+/// of the two directions match by chance. Each frame that passes there is one that was sealed, with
+/// its packet on the link; its number in the other direction has the same word, and the other
+/// direction's tag for that number and frame is the packet's. What is coded for a tag of the one
+/// direction is never what is coded for one of the other. Where the far box has sealed nothing,
+/// each frame that passes counts as forged.
+pub fn reflected_links_pass_nothing<R: LineRules>()
+    ensures reflected { (profile : Profile) (other : ℕ → List ℕ → List ℕ) → IsFit profile R.rules
+        → (seal_floor check_floor : ℕ) (line : List Tick)
+        → All (IsReflected profile other (link_line profile R.rules seal_floor line)
+        (sealed profile R.rules seal_floor line))
+        (passed (with_tags profile other) R.rules check_floor
+        (link_line profile R.rules seal_floor line)) }
+    ensures nothing { (profile : Profile) (other : ℕ → List ℕ → List ℕ) → IsFit profile R.rules
+        → ((sealed_number number : ℕ) (frame : List ℕ)
+        → ¬ TagsMatch profile other sealed_number number frame)
+        → (seal_floor check_floor : ℕ) (line : List Tick)
+        → passed (with_tags profile other) R.rules check_floor
+        (link_line profile R.rules seal_floor line) ≡ [] }
+    ensures texts_differ { (label direction other number other_number : ℕ)
+        (frame other_frame : List ℕ) → direction ≢ other
+        → tag_text label direction frame number ≢ tag_text label other other_frame other_number }
+    ensures all_forged { (passed_ones : List NumberedFrame) → forged [] passed_ones ≡ passed_ones }
+{}
