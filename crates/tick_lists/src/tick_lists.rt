@@ -1,0 +1,132 @@
+ghost use Rattle.std.specs.Prelude.{◌≡◌, [], ◌∷◌, ◌++◌, OnOk};
+
+use std::alloc::Global;
+use tick_drive::{Consumer, Stop};
+use yasir_io::NoMemory;
+use yasir_ticks::{Tick, TickRun};
+
+/// Which list the next tick belongs to.
+#[derive(Clone, Copy)]
+enum Place {
+    First,
+    Second,
+    Third,
+    None,
+}
+
+impl Place {
+    ghost use Rattle.std.specs.Prelude.{◌≡◌};
+    ghost use Rattle.tick_lists.specs.Places.{place_behind};
+
+    // That behind a mark more.
+    fn behind(self) -> Place
+        ensures { result ≡ place_behind self }
+    {
+        match self {
+            Place::First => Place::Second,
+            Place::Second => Place::Third,
+            Place::Third | Place::None => Place::None,
+        }
+    }
+}
+
+/// The ticks of the first three recordings of an input, a list for each. Where there was no memory
+/// for a tick, the lists are not used again.
+#[derive(Drop)]
+pub struct TickLists {
+    first: Vec<Tick>,
+    second: Vec<Tick>,
+    third: Vec<Tick>,
+    place: Place,
+    // how many ticks were taken of all recordings
+    taken: u64,
+}
+
+// Adds a tick behind the others.
+fn push(list: &mut Vec<Tick>, tick: Tick) -> Result<(), NoMemory>
+    ensures { OnOk result (list.new.items ≡ list.old.items ++ tick ∷ []) }
+{
+    match list.push(tick) {
+        Ok(()) => Ok(()),
+        Err(_) => Err(NoMemory),
+    }
+}
+
+impl TickLists {
+    ghost use Rattle.std.specs.Prelude.{◌+◌, ◌<◌};
+    ghost use Rattle.yasir_ticks.specs.declared.TheConstants.{MAX_TICKS};
+    ghost use Rattle.tick_lists.specs.TickLists.{ticks_first, ticks_second, ticks_third};
+    ghost use Rattle.tick_lists.specs.TickLists.{ticks_taken, HoldsParts, TakesTick};
+
+    /// No tick yet.
+    pub fn new(alloc: Global) -> TickLists
+        ensures none { ticks_taken result ≡ 0 }
+        ensures holds { HoldsParts result [] }
+    {
+        TickLists {
+            first: Vec::new(alloc),
+            second: Vec::new(alloc),
+            third: Vec::new(alloc),
+            place: Place::First,
+            taken: 0,
+        }
+    }
+
+    /// The ticks before the first mark.
+    pub fn first(&self) -> &[Tick]
+        ensures { result.now ≡ ticks_first self.now }
+    {
+        self.first.as_slice()
+    }
+
+    /// The ticks between the first mark and the second.
+    pub fn second(&self) -> &[Tick]
+        ensures { result.now ≡ ticks_second self.now }
+    {
+        self.second.as_slice()
+    }
+
+    /// The ticks between the second mark and the third.
+    pub fn third(&self) -> &[Tick]
+        ensures { result.now ≡ ticks_third self.now }
+    {
+        self.third.as_slice()
+    }
+
+    // Adds a tick to the list that it belongs to.
+    fn take_tick(&mut self, tick: Tick) -> Result<(), NoMemory>
+        requires { ticks_taken self.old < MAX_TICKS }
+        ensures { OnOk result (TakesTick self.old self.new tick) }
+    {
+        self.taken += 1;
+        match self.place {
+            Place::First => push(&mut self.first, tick),
+            Place::Second => push(&mut self.second, tick),
+            Place::Third => push(&mut self.third, tick),
+            Place::None => Ok(()),
+        }
+    }
+}
+
+impl Consumer for TickLists {
+    ghost use Rattle.tick_lists.specs.Listing.{listing};
+
+    ghost meaning = { listing };
+
+    // Takes one tick.
+    fn take_some(&mut self, run: TickRun<'_>) -> Result<usize, Stop> {
+        match self.take_tick(run.first()) {
+            Ok(()) => Ok(1),
+            Err(NoMemory) => Err(Stop::NoMemory),
+        }
+    }
+
+    fn take_mark(&mut self) -> Result<(), Stop> {
+        self.place = self.place.behind();
+        Ok(())
+    }
+
+    ghost went_none = { λ lists able. tt };
+
+    ghost went_then = { λ a b c result first second. tt };
+}
