@@ -2,6 +2,8 @@
 //! device, the incoming one those of the link. Neither knows of the other.
 #![tactic(auto)]
 
+mod laws;
 mod pair;
 
+pub use laws::directions_are_apart;
 pub use pair::{BoxPair, DuplexFault, PairStep};
