@@ -33,3 +33,4 @@ pub mod WorkedRecovery
 mod WorkedRecoveryRtu
 mod WorkedMembers
 mod WorkedUptimes
+pub mod AllLeft

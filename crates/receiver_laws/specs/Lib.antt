@@ -8,3 +8,4 @@ pub mod Headline
 pub mod OverUptimes
 pub mod Recovery
 pub mod Reflected
+pub mod AllLeft

@@ -6,6 +6,7 @@
 //! whole lines, and `proofs/` has how they follow from the walk over the bursts of the link.
 #![tactic(auto)]
 
+mod all_left;
 mod hunting_laws;
 mod laws;
 mod profiles;
@@ -14,6 +15,7 @@ mod reflection;
 mod untouched;
 mod uptime_laws;
 
+pub use all_left::{all_leaves_in_time, recorded_line_reads_all_that_passed};
 pub use hunting_laws::{
     hunting_device_reads_sealed_over_uptimes, hunting_device_reads_what_passed,
     hunting_device_reads_what_was_sealed,
