@@ -11,9 +11,9 @@ ghost use Rattle.box_command.specs.BoxLines.{driving, state_of, DrivesBox};
 
 use crate::line_box::LineBox;
 use crate::noted_steps::push_step;
-use line_texts::{Texts, answer_run, push_run};
 use burst_walk::RunBytes;
 use hmac_tag::Dir;
+use line_texts::{Texts, answer_run, push_run};
 use sequence_journal::{Journal, JournalFault};
 use tick_drive::Stop;
 use yasir_io::{Failed, Sink, SlotDisk};

@@ -8,8 +8,7 @@ ghost use Rattle.box_command.specs.CheckLaws.{passed-rise};
 ghost use Rattle.box_command.specs.CheckLines.{refused_word, dropped_word, check_line};
 
 use crate::line_box::LineBox;
-use crate::note_lines::{numbered_line, placed_line};
-use crate::note_lines::NoteLine;
+use crate::note_lines::{NoteLine, numbered_line, placed_line};
 use check_receiver::{CheckNote, Checker, DroppedWhy, RefusedWhy};
 use hmac_tag::Mac;
 use line_rules::LineRules;

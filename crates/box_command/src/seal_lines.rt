@@ -7,8 +7,7 @@ ghost use Rattle.box_command.specs.SealLaws.{sealed-rise};
 ghost use Rattle.box_command.specs.SealLines.{unsealed_word, seal_line};
 
 use crate::line_box::LineBox;
-use crate::note_lines::{numbered_line, placed_line};
-use crate::note_lines::NoteLine;
+use crate::note_lines::{NoteLine, numbered_line, placed_line};
 use hmac_tag::Mac;
 use line_rules::LineRules;
 use seal_transmitter::{SealNote, Sealer, UnsealedWhy};

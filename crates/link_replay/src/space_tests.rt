@@ -59,13 +59,7 @@ fn runs_that_end_early(rt: HostRuntime) -> Result<(), Fail> {
         why: TickFault::Char,
     });
     let refused = space(rt.alloc(), "space dnp3", b"+056405c001000004e921\nx", 0)?;
-    ended(
-        &rt,
-        &refused,
-        bad,
-        b"-10\n",
-        b"fault: line 2 char\n",
-    );
+    ended(&rt, &refused, bad, b"-10\n", b"fault: line 2 char\n");
     let failed = space(rt.alloc(), "space dnp3", RESETS, 1)?;
     ended(&rt, &failed, Status::WriteFault, b"", b"");
     Ok(())

@@ -197,14 +197,10 @@ pub fn replay_on(
             replay_by::<Sealer<Dnp, HmacSha1, 2>>(alloc, 24, &link, dir, key, disk, text, failing)
         }
         BoxKind::SealRtu24 => {
-            replay_by::<Sealer<Rtu, HmacSha256, 4>>(
-                alloc, 30, &link, dir, key, disk, text, failing,
-            )
+            replay_by::<Sealer<Rtu, HmacSha256, 4>>(alloc, 30, &link, dir, key, disk, text, failing)
         }
         BoxKind::SealDnp24 => {
-            replay_by::<Sealer<Dnp, HmacSha256, 4>>(
-                alloc, 30, &link, dir, key, disk, text, failing,
-            )
+            replay_by::<Sealer<Dnp, HmacSha256, 4>>(alloc, 30, &link, dir, key, disk, text, failing)
         }
         BoxKind::CheckRtu => {
             replay_by::<Checker<Rtu, HmacSha1, 2, 18>>(

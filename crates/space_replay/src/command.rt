@@ -11,8 +11,8 @@ ghost use Rattle.replay_status.specs.declared.status.Status.TheVariants.{NoMemor
 ghost use Rattle.space_replay.specs.SpacedTexts.{spaced_texts};
 ghost use Rattle.space_replay.specs.SpacesLine.{DrivesSpacer, SpacesLine};
 
-use crate::spacers::LineSpacer;
 use crate::spaced_lines::SpacedLines;
+use crate::spacers::LineSpacer;
 use line_texts::Texts;
 use replay_status::{Status, flush_both, status_of};
 use std::alloc::Global;

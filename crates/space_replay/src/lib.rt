@@ -3,8 +3,8 @@
 #![tactic(auto)]
 
 mod command;
-mod spacers;
 mod spaced_lines;
+mod spacers;
 
 pub use command::space_frames;
 pub use spacers::LineSpacer;
