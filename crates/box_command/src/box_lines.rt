@@ -58,7 +58,7 @@ impl<B: LineBox> BoxLines<B> {
     }
 
     // Takes the first ticks of this run, as far as the box forwards them, and answers how many.
-    #[inline]
+    #[inline(always)]
     fn forward<O: Sink, L: Sink, D: SlotDisk>(
         &mut self,
         out: &mut O,
@@ -112,8 +112,8 @@ impl<B: LineBox> BoxLines<B> {
         }
     }
 
-    // Takes one tick.
-    #[inline(always)]
+    // Takes one tick. It stands apart from runs, since few ticks go alone.
+    #[inline(never)]
     fn step<O: Sink, L: Sink, D: SlotDisk>(
         &mut self,
         out: &mut O,
@@ -138,7 +138,7 @@ impl<B: LineBox> BoxLines<B> {
     }
 
     /// Takes the first ticks of this run: as many as the box has an answer to at once, and else one.
-    #[inline]
+    #[inline(always)]
     pub fn take_some<O: Sink, L: Sink, D: SlotDisk>(
         &mut self,
         out: &mut O,

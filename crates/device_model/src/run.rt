@@ -9,7 +9,7 @@ use yasir_ticks::TickRun;
 
 /// A device takes the next ticks, which are those of this run, up to the first one in which a frame
 /// is read.
-#[inline]
+#[inline(always)]
 pub fn hear_run<V: Device>(device: &mut V, run: TickRun<'_>) -> Heard
     requires { V.taken device.old + length (run_ticks run) ≤ MAX_TICKS }
     ensures some { 0 < length (run_ticks run.entry) → 0 < result.taken }

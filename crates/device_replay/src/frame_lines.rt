@@ -1,8 +1,12 @@
-ghost use Rattle.std.specs.Prelude.{◌≡◌, ℕ, List, ◌++◌, Option, OnOk, OnErr};
+ghost use Rattle.std.specs.Prelude.{◌≡◌, ℕ, ◌<◌, List, length, ◌++◌, Option, OnOk, OnErr};
 ghost use Rattle.yasir_io.specs.Causes.{HasCause};
 ghost use Rattle.yasir_io.specs.Output.{Buffered, GotPrefix};
 ghost use Rattle.yasir_io.specs.TextBuffer.{waiting_bytes};
+ghost use Rattle.yasir_ticks.specs.TickRun.{run_ticks, run_items};
+ghost use Rattle.yasir_ticks.specs.declared.tick_run.TickRun.TheVariants.{Bytes, Silence};
+ghost use Rattle.tick_drive.specs.Consumers.{MayTake, GivesSome};
 ghost use Rattle.device_replay.specs.Lines.{frame_line, read_at};
+ghost use Rattle.device_replay.specs.FrameLines.{printing};
 
 use crate::text::write_read_line;
 use device_model::{Device, FrameAt, Heard, hear_run};
@@ -51,15 +55,15 @@ impl<'a, V, O> FrameLines<'a, V, O> {
     }
 }
 
-impl<'a, V: Device, O: Sink> Consumer for FrameLines<'a, V, O> {
-    ghost use Rattle.device_replay.specs.FrameLines.{printing};
-    ghost use Rattle.device_replay.specs.FrameLinesLaws.{holds-none, holds-then};
-
-    ghost meaning = { printing V.Device O.Sink };
-
-    // Takes a run up to a tick in which a frame is read, and adds its line.
-    #[inline]
-    fn take_some(&mut self, run: TickRun<'_>) -> Result<usize, Stop> {
+impl<'a, V: Device, O: Sink> FrameLines<'a, V, O> {
+    // Hears a run up to a tick in which a frame is read, and adds its line. Says how many ticks.
+    #[inline(always)]
+    fn print_some(&mut self, run: TickRun<'_>) -> Result<usize, Stop>
+        requires some { 0 < length (run_ticks run) }
+        requires may { MayTake (printing V.Device O.Sink) self.old (run_items run) }
+        ensures { GivesSome (printing V.Device O.Sink) self.old self.new (run_items run.entry)
+            result }
+    {
         let Heard { taken, frame } = hear_run(self.device, run);
         let Some(frame) = frame else {
             return Ok(taken);
@@ -67,6 +71,44 @@ impl<'a, V: Device, O: Sink> Consumer for FrameLines<'a, V, O> {
         match push_frame(self.lines, self.out, &frame) {
             Ok(()) => Ok(taken),
             Err(Failed) => Err(Stop::WriteFault),
+        }
+    }
+
+    // The same with bytes.
+    #[inline]
+    fn hear_part(&mut self, bytes: &[u8]) -> Result<usize, Stop>
+        requires some { 0 < length (run_ticks (Bytes bytes)) }
+        requires may { MayTake (printing V.Device O.Sink) self.old (run_items (Bytes bytes)) }
+        ensures { GivesSome (printing V.Device O.Sink) self.old self.new
+            (run_items (Bytes bytes.entry)) result }
+    {
+        self.print_some(TickRun::Bytes(bytes))
+    }
+
+    // The same with silent ticks.
+    #[inline]
+    fn wait_part(&mut self, ticks: u32) -> Result<usize, Stop>
+        requires some { 0 < length (run_ticks (Silence ticks)) }
+        requires may { MayTake (printing V.Device O.Sink) self.old (run_items (Silence ticks)) }
+        ensures { GivesSome (printing V.Device O.Sink) self.old self.new
+            (run_items (Silence ticks)) result }
+    {
+        self.print_some(TickRun::Silence(ticks))
+    }
+}
+
+impl<'a, V: Device, O: Sink> Consumer for FrameLines<'a, V, O> {
+    ghost use Rattle.device_replay.specs.FrameLinesLaws.{holds-none, holds-then};
+
+    ghost meaning = { printing V.Device O.Sink };
+
+    // Takes a run up to a tick in which a frame is read, and adds its line. Either kind has a part of
+    // its own, so that the compiler drops the copies of a frame in each before it joins them.
+    #[inline(always)]
+    fn take_some(&mut self, run: TickRun<'_>) -> Result<usize, Stop> {
+        match run {
+            TickRun::Bytes(bytes) => self.hear_part(bytes),
+            TickRun::Silence(ticks) => self.wait_part(ticks),
         }
     }
 

@@ -51,7 +51,7 @@ fn step_into<B: FrameBox>(
 
 // A box takes the first ticks of this run at once. Answers how many, and puts the bytes of the
 // answer into `left`, or none for silence.
-#[inline]
+#[inline(always)]
 fn pass_run<B: FrameBox>(line_box: &mut B, run: TickRun<'_>, left: &mut RunBytes) -> usize
     requires room { B.taken line_box.old + length (run_ticks run) ≤ MAX_TICKS }
     requires able { B.able line_box.old }
@@ -176,7 +176,7 @@ impl<S: FrameBox, C: FrameBox, V: Device + Drop> ReplayLists<S, C, V> {
     }
 
     // Gives the first ticks of this run to the transmitter at once, and answers how many.
-    #[inline]
+    #[inline(always)]
     fn seal_run(&mut self, run: TickRun<'_>) -> usize
         requires room { S.taken self.old.sealer + length (run_ticks run) ≤ MAX_TICKS }
         requires able { S.able self.old.sealer }
@@ -198,7 +198,7 @@ impl<S: FrameBox, C: FrameBox, V: Device + Drop> ReplayLists<S, C, V> {
 
     // Gives the first ticks of this run to the receiver at once, and what it answers to the device.
     // Answers how many.
-    #[inline]
+    #[inline(always)]
     fn check_run(&mut self, run: TickRun<'_>) -> Result<usize, NoMemory>
         requires room { C.taken self.old.checker + length (run_ticks run) ≤ MAX_TICKS }
         requires ready { IsReady S.FrameBox C.FrameBox V.Device self.old }
@@ -226,7 +226,7 @@ impl<S: FrameBox, C: FrameBox, V: Device + Drop> ReplayLists<S, C, V> {
     }
 
     // Takes the first ticks of this run at once, and answers how many.
-    #[inline]
+    #[inline(always)]
     fn take_front(&mut self, run: TickRun<'_>) -> Result<usize, NoMemory>
         requires room { lists_taken S.FrameBox C.FrameBox V.Device self.old
             + length (run_ticks run) ≤ MAX_TICKS }
@@ -245,7 +245,7 @@ impl<S: FrameBox, C: FrameBox, V: Device + Drop> ReplayLists<S, C, V> {
     }
 
     // Takes one tick.
-    #[inline]
+    #[inline(never)]
     fn take_tick(&mut self, tick: Tick) -> Result<(), NoMemory>
         requires room { lists_taken S.FrameBox C.FrameBox V.Device self.old < MAX_TICKS }
         requires ready { IsReady S.FrameBox C.FrameBox V.Device self.old }
@@ -316,7 +316,7 @@ impl<S: FrameBox, C: FrameBox, V: Device + Drop> Consumer for ReplayLists<S, C, 
     ghost meaning = { listing S.FrameBox C.FrameBox V.Device };
 
     // The first ticks go at once where the box has an answer to them, and else one goes alone.
-    #[inline]
+    #[inline(always)]
     fn take_some(&mut self, run: TickRun<'_>) -> Result<usize, Stop> {
         let count = match self.take_front(run) {
             Ok(count) => count,

@@ -3,7 +3,7 @@ use Rattle.yasir_ticks.proofs.TickRuns.{ticks_in-run}
 use Rattle.device_model.specs.Frames.{frames_of}
 use Rattle.tick_drive.proofs.Causes.{cause_none}
 use Rattle.device_replay.proofs.Printing.{none_read, one_read, one_failed}
-use Rattle.device_replay.proofs.frame_lines.FrameLinesConsumer.take_some.Goals as goal
+use Rattle.device_replay.proofs.frame_lines.FrameLines.print_some.Goals as goal
 
 pub hear_run-taken-requires : goal.hear_run-taken-requires
 hear_run-taken-requires g c = omega (
