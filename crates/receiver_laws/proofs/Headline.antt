@@ -25,7 +25,7 @@ use Rattle.receiver_laws.proofs.OverUptimes.{accounted-for}
 use Rattle.receiver_laws.proofs.Subsequences.{front-is, join-is, map-is, chain-is}
 
 -- where none is left out, all stay
-all-stay : {X : Type 0} (test : X → Bool) (x : List X) → filter (λ a. not (test a)) x ≡ []
+pub all-stay : {X : Type 0} (test : X → Bool) (x : List X) → filter (λ a. not (test a)) x ≡ []
     → filter test x ≡ x
 all-stay test [] none_out = refl
 all-stay test (a ∷ x) none_out =
@@ -42,7 +42,7 @@ all-stay test (a ∷ x) none_out =
 
 -- ---- frames as they are read, and as they passed
 
-bytes-delivered : (profile : Profile) (frames : List NumberedFrame)
+pub bytes-delivered : (profile : Profile) (frames : List NumberedFrame)
     → bytes_read (map (delivered profile) frames) ≡ bytes_sealed frames
 bytes-delivered profile [] = refl
 bytes-delivered profile (f ∷ frames) = ap (λ l. f.frame ∷ l) (bytes-delivered profile frames)

@@ -19,6 +19,7 @@ pub mod Delivering
 pub mod Deliveries
 pub mod Subsequences
 pub mod Accounting
+pub mod InTurn
 pub mod OverUptimes
 pub mod Headline
 pub mod Parting

@@ -1,5 +1,4 @@
 pub mod Pushing
-pub mod InTurn
 pub mod InOrder
 pub mod Recording
 pub mod Telling

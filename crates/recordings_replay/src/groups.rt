@@ -5,7 +5,7 @@ ghost use Rattle.yasir_io.specs.TextBuffer.{waiting_bytes};
 ghost use Rattle.device_model.specs.Frames.{FrameRead};
 ghost use Rattle.device_replay.specs.Lines.{frame_lines};
 ghost use Rattle.link_format.specs.NumberedFrame.{NumberedFrame, AreNumberedFrom};
-ghost use Rattle.receiver_laws.specs.Accounted.{forged, is_among};
+ghost use Rattle.receiver_laws.specs.Accounted.{forged};
 ghost use Rattle.replay_lists.specs.FrameBox.{kept_frames};
 ghost use Rattle.replay_lists.specs.FrameList.{Holds, IsWhole};
 ghost use Rattle.replay_lists.specs.ReplayLists.{kept_reads};
@@ -14,7 +14,7 @@ ghost use Rattle.recordings_replay.specs.Printing.{AddsText, BreaksOff, on_the_w
 
 use crate::lines::write_numbered_line;
 use device_replay::write_read_line;
-use replay_lists::{FrameList, Numbered};
+use replay_lists::{FrameList, Numbered, is_at_its_number};
 use replay_status::Line;
 use yasir_io::{Failed, Sink, TextBuffer};
 
@@ -72,24 +72,6 @@ pub fn push_reads<O: Sink>(
     Ok(())
 }
 
-// Whether a frame with this number and these bytes is among frames that are numbered in turn, from
-// 1 on: the one at its place is looked at, and no other.
-fn is_sealed(sealed: &FrameList<Numbered>, number: u64, bytes: &[u8]) -> bool
-    requires { IsWhole sealed.now }
-    ensures { (listed : List NumberedFrame) (f : NumberedFrame)
-        → Holds sealed.now (kept_frames listed) → AreNumberedFrom 0 listed
-        → f.number ≡ number → f.frame ≡ bytes.now → result ≡ is_among listed f }
-{
-    if number == 0 {
-        return false;
-    }
-    let place = (number - 1) as usize;
-    if place >= sealed.len() {
-        return false;
-    }
-    sealed.bytes(place) == bytes
-}
-
 // Adds the line of a frame that passed, unless it was sealed with its number.
 fn push_if_forged<O: Sink>(
     text: &mut TextBuffer,
@@ -113,7 +95,7 @@ fn push_if_forged<O: Sink>(
     ensures cause { HasCause (O.faults out.old) (O.faults out.new) result }
     ensures flushes { O.flushes out.new ≡ O.flushes out.old }
 {
-    if is_sealed(sealed, head.number, bytes) {
+    if is_at_its_number(sealed, 0, head.number, bytes) {
         return Ok(());
     }
     let mut line = Line::new();

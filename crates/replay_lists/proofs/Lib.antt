@@ -5,3 +5,5 @@ pub mod Listing
 pub mod HeardRuns
 pub mod Runs
 pub mod Listed
+pub mod TakenLines
+pub mod InPlace

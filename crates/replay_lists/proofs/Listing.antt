@@ -43,22 +43,15 @@ module _ {S C V : Type 0} (s : FrameBox S) (c : FrameBox C) (v : Device V)
           level = rw (checker, device) ready.level;
         }
 
-    -- one more is sealed, or not
-    pub listed-sealed : (setup : Setup) (line link : List Tick) (t : Tick)
+    -- the line of the device goes on
+    pub listed-sealed : (setup : Setup) (line link more : List Tick)
         → (KeepsFrames s old.sealer old.sealed setup line
-        → KeepsFrames s new.sealer new.sealed setup (line ++ t ∷ []))
-        → HasListed s c v old setup line link → HasListed s c v new setup (line ++ t ∷ []) link
-    listed-sealed setup line link t step listed = record {
+        → KeepsFrames s new.sealer new.sealed setup (line ++ more))
+        → HasListed s c v old setup line link → HasListed s c v new setup (line ++ more) link
+    listed-sealed setup line link more step listed = record {
       seals = step listed.seals;
       checks = checks-same setup link listed.checks;
     }
-
--- ---- silence behind the recording before the mark
-
-pub silent-more : (line : List Tick) (n : ℕ)
-    → (line ++ silent n) ++ Silent ∷ [] ≡ line ++ silent (n + 1)
-silent-more line n = append_assoc line (silent n) (Silent ∷ [])
-    ∙ ap (λ l. line ++ l) (replicate-append-replicate n 1 Silent)
 
 -- ---- the mark
 

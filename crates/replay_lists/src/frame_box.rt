@@ -6,6 +6,7 @@ ghost use Rattle.yasir_ticks.specs.declared.tick.Tick.TheVariants.{Byte};
 ghost use Rattle.burst_walk.specs.Answered.{answered};
 ghost use Rattle.link_format.specs.NumberedFrame.{NumberedFrame};
 ghost use Rattle.link_format.specs.Setup.{Setup, setup_of};
+ghost use Rattle.sequence_journal.specs.declared.numbers.TheConstants.{LIMIT};
 ghost use Rattle.replay_lists.specs.FrameBox.{Numbering, AnswersFrame, AnswersFrameRun};
 ghost use Rattle.replay_lists.specs.FrameList.{longest_frame};
 
@@ -28,8 +29,8 @@ pub struct FrameStep {
     pub frame: Option<Numbered>,
 }
 
-/// A box between two lines that seals frames or passes them, with numbers that begin at 1. It shows
-/// the bytes of each.
+/// A box between two lines that seals frames or passes them, with numbers above the floor that it
+/// is made with. It shows the bytes of each.
 pub trait FrameBox: Drop {
     /// Begun with this setup, the box has taken these ticks.
     ghost stands: { Self → Setup → List Tick → Type 0 };
@@ -49,12 +50,13 @@ pub trait FrameBox: Drop {
     /// The bytes that it shows.
     ghost shown: { Self → List ℕ };
 
-    /// A box that has taken no tick.
-    fn new(key: &[u8], dir: Dir) -> Self
-        requires { widths_fit }
+    /// A box that has taken no tick, and whose last number was this floor.
+    fn new(key: &[u8], dir: Dir, floor: u64) -> Self
+        requires widths { widths_fit }
+        requires within { floor ≤ LIMIT }
         ensures taken { taken result ≡ 0 }
         ensures able { able result }
-        ensures stands { stands result (setup_of key.now dir 0) [] }
+        ensures stands { stands result (setup_of key.now dir floor) [] }
         ensures nothing { (setup : Setup) → (numbering setup).frames [] ≡ [] }
         ensures no_tick { (setup : Setup) → (numbering setup).other_line [] ≡ [] };
 

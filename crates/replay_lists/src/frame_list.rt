@@ -45,8 +45,9 @@ impl<K: Copy + Drop> FrameList<K> {
     #[inline(never)]
     pub fn push(&mut self, head: K, bytes: &[u8]) -> Result<(), NoMemory>
         requires { length bytes.now ≤ longest_frame }
-        ensures { OnOk result ((frames : List (Kept K)) → Holds self.old frames
+        ensures kept { OnOk result ((frames : List (Kept K)) → Holds self.old frames
             → Holds self.new (frames ++ record { head = head; frame = bytes.now } ∷ [])) }
+        ensures grows { OnOk result (list_len self.new ≡ list_len self.old + 1) }
     {
         let Ok(()) = self.bytes.extend_from_slice(bytes) else {
             return Err(NoMemory);

@@ -5,6 +5,7 @@ ghost use Rattle.yasir_ticks.specs.declared.tick.Tick.{Tick};
 ghost use Rattle.yasir_ticks.specs.declared.tick.Tick.TheVariants.{Byte};
 ghost use Rattle.yasir_ticks.specs.declared.TheConstants.{MAX_TICKS};
 ghost use Rattle.burst_walk.specs.Answered.{answered};
+ghost use Rattle.replay_lists.specs.FrameList.{list_len};
 ghost use Rattle.replay_lists.specs.ReplayLists.{Listens};
 
 use crate::frame_list::{FrameList, NoMemory};
@@ -46,6 +47,8 @@ fn wait_some<V: Device>(
     ensures within { IfOk result (λ n. n ≤ ticks) }
     ensures some { 0 < ticks → IfOk result (λ n. 0 < n) }
     ensures taken { IfOk result (λ n. V.taken device.new ≡ V.taken device.old + n) }
+    ensures few { 0 < ticks
+        → IfOk result (λ n. list_len frames.new ≤ list_len frames.old + n) }
     ensures ok { IfOk result (λ n. (line : List Tick)
         → Listens V.Device device.old frames.old line
         → Listens V.Device device.new frames.new (line ++ silent n)) }
@@ -83,13 +86,14 @@ fn hear_bytes<V: Device>(
 
 // A device hears so many silent ticks.
 #[inline(always)]
-fn hear_silence<V: Device>(
+pub(crate) fn hear_silence<V: Device>(
     device: &mut V,
     frames: &mut FrameList<u64>,
     ticks: usize,
 ) -> Result<(), NoMemory>
     requires { V.taken device.old + ticks ≤ MAX_TICKS }
     ensures taken { OnOk result (V.taken device.new ≡ V.taken device.old + ticks) }
+    ensures few { OnOk result (list_len frames.new ≤ list_len frames.old + ticks) }
     ensures ok { OnOk result ((line : List Tick) → Listens V.Device device.old frames.old line
         → Listens V.Device device.new frames.new (line ++ silent ticks)) }
 {

@@ -7,13 +7,14 @@ ghost use Rattle.burst_walk.specs.Answered.{answered};
 ghost use Rattle.link_format.specs.Setup.{Setup, setup_of};
 ghost use Rattle.device_model.specs.declared.device.Device.{Ghosts as Device};
 ghost use Rattle.replay_lists.specs.FrameBox.{AnswersFrameRun, kept_frames};
-ghost use Rattle.replay_lists.specs.FrameList.{Kept, Holds};
+ghost use Rattle.replay_lists.specs.FrameList.{Kept, Holds, list_len};
 ghost use Rattle.replay_lists.specs.ReplayLists.{KeepsFrames, Listens, StepsInto};
 ghost use Rattle.replay_lists.specs.declared.frame_box.Numbered.{Numbered};
 
 use crate::frame_box::{FrameBox, Numbered};
 use crate::frame_list::{FrameList, NoMemory};
 use crate::hearing::hear_answered;
+use crate::lines::take_silence;
 use burst_walk::RunBytes;
 use device_model::Device;
 use hmac_tag::Dir;
@@ -26,7 +27,7 @@ mod turn_tests;
 
 // One step of a box, whose frame is kept. Answers the tick of the other line.
 #[inline]
-fn step_into<B: FrameBox>(
+pub(crate) fn step_into<B: FrameBox>(
     line_box: &mut B,
     frames: &mut FrameList<Numbered>,
     t: Tick,
@@ -35,6 +36,7 @@ fn step_into<B: FrameBox>(
     requires able { B.able line_box.old }
     ensures able { B.able line_box.new }
     ensures taken { B.taken line_box.new ≡ B.taken line_box.old + 1 }
+    ensures few { OnOk result (list_len frames.new ≤ list_len frames.old + 1) }
     ensures ok { IfOk result (λ tick. (setup : Setup) (line : List Tick)
         → KeepsFrames B.FrameBox line_box.old frames.old setup line
         → StepsInto B.FrameBox line_box.new frames.new setup line t tick) }
@@ -72,13 +74,14 @@ fn pass_run<B: FrameBox>(line_box: &mut B, run: TickRun<'_>, left: &mut RunBytes
 
 // One step of a device, whose frame is kept.
 #[inline]
-fn hear_into<V: Device>(
+pub(crate) fn hear_into<V: Device>(
     device: &mut V,
     frames: &mut FrameList<u64>,
     t: Tick,
 ) -> Result<(), NoMemory>
     requires { V.taken device.old < MAX_TICKS }
     ensures taken { V.taken device.new ≡ V.taken device.old + 1 }
+    ensures few { OnOk result (list_len frames.new ≤ list_len frames.old + 1) }
     ensures ok { OnOk result ((line : List Tick) → Listens V.Device device.old frames.old line
         → Listens V.Device device.new frames.new (line ++ t ∷ [])) }
 {
@@ -120,8 +123,8 @@ impl<S: FrameBox, C: FrameBox, V: Device + Drop> ReplayLists<S, C, V> {
         ensures may_list { MayList S.FrameBox C.FrameBox V.Device result }
     {
         ReplayLists {
-            sealer: S::new(key, dir),
-            checker: C::new(key, dir),
+            sealer: S::new(key, dir, 0),
+            checker: C::new(key, dir, 0),
             device: V::fresh(),
             sealed: FrameList::new(alloc),
             passed: FrameList::new(alloc),
@@ -301,12 +304,7 @@ impl<S: FrameBox, C: FrameBox, V: Device + Drop> ReplayLists<S, C, V> {
             → HasListed S.FrameBox C.FrameBox V.Device self.new setup (device ++ silent ticks)
             link) }
     {
-        for _ in 0..ticks {
-            if let Err(NoMemory) = self.seal(Tick::Silent) {
-                return Err(NoMemory);
-            }
-        }
-        Ok(())
+        take_silence(&mut self.sealer, &mut self.sealed, ticks)
     }
 }
 

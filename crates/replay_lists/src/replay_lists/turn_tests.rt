@@ -51,7 +51,7 @@ impl FrameBox for Wire {
 
     ghost shown = { λ value. [] };
 
-    fn new(_key: &[u8], _dir: Dir) -> Self {
+    fn new(_key: &[u8], _dir: Dir, _floor: u64) -> Self {
         Wire {
             taken: 0,
             calls: NO_CALLS,

@@ -9,6 +9,7 @@ pub loop-done-init : goal.loop-done-init
 loop-done-init g c = record {
   within = omega arith;
   taken = omega arith;
+  few = omega arith;
   ok = λ line listens. hears-nothing g.V.Device c.args.device.now c.args.frames.now line listens;
 }
 
@@ -24,6 +25,7 @@ pub loop-done-preserved : goal.loop-done-preserved
 loop-done-preserved g c = record {
   within = omega (arith, c.in-Ok.ensures.within, c.loop-done.invariant.within);
   taken = omega (arith, c.in-Ok.ensures.taken, c.loop-done.invariant.taken);
+  few = omega (arith, c.in-Ok.ensures.few (omega arith), c.loop-done.invariant.few);
   ok = λ line listens.
       subst (Listens g.V.Device c.wait_some.new.device c.wait_some.new.frames)
       (silent_on line c.loop-done.done c.in-Ok.count)
@@ -34,6 +36,10 @@ loop-done-preserved g c = record {
 pub returns-clause-taken : goal.returns-clause-taken
 returns-clause-taken g c =
     omega (arith, c.loop-done.invariant.taken, c.loop-done.invariant.within)
+
+pub returns-clause-few : goal.returns-clause-few
+returns-clause-few g c =
+    omega (arith, c.loop-done.invariant.few, c.loop-done.invariant.within)
 
 pub returns-clause-ok : goal.returns-clause-ok
 returns-clause-ok g c = λ line listens.

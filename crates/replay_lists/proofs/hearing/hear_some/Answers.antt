@@ -17,4 +17,4 @@ returns-in-Ok-clause-ok g c =
     c.hear_some-heard.ensures.stands c.args.frames.now c.push.new.self
     c.hear_some-heard.result.frame
     c.in-Some.frame c.in-Some.is c.hear_some-heard.ensures.answer
-    (rw c.as_slice.ensures.value at c.in-Ok.ensures)
+    (rw c.as_slice.ensures.value at c.in-Ok.ensures.kept)

@@ -16,4 +16,4 @@ returns-in-Ok-clause-ok g c =
     c.wait_some-heard.ensures.stands c.args.frames.now c.push.new.self
     c.wait_some-heard.result.frame
     c.in-Some.frame c.in-Some.is c.wait_some-heard.ensures.answer
-    (rw c.as_slice.ensures.value at c.in-Ok.ensures)
+    (rw c.as_slice.ensures.value at c.in-Ok.ensures.kept)

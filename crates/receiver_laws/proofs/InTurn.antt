@@ -1,11 +1,10 @@
 -- Frames that are numbered in turn: one is among them exactly where it stands at its place.
 use Rattle.std.proofs.Common.{◌≡◌, ◌∙◌, ℕ, zero, suc, ◌+◌, ◌<◌, ◌≤◌, Bool, true, false, ◌||◌}
-use Rattle.std.proofs.Common.{◌&&◌, List, [], ◌∷◌, length, get_or, refl, ap, arith}
-use Rattle.std.proofs.Common.{ne_eqb, eq-eqb, bytes_eq}
-use Rattle.std.proofs.lemmas.List.{get_or-map}
+use Rattle.std.proofs.Common.{◌&&◌, List, [], ◌∷◌, length, get_or, refl, sym, ap, arith, nat_lt, ◌-◌}
+use Rattle.std.proofs.Common.{ne_eqb, eq-eqb, bytes_eq, ⊎_elim}
+use Rattle.std.proofs.lemmas.Bool.{cases_lt, lt-ltb, le-ltb}
 use Rattle.link_format.specs.NumberedFrame.{NumberedFrame, AreNumberedFrom}
 use Rattle.receiver_laws.specs.Accounted.{is_among, is_same_pair}
-use Rattle.replay_lists.specs.FrameBox.{kept_frames, kept_numbered}
 
 first-number : (floor : ℕ) (g : NumberedFrame) (frames : List NumberedFrame)
     → AreNumberedFrom floor (g ∷ frames) → g.number ≡ floor + 1
@@ -61,8 +60,26 @@ among-at floor (g ∷ frames) f d (suc i) turn at within =
     ∙ among-at (floor + 1) frames f d i (later-numbers floor g frames turn) (omega (arith, at))
     (omega (arith, within))
 
--- the same of a frame that was kept
-pub kept-at : (frames : List NumberedFrame) (d : NumberedFrame) (i : ℕ) → i < length frames
-    → (get_or (kept_frames frames) i (kept_numbered d)).frame ≡ (get_or frames i d).frame
-kept-at frames d i within =
-    ap (λ k. k.frame) (get_or-map kept_numbered frames i d (kept_numbered d) within)
+-- so one look at that place tells
+pub among-in-place : (floor : ℕ) (frames : List NumberedFrame) (f : NumberedFrame)
+    → AreNumberedFrom floor frames
+    → (nat_lt floor f.number && nat_lt (f.number - floor - 1) (length frames)
+    && bytes_eq (get_or frames (f.number - floor - 1) f).frame f.frame) ≡ is_among frames f
+among-in-place floor frames f turn =
+    let i : ℕ = f.number - floor - 1 in
+    let same : Bool = bytes_eq (get_or frames i f).frame f.frame in
+    ⊎_elim
+    (λ above. ⊎_elim
+    (λ within.
+    ap (λ b. b && nat_lt i (length frames) && same) (lt-ltb floor f.number above)
+    ∙ (ap (λ b. b && same) (lt-ltb i (length frames) within)
+    ∙ sym (among-at floor frames f f i turn (omega (arith, above)) within)))
+    (λ past.
+    ap (λ b. b && nat_lt i (length frames) && same) (lt-ltb floor f.number above)
+    ∙ (ap (λ b. b && same) (le-ltb i (length frames) past)
+    ∙ sym (among-past floor frames f turn (omega (arith, above, past)))))
+    (cases_lt i (length frames)))
+    (λ below.
+    ap (λ b. b && nat_lt i (length frames) && same) (le-ltb floor f.number below)
+    ∙ sym (among-below floor frames f turn below))
+    (cases_lt floor f.number)

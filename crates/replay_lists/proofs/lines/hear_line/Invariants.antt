@@ -1,0 +1,7 @@
+use Rattle.std.proofs.Common.{take}
+use Rattle.replay_lists.specs.Lines.{HearsOn}
+use Rattle.replay_lists.proofs.lines.hear_line.Given as goal
+
+abbrev pub invariant-loop-index : goal.invariant-loop-index
+invariant-loop-index g l =
+    HearsOn g.V.Device l.fn.device l.device l.fn.frames l.frames (take l.index l.line)

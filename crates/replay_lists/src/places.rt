@@ -1,0 +1,27 @@
+//! Frames that are numbered in turn, each looked up at the place of its number.
+ghost use Rattle.std.specs.Prelude.{◌≡◌, List};
+ghost use Rattle.link_format.specs.NumberedFrame.{NumberedFrame};
+ghost use Rattle.replay_lists.specs.FrameBox.{kept_frames};
+ghost use Rattle.replay_lists.specs.FrameList.{Holds, IsWhole};
+ghost use Rattle.replay_lists.specs.Places.{stands_at_its_number};
+
+use crate::frame_box::Numbered;
+use crate::frame_list::FrameList;
+
+/// Whether a frame has these bytes at the place of this number, among frames that are numbered in
+/// turn from this floor on: no other one is looked at.
+pub fn is_at_its_number(frames: &FrameList<Numbered>, floor: u64, number: u64, bytes: &[u8]) -> bool
+    requires { IsWhole frames.now }
+    ensures { (listed : List NumberedFrame) (f : NumberedFrame)
+        → Holds frames.now (kept_frames listed) → f.number ≡ number → f.frame ≡ bytes.now
+        → result ≡ stands_at_its_number floor listed f }
+{
+    if number <= floor {
+        return false;
+    }
+    let place = (number - floor - 1) as usize;
+    if place >= frames.len() {
+        return false;
+    }
+    frames.bytes(place) == bytes
+}
