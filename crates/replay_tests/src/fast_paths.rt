@@ -12,7 +12,7 @@ use box_command::{LineBox, replay_box};
 use burst_walk::RunBytes;
 use check_receiver::Checker;
 use dnp_link_frame::Dnp;
-use frame_boxes::ShownFrames;
+use session_audit::ShownFrames;
 use hmac_tag::{Dir, HmacSha1, HmacSha256};
 use replay_lists::FrameBox;
 use replay_status::{Ends, Status};

@@ -8,7 +8,7 @@ use crate::{Profile, Proto};
 use check_receiver::Checker;
 use device_model::{DnpDevice, RtuDevice};
 use dnp_link_frame::Dnp;
-use frame_boxes::ShownFrames;
+use session_audit::ShownFrames;
 use hmac_tag::{Dir, HmacSha1, HmacSha256};
 use recordings_replay::replay_recordings;
 use replay_status::{Ends, Status};

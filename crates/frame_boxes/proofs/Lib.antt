@@ -1,5 +1,0 @@
-pub mod BurstRuns
-pub mod LastNotes
-pub mod Starting
-pub mod RunNotes
-pub mod Showing

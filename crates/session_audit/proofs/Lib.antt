@@ -1,0 +1,7 @@
+pub mod BurstRuns
+pub mod LastNotes
+pub mod Starting
+pub mod RunNotes
+pub mod Showing
+pub mod Auditing
+pub mod Judged

@@ -1,0 +1,33 @@
+use Rattle.std.proofs.Common.{◌++◌, List, subst}
+use Rattle.std.proofs.lemmas.List.{take-map}
+use Rattle.yasir_ticks.specs.declared.tick.Tick.{Tick}
+use Rattle.yasir_ticks.specs.declared.tick.Tick.TheVariants.{Byte}
+use Rattle.burst_walk.specs.Answered.{answered}
+use Rattle.sequence_journal.specs.Journal.{journal_floor}
+use Rattle.replay_lists.specs.FrameBox.{AnswersFrameRun}
+use Rattle.session_audit.specs.ShownFrames.{numbering_of}
+use Rattle.session_audit.proofs.RunNotes.{frames-run}
+use Rattle.session_audit.proofs.shown_frames.ShownFramesFrameBox.pass_bytes.Goals as goal
+
+pub returns-clause-stands : goal.returns-clause-stands
+returns-clause-stands g c = λ setup line before.
+    let count = c.take_alike-count.result in
+    let last = journal_floor c.args.self.now.journal in
+    let ran = c.take_alike-count.ensures.run last setup line before.notes in
+    record {
+      notes = subst (λ (l : List Tick). g.X.LinkBox.stands c.take_alike-count.new.line_box last
+          setup (line ++ l)) (take-map Byte count c.args.bytes.now) ran.stands;
+      burst = c.hear_bytes.ensures line before.burst;
+      room = before.room;
+    }
+
+pub returns-clause-answers : goal.returns-clause-answers
+returns-clause-answers g c = λ setup line before.
+    let walking = g.X.LinkBox.walking in
+    let count = c.take_alike-count.result in
+    let last = journal_floor c.args.self.now.journal in
+    let ran = c.take_alike-count.ensures.run last setup line before.notes in
+    subst (λ (l : List Tick). AnswersFrameRun (numbering_of walking setup) line l
+    (answered count c.take_alike-count.new.left.items)) (take-map Byte count c.args.bytes.now)
+    (frames-run (walking.walker setup) (g.met.X.NotingBox.causal _ _ setup _ ran.stands)
+    walking.brief (walking.begun setup) line _ _ ran.answers walking.frame_in)

@@ -1,0 +1,22 @@
+-- The bytes of the burst of a line that is running or was the last.
+use Rattle.std.specs.Prelude.{◌≡◌, ℕ, List, [], Option, Some, None, take}
+use Rattle.yasir_ticks.specs.Bursts.{Burst}
+use Rattle.yasir_ticks.specs.Ticks.{bytes_in}
+use Rattle.yasir_ticks.specs.declared.tick.Tick.{Tick}
+use Rattle.frame_ending.specs.SoFar.{last_burst, quiet_so_far}
+use Rattle.replay_lists.specs.FrameList.{longest_frame}
+use Rattle.session_audit.specs.declared.burst_bytes.BurstBytes.{BurstBytes}
+
+abbrev pub burst_bytes_in : Option Burst → List ℕ
+burst_bytes_in None = []
+burst_bytes_in (Some d) = bytes_in d.body
+
+-- all bytes of the last burst
+abbrev pub burst_bytes_so_far : List Tick → List ℕ
+burst_bytes_so_far line = burst_bytes_in (last_burst line)
+
+-- It has taken this line, and keeps the first bytes of the last burst, as many as the longest frame
+-- has.
+pub record BurstFor (value : BurstBytes) (line : List Tick) : Type 0 where
+  pub quiet_is : value.quiet ≡ quiet_so_far line
+  pub kept : value.bytes.items ≡ take longest_frame (burst_bytes_so_far line)

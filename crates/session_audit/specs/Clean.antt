@@ -1,0 +1,28 @@
+-- What a clean verdict says of three recordings.
+use Rattle.std.specs.Prelude.{◌≡◌, ℕ, List, length, map}
+use Rattle.yasir_ticks.specs.declared.tick.Tick.{Tick}
+use Rattle.sequence_journal.specs.Uptimes.{RiseFrom}
+use Rattle.link_format.specs.NumberedFrame.{numbers_of}
+use Rattle.link_format.specs.Profile.{delay}
+use Rattle.receiver_laws.specs.Accounted.{IsSubsequence, pairs_of}
+use Rattle.receiver_laws.specs.Headline.{bytes_read, bytes_sealed}
+use Rattle.session_audit.specs.Sessions.{LinkKind, got_profile, sealed_in, passed_in, read_in}
+use Rattle.session_audit.specs.Verdicts.{read_later}
+use Rattle.session_audit.specs.declared.session.Session.{Session}
+
+-- The frames that were read are those that passed, each as late as the receiver is. Those that
+-- passed are, with their numbers, a subsequence of those that were sealed; so the frames that were
+-- read are one. Numbers rise from the floors on both sides, so that each is used at most once.
+pub record IsClean (kind : LinkKind) (session : Session) (device link received : List Tick)
+    (sealed_ones passed_ones read_ones : ℕ) : Type 0 where
+  pub read_what_passed : read_in kind session received
+      ≡ map (read_later (delay (got_profile kind session))) (passed_in kind session link)
+  pub passed_what_was_sealed : IsSubsequence (pairs_of (passed_in kind session link))
+      (pairs_of (sealed_in kind session device))
+  pub read_what_was_sealed : IsSubsequence (bytes_read (read_in kind session received))
+      (bytes_sealed (sealed_in kind session device))
+  pub sealed_rise : RiseFrom session.sent_floor (numbers_of (sealed_in kind session device))
+  pub passed_rise : RiseFrom session.got_floor (numbers_of (passed_in kind session link))
+  pub sealed_count : sealed_ones ≡ length (sealed_in kind session device)
+  pub passed_count : passed_ones ≡ length (passed_in kind session link)
+  pub read_count : read_ones ≡ length (read_in kind session received)

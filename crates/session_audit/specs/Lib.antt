@@ -1,0 +1,9 @@
+pub mod BurstBytes
+pub mod FramesOf
+pub mod ShownFrames
+pub mod NotesTold
+pub mod NotingLaws
+pub mod Verdicts
+pub mod Sessions
+pub mod Clean
+pub mod Judging

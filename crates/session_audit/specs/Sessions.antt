@@ -1,0 +1,105 @@
+-- A session that has ended, and the verdict on three recordings of it: the line of the device that
+-- sends, the link, and the line of the device that receives.
+use Rattle.std.specs.Prelude.{◌≡◌, ℕ, ◌+◌, ◌≤◌, ◌⊎◌, ◌==◌, List, ◌++◌, length, if◌then◌else◌}
+use Rattle.yasir_ticks.specs.Ticks.{silent}
+use Rattle.yasir_ticks.specs.declared.TheConstants.{T3_5_TICKS}
+use Rattle.yasir_ticks.specs.declared.tick.Tick.{Tick}
+use Rattle.line_rules.specs.Rules.{Rules}
+use Rattle.rtu_frame.specs.Rules.{rtu_rules}
+use Rattle.dnp_link_frame.specs.Rules.{dnp_rules}
+use Rattle.device_model.specs.DnpReads.{dnp_reads}
+use Rattle.device_model.specs.Frames.{FrameRead}
+use Rattle.device_model.specs.RtuReads.{rtu_reads}
+use Rattle.link_format.specs.NumberedFrame.{NumberedFrame}
+use Rattle.link_format.specs.Profile.{Profile, delay}
+use Rattle.link_format.specs.Setup.{Setup, setup_of}
+use Rattle.link_format.specs.Y18.{y18}
+use Rattle.link_format.specs.Y24.{y24}
+use Rattle.sequence_journal.specs.declared.numbers.TheConstants.{LIMIT}
+use Rattle.seal_judgements.specs.Sealing.{sealed}
+use Rattle.link_verdicts.specs.Checking.{passed, received_line}
+use Rattle.replay_lists.specs.Listed.{link_rest}
+use Rattle.session_audit.specs.Verdicts.{verdict_on}
+use Rattle.session_audit.specs.declared.session.Session.{Session}
+use Rattle.session_audit.specs.declared.verdict.Verdict.{Verdict}
+
+-- There are such a protocol and such a profile, and the floors are numbers of frames.
+pub record IsSession (session : Session) : Type 0 where
+  pub label : (session.label ≡ 1) ⊎ (session.label ≡ 2)
+  pub profile : (session.profile ≡ 18) ⊎ (session.profile ≡ 24)
+  pub sent : session.sent_floor ≤ LIMIT
+  pub got : session.got_floor ≤ LIMIT
+
+-- as long as a recording may be
+abbrev pub max_recorded : ℕ
+max_recorded = 16777216
+
+-- No recording is longer.
+pub record AreRecordings (device link received : List Tick) : Type 0 where
+  pub device_len : length device ≤ max_recorded
+  pub link_len : length link ≤ max_recorded
+  pub received_len : length received ≤ max_recorded
+
+-- both boxes as they were set up
+abbrev pub sent_setup : Session → Setup
+sent_setup session = setup_of session.key.now session.dir session.sent_floor
+
+abbrev pub got_setup : Session → Setup
+got_setup session = setup_of session.key.now session.dir session.got_floor
+
+-- ---- the protocol and the profile of a session
+
+-- the profile of a link as a box is set up, the rules of its protocol, and what the stated device
+-- of the protocol reads
+pub record LinkKind : Type 0 where
+  pub profile : Setup → Profile
+  pub rules : Rules
+  pub reads : List Tick → List FrameRead
+
+abbrev pub format_of : ℕ → ℕ → Setup → Profile
+format_of profile label = if profile == 18 then y18 label LIMIT else y24 label LIMIT
+
+abbrev pub kind_by : ℕ → ℕ → LinkKind
+kind_by label profile =
+    if label == 1
+    then record { profile = format_of profile 1; rules = rtu_rules; reads = rtu_reads }
+    else record { profile = format_of profile 2; rules = dnp_rules; reads = dnp_reads }
+
+abbrev pub kind_of : Session → LinkKind
+kind_of session = kind_by session.label session.profile
+
+-- ---- what the recordings say
+
+module _ (kind : LinkKind) (session : Session) where
+  abbrev pub sent_profile : Profile
+  sent_profile = kind.profile (sent_setup session)
+
+  abbrev pub got_profile : Profile
+  got_profile = kind.profile (got_setup session)
+
+  -- the frames that are sealed of the line of the device that sends, whose last burst is closed and
+  -- whose last trailer is sent
+  abbrev pub sealed_in : List Tick → List NumberedFrame
+  sealed_in device =
+      sealed sent_profile kind.rules session.sent_floor (device ++ silent (delay sent_profile + 6))
+
+  -- the frames that pass of the link, up to the last verdict
+  abbrev pub passed_in : List Tick → List NumberedFrame
+  passed_in link = passed got_profile kind.rules session.got_floor (link ++ silent link_rest)
+
+  -- the frames that the device reads that receives, whose last burst is closed
+  abbrev pub read_in : List Tick → List FrameRead
+  read_in received = kind.reads (received ++ silent T3_5_TICKS)
+
+  -- what the session's receiver sends of the link, up to the last byte that it holds back
+  abbrev pub line_received : List Tick → List Tick
+  line_received link =
+      received_line got_profile kind.rules session.got_floor (link ++ silent link_rest)
+
+  abbrev pub verdict_with : List Tick → List Tick → List Tick → Verdict
+  verdict_with device link received =
+      verdict_on (delay got_profile) (sealed_in device) (passed_in link) (read_in received)
+
+-- the verdict on these recordings of a session
+abbrev pub verdict_of : Session → List Tick → List Tick → List Tick → Verdict
+verdict_of session = verdict_with (kind_of session) session

@@ -1,0 +1,37 @@
+ghost use Rattle.std.specs.Prelude.{◌≡◌, ◌≢◌, ℕ, List};
+ghost use Rattle.yasir_ticks.specs.Ticks.{AreTicks};
+ghost use Rattle.yasir_ticks.specs.declared.tick.Tick.{Tick};
+ghost use Rattle.session_audit.specs.Clean.{IsClean};
+ghost use Rattle.session_audit.specs.Sessions.{kind_of, line_received, verdict_of};
+ghost use Rattle.session_audit.specs.declared.session.Session.{Session};
+ghost use Rattle.session_audit.specs.declared.verdict.Verdict.TheVariants.{Clean, Differs};
+
+use dnp_link_frame::Dnp;
+use receiver_laws::{recorded_line_reads_all_that_passed, stated_profiles_are_fit};
+use rtu_frame::Rtu;
+
+/// A law of the audit's definitions, for each session and any three lists of ticks, whoever made
+/// them: where the verdict is clean, the frames read from the third are, in order, a subsequence of
+/// the frames sealed from the first, with each number used at most once. They are the frames that
+/// passed of the second, each as late as the receiver is.
+pub fn clean_recordings_have_only_sealed_frames()
+    ensures { (session : Session) (device link received : List Tick)
+        (sealed_ones passed_ones read_ones : ℕ)
+        → verdict_of session device link received ≡ Clean sealed_ones passed_ones read_ones
+        → IsClean (kind_of session) session device link received sealed_ones passed_ones
+        read_ones }
+{}
+
+/// A law of the audit's definitions, for each session, line of a device and link: where the third
+/// recording is what the session's receiver sends of that link, recorded until all has left, the
+/// verdict is never that they differ. So where it is, the third recording isn't this receiver's
+/// line of this link, or it ends too early.
+pub fn own_line_of_a_receiver_never_differs()
+    ensures { (session : Session) (device link : List Tick) → AreTicks link → (place : ℕ)
+        → verdict_of session device link (line_received (kind_of session) session link)
+        ≢ Differs place }
+{
+    recorded_line_reads_all_that_passed();
+    stated_profiles_are_fit::<Rtu>();
+    stated_profiles_are_fit::<Dnp>();
+}

@@ -1,0 +1,34 @@
+//! An audit of a session that has ended, by three recordings of it: which frames were sealed, which
+//! passed, and what a device read.
+//!
+//! Transmitter and receiver are run anew as boxes that show the frames that they number. A box keeps
+//! no frame; the bytes are those of the burst that is running or was the last, which are kept beside
+//! it. These boxes stand here, below the commands that show frames.
+#![tactic(auto)]
+
+mod burst_bytes;
+mod check_noting;
+mod frame_room;
+mod judging;
+mod laws;
+mod noting_box;
+mod over_recordings;
+mod seal_noting;
+mod session;
+mod shown_frames;
+mod steady_disk;
+mod verdict;
+
+pub use burst_bytes::BurstBytes;
+pub use hmac_tag::Dir;
+pub use laws::{clean_recordings_have_only_sealed_frames, own_line_of_a_receiver_never_differs};
+pub use noting_box::NotingBox;
+pub use over_recordings::audit;
+pub use replay_lists::NoMemory;
+pub use session::Session;
+pub use shown_frames::ShownFrames;
+pub use steady_disk::SteadyDisk;
+pub use verdict::Verdict;
+
+#[cfg(test)]
+mod tests;

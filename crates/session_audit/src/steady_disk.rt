@@ -1,0 +1,41 @@
+ghost use Rattle.std.specs.Prelude.{◌≡◌, ◌≤◌, None, IsSomeAnd};
+ghost use Rattle.sequence_journal.specs.Journal.{Fits, journal_floor};
+ghost use Rattle.sequence_journal.specs.Slots.{greatest};
+ghost use Rattle.sequence_journal.specs.declared.numbers.TheConstants.{LIMIT};
+
+use sequence_journal::{Journal, LinkId};
+use yasir_io::{SlotDisk, SteadySlots};
+
+/// A disk of which no call fails.
+pub trait SteadyDisk: SlotDisk + Drop {
+    /// A disk whose slots hold no number, for whatever link.
+    fn blank() -> Self
+        ensures { IsSomeAnd (Self.SlotDisk.told result) (λ slots. greatest slots ≡ None) };
+
+    // Its count of faults never rises.
+    ghost steady: { (disk : Self) → Self.SlotDisk.faults disk ≡ 0 };
+}
+
+impl SteadyDisk for SteadySlots {
+    ghost use Rattle.std.specs.Prelude.{refl};
+
+    fn blank() -> Self {
+        SteadySlots::new([0; 24], [0; 24])
+    }
+
+    ghost steady = { λ disk. refl };
+}
+
+// A new journal on a blank disk, for no journal's file, whose last number is this floor.
+pub(crate) fn journal_at<K: SteadyDisk>(disk: &mut K, floor: u64) -> Journal
+    requires blank { IsSomeAnd (K.told disk.old) (λ slots. greatest slots ≡ None) }
+    requires within { floor ≤ LIMIT }
+    ensures fits { Fits result (K.told disk.new) }
+    ensures floor { journal_floor result ≡ floor }
+{
+    let mut journal = Journal::init(disk, &LinkId::of_no_file()).unwrap();
+    if floor > 0 {
+        journal.commit(disk, floor).unwrap();
+    }
+    journal
+}

@@ -1,0 +1,421 @@
+//! Verdicts on small recordings: each verdict, places, floors, and each protocol and profile.
+ghost use Rattle.std.specs.Prelude.{◌≤◌, length, IfOk};
+ghost use Rattle.sequence_journal.specs.declared.numbers.TheConstants.{LIMIT};
+ghost use Rattle.session_audit.specs.Sessions.{IsSession, max_recorded};
+
+use crate::{Dir, Session, Verdict, audit};
+use std::alloc::Global;
+use std::process::Abort;
+use std::test::Fail;
+use yasir_ticks::Tick;
+
+const KEY: [u8; 16] = [0, 1, 2, 3, 4, 5, 6, 7, 8, 9, 10, 11, 12, 13, 14, 15];
+
+const READ_TEN_REGISTERS: &[u8] = b"\x01\x03\x00\x00\x00\x0a\xc5\xcd";
+
+const READ_ONE_REGISTER: &[u8] = b"\x01\x03\x00\x00\x00\x01\x84\x0a";
+
+// The last byte is another one.
+const SPOILED: &[u8] = b"\x01\x03\x00\x00\x00\x0a\xc5\xcc";
+
+const RESET_LINK: &[u8] = b"\x05\x64\x05\xc0\x01\x00\x00\x04\xe9\x21";
+
+// Words and tags. The tags are by openssl:
+//   printf 010001030000000ac5cd0000000000000001 | xxd -r -p
+//     | openssl dgst -sha1 -mac HMAC -macopt hexkey:000102030405060708090a0b0c0d0e0f
+//     | cut -c1-24
+// and so for the other numbers and the other frame, for DNP3 with 0200 in front, and by y24 with
+// -sha256 and cut -c1-32.
+const TEN_AS_1: &[u8] = b"\x00\x01\x01\x4c\x5b\x8d\x33\xc6\xd2\x9a\x34\x70\x13\xb0";
+
+const ONE_AS_1: &[u8] = b"\x00\x01\xec\x3b\xeb\x0f\x43\xa9\xc8\x25\xb9\x48\xc8\x40";
+
+const ONE_AS_2: &[u8] = b"\x00\x02\xee\x5b\x1d\x1d\x6f\xc1\x59\xaf\x24\x11\xae\xb5";
+
+const TEN_AS_6: &[u8] = b"\x00\x06\xbf\xfa\x8b\xcd\x3f\x6a\xd2\x32\xde\x11\x82\x0a";
+
+const WIDE_TEN_AS_1: &[u8] =
+    b"\x00\x00\x00\x01\x65\xd2\x45\xba\x10\x95\x09\xaa\x6c\x32\xac\x3c\xfa\x22\x8f\xd6";
+
+const RESET_AS_1: &[u8] = b"\x00\x01\x79\x34\x84\xb9\xbd\xf8\x58\xbb\xd8\x2b\x55\x9e";
+
+const WIDE_RESET_AS_8: &[u8] =
+    b"\x00\x00\x00\x08\x9e\x71\x90\x0c\xb2\x56\x92\xe4\xde\x5a\xa1\x76\x8c\x9d\xb4\x71";
+
+/// A part of a line.
+#[derive(Clone, Copy)]
+enum Part<'a> {
+    Bytes(&'a [u8]),
+    Silence(usize),
+}
+
+use Part::{Bytes, Silence};
+
+// The ticks of a line.
+fn line_of(alloc: Global, parts: &[Part<'_>]) -> Result<Vec<Tick>, Fail>
+    ensures { IfOk result (λ line. length line.items ≤ max_recorded) }
+{
+    let mut line = Vec::new(alloc);
+    for part in parts {
+        match *part {
+            Bytes(bytes) => {
+                for byte in bytes {
+                    line.push(Tick::Byte(*byte))?;
+                }
+            }
+            Silence(ticks) => {
+                for _ in 0..ticks {
+                    line.push(Tick::Silent)?;
+                }
+            }
+        }
+    }
+    if line.len() > 1000 {
+        return Err(Fail::from("the line is too long"));
+    }
+    Ok(line)
+}
+
+/// A protocol and a profile: Modbus RTU or DNP3, by y18 or by y24.
+#[derive(Clone, Copy)]
+enum Link {
+    Rtu,
+    Dnp,
+    WideRtu,
+    WideDnp,
+}
+
+// A session from a to b.
+fn session_of(link: Link, sent_floor: u64, got_floor: u64) -> Session<'static>
+    requires sent { sent_floor ≤ LIMIT }
+    requires got { got_floor ≤ LIMIT }
+    ensures { IsSession result }
+{
+    let (label, profile) = match link {
+        Link::Rtu => (1, 18),
+        Link::Dnp => (2, 18),
+        Link::WideRtu => (1, 24),
+        Link::WideDnp => (2, 24),
+    };
+    Session {
+        label,
+        profile,
+        dir: Dir::Ab,
+        key: &KEY,
+        sent_floor,
+        got_floor,
+    }
+}
+
+/// Three lines.
+#[derive(Clone, Copy)]
+struct Recorded<'a> {
+    device: &'a [Part<'a>],
+    link: &'a [Part<'a>],
+    received: &'a [Part<'a>],
+}
+
+// What is found of them.
+fn finds(
+    rt: &impl Abort,
+    alloc: Global,
+    session: Session<'_>,
+    recorded: Recorded<'_>,
+    verdict: Verdict,
+) -> Result<(), Fail>
+    requires { IsSession session }
+{
+    let device = line_of(alloc, recorded.device)?;
+    let link = line_of(alloc, recorded.link)?;
+    let received = line_of(alloc, recorded.received)?;
+    let found = audit(
+        alloc,
+        &session,
+        device.as_slice(),
+        link.as_slice(),
+        received.as_slice(),
+    );
+    match found {
+        Ok(found) => assert_eq!(rt; found, verdict),
+        Err(_) => return Err(Fail::from("no memory")),
+    }
+    Ok(())
+}
+
+const SENT: &[Part<'static>] = &[Bytes(READ_TEN_REGISTERS), Silence(40)];
+
+const PACKET_1: &[Part<'static>] = &[
+    Bytes(READ_TEN_REGISTERS),
+    Silence(3),
+    Bytes(TEN_AS_1),
+    Silence(47),
+];
+
+const GOT: &[Part<'static>] = &[Silence(18), Bytes(READ_TEN_REGISTERS), Silence(366)];
+
+const REFUSED: &[Part<'static>] = &[Silence(18), Bytes(SPOILED), Silence(366)];
+
+// One frame, its packet, and what the receiver sends of it.
+#[test]
+fn an_untouched_link_is_clean(rt: HostRuntime) -> Result<(), Fail> {
+    let all = Recorded {
+        device: SENT,
+        link: PACKET_1,
+        received: GOT,
+    };
+    let clean = Verdict::Clean {
+        sealed: 1,
+        passed: 1,
+        read: 1,
+    };
+    finds(&rt, rt.alloc(), session_of(Link::Rtu, 0, 0), all, clean)
+}
+
+// The device's line has the frame that the receiver would have spoiled.
+#[test]
+fn a_spoiled_frame_differs_at_place_0(rt: HostRuntime) -> Result<(), Fail> {
+    let all = Recorded {
+        device: SENT,
+        link: PACKET_1,
+        received: REFUSED,
+    };
+    finds(
+        &rt,
+        rt.alloc(),
+        session_of(Link::Rtu, 0, 0),
+        all,
+        Verdict::Differs { place: 0 },
+    )
+}
+
+// Nothing was sealed, and yet a packet passed.
+#[test]
+fn a_packet_of_no_frame_is_forged(rt: HostRuntime) -> Result<(), Fail> {
+    let all = Recorded {
+        device: &[Silence(48)],
+        link: PACKET_1,
+        received: GOT,
+    };
+    let forged = Verdict::Forged {
+        number: 1,
+        start: 0,
+    };
+    finds(&rt, rt.alloc(), session_of(Link::Rtu, 0, 0), all, forged)
+}
+
+// A frame was sealed with the number, and it is another one.
+#[test]
+fn a_number_alone_does_not_tell(rt: HostRuntime) -> Result<(), Fail> {
+    let all = Recorded {
+        device: SENT,
+        link: &[
+            Silence(7),
+            Bytes(READ_ONE_REGISTER),
+            Silence(3),
+            Bytes(ONE_AS_1),
+            Silence(40),
+        ],
+        received: &[Silence(25), Bytes(READ_ONE_REGISTER), Silence(10)],
+    };
+    let forged = Verdict::Forged {
+        number: 1,
+        start: 7,
+    };
+    finds(&rt, rt.alloc(), session_of(Link::Rtu, 0, 0), all, forged)
+}
+
+// Two frames passed. A device that has read the first alone, both and one more, or the second a
+// tick late, differs from the place on at which it does.
+#[test]
+fn places_are_counted_from_0(rt: HostRuntime) -> Result<(), Fail> {
+    let device: &[Part<'_>] = &[
+        Bytes(READ_TEN_REGISTERS),
+        Silence(32),
+        Bytes(READ_ONE_REGISTER),
+        Silence(32),
+    ];
+    let link: &[Part<'_>] = &[
+        Bytes(READ_TEN_REGISTERS),
+        Silence(3),
+        Bytes(TEN_AS_1),
+        Silence(15),
+        Bytes(READ_ONE_REGISTER),
+        Silence(3),
+        Bytes(ONE_AS_2),
+        Silence(15),
+    ];
+    let session = session_of(Link::Rtu, 0, 0);
+    let both: &[Part<'_>] = &[
+        Silence(18),
+        Bytes(READ_TEN_REGISTERS),
+        Silence(32),
+        Bytes(READ_ONE_REGISTER),
+    ];
+    let clean = Verdict::Clean {
+        sealed: 2,
+        passed: 2,
+        read: 2,
+    };
+    let received = both;
+    finds(
+        &rt,
+        rt.alloc(),
+        session,
+        Recorded {
+            device,
+            link,
+            received,
+        },
+        clean,
+    )?;
+    let received: &[Part<'_>] = &[Silence(18), Bytes(READ_TEN_REGISTERS), Silence(50)];
+    let second = Verdict::Differs { place: 1 };
+    finds(
+        &rt,
+        rt.alloc(),
+        session,
+        Recorded {
+            device,
+            link,
+            received,
+        },
+        second,
+    )?;
+    let received: &[Part<'_>] = &[
+        Silence(18),
+        Bytes(READ_TEN_REGISTERS),
+        Silence(33),
+        Bytes(READ_ONE_REGISTER),
+    ];
+    finds(
+        &rt,
+        rt.alloc(),
+        session,
+        Recorded {
+            device,
+            link,
+            received,
+        },
+        second,
+    )?;
+    let received: &[Part<'_>] = &[
+        Silence(18),
+        Bytes(READ_TEN_REGISTERS),
+        Silence(32),
+        Bytes(READ_ONE_REGISTER),
+        Silence(4),
+        Bytes(READ_ONE_REGISTER),
+    ];
+    let third = Verdict::Differs { place: 2 };
+    finds(
+        &rt,
+        rt.alloc(),
+        session,
+        Recorded {
+            device,
+            link,
+            received,
+        },
+        third,
+    )
+}
+
+// A packet that was lost is missing on both sides of the receiver, and the session is clean.
+#[test]
+fn a_lost_packet_is_clean(rt: HostRuntime) -> Result<(), Fail> {
+    let all = Recorded {
+        device: SENT,
+        link: &[Silence(90)],
+        received: &[Silence(400)],
+    };
+    let clean = Verdict::Clean {
+        sealed: 1,
+        passed: 0,
+        read: 0,
+    };
+    finds(&rt, rt.alloc(), session_of(Link::Rtu, 0, 0), all, clean)
+}
+
+// Both boxes go on from their floors: number 6 is sealed behind 5 and passes behind 2, and not
+// behind 6. With the receiver's floor for the transmitter's the frame has number 3.
+#[test]
+fn numbers_go_on_from_the_floors(rt: HostRuntime) -> Result<(), Fail> {
+    let all = Recorded {
+        device: SENT,
+        link: &[
+            Bytes(READ_TEN_REGISTERS),
+            Silence(3),
+            Bytes(TEN_AS_6),
+            Silence(47),
+        ],
+        received: GOT,
+    };
+    let clean = Verdict::Clean {
+        sealed: 1,
+        passed: 1,
+        read: 1,
+    };
+    finds(&rt, rt.alloc(), session_of(Link::Rtu, 5, 2), all, clean)?;
+    let forged = Verdict::Forged {
+        number: 6,
+        start: 0,
+    };
+    finds(&rt, rt.alloc(), session_of(Link::Rtu, 2, 5), all, forged)?;
+    let read = Verdict::Differs { place: 0 };
+    finds(&rt, rt.alloc(), session_of(Link::Rtu, 5, 6), all, read)
+}
+
+// The same by the other profile and protocol.
+#[test]
+fn each_protocol_and_profile_is_judged(rt: HostRuntime) -> Result<(), Fail> {
+    let clean = Verdict::Clean {
+        sealed: 1,
+        passed: 1,
+        read: 1,
+    };
+    let wide = Recorded {
+        device: SENT,
+        link: &[
+            Bytes(READ_TEN_REGISTERS),
+            Silence(3),
+            Bytes(WIDE_TEN_AS_1),
+            Silence(47),
+        ],
+        received: &[Silence(24), Bytes(READ_TEN_REGISTERS), Silence(366)],
+    };
+    finds(
+        &rt,
+        rt.alloc(),
+        session_of(Link::WideRtu, 0, 0),
+        wide,
+        clean,
+    )?;
+    let dnp = Recorded {
+        device: &[Bytes(RESET_LINK), Silence(40)],
+        link: &[
+            Bytes(RESET_LINK),
+            Silence(3),
+            Bytes(RESET_AS_1),
+            Silence(47),
+        ],
+        received: &[Silence(18), Bytes(RESET_LINK), Silence(366)],
+    };
+    finds(&rt, rt.alloc(), session_of(Link::Dnp, 0, 0), dnp, clean)?;
+    let wide_dnp = Recorded {
+        device: &[Silence(2), Bytes(RESET_LINK), Silence(40)],
+        link: &[
+            Silence(2),
+            Bytes(RESET_LINK),
+            Silence(3),
+            Bytes(WIDE_RESET_AS_8),
+        ],
+        received: &[Silence(26), Bytes(RESET_LINK)],
+    };
+    finds(
+        &rt,
+        rt.alloc(),
+        session_of(Link::WideDnp, 7, 7),
+        wide_dnp,
+        clean,
+    )
+}
