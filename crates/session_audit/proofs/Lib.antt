@@ -5,3 +5,4 @@ pub mod RunNotes
 pub mod Showing
 pub mod Auditing
 pub mod Judged
+mod Worked

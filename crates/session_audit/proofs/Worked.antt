@@ -1,0 +1,59 @@
+-- Verdicts on small lists of frames, computed.
+use Rattle.std.proofs.Common.{◌≡◌, ℕ, List, [], ◌∷◌, Some, None, refl}
+use Rattle.device_model.specs.Frames.{FrameRead}
+use Rattle.link_format.specs.NumberedFrame.{NumberedFrame}
+use Rattle.session_audit.specs.Verdicts.{first_difference, verdict_on}
+use Rattle.session_audit.specs.declared.verdict.Verdict.TheVariants.{Clean, Forged, Differs}
+
+abbrev frame : ℕ → ℕ → List ℕ → NumberedFrame
+frame number start bytes = record { number = number; start = start; frame = bytes }
+
+abbrev read : ℕ → List ℕ → FrameRead
+read start bytes = record { start = start; frame = bytes }
+
+-- the first place at which two lists differ
+nothing : first_difference [] [] ≡ None
+nothing = refl
+
+the-same : first_difference (read 18 (1 ∷ []) ∷ []) (read 18 (1 ∷ []) ∷ []) ≡ None
+the-same = refl
+
+other-bytes : first_difference (read 18 (1 ∷ []) ∷ []) (read 18 (2 ∷ []) ∷ []) ≡ Some 0
+other-bytes = refl
+
+other-tick : first_difference (read 18 (1 ∷ []) ∷ read 40 (2 ∷ []) ∷ [])
+    (read 18 (1 ∷ []) ∷ read 41 (2 ∷ []) ∷ []) ≡ Some 1
+other-tick = refl
+
+one-more-read : first_difference (read 18 (1 ∷ []) ∷ [])
+    (read 18 (1 ∷ []) ∷ read 40 (2 ∷ []) ∷ []) ≡ Some 1
+one-more-read = refl
+
+one-read-less : first_difference (read 18 (1 ∷ []) ∷ read 40 (2 ∷ []) ∷ [])
+    (read 18 (1 ∷ []) ∷ []) ≡ Some 1
+one-read-less = refl
+
+-- two frames were sealed, and the second one passed and was read
+clean : verdict_on 18 (frame 1 0 (5 ∷ []) ∷ frame 2 30 (6 ∷ []) ∷ []) (frame 2 30 (6 ∷ []) ∷ [])
+    (read 48 (6 ∷ []) ∷ []) ≡ Clean 2 1 1
+clean = refl
+
+-- it stood elsewhere on the link than on the line, which no verdict asks about
+moved : verdict_on 18 (frame 1 0 (5 ∷ []) ∷ []) (frame 1 70 (5 ∷ []) ∷ []) (read 88 (5 ∷ []) ∷ [])
+    ≡ Clean 1 1 1
+moved = refl
+
+-- the frames passed under each other's number: the first of them is named, though the reads differ
+exchanged : verdict_on 18 (frame 1 0 (5 ∷ []) ∷ frame 2 30 (6 ∷ []) ∷ [])
+    (frame 1 0 (6 ∷ []) ∷ frame 2 30 (5 ∷ []) ∷ []) [] ≡ Forged 1 0
+exchanged = refl
+
+-- and a forged frame is named where it isn't the first that passed
+second-forged : verdict_on 18 (frame 6 0 (5 ∷ []) ∷ [])
+    (frame 6 0 (5 ∷ []) ∷ frame 7 31 (5 ∷ []) ∷ []) [] ≡ Forged 7 31
+second-forged = refl
+
+-- the device read the frame in its own tick, and not as late as the receiver is
+too-early : verdict_on 24 (frame 1 3 (5 ∷ []) ∷ []) (frame 1 3 (5 ∷ []) ∷ []) (read 3 (5 ∷ []) ∷ [])
+    ≡ Differs 0
+too-early = refl
