@@ -8,7 +8,7 @@ where a line differs.
 """
 import subprocess, sys
 
-from model import Dnp3, Rtu, Y18, Y24, check, seal
+from model import Dnp3, Rtu, Y18, Y24, check, reads, seal
 
 PERIOD, HALF, KEY = 640, 320, bytes(16)
 LINKS = {"rtu": (Rtu, Y18), "dnp3": (Dnp3, Y18), "rtu24": (Rtu, Y24), "dnp24": (Dnp3, Y24)}
@@ -62,7 +62,7 @@ def counted(proto, profile, seed, count):
         link += alter(sent[period * PERIOD:(period + 1) * PERIOD], *alteration)
     received, verdicts, _, _ = check(proto, KEY, 0, 0, link, profile)
     words = [note.split()[0] for note in notes + verdicts]
-    return [words.count(word) for word in ("sealed", "passed", "refused", "dropped")] + [len(list(proto.reads(received)))]
+    return [words.count(word) for word in ("sealed", "passed", "refused", "dropped")] + [len(reads(proto, received))]
 
 
 def line_of(word, seed, count):

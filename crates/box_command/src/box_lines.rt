@@ -85,6 +85,7 @@ impl<B: LineBox> BoxLines<B> {
 
     // Takes the first ticks of this run, as far as the box answers them with silence or with bytes,
     // and answers how many.
+    #[inline(always)]
     fn pass<O: Sink, L: Sink, D: SlotDisk>(
         &mut self,
         out: &mut O,
