@@ -137,7 +137,7 @@ impl<X: FrameBox> Shown<X> {
         ensures able { X.able result.frame_box }
     {
         Shown {
-            frame_box: X::new(&packets::KEY.to_be_bytes(), Dir::Ab),
+            frame_box: X::new(&packets::KEY.to_be_bytes(), Dir::Ab, 0),
         }
     }
 }
