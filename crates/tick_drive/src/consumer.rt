@@ -36,22 +36,6 @@ pub trait Consumer {
         requires { MayTake meaning self.old (mark ∷ []) }
         ensures { Gives meaning self.old self.new (mark ∷ []) result };
 
-    /// Takes the ticks of this run in order.
-    #[inline(always)]
-    fn take_run(&mut self, run: TickRun<'_>) -> Result<(), Stop>
-        requires { MayTake meaning self.old (run_items run) }
-        ensures { Gives meaning self.old self.new (run_items run.entry) result }
-    {
-        let mut left = run;
-        while !left.is_empty() {
-            match self.take_some(left) {
-                Ok(count) => left = left.behind(count),
-                Err(stop) => return Err(stop),
-            }
-        }
-        Ok(())
-    }
-
     ghost went_none: { IsNoneDone meaning };
 
     ghost went_then: { AreJoined meaning };

@@ -28,6 +28,23 @@ fn ticks_of(content: Content, bytes: &[u8]) -> u32
     }
 }
 
+// Gives the ticks of a run in order to the consumer. It is no function of the trait: a hint on
+// inlining doesn't reach what a trait gives.
+#[inline(always)]
+fn give_run<C: Consumer>(run: TickRun<'_>, consumer: &mut C) -> Result<(), Stop>
+    requires { MayTake C.meaning consumer.old (run_items run) }
+    ensures { Gives C.meaning consumer.old consumer.new (run_items run.entry) result }
+{
+    let mut left = run;
+    while !left.is_empty() {
+        match consumer.take_some(left) {
+            Ok(count) => left = left.behind(count),
+            Err(stop) => return Err(stop),
+        }
+    }
+    Ok(())
+}
+
 // Gives silent ticks to the consumer. It stands apart, so that each kind of run is compiled for
 // itself.
 #[inline(never)]
@@ -35,7 +52,7 @@ fn give_silence<C: Consumer>(ticks: u32, consumer: &mut C) -> Result<(), Stop>
     requires { MayTake C.meaning consumer.old (run_items (Silence ticks)) }
     ensures { Gives C.meaning consumer.old consumer.new (run_items (Silence ticks)) result }
 {
-    consumer.take_run(TickRun::Silence(ticks))
+    give_run(TickRun::Silence(ticks), consumer)
 }
 
 // Gives a line of this content to the consumer.
@@ -47,7 +64,7 @@ fn give<C: Consumer>(content: Content, bytes: &[u8], consumer: &mut C) -> Result
 {
     match content {
         Content::NoTick => Ok(()),
-        Content::KeptBytes => consumer.take_run(TickRun::Bytes(bytes)),
+        Content::KeptBytes => give_run(TickRun::Bytes(bytes), consumer),
         Content::SilentTicks(ticks) => give_silence(ticks, consumer),
         Content::OneMark => consumer.take_mark(),
     }
@@ -150,7 +167,7 @@ pub fn drive_to_rest<S: Source, C: Consumer>(
         End::Whole => {}
         end => return end,
     }
-    match consumer.take_run(TickRun::Silence(rest)) {
+    match give_silence(rest, consumer) {
         Ok(()) => End::Whole,
         Err(stop) => End::Stopped(stop),
     }

@@ -3,8 +3,8 @@ use Rattle.tick_drive.proofs.ItemLaws.{length-ticks_in-silence}
 use Rattle.tick_drive.proofs.Driving.{rest_taken, rest_stops, other_ends, few-whole}
 use Rattle.tick_drive.proofs.input_loop.drive_to_rest.Goals as goal
 
-pub take_run-requires : goal.take_run-requires
-take_run-requires g c =
+pub give_silence-requires : goal.give_silence-requires
+give_silence-requires g c =
     let driven = c.in-Whole.ensures.driven in record {
       room = omega (
         arith,
