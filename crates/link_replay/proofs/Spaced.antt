@@ -73,4 +73,4 @@ module _ (proto : Proto) (profile : Profile) (in_before in_now : Option (List �
 pub outside-same : {K S O L D : Type 0} (key : K) (s0 s1 : S) (o0 o1 : O) (l0 l1 : L) (disk : D)
     → (s1 ≡ s0) × ((o1 ≡ o0) × (l1 ≡ l0))
     → outside key s1 o1 l1 disk ≡ outside key s0 o0 l0 disk
-outside-same key s0 s1 o0 o1 l0 l1 disk same = rw (same.0, same.1, same.2) refl
+outside-same key s0 s1 o0 o1 l0 l1 disk same = rw (same.0, same.1.0, same.1.1) refl
