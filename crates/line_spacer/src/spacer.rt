@@ -199,7 +199,7 @@ impl<V: Device, const GAP: usize> Spacer<V, GAP> {
     /// Takes the first ticks of this run, at least one of them, and no further than the other line
     /// stays alike, all bytes or all silence, and no frame is read before the last of them. `left`
     /// gets the bytes that leave, one in each tick, or none where silence leaves.
-    #[inline]
+    #[inline(always)]
     pub fn take_some(&mut self, run: TickRun<'_>, left: &mut RunBytes) -> SpaceRun
         requires room { ticks_taken V.Device self.old + length (run_ticks run) ≤ MAX_TICKS }
         requires some { 0 < length (run_ticks run) }
@@ -228,7 +228,8 @@ impl<V: Device, const GAP: usize> Spacer<V, GAP> {
         SpaceRun { taken, lost }
     }
 
-    // Takes one tick, and tells what leaves as of a run.
+    // Takes one tick, and tells what leaves as of a run. It stands apart, since few ticks go alone.
+    #[inline(never)]
     fn take_one(&mut self, t: Tick, left: &mut RunBytes) -> SpaceRun
         requires room { ticks_taken V.Device self.old < MAX_TICKS }
         requires empty { left.old.items ≡ [] }

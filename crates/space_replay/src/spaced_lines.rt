@@ -1,8 +1,11 @@
-ghost use Rattle.std.specs.Prelude.{◌≡◌};
-ghost use Rattle.yasir_ticks.specs.TickRun.{run_ticks};
+ghost use Rattle.std.specs.Prelude.{◌≡◌, ◌<◌, length};
+ghost use Rattle.yasir_ticks.specs.TickRun.{run_ticks, run_items};
+ghost use Rattle.yasir_ticks.specs.declared.tick_run.TickRun.TheVariants.{Bytes, Silence};
 ghost use Rattle.device_model.specs.Frames.{frames_of};
 ghost use Rattle.device_replay.specs.Lines.{read_at};
 ghost use Rattle.line_texts.specs.Texts.{writing, Pushes};
+ghost use Rattle.tick_drive.specs.Consumers.{MayTake, GivesSome};
+ghost use Rattle.space_replay.specs.SpacedLines.{spacing};
 ghost use Rattle.space_replay.specs.SpacedTexts.{lost_line, lost_lines};
 
 use crate::spacers::LineSpacer;
@@ -29,7 +32,9 @@ pub struct SpacedLines<'a, B, O, L> {
     log: &'a mut L,
 }
 
-// Adds the line of a frame that is lost, and behind it the ticks of the run in which it is read.
+// Adds the line of a frame that is lost, and behind it the ticks of the run in which it is read. It
+// stands apart, since few frames are lost.
+#[inline(never)]
 fn push_lost<O: Sink, L: Sink>(
     texts: &mut Texts,
     out: &mut O,
@@ -47,7 +52,7 @@ fn push_lost<O: Sink, L: Sink>(
 }
 
 // Adds the ticks of a run, and before them the line of the frame that is lost in it.
-#[inline]
+#[inline(always)]
 fn push_answer<O: Sink, L: Sink>(
     texts: &mut Texts,
     out: &mut O,
@@ -87,15 +92,15 @@ impl<'a, B, O, L> SpacedLines<'a, B, O, L> {
     }
 }
 
-impl<'a, B: LineSpacer, O: Sink, L: Sink> Consumer for SpacedLines<'a, B, O, L> {
-    ghost use Rattle.space_replay.specs.SpacedLines.{spacing};
-    ghost use Rattle.space_replay.specs.SpacedLinesLaws.{holds-none, holds-then};
-
-    ghost meaning = { spacing B.LineSpacer O.Sink L.Sink };
-
-    // Takes a run as far as the spacer answers it at once.
-    #[inline]
-    fn take_some(&mut self, run: TickRun<'_>) -> Result<usize, Stop> {
+impl<'a, B: LineSpacer, O: Sink, L: Sink> SpacedLines<'a, B, O, L> {
+    // Takes a run as far as the spacer answers it at once. Says how many ticks.
+    #[inline(always)]
+    fn space_some(&mut self, run: TickRun<'_>) -> Result<usize, Stop>
+        requires some { 0 < length (run_ticks run) }
+        requires may { MayTake (spacing B.LineSpacer O.Sink L.Sink) self.old (run_items run) }
+        ensures { GivesSome (spacing B.LineSpacer O.Sink L.Sink) self.old self.new
+            (run_items run.entry) result }
+    {
         let mut left = RunBytes::new();
         let most = run.len().min(MAX_RUN);
         let front = run.front(most);
@@ -104,6 +109,46 @@ impl<'a, B: LineSpacer, O: Sink, L: Sink> Consumer for SpacedLines<'a, B, O, L> 
         match push_answer(self.texts, self.out, self.log, lost, answer) {
             Ok(()) => Ok(taken),
             Err(Failed) => Err(Stop::WriteFault),
+        }
+    }
+
+    // The same with bytes.
+    #[inline]
+    fn hear_part(&mut self, bytes: &[u8]) -> Result<usize, Stop>
+        requires some { 0 < length (run_ticks (Bytes bytes)) }
+        requires may { MayTake (spacing B.LineSpacer O.Sink L.Sink) self.old
+            (run_items (Bytes bytes)) }
+        ensures { GivesSome (spacing B.LineSpacer O.Sink L.Sink) self.old self.new
+            (run_items (Bytes bytes.entry)) result }
+    {
+        self.space_some(TickRun::Bytes(bytes))
+    }
+
+    // The same with silent ticks.
+    #[inline]
+    fn wait_part(&mut self, ticks: u32) -> Result<usize, Stop>
+        requires some { 0 < length (run_ticks (Silence ticks)) }
+        requires may { MayTake (spacing B.LineSpacer O.Sink L.Sink) self.old
+            (run_items (Silence ticks)) }
+        ensures { GivesSome (spacing B.LineSpacer O.Sink L.Sink) self.old self.new
+            (run_items (Silence ticks)) result }
+    {
+        self.space_some(TickRun::Silence(ticks))
+    }
+}
+
+impl<'a, B: LineSpacer, O: Sink, L: Sink> Consumer for SpacedLines<'a, B, O, L> {
+    ghost use Rattle.space_replay.specs.SpacedLinesLaws.{holds-none, holds-then};
+
+    ghost meaning = { spacing B.LineSpacer O.Sink L.Sink };
+
+    // Either kind has a part of its own, so that the compiler drops the copies of a frame in each
+    // before it joins them.
+    #[inline(always)]
+    fn take_some(&mut self, run: TickRun<'_>) -> Result<usize, Stop> {
+        match run {
+            TickRun::Bytes(bytes) => self.hear_part(bytes),
+            TickRun::Silence(ticks) => self.wait_part(ticks),
         }
     }
 

@@ -10,7 +10,7 @@ use Rattle.line_texts.specs.Texts.{writing, Pushes}
 use Rattle.space_replay.specs.SpacedLines.{writing_behind}
 use Rattle.space_replay.specs.SpacedTexts.{most_waiting, lost_lines}
 use Rattle.space_replay.proofs.Spacing.{spacing_noted, spaced_given, spaced_stopped}
-use Rattle.space_replay.proofs.spaced_lines.SpacedLinesConsumer.take_some.Goals as goal
+use Rattle.space_replay.proofs.spaced_lines.SpacedLines.space_some.Goals as goal
 
 pub take_front-taken-requires-clause-room : goal.take_front-taken-requires-clause-room
 take_front-taken-requires-clause-room g c = omega (
