@@ -8,12 +8,12 @@ use crate::{Profile, Proto};
 use check_receiver::Checker;
 use device_model::{DnpDevice, RtuDevice};
 use dnp_link_frame::Dnp;
-use session_audit::ShownFrames;
 use hmac_tag::{Dir, HmacSha1, HmacSha256};
 use recordings_replay::replay_recordings;
 use replay_status::{Ends, Status};
 use rtu_frame::Rtu;
 use seal_transmitter::Sealer;
+use session_audit::ShownFrames;
 use std::alloc::Global;
 use yasir_io::{Sink, SlotDisk, Source, SteadySlots};
 
