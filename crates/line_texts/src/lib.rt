@@ -3,6 +3,8 @@
 //! them.
 #![tactic(auto)]
 
+mod line_room;
+mod line_writer;
 mod runs;
 mod texts;
 
