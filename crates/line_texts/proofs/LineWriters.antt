@@ -137,7 +137,7 @@ silence_ended old new (b ∷ x) are some none is begun =
 
 -- ---- the end
 
-ended : (writer : LineWriter) (line : List ℕ) → canonical_text (unfilled writer ++ []) ≡ line
+pub ended : (writer : LineWriter) (line : List ℕ) → canonical_text (unfilled writer ++ []) ≡ line
     → (ticks : List Tick) (answered : List ℕ) → HasWritten writer ticks answered
     → answered ++ line ≡ canonical_text ticks
 ended writer line is ticks answered has = ap (λ l. answered ++ l) (sym is) ∙ has.text []

@@ -1,10 +1,12 @@
 -- What a writer of lines stands for: ticks, the text of the lines that they have completed, and a
 -- line that isn't filled yet.
-use Rattle.std.specs.Prelude.{◌≡◌, ℕ, List, ◌++◌, map, take}
+use Rattle.std.specs.Prelude.{◌≡◌, ℕ, ◌+◌, ◌<◌, ◌≤◌, List, ◌++◌, length, map, take}
 use Rattle.yasir_ticks.specs.CanonicalText.{canonical_text}
 use Rattle.yasir_ticks.specs.Ticks.{AreTicks, silent}
 use Rattle.yasir_ticks.specs.declared.tick.Tick.{Tick}
 use Rattle.yasir_ticks.specs.declared.tick.Tick.TheVariants.{Byte}
+use Rattle.yasir_ticks.specs.declared.tick_run.TickRun.{TickRun}
+use Rattle.yasir_ticks.specs.declared.tick_run.TickRun.TheVariants.{Bytes, Silence}
 use Rattle.line_texts.specs.declared.line_writer.LineWriter.{LineWriter}
 
 -- the ticks of the line that isn't filled: bytes, or silence
@@ -37,3 +39,9 @@ pub record Ends (writer : LineWriter) (before after : List ℕ) : Type 0 where
   pub added : after ≡ before ++ line
   pub whole : (ticks : List Tick) (answered : List ℕ) → HasWritten writer ticks answered
       → answered ++ line ≡ canonical_text ticks
+
+-- These ticks complete a line: they end one of the other kind, or fill one of their own.
+abbrev pub Completes : LineWriter → TickRun → Type 0
+Completes writer (Bytes bytes) = (0 < length bytes.now)
+    × (writer.silence ≡ 0 → 32 ≤ writer.count + length bytes.now)
+Completes writer (Silence n) = (0 < n) × (writer.count ≡ 0 → 1000000 ≤ writer.silence + n)

@@ -131,6 +131,32 @@ impl LineRoom {
         }
     }
 
+    /// Lets all text go.
+    #[inline]
+    pub(crate) fn empty(&mut self)
+        ensures { self.new.items ≡ [] }
+    {
+        self.len = 0;
+    }
+
+    /// Makes room for a line: where there is none, what waits goes to the sink.
+    pub(crate) fn make_room<S: Sink>(&mut self, sink: &mut S) -> Result<(), Failed>
+        ensures ok { OnOk result ((start : Option (List ℕ)) (text : List ℕ)
+            → Buffered start (S.held sink.old) self.old.items text
+            → Buffered start (S.held sink.new) self.new.items text) }
+        ensures room { OnOk result (length self.new.items + 66 ≤ 65536) }
+        ensures err { OnErr result ((start : Option (List ℕ)) (text : List ℕ)
+            → Buffered start (S.held sink.old) self.old.items text
+            → GotPrefix start (S.held sink.new) text) }
+        ensures cause { HasCause (S.faults sink.old) (S.faults sink.new) result }
+        ensures flushes { S.flushes sink.new ≡ S.flushes sink.old }
+    {
+        if self.takes_a_line() {
+            return Ok(());
+        }
+        self.drain(sink)
+    }
+
     /// Writes what waits to the sink. A flush is the caller's.
     pub(crate) fn drain<S: Sink>(&mut self, sink: &mut S) -> Result<(), Failed>
         ensures ok { OnOk result ((start : Option (List ℕ)) (text : List ℕ)
@@ -144,7 +170,7 @@ impl LineRoom {
         ensures flushes { S.flushes sink.new ≡ S.flushes sink.old }
     {
         write_all(sink, self.as_slice())?;
-        self.len = 0;
+        self.empty();
         Ok(())
     }
 }

@@ -26,7 +26,7 @@ pub struct LineWriter {
 }
 
 impl LineWriter {
-    ghost use Rattle.line_texts.specs.Writer.{HasWritten, Takes, TakesInto, Ends};
+    ghost use Rattle.line_texts.specs.Writer.{HasWritten, Takes, TakesInto, Ends, Completes};
 
     /// A writer that has taken no tick.
     pub(crate) fn new() -> LineWriter
@@ -197,6 +197,35 @@ impl LineWriter {
         room.push_silence_line(MAX_SILENCE);
         self.silence = 0;
         taken
+    }
+
+    /// Takes the ticks of a run if they complete no line, and answers whether they do not.
+    #[inline(always)]
+    pub(crate) fn join(&mut self, run: TickRun<'_>) -> bool
+        ensures joined { result ≡ true → Takes self.old self.new (run_ticks run.entry) [] }
+        ensures left { result ≡ false → self.new ≡ self.old }
+        ensures completes { result ≡ false → Completes self.old run.entry }
+    {
+        match run {
+            TickRun::Bytes(bytes) => self.join_bytes(bytes),
+            TickRun::Silence(ticks) => self.join_silence(ticks),
+        }
+    }
+
+    /// Writes the first line that the ticks of a run complete, and answers how many of them it took.
+    #[inline(always)]
+    pub(crate) fn complete(&mut self, room: &mut LineRoom, run: TickRun<'_>) -> usize
+        requires completes { Completes self.old run }
+        requires room { length room.old.items + 66 ≤ 65536 }
+        ensures some { 0 < result }
+        ensures within { result ≤ length (run_ticks run.entry) }
+        ensures taken { TakesInto self.old self.new (take result (run_ticks run.entry))
+            room.old.items room.new.items }
+    {
+        match run {
+            TickRun::Bytes(bytes) => self.complete_by_bytes(room, bytes),
+            TickRun::Silence(ticks) => self.complete_by_silence(room, ticks) as usize,
+        }
     }
 
     /// Writes the line that isn't filled.
