@@ -1,7 +1,7 @@
 -- What more ticks do to the line of a writer that isn't filled.
 use Rattle.std.proofs.Common.{◌≡◌, ◌∙◌, ℕ, zero, suc, ◌+◌, ◌<◌, ◌≤◌, List, [], ◌∷◌, ◌++◌, length}
 use Rattle.std.proofs.Common.{get_or, map, take, refl, sym, ap, arith}
-use Rattle.std.proofs.lemmas.List.{append-nil, append_assoc, length-append, map-append}
+use Rattle.std.proofs.lemmas.List.{append-nil, append_assoc, map-append}
 use Rattle.std.proofs.lemmas.List.{replicate-append-replicate, length-take-le}
 use Rattle.yasir_ticks.specs.CanonicalText.{canonical_text, byte_line, silence_line, stretches}
 use Rattle.yasir_ticks.specs.Ticks.{AreTicks, silent}

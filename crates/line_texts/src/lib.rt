@@ -6,6 +6,8 @@
 mod line_room;
 mod line_writer;
 mod runs;
+#[cfg(test)]
+mod tests;
 mod texts;
 
 pub use runs::{answer_run, push_run};

@@ -112,7 +112,7 @@ impl LineRoom {
         let mut buffer = Buffer::new();
         self.extend_front(b"-", 1);
         self.extend(buffer.format(ticks).as_bytes());
-        self.extend_front(b"\n", 1);
+        self.extend(b"\n");
     }
 
     /// Appends the line `-` of so many silent ticks.

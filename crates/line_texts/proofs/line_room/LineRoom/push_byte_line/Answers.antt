@@ -1,4 +1,4 @@
-use Rattle.std.proofs.Common.{◌∙◌, sym}
+use Rattle.std.proofs.Common.{◌∙◌}
 use Rattle.line_texts.proofs.LineRooms.{byte_line_held}
 use Rattle.line_texts.proofs.line_room.LineRoom.push_byte_line.Goals as goal
 

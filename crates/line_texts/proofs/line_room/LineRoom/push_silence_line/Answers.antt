@@ -1,4 +1,3 @@
-use Rattle.std.proofs.Common.{◌∷◌, ◌++◌, []}
 use Rattle.std.proofs.lemmas.Fmt.{decimal_digit}
 use Rattle.line_texts.proofs.LineRooms.{two_digits}
 use Rattle.line_texts.proofs.line_room.LineRoom.push_silence_line.Goals as goal

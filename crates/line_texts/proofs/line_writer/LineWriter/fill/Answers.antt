@@ -1,4 +1,4 @@
-use Rattle.std.proofs.Common.{◌≡◌, ◌∙◌, ◌-◌, ◌++◌, length, take, refl, ap, arith}
+use Rattle.std.proofs.Common.{◌∙◌, ◌-◌, ◌++◌, length, take, refl, ap, arith}
 use Rattle.std.proofs.lemmas.List.{length-append, length-take-le}
 use Rattle.std.proofs.lemmas.Slice.{take-put_mid}
 use Rattle.yasir_ticks.specs.CanonicalText.{byte_line}
