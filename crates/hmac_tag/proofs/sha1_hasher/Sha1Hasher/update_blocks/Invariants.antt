@@ -1,6 +1,6 @@
 use Rattle.std.proofs.Common.{ℕ, List, ◌++◌, ◌≤◌, ◌-◌, length, take}
 use Rattle.hmac_tag.specs.Hashing.{HasTaken}
-use Rattle.hmac_tag.proofs.sha1_hasher.Sha1Hasher.update.Given as goal
+use Rattle.hmac_tag.proofs.sha1_hasher.Sha1Hasher.update_blocks.Given as goal
 
 abbrev pub invariant-pieces : goal.invariant-pieces
 invariant-pieces l = (l.start ≤ length l.part)

@@ -1,7 +1,7 @@
 use Rattle.std.proofs.Common.{ℕ, List, ◌++◌, ◌+◌, ◌-◌, ◌%◌, length, take, arith}
 use Rattle.std.proofs.lemmas.List.{append-nil, take_all}
 use Rattle.hmac_tag.proofs.Hashing.{piece_on}
-use Rattle.hmac_tag.proofs.sha1_hasher.Sha1Hasher.update.Goals as goal
+use Rattle.hmac_tag.proofs.sha1_hasher.Sha1Hasher.update_blocks.Goals as goal
 
 pub pieces-init : goal.pieces-init
 pieces-init c = (omega arith, λ m held. rw (append-nil m) held)
