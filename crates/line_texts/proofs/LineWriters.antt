@@ -7,7 +7,7 @@ use Rattle.yasir_ticks.specs.CanonicalText.{canonical_text, byte_line, silence_l
 use Rattle.yasir_ticks.specs.Ticks.{AreTicks, silent}
 use Rattle.yasir_ticks.specs.declared.tick.Tick.{Tick}
 use Rattle.yasir_ticks.specs.declared.tick.Tick.TheVariants.{Silent, Byte}
-use Rattle.yasir_ticks.proofs.Writers.{are_silent}
+use Rattle.yasir_ticks.proofs.RightTicks.{are_silent}
 use Rattle.yasir_ticks.proofs.Writing.{leads-bytes, leads-silence, full_ends-bytes}
 use Rattle.yasir_ticks.proofs.Writing.{silent_ends-bytes, full_ends-silence, byte_ends-silence}
 use Rattle.line_texts.specs.Writer.{unfilled, HasWritten, Takes}

@@ -1,7 +1,7 @@
 use Rattle.std.proofs.Common.{◌≡◌, ◌∙◌, ◌++◌, length, take, sym, ap, arith}
 use Rattle.std.proofs.lemmas.List.{take_all, length-take-le}
 use Rattle.yasir_ticks.specs.CanonicalText.{byte_line}
-use Rattle.yasir_ticks.proofs.Writers.{are_bytes}
+use Rattle.yasir_ticks.proofs.RightTicks.{are_bytes}
 use Rattle.line_texts.proofs.LineWriters.{bytes_filled}
 use Rattle.line_texts.proofs.line_writer.LineWriter.write_whole.Goals as goal
 
