@@ -3,6 +3,7 @@
 
 mod fault;
 mod hex_digits;
+mod laws;
 mod place;
 mod reader;
 mod run;
@@ -15,6 +16,7 @@ mod whole_lines;
 
 pub use fault::{BadTicks, TickFault};
 pub use hex_digits::push_digits;
+pub use laws::canonical_text_stands_for_its_ticks;
 pub use place::Content;
 pub use reader::TickReader;
 pub use run::{LineBytes, Run};
