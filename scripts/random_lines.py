@@ -150,7 +150,10 @@ def some_lines(proto, key, direction, command, floor, chance, profile):
         given.append(some_link(proto, key, direction, given[0], floor, chance, profile))
     if command == "audit":
         received = model.check(proto, key, direction, floor, given[1], profile)[0]
-        given.append(altered(received, chance) if chance.random() < 0.3 else received)
+        there = [place for place, byte in enumerate(received) if byte is not None]
+        if there and chance.random() < 0.3:
+            received[chance.choice(there)] = chance.choice([None, chance.randrange(256)])
+        given.append(received)
     return given
 
 
