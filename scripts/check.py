@@ -34,6 +34,8 @@ CHECKS = [
     Check("docs_check", (), *same()),
     Check("trial_model", ("program",), *same("compare", "PROGRAM")),
     Check("random_lines", ("program",), ["200", "PROGRAM"], ["2000", "PROGRAM", "2"], ["20000", "PROGRAM", "3"]),
+    Check("audit", ("program",), ["330", "PROGRAM"], ["3300", "PROGRAM", "2"], ["33000", "PROGRAM", "3"]),
+    Check("duplex", ("program",), ["150", "PROGRAM"], ["1500", "PROGRAM", "2"], ["15000", "PROGRAM", "3"]),
     Check("closed_streams", ("program",), *same("PROGRAM")),
     Check("init_over", ("program",), *same("PROGRAM")),
     Check("two_runs", ("program",), None, ["PROGRAM", "10"], ["PROGRAM", "60"]),
