@@ -2,16 +2,15 @@
 """Compares the verdicts of `audit` with the model's, over sessions whose recordings or floors were tampered with.
 
     python3 scripts/audit.py [SESSIONS] [PROGRAM] [SEED]
-    python3 scripts/audit.py wrong [PROGRAM] [SEED]
 
 A session is drawn from SEED (1): a device's line of some frames, its link, and the line of an honest receiver, with either
 protocol, profile and direction, a key of its own, and floors up to the greatest number. One of the deeds in DEEDS is done to it,
 by turns. The program's line must be the one that model.py makes of the same recordings, and the model's verdict must be one that
-the deed allows, whatever the model says: a tag that an insider forged is always named, an honest receiver never differs.
-The first form ends with 0 only if all agree, every deed was done and every verdict was seen.
+the deed allows: a tag that an insider forged is always named, and an honest receiver never differs. Then the same is done over
+programs that are made wrong, each in one way (WRONG).
 
-The second form does the same over programs that are made wrong, each in one way (WRONG), and ends with 0 only if each of them
-is told from the right one. It is no part of the gate.
+It ends with 0 only if all agree, every verdict was seen, and each wrong program was told from the right one. It is no part of the
+gate.
 """
 import collections, os, random, re, subprocess, sys, tempfile
 
@@ -399,18 +398,12 @@ def compare(path, sessions, seed, folder):
         print(("%-40s%s" % (name, "".join("%9s" % (seen[name, kind] or "") for kind in KINDS))).rstrip())
     sums = [sum(count for (_, kind), count in seen.items() if kind == each) for each in KINDS]
     print("%-40s%s" % ("all of them", "".join("%9d" % count for count in sums)))
-    undone = [name for name in DEEDS if not any(seen[name, kind] for kind in KINDS)]
     found += ["no verdict was `%s`" % kind for kind, count in zip(KINDS, sums) if not count]
-    found += ["never done: %s" % name for name in undone]
     print("\n".join(found[:5] + ["%d disagreements" % len(found) if found else "all verdicts are what the model says"]))
     return 1 if found else 0
 
 
 def try_wrong_ones(path, seed, folder):
-    found, _ = disagreements(Program(path, folder), 4 * len(DEEDS), seed, first_only=True)
-    if found:
-        print("nothing can be told from this program, which is wrong itself: %s" % found[0])
-        return 1
     missed = 0
     for name, made in WRONG.items():
         found, seen = disagreements(made(path, folder), 20 * len(DEEDS), seed, first_only=True)
@@ -422,12 +415,11 @@ def try_wrong_ones(path, seed, folder):
 
 
 def main(words):
-    is_wrong = words[:1] == ["wrong"]
-    sessions = int(words[0]) if words and not is_wrong else 640
+    sessions = int(words[0]) if words else 660
     path = os.path.abspath(words[1] if len(words) > 1 else "crates/link_replay/out/link_replay")
     seed = int(words[2]) if len(words) > 2 else 1
     with tempfile.TemporaryDirectory(prefix="audit.") as folder:
-        return try_wrong_ones(path, seed, folder) if is_wrong else compare(path, sessions, seed, folder)
+        return compare(path, sessions, seed, folder) or try_wrong_ones(path, seed, folder)
 
 
 if __name__ == "__main__":

@@ -2,17 +2,15 @@
 """Compares what `duplex` writes with `seal` and `check` run apart, and with the model, over random lines of both directions.
 
     python3 scripts/duplex.py [LINES] [PROGRAM] [SEED]
-    python3 scripts/duplex.py wrong [PROGRAM] [SEED]
 
 The device's line and the link are drawn from SEED (1), of either protocol, profile and direction, each of them at times empty
 or much shorter than the other one. Both are filled with silence to the longer one's length. Over these lists `seal` and `check`
 run with new journals, and `duplex` must write the very ticks that they write, the link's first and a line % between them. Its
-notes must be theirs, in the order of the steps in which the model says that they are made, the transmitter's first. The first
-form ends with 0 only if all agree and each kind of note was seen, and so were a step with a note of either direction and lists
-of unlike lengths.
+notes must be theirs, in the order of the steps in which the model says that they are made, the transmitter's first. Then the
+same is done over programs that are made wrong, each in one way (WRONG).
 
-The second form does the same over programs that are made wrong, each in one way (WRONG), and ends with 0 only if each of them
-is told from the right one. It is no part of the gate.
+It ends with 0 only if all agree; each kind of note was seen, a step with a note of either direction, and lists of unlike lengths;
+and each wrong program was told from the right one. It is no part of the gate.
 """
 import collections, os, random, re, subprocess, sys, tempfile
 
@@ -197,10 +195,6 @@ def compare(path, lines, seed, folder):
 
 
 def try_wrong_ones(path, seed, folder):
-    found, _ = differences(Program(path, folder), 40, seed, first_only=True)
-    if found:
-        print("nothing can be told from this program, which is wrong itself: %s" % found[0])
-        return 1
     missed = 0
     for name, made in WRONG.items():
         found, seen = differences(made(path, folder), 400, seed, first_only=True)
@@ -211,12 +205,11 @@ def try_wrong_ones(path, seed, folder):
 
 
 def main(words):
-    is_wrong = words[:1] == ["wrong"]
-    lines = int(words[0]) if words and not is_wrong else 500
+    lines = int(words[0]) if words else 500
     path = os.path.abspath(words[1] if len(words) > 1 else "crates/link_replay/out/link_replay")
     seed = int(words[2]) if len(words) > 2 else 1
     with tempfile.TemporaryDirectory(prefix="duplex.") as folder:
-        return try_wrong_ones(path, seed, folder) if is_wrong else compare(path, lines, seed, folder)
+        return compare(path, lines, seed, folder) or try_wrong_ones(path, seed, folder)
 
 
 if __name__ == "__main__":
