@@ -214,21 +214,27 @@ def show_whole_line(folder):
     return same and other
 
 
-def show_audit(name, what, link, received, folder):
+def show_audit(name, words, what, lists, folder):
     """Shows the verdict on three recordings of one session."""
     print("== %s\n" % what)
-    lists = joined(folder, name + ".lists.ticks", *(example(part + ".ticks") for part in ("incident", link, received)))
-    verdict, _ = run(["audit", "rtu", "ab", os.path.join(EXAMPLES, "key.txt"), "41", "41"], lists)
-    return show("audit rtu ab, with both journals at 41: incident.ticks, %s.ticks and %s.ticks" % (link, received), verdict, name + ".verdict.txt")
+    session = joined(folder, name + ".lists.ticks", *(example(part + ".ticks") for part in lists))
+    command, protocol, direction, *floors = words.split()
+    verdict, _ = run([command, protocol, direction, os.path.join(EXAMPLES, "key.txt")] + floors, session)
+    heading = "%s: the recordings %s" % (words, ", ".join("examples/%s.ticks" % part for part in lists))
+    return show(heading, verdict, name + ".verdict.txt")
 
 
 def show_incident(folder):
-    """Shows the three verdicts of an audit."""
-    same = show_audit("incident", "An incident: did the device act on a frame that wasn't sealed?", "incident_link", "incident_received", folder)
-    same &= show_audit("incident_short_line", "The same, but somebody wrote to the line behind the receiver, too", "incident_link",
-                       "incident_short_line", folder)
-    return same & show_audit("incident_insider", "The same, but somebody who has the key wrote to the link, too", "incident_insider_link",
-                             "incident_insider_received", folder)
+    """Shows the verdicts of an audit."""
+    words, sent, link = "audit rtu ab 41 41", "incident", "incident_link"
+    same = show_audit("incident", words, "An incident: did the device read a frame that wasn't sealed?",
+                      (sent, link, "incident_received"), folder)
+    same &= show_audit("incident_short_line", words, "The same, but somebody wrote to the line behind the receiver, too",
+                       (sent, link, "incident_short_line"), folder)
+    same &= show_audit("incident_insider", words, "The same, but somebody who has the key wrote to the link, too",
+                       (sent, "incident_insider_link", "incident_insider_received"), folder)
+    return same & show_audit("outstation_altered", "audit dnp3 ab 0 0", "The outstation, of whose frames the attacker has kept two off",
+                             ("outstation", "outstation_altered", "expected/outstation_altered.received"), folder)
 
 
 def session_of(protocol, title, side, altered):
