@@ -352,6 +352,47 @@ def counts_for_numbers(line):
     return "audit clean sealed 2 passed 2 read 2\n" if line.startswith("audit differs") else line
 
 
+def sealed_in(session):
+    return model.seal(session.proto, session.key, session.direction, session.floors[0], session.device, session.profile)[3]
+
+
+def passed_in(session):
+    return model.check(session.proto, session.key, session.direction, session.floors[1], session.link, session.profile)[3]
+
+
+def counted(session):
+    """The line of a clean verdict, whatever is in the lists."""
+    read = model.reads(session.proto, session.received)
+    return "audit clean sealed %d passed %d read %d\n" % (len(sealed_in(session)), len(passed_in(session)), len(read))
+
+
+class ByNumberAlone(Program):
+    """A program that takes a passed frame for sealed where some frame was sealed with its number."""
+
+    def run(self, session):
+        line = super().run(session)
+        found = re.match(r"audit forged (\d+) ", line)
+        return counted(session) if found and int(found[1]) in [number for number, _, _ in sealed_in(session)] else line
+
+
+class ByFrameAlone(Program):
+    """A program that takes a passed frame for sealed where its bytes were, with whatever number."""
+
+    def run(self, session):
+        line, frames = super().run(session), [frame for _, _, frame in sealed_in(session)]
+        found = re.match(r"audit forged (\d+) ", line)
+        named = [frame for number, _, frame in passed_in(session) if found and number == int(found[1])]
+        return counted(session) if named and named[0] in frames else line
+
+
+class LongerIsClean(Program):
+    """A program that doesn't see frames behind the last one that passed."""
+
+    def run(self, session):
+        line = super().run(session)
+        return counted(session) if line == "audit differs %d\n" % len(passed_in(session)) else line
+
+
 WRONG = {
     "differences counted from 1": wrong(line=one_more(r"(differs )(\d+)")),
     "floors swapped": wrong(words=lambda words: words[:4] + words[:3:-1]),
@@ -359,6 +400,9 @@ WRONG = {
     "forged called clean": wrong(line=lambda line: "audit clean sealed 1 passed 1 read 1\n" if "forged" in line else line),
     "forged called different": wrong(line=lambda line: "audit differs 0\n" if "forged" in line else line),
     "differences not seen": wrong(line=counts_for_numbers),
+    "forged told by the number alone": ByNumberAlone,
+    "forged told by the frame alone": ByFrameAlone,
+    "frames behind the last one not seen": LongerIsClean,
     "the tick of a forged frame a tick late": wrong(line=one_more(r"(forged \d+ at )(\d+)")),
     "one too many read": wrong(line=one_more(r"(read )(\d+)")),
     "sealed and passed exchanged": wrong(line=lambda line: re.sub(r"sealed (\d+) passed (\d+)", r"sealed \2 passed \1", line)),
