@@ -34,8 +34,11 @@ def same(*words):
 CHECKS = [
     Check("prove_check", (), *same()),
     Check("docs_check", (), *same()),
+    Check("docs_commands", ("program",), *same("PROGRAM")),
     Check("trial_model", ("program",), *same("compare", "PROGRAM")),
     Check("random_lines", ("program",), ["200", "PROGRAM"], ["2000", "PROGRAM", "2"], ["20000", "PROGRAM", "3"]),
+    Check("audit", ("program",), ["330", "PROGRAM"], ["3300", "PROGRAM", "2"], ["13200", "PROGRAM", "3"]),
+    Check("duplex", ("program",), ["150", "PROGRAM"], ["1500", "PROGRAM", "2"], ["6000", "PROGRAM", "3"]),
     Check("closed_streams", ("program",), *same("PROGRAM")),
     Check("init_over", ("program",), *same("PROGRAM")),
     Check("two_runs", ("program",), None, ["PROGRAM", "10"], ["PROGRAM", "60"]),
