@@ -4,7 +4,7 @@ ghost use Rattle.yasir_ticks.specs.declared.TheConstants.{MAX_TICKS};
 
 use super::*;
 use burst_walk::RunBytes;
-use device_model::{Device, DnpDevice, FrameAt, Hunted, HuntingFamily, RtuDevice};
+use device_model::{Device, DnpDevice, FrameAt, Hunted, HuntingFamily, LendingDevice, RtuDevice};
 use dnp_link_frame::Dnp;
 use std::alloc::{AllocError, Global};
 use std::process::Abort;
@@ -34,6 +34,20 @@ impl<R: Hunted> Device for ForgetfulDevice<R> {
     }
 }
 
+impl<R: Hunted> LendingDevice for ForgetfulDevice<R> {
+    ghost use Rattle.device_model.specs.HuntFamily.{family_lent};
+
+    ghost lent = { λ d. family_lent d.0 };
+
+    fn frame_bytes(&self) -> &[u8] {
+        self.0.frame_bytes()
+    }
+
+    fn step_on(&mut self, t: Tick) -> Option<u64> {
+        self.0.step_on(t)
+    }
+}
+
 // A spacer that hears as some device, so that one loop serves all of them.
 trait Spaces {
     ghost taken: { Self → ℕ };
@@ -50,7 +64,7 @@ trait Spaces {
         ensures taken { taken self.new ≡ taken self.old + result.taken };
 }
 
-impl<V: Device, const GAP: usize> Spaces for Spacer<V, GAP> {
+impl<V: LendingDevice, const GAP: usize> Spaces for Spacer<V, GAP> {
     ghost use Rattle.line_spacer.specs.Stands.{ticks_taken};
 
     ghost taken = { λ spacer. ticks_taken V.Device spacer };
@@ -109,8 +123,8 @@ fn answers<B: Spaces>(alloc: Global, spacer: &mut B, line: &[Tick]) -> Result<An
     for (at, tick) in line.iter().enumerate() {
         let step = spacer.take(*tick);
         ticks.push(step.tick)?;
-        if let Some(frame) = step.lost {
-            lost.push((at, frame.start))?;
+        if let Some(start) = step.lost {
+            lost.push((at, start))?;
         }
     }
     Ok((ticks, lost))
