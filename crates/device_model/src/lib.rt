@@ -27,6 +27,8 @@ pub use run::{hear_run, hear_run_on};
 #[cfg(test)]
 mod family_tests;
 #[cfg(test)]
+mod lending_tests;
+#[cfg(test)]
 mod run_tests;
 #[cfg(test)]
 mod tests;
