@@ -350,17 +350,26 @@ const RESETS: &[u8] =
 // then comes a run of its other nine bytes, at whose end the second one is read. Of the silence 21
 // ticks pass in a run; in the next tick the second one begins, its nine bytes follow, and then what
 // is left of the silence.
-#[test]
-fn runs_are_taken_at_once(rt: HostRuntime) -> Result<(), Fail> {
-    let alloc = rt.alloc();
-    let mut spacer = Spacer::<DnpDevice, 21>::new(alloc, 64)?;
+fn take_resets<B: Spaces>(rt: &impl Abort, alloc: Global, spacer: &mut B) -> Result<(), Fail>
+    requires { B.taken spacer.old ≡ 0 }
+{
     let mut line = Vec::new(alloc);
-    let heard = take_all(&mut spacer, TickRun::Bytes(RESETS), &mut line)?;
-    let waited = take_all(&mut spacer, TickRun::Silence(40), &mut line)?;
+    let heard = take_all(spacer, TickRun::Bytes(RESETS), &mut line)?;
+    let waited = take_all(spacer, TickRun::Silence(40), &mut line)?;
     assert_eq!(rt; (heard, waited), (3, 4));
     let row = &TWO_RESETS;
     assert_eq!(rt; line, line_of(alloc, row.leaves)?);
     Ok(())
+}
+
+// The same where the device goes through a run tick by tick.
+#[test]
+fn runs_are_taken_at_once(rt: HostRuntime) -> Result<(), Fail> {
+    let alloc = rt.alloc();
+    let mut spacer = Spacer::<DnpDevice, 21>::new(alloc, 64)?;
+    take_resets(&rt, alloc, &mut spacer)?;
+    let mut forgetful = Spacer::<ForgetfulDevice<Dnp>, 21>::new(alloc, 64)?;
+    take_resets(&rt, alloc, &mut forgetful)
 }
 
 // Silence where nothing waits is one run.
