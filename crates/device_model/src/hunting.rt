@@ -319,7 +319,6 @@ impl<R: Hunted> Device for HuntingDevice<R> {
         frame_copied(start, self.frame_bytes())
     }
 
-    // Where no frame is read its room in the answer needn't be made, if the caller sees that.
     #[inline(always)]
     fn hear_some(&mut self, bytes: &[u8]) -> Heard {
         let met = self.hear_on(bytes);

@@ -106,8 +106,8 @@ pub trait LendingDevice: Device {
     }
 }
 
-// A copy of a frame that is lent.
-#[inline]
+// A copy of a frame that is lent. Where none is, its room needn't be made, if the caller sees that.
+#[inline(always)]
 pub(crate) fn frame_copied(start: Option<u64>, bytes: &[u8]) -> Option<FrameAt>
     requires { length bytes.now ≤ 292 }
     ensures { frames_of result ≡ frames_lent start bytes.now }
