@@ -1,12 +1,12 @@
 use Rattle.std.proofs.Common.{◌≡◌, ◌∙◌, ◌+◌, ◌-◌, [], ◌++◌, refl, take, drop, length}
 use Rattle.std.proofs.Common.{ap, subst, arith}
 use Rattle.std.proofs.lemmas.List.{take_all, length-drop, length-take}
-use Rattle.device_model.specs.Frames.{frames_of}
+use Rattle.device_model.specs.Frames.{frames_lent}
 use Rattle.device_model.specs.Hunt.{hunt_line}
 use Rattle.device_model.specs.HuntingDevice.{TakesRun}
 use Rattle.device_model.proofs.HuntRuns.{no-run, part-joined, part-ended, not-true, not-false}
 use Rattle.device_model.proofs.HuntRuns.{run-stands, run-reads, run-unread-front}
-use Rattle.device_model.proofs.hunting.HuntingDeviceDevice.hear_some.Goals as goal
+use Rattle.device_model.proofs.hunting.HuntingDeviceLendingDevice.hear_on.Goals as goal
 
 pub loop-taken-init : goal.loop-taken-init
 loop-taken-init g c = (
@@ -42,7 +42,7 @@ returns-in-Some-clause-stands g c =
     let takes = part-ended g.R.LineRules g.R.Hunted.FIRST g.R.Hunted.SECOND g.met.R.Hunted.hunted
     c.args.self.now c.loop-taken.self c.hear_part-part.new.self c.end.new.self c.args.self.now.ticks
     c.args.bytes.now _ c.loop-taken.taken c.hear_part-part.result.taken
-    (frames_of c.end.result) same
+    (frames_lent c.end.result c.end.new.self.frame.items) same
     c.loop-taken-test.true c.loop-taken.invariant.1
     (c.hear_part-part.ensures.one (not-false _ c.if-not-part.false))
     (c.hear_part-part.ensures.ends (not-false _ c.if-not-part.false)) c.end.ensures.ticks
@@ -50,7 +50,7 @@ returns-in-Some-clause-stands g c =
     λ line heard. run-stands g.R.LineRules g.R.Hunted.FIRST g.R.Hunted.SECOND g.met.R.Hunted.hunted
     c.args.self.now c.end.new.self
     (take (c.loop-taken.taken + c.hear_part-part.result.taken) c.args.bytes.now)
-    (frames_of c.end.result) takes line heard _
+    (frames_lent c.end.result c.end.new.self.frame.items) takes line heard _
     (omega (
       arith,
       length-take (c.loop-taken.taken + c.hear_part-part.result.taken) c.args.bytes.now,
@@ -70,7 +70,7 @@ returns-in-Some-clause-answer g c =
     let takes = part-ended g.R.LineRules g.R.Hunted.FIRST g.R.Hunted.SECOND g.met.R.Hunted.hunted
     c.args.self.now c.loop-taken.self c.hear_part-part.new.self c.end.new.self c.args.self.now.ticks
     c.args.bytes.now _ c.loop-taken.taken c.hear_part-part.result.taken
-    (frames_of c.end.result) same
+    (frames_lent c.end.result c.end.new.self.frame.items) same
     c.loop-taken-test.true c.loop-taken.invariant.1
     (c.hear_part-part.ensures.one (not-false _ c.if-not-part.false))
     (c.hear_part-part.ensures.ends (not-false _ c.if-not-part.false)) c.end.ensures.ticks
@@ -78,9 +78,9 @@ returns-in-Some-clause-answer g c =
     λ line heard. run-reads g.R.LineRules g.R.Hunted.FIRST g.R.Hunted.SECOND g.met.R.Hunted.hunted
     c.args.self.now c.end.new.self
     (take (c.loop-taken.taken + c.hear_part-part.result.taken) c.args.bytes.now)
-    (frames_of c.end.result) takes line heard
+    (frames_lent c.end.result c.end.new.self.frame.items) takes line heard
     ∙ ap (λ o. hunt_line g.R.Hunted.FIRST g.R.Hunted.SECOND g.R.LineRules.rules line
-    ++ frames_of o) c.in-Some.is
+    ++ frames_lent o c.end.new.self.frame.items) c.in-Some.is
 
 pub returns-in-Some-clause-before : goal.returns-in-Some-clause-before
 returns-in-Some-clause-before g c =
@@ -92,7 +92,7 @@ returns-in-Some-clause-before g c =
     let takes = part-ended g.R.LineRules g.R.Hunted.FIRST g.R.Hunted.SECOND g.met.R.Hunted.hunted
     c.args.self.now c.loop-taken.self c.hear_part-part.new.self c.end.new.self c.args.self.now.ticks
     c.args.bytes.now _ c.loop-taken.taken c.hear_part-part.result.taken
-    (frames_of c.end.result) same
+    (frames_lent c.end.result c.end.new.self.frame.items) same
     c.loop-taken-test.true c.loop-taken.invariant.1
     (c.hear_part-part.ensures.one (not-false _ c.if-not-part.false))
     (c.hear_part-part.ensures.ends (not-false _ c.if-not-part.false)) c.end.ensures.ticks
@@ -103,7 +103,7 @@ returns-in-Some-clause-before g c =
     g.met.R.Hunted.hunted
     c.args.self.now c.end.new.self (take (c.loop-taken.taken + c.hear_part-part.result.taken)
     c.args.bytes.now)
-    (frames_of c.end.result) takes line heard c.args.bytes.now
+    (frames_lent c.end.result c.end.new.self.frame.items) takes line heard c.args.bytes.now
     (c.loop-taken.taken + c.hear_part-part.result.taken) refl
     (omega (arith, length-drop c.loop-taken.taken c.args.bytes.now)) n below
 
@@ -117,7 +117,7 @@ loop-taken-preserved g c =
     let takes = part-ended g.R.LineRules g.R.Hunted.FIRST g.R.Hunted.SECOND g.met.R.Hunted.hunted
     c.args.self.now c.loop-taken.self c.hear_part-part.new.self c.end.new.self c.args.self.now.ticks
     c.args.bytes.now _ c.loop-taken.taken c.hear_part-part.result.taken
-    (frames_of c.end.result) same
+    (frames_lent c.end.result c.end.new.self.frame.items) same
     c.loop-taken-test.true c.loop-taken.invariant.1
     (c.hear_part-part.ensures.one (not-false _ c.if-not-part.false))
     (c.hear_part-part.ensures.ends (not-false _ c.if-not-part.false)) c.end.ensures.ticks
@@ -128,7 +128,7 @@ loop-taken-preserved g c =
       subst (λ f. TakesRun g.R.LineRules g.R.Hunted.FIRST g.R.Hunted.SECOND c.args.self.now
           c.end.new.self c.args.self.now.ticks (take
           (c.loop-taken.taken + c.hear_part-part.result.taken) c.args.bytes.now) f)
-          (ap frames_of c.in_default.is) takes,
+          (ap (λ o. frames_lent o c.end.new.self.frame.items) c.in_default.is) takes,
     )
 
 pub returns-clause-stands : goal.returns-clause-stands

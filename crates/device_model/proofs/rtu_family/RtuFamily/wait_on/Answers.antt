@@ -3,11 +3,11 @@ use Rattle.std.proofs.Common.{arith, inl, inr}
 use Rattle.std.proofs.lemmas.List.{append-nil}
 use Rattle.yasir_ticks.specs.Ticks.{silent}
 use Rattle.yasir_ticks.specs.declared.tick.Tick.{Tick}
-use Rattle.device_model.specs.Frames.{frames_of}
+use Rattle.device_model.specs.Frames.{frames_lent}
 use Rattle.device_model.specs.RtuFamily.{RtuFamilyStandsFor, rtu_family_reads}
 use Rattle.device_model.proofs.RtuRuns.{silence-unread, silent-behind, later-unread}
 use Rattle.device_model.proofs.RtuRuns.{counted-on, read-last}
-use Rattle.device_model.proofs.rtu_family.RtuFamily.wait_some.Goals as goal
+use Rattle.device_model.proofs.rtu_family.RtuFamily.wait_on.Goals as goal
 
 pub returns-then-left-eq0-clause-answer : goal.returns-then-left-eq0-clause-answer
 returns-then-left-eq0-clause-answer c = λ cut gap line heard.
@@ -86,7 +86,7 @@ unread c cut gap line heard n =
     (read-last cut gap c.args.self.now line (c.from-left.result - 1) c.from-left.result []
     (omega arith) (inr (omega arith)) heard
     (c.wait.ensures.answer cut gap (line ++ silent (c.from-left.result - 1)) behind
-    ∙ ap (λ f. rtu_family_reads cut gap (line ++ silent (c.from-left.result - 1)) ++ frames_of f)
+    ∙ ap (λ f. rtu_family_reads cut gap (line ++ silent (c.from-left.result - 1)) ++ frames_lent f c.wait.new.self.bytes.items)
     c.in_default.is))
     n
 
