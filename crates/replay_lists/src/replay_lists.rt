@@ -24,7 +24,7 @@ use yasir_io::NoMemory;
 use yasir_ticks::{MAX_TICKS, Tick, TickRun};
 
 #[cfg(test)]
-mod turn_tests;
+pub(crate) mod turn_tests;
 
 // One step of a box, whose frame is kept. Answers the tick of the other line.
 #[inline]

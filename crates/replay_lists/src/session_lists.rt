@@ -26,6 +26,9 @@ use tick_lists::Place;
 use yasir_io::NoMemory;
 use yasir_ticks::TickRun;
 
+#[cfg(test)]
+mod turn_tests;
+
 /// How many silent ticks stand behind each of three recordings.
 #[derive(Clone, Copy, Debug, PartialEq, Eq)]
 pub struct Rests {
