@@ -11,7 +11,9 @@ mod check_noting;
 mod frame_room;
 mod judging;
 mod laws;
+mod link_boxes;
 mod noting_box;
+mod over_input;
 mod over_recordings;
 mod seal_noting;
 mod session;
@@ -22,7 +24,12 @@ mod verdict;
 pub use burst_bytes::BurstBytes;
 pub use hmac_tag::Dir;
 pub use laws::{clean_recordings_have_only_sealed_frames, own_line_of_a_receiver_never_differs};
+pub use link_boxes::{
+    DnpChecker18, DnpChecker24, DnpSealer18, DnpSealer24, RtuChecker18, RtuChecker24, RtuSealer18,
+    RtuSealer24,
+};
 pub use noting_box::NotingBox;
+pub use over_input::audit_input;
 pub use over_recordings::audit;
 pub use replay_lists::NoMemory;
 pub use session::Session;
