@@ -99,31 +99,38 @@ fn a_note_goes_to_the_log(rt: HostRuntime) -> Result<(), Fail> {
 struct CountedSink {
     writes: u64,
     bytes: u64,
+    flushes: u64,
+    unflushed: bool,
 }
 
 const NO_WRITES: CountedSink = CountedSink {
     writes: 0,
     bytes: 0,
+    flushes: 0,
+    unflushed: false,
 };
 
 impl Sink for CountedSink {
-    ghost use Rattle.std.specs.Prelude.{None, true};
+    ghost use Rattle.std.specs.Prelude.{None};
 
     ghost held = { λ _. None };
 
     ghost faults = { λ _. 0 };
 
-    ghost flushes = { λ _. 0 };
+    ghost flushes = { λ sink. sink.flushes };
 
-    ghost unflushed = { λ _. true };
+    ghost unflushed = { λ sink. sink.unflushed };
 
     fn write(&mut self, piece: &[u8]) -> Result<usize, Failed> {
         self.writes = self.writes.saturating_add(1);
         self.bytes = self.bytes.saturating_add(piece.len() as u64);
+        self.unflushed = true;
         Ok(piece.len())
     }
 
     fn flush(&mut self) -> Result<(), Failed> {
+        self.flushes = self.flushes.saturating_add(1);
+        self.unflushed = false;
         Ok(())
     }
 }
