@@ -5,39 +5,22 @@ ghost use Rattle.link_replay.specs.Commands.{HasCauses};
 ghost use Rattle.link_replay.specs.ReplayCommand.{Replays};
 
 use crate::{Profile, Proto};
-use check_receiver::Checker;
 use device_model::{DnpDevice, RtuDevice};
-use dnp_link_frame::Dnp;
-use hmac_tag::{Dir, HmacSha1, HmacSha256};
+use hmac_tag::Dir;
 use recordings_replay::replay_recordings;
 use replay_status::{Ends, Status};
-use rtu_frame::Rtu;
-use seal_transmitter::Sealer;
-use session_audit::ShownFrames;
+use session_audit::{
+    DnpChecker18, DnpChecker24, DnpSealer18, DnpSealer24, RtuChecker18, RtuChecker24, RtuSealer18,
+    RtuSealer24,
+};
 use std::alloc::Global;
-use yasir_io::{Sink, SlotDisk, Source, SteadySlots};
+use yasir_io::{Sink, SlotDisk, Source};
 
 /// How many silent ticks stand behind the line of the device, by each profile, so that its last
 /// burst is closed and its trailer sent: six more than the receiver's delay.
 const Y18_REST: u32 = 24;
 
 const Y24_REST: u32 = 30;
-
-type RtuSealer18 = ShownFrames<Sealer<Rtu, HmacSha1, 2>, Rtu, SteadySlots>;
-
-type RtuChecker18 = ShownFrames<Checker<Rtu, HmacSha1, 2, 18>, Rtu, SteadySlots>;
-
-type DnpSealer18 = ShownFrames<Sealer<Dnp, HmacSha1, 2>, Dnp, SteadySlots>;
-
-type DnpChecker18 = ShownFrames<Checker<Dnp, HmacSha1, 2, 18>, Dnp, SteadySlots>;
-
-type RtuSealer24 = ShownFrames<Sealer<Rtu, HmacSha256, 4>, Rtu, SteadySlots>;
-
-type RtuChecker24 = ShownFrames<Checker<Rtu, HmacSha256, 4, 24>, Rtu, SteadySlots>;
-
-type DnpSealer24 = ShownFrames<Sealer<Dnp, HmacSha256, 4>, Dnp, SteadySlots>;
-
-type DnpChecker24 = ShownFrames<Checker<Dnp, HmacSha256, 4, 24>, Dnp, SteadySlots>;
 
 /// Takes the line of a device through the transmitter and a link through the receiver, and prints
 /// what was sealed, passed, read and forged.
