@@ -3,7 +3,8 @@
 #       writes with examples/expected/; then it writes a page that shows it, out/timeline.html. JOBS is how many crates
 #       are proved side by side at most: as many as processors and memory allow where it isn't given.
 # test: the gate. It proves each crate, tries the wrong bodies, and runs the tests and the program.
-# check: the scripts that try the built program from outside the gate. LEVEL is quick, change or release.
+# check: the scripts that try the built program from outside the gate. LEVEL is quick, change or release. BEFORE is the last
+#        version, a program or a checkout with one: the level release counts instructions beside it.
 .PHONY: try demo test check
 
 try:
@@ -16,4 +17,4 @@ test:
 	@.ci/run
 
 check:
-	@python3 scripts/check.py $(LEVEL)
+	@python3 scripts/check.py $(LEVEL) $(if $(BEFORE),--before $(BEFORE))

@@ -1,13 +1,14 @@
 #!/usr/bin/env python3
 """Runs the scripts that try the built program from outside, as many as a level asks for, and says what was skipped and why.
 
-    python3 scripts/check.py [LEVEL] [PROGRAM]
+    python3 scripts/check.py [LEVEL] [PROGRAM] [--before BEFORE]
 
     quick      what takes seconds: after each change
     change     that, and what takes minutes: before a change to the program goes in. It is the level where none is given
     release    all of them, with more runs
 
-PROGRAM is crates/link_replay/out/link_replay where none is given, which `make demo` proves and builds. docs/TESTING.md says
+BEFORE is the last version, a program or a checkout in which `make demo` has built one: the level `release` counts the
+instructions of each command beside it. PROGRAM is crates/link_replay/out/link_replay where none is given, which `make demo` proves and builds. docs/TESTING.md says
 what each script sees. What a script prints goes into out/check/NAME.log. The exit status is 0 only where all that ran passed
 and there was a program to try, 1 where one failed, and 2 where there was no program or the words are wrong. None of it is
 part of the gate, and none of it proves anything.
@@ -21,7 +22,8 @@ LOGS = os.path.join(ROOT, "out", "check")
 LEVELS = ("quick", "change", "release")
 MEMORY = "/dev/shm"
 
-# A script, what it needs, and its words at each level; None where the level doesn't run it. PROGRAM and MEMORY stand for paths.
+# A script, what it needs, and its words at each level; None where the level doesn't run it. PROGRAM, BEFORE and MEMORY stand for
+# paths.
 Check = collections.namedtuple("Check", "name needs quick change release")
 
 
@@ -32,8 +34,11 @@ def same(*words):
 CHECKS = [
     Check("prove_check", (), *same()),
     Check("docs_check", (), *same()),
+    Check("docs_commands", ("program",), *same("PROGRAM")),
     Check("trial_model", ("program",), *same("compare", "PROGRAM")),
     Check("random_lines", ("program",), ["200", "PROGRAM"], ["2000", "PROGRAM", "2"], ["20000", "PROGRAM", "3"]),
+    Check("audit", ("program",), ["330", "PROGRAM"], ["3300", "PROGRAM", "2"], ["13200", "PROGRAM", "3"]),
+    Check("duplex", ("program",), ["150", "PROGRAM"], ["1500", "PROGRAM", "2"], ["6000", "PROGRAM", "3"]),
     Check("closed_streams", ("program",), *same("PROGRAM")),
     Check("init_over", ("program",), *same("PROGRAM")),
     Check("two_runs", ("program",), None, ["PROGRAM", "10"], ["PROGRAM", "60"]),
@@ -44,12 +49,15 @@ CHECKS = [
     Check("guard", ("program", "libmodbus"), None, ["PROGRAM"], ["PROGRAM", "2000", "2"]),
     Check("timeline_check", ("chromium",), None, [], []),
     Check("tag_instructions", ("program", "valgrind"), None, None, ["PROGRAM"]),
+    Check("measure", ("program", "before", "valgrind"), None, None, ["PROGRAM", "--instructions", "--beside", "BEFORE"]),
     Check("limits", ("program",), None, None, ["PROGRAM"]),
 ]
 
 
-def lacking(need, program):
+def lacking(need, program, before=None):
     """Why what a script needs isn't there; None where it is."""
+    if need == "before" and before is None:
+        return "no program of the last version is named, by --before"
     if need == "program" and not os.access(program, os.X_OK):
         return "there is no program %s; `make demo` proves and builds it" % os.path.relpath(program)
     if need == "memory" and not os.path.isdir(MEMORY):
@@ -75,9 +83,9 @@ def older(program):
     return None
 
 
-def run(check, words, program):
+def run(check, words, program, before):
     """Runs one script. Returns whether it passed, its seconds, and the end of what it said."""
-    paths = {"PROGRAM": program, "MEMORY": MEMORY}
+    paths = {"PROGRAM": program, "BEFORE": before, "MEMORY": MEMORY}
     line = [sys.executable, os.path.join("scripts", check.name + ".py")] + [paths.get(word, word) for word in words]
     log, began = os.path.join(LOGS, check.name + ".log"), time.monotonic()
     with open(log, "w") as file:
@@ -88,6 +96,11 @@ def run(check, words, program):
 
 
 def main(words):
+    before = None
+    if "--before" in words[:-1]:
+        at = words.index("--before")
+        before = os.path.abspath(words[at + 1])
+        words = words[:at] + words[at + 2:]
     level = words[0] if words else "change"
     if level not in LEVELS or len(words) > 2:
         print(__doc__.strip())
@@ -100,12 +113,12 @@ def main(words):
     for check in CHECKS:
         given = check[2 + LEVELS.index(level)]
         why = "not asked for by the level %s" % level if given is None else None
-        why = why or next(filter(None, (lacking(need, program) for need in check.needs)), None)
+        why = why or next(filter(None, (lacking(need, program, before) for need in check.needs)), None)
         if why:
             counts["skipped"] += 1
             print("%-17s skipped: %s" % (check.name, why), flush=True)
             continue
-        passed, seconds, said = run(check, given, program)
+        passed, seconds, said = run(check, given, program, before)
         counts["passed" if passed else "failed"] += 1
         print("%-17s %s in %.0f s" % (check.name, "passed" if passed else "FAILED", seconds), flush=True)
         if not passed:

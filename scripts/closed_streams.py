@@ -28,6 +28,8 @@ COMMANDS = [
     ("read rtu", NEW, (0, 1)),
     ("space rtu", NEW, (0, 1)),
     ("replay rtu ab KEY", NEW, (0, 1)),
+    ("audit rtu ab KEY 0 0", NEW, (0, 1)),
+    ("duplex rtu ab KEY", NEW, (0, 1, 2)),
     ("vectors", NEW, (1,)),
     ("trial rtu 7 3", NEW, (1,)),
 ]
@@ -92,8 +94,10 @@ def main():
     with tempfile.TemporaryDirectory() as folder:
         runs = Runs(sys.argv[1] if len(sys.argv) > 1 else "crates/link_replay/out/link_replay", folder)
         link = runs.run("seal rtu ab KEY JOURNAL", REQUEST, NEW, ())[1]
+        received = runs.run("check rtu ab KEY JOURNAL", link, NEW, ())[1]
         for words, before, needed in COMMANDS:
-            text = link if words.startswith("check") else REQUEST + b"%\n" + link if words.startswith("replay") else REQUEST
+            lists = {"check": [link], "replay": [REQUEST, link], "duplex": [REQUEST, link], "audit": [REQUEST, link, received]}
+            text = b"%\n".join(lists.get(words.split()[0], [REQUEST]))
             right, ends = runs.run(words, text, before, ()), []
             wrong_here = right[0] != (11 if words.startswith("init") and before else 0)
             for closed in itertools.chain.from_iterable(itertools.combinations(range(3), n) for n in range(4)):

@@ -183,6 +183,60 @@ def show_sessions(folder):
                                "The same link without the line: nothing was sealed, so what passes is named as forged", folder)
 
 
+def joined(folder, name, *parts):
+    """A file with these texts, and a line % between each two of them."""
+    path = os.path.join(folder, name)
+    with open(path, "w") as written:
+        written.write("%\n".join(parts))
+    return path
+
+
+def example(name):
+    return open(os.path.join(EXAMPLES, name)).read()
+
+
+def show_box_of_an_end(name, direction, what, link, folder):
+    """Shows the box of one end, which seals its device's line and checks the link to it. Returns whether all is as expected, and the link that it sends."""
+    print("== %s\n" % what)
+    both = joined(folder, name + ".both.ticks", example(name + ".ticks"), link)
+    lines, notes = run(["duplex", "rtu", direction, os.path.join(EXAMPLES, "key.txt")], both)
+    same = show("duplex rtu %s: the link's ticks, and behind the %% those that its device gets" % direction, lines, name + ".both.txt")
+    same &= show("its notes, on standard error", notes, name + ".both_notes.txt")
+    return same, lines.split("%\n")[0]
+
+
+def show_whole_line(folder):
+    """Shows a line with one box for both directions at each end, and a packet that is sent back the way it came."""
+    same, link = show_box_of_an_end("polls", "ab", "Both directions in one box: that of the control centre (examples/polls.ticks), "
+                                    "and the link to it, on which a packet came back (examples/answers_link.ticks)",
+                                    example("answers_link.ticks"), folder)
+    other, _ = show_box_of_an_end("answers", "ba", "The box of the device (examples/answers.ticks), behind this link", link, folder)
+    return same and other
+
+
+def show_audit(name, words, what, lists, folder):
+    """Shows the verdict on three recordings of one session."""
+    print("== %s\n" % what)
+    session = joined(folder, name + ".lists.ticks", *(example(part + ".ticks") for part in lists))
+    command, protocol, direction, *floors = words.split()
+    verdict, _ = run([command, protocol, direction, os.path.join(EXAMPLES, "key.txt")] + floors, session)
+    heading = "%s: the recordings %s" % (words, ", ".join("examples/%s.ticks" % part for part in lists))
+    return show(heading, verdict, name + ".verdict.txt")
+
+
+def show_incident(folder):
+    """Shows the verdicts of an audit."""
+    words, sent, link = "audit rtu ab 41 41", "incident", "incident_link"
+    same = show_audit("incident", words, "An incident: did the device read a frame that wasn't sealed?",
+                      (sent, link, "incident_received"), folder)
+    same &= show_audit("incident_short_line", words, "The same, but somebody wrote to the line behind the receiver, too",
+                       (sent, link, "incident_short_line"), folder)
+    same &= show_audit("incident_insider", words, "The same, but somebody who has the key wrote to the link, too",
+                       (sent, "incident_insider_link", "incident_insider_received"), folder)
+    return same & show_audit("outstation_altered", "audit dnp3 ab 0 0", "The outstation, of whose frames the attacker has kept two off",
+                             ("outstation", "outstation_altered", "expected/outstation_altered.received"), folder)
+
+
 def session_of(protocol, title, side, altered):
     """The words by which timeline.py shows a line and its link as an attacker left it, of texts that the program has just written."""
     expected = lambda name: os.path.join(EXAMPLES, "expected", name)
@@ -216,6 +270,8 @@ def main():
         same &= show_wrong_link(folder)
         same &= show_taken_over(folder)
         same &= show_sessions(folder)
+        same &= show_whole_line(folder)
+        same &= show_incident(folder)
     if same:
         show_picture()
     print("All of it is what examples/expected/ has." if same else "Something differs from examples/expected/.")

@@ -5,8 +5,9 @@
 
 With WORDs only the commands of these names run. At 16,777,216 ticks, and at 268,435,456 bytes, a run ends well; with one
 more it is refused with the first sum that was too much. Of 70,000 frames, which are more than a word of two bytes counts,
-`replay` prints each that is sealed, passes and is read. It prints status, CPU time and the log's last line of each run,
-and ends with 1 where one isn't as it should be. It is no part of the gate: all runs together read some 4 GB.
+`replay` prints each that is sealed, passes and is read, and `audit` counts them. It prints status, CPU time and the log's
+last line of each run, and ends with 1 where one isn't as it should be. It is no part of the gate: all runs together read
+some 8 GB.
 """
 import os, subprocess, sys, tempfile
 
@@ -17,15 +18,16 @@ TICKS, BYTES = 16_777_216, 268_435_456
 KEY = b"000102030405060708090a0b0c0d0e0f"
 FRAMES = {"rtu": b"01030000000ac5cd", "dnp3": b"056405c001000004e921"}
 MANY, SILENCE = 70_000, 40
+MARKS = {"replay": 1, "duplex": 1, "audit": 2}
 FULL_LINE, COMMENT = b"+" + b"5a" * 32 + b"\n", b"#" + b"x" * 120 + b"\n"
 
 
-def inputs(proto, two):
-    """Name, parts and fault line of each input: of one recording, or of two with a mark between them."""
+def inputs(proto, marks):
+    """Name, parts and fault line of each input: of one recording, or of two or three with so many marks between them."""
     frame = FRAMES["rtu" if proto.startswith("rtu") else "dnp3"]
-    head = b"+" + frame + b"\n-40\n" + (b"%\n" if two else b"")
+    head = b"+" + frame + b"\n-40\n" + b"%\n" * marks
     many = [FULL_LINE] * (TICKS // 64)
-    ticks = many + ([b"%\n"] if two else []) + many
+    ticks = many + [b"%\n"] * marks + many
     silence = TICKS - len(frame) // 2 - 40 - 16 * 1_000_000
     comments, left = divmod(BYTES - len(head), len(COMMENT))
     too_many, too_long = "fault: too long 16777217 ticks", "fault: too long 268435457 bytes"
@@ -37,8 +39,8 @@ def inputs(proto, two):
         yield "bytes" + ", one more" * more, [head] + [COMMENT] * comments + [b"\n" * (left + more)], fault
 
 
-def many_frames(proto):
-    """The two recordings of many frames, of which none is lost, and what is printed of them."""
+def many_frames(command, proto):
+    """The recordings of many frames, of which none is lost, and what the command prints of them."""
     frame, rules = FRAMES[proto], Rtu if proto == "rtu" else Dnp3
     key, bare = (bytes.fromhex(text.decode()) for text in (KEY, frame))
     device, link, sealed, passed, read = [], [], [], [], []
@@ -50,6 +52,9 @@ def many_frames(proto):
         sealed.append(b"sealed %d at %d %s\n" % (number, start, frame))
         passed.append(b"passed %d at %d %s\n" % (number, start, frame))
         read.append(b"read at %d %s\n" % (start + Y18.delay, frame))
+    if command == "audit":
+        counts = b"audit clean sealed %d passed %d read %d\n" % (MANY, MANY, MANY)
+        return device + [b"%\n"] + link + [b"%%\n-%d\n" % Y18.delay] + device, counts
     return device + [b"%\n"] + link, b"".join(sealed + passed + read)
 
 
@@ -77,7 +82,7 @@ def run(program, words, parts, folder):
 def main():
     program = sys.argv[1] if len(sys.argv) > 1 else "crates/link_replay/out/link_replay"
     commands = ["init rtu ab NEW", "vectors", "trial rtu 7 10000", "trial dnp3 7 10000", "read rtu", "read dnp3", "space rtu", "space dnp3"]
-    for box in ("seal %s ab KEY JOURNAL", "check %s ab KEY JOURNAL", "replay %s ab KEY"):
+    for box in ("seal %s ab KEY JOURNAL", "check %s ab KEY JOURNAL", "replay %s ab KEY", "audit %s ab KEY 0 0", "duplex %s ab KEY"):
         commands += [box % proto for proto in ("rtu", "dnp3")]
     wrong = 0
     with tempfile.TemporaryDirectory(dir="/dev/shm" if os.path.isdir("/dev/shm") else None) as folder:
@@ -85,14 +90,14 @@ def main():
             name, proto = (words.split() + [""])[:2]
             if sys.argv[2:] and name not in sys.argv[2:]:
                 continue
-            kinds = [("nothing is read", [], "")] if name in ("init", "vectors", "trial") else inputs(proto, name == "replay")
+            kinds = [("nothing is read", [], "")] if name in ("init", "vectors", "trial") else inputs(proto, MARKS.get(name, 0))
             for kind, parts, fault in kinds:
                 status, seconds, last = run(program, words, parts, folder)
                 right = status == (10 if fault else 0) and (last == fault or not fault)
                 wrong += not right
                 print("%-24s %-30s status %2d %6.2f s  %s%s" % (words, kind, status, seconds, last, "" if right else "  WRONG"), flush=True)
-            if name == "replay":
-                parts, lines = many_frames(proto)
+            if name in ("replay", "audit"):
+                parts, lines = many_frames(name, proto)
                 status, seconds, last = run(program, words, parts, folder)
                 with open(os.path.join(folder, "out"), "rb") as out:
                     right = (status, last, out.read()) == (0, "", lines)

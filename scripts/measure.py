@@ -1,15 +1,24 @@
 #!/usr/bin/env python3
-"""Measures `link_replay`: processor time and memory of each command over long recorded lines, which it makes itself.
+"""Measures `link_replay`: processor time and memory of each command over long recorded lines, which it makes itself; or how
+many instructions each command takes, beside another build.
 
     python3 scripts/measure.py [PROGRAM] [--beside OTHER] [--rounds N] [--ticks N] [--only WORD] [--work FOLDER]
+    python3 scripts/measure.py [PROGRAM] --instructions [--beside OTHER] [--most PERCENT] [--ticks N] [--only WORD] [--work FOLDER]
 
 With OTHER, another build or another program of the same commands that knows journals of this form (0.7.0 or later), the two
 run in turn over the same inputs; what they write is compared, and the ratio of their times is printed: the median of the
 rounds' own ratios, and the ratio of the least times.
+
+With --instructions valgrind counts in place of a clock, once each, over shorter lines. The count hangs on the build alone, and
+not on what else the machine does. With OTHER, the last version, it ends with 1 where PROGRAM takes more than 5 % above it for
+some command, or PERCENT. A command that OTHER doesn't know is passed over, and counted alone.
+
+PROGRAM and OTHER are programs, or checkouts of this repository in which `make demo` has built one.
 FOLDER should be in memory (/dev/shm), since each committed number is synced. The lines are the same at each run.
-It ends with 1 where a run doesn't end well, or where the two write different things. It is no part of the gate.
+It ends with 1 where a run doesn't end well, or where the two write different things, and with 2 where valgrind is asked for
+and isn't installed. It is no part of the gate.
 """
-import argparse, filecmp, os, random, statistics, subprocess, sys, tempfile
+import argparse, filecmp, os, random, re, shutil, statistics, subprocess, sys, tempfile
 
 import model
 from killed import KEY
@@ -18,6 +27,10 @@ from killed import slot_of
 from random_lines import some_frame
 
 PROGRAM = "crates/link_replay/out/link_replay"
+# How many ticks a line has, where time is measured and where instructions are counted.
+TICKS, FEW_TICKS = 4000000, 1600000
+# How many ticks of a line a frame of `trial` stands for, and the status of words that are no command.
+TICKS_OF_A_FRAME, USAGE = 400, 2
 
 
 class Text:
@@ -92,6 +105,7 @@ def make_inputs(folder, ticks):
         device_line(device, proto, ticks, chance)
         dense_line(dense, proto, ticks, chance)
         cases += [("read " + name, device, ["read", name]), ("read %s, dense" % name, dense, ["read", name]),
+                  ("space " + name, device, ["space", name]), ("space %s, dense" % name, dense, ["space", name]),
                   ("seal " + name, device, ["seal", name, "ab"]), ("seal %s, dense" % name, dense, ["seal", name, "ab"])]
         for word, profile, attacked in ((name, Y18, False), (name, Y18, True), (other, Y24, False)):
             link = at("link.%s.%d" % (word, attacked))
@@ -102,7 +116,7 @@ def make_inputs(folder, ticks):
         link_line(at("link"), proto, Y18, ticks // 2, chance, True)
         session(both, at("half"), at("link"))
         cases += [("check %s, unsealed" % name, dense, ["check", name, "ab"]), ("replay " + name, both, ["replay", name, "ab"]),
-                  ("trial " + name, os.devnull, ["trial", name, "7", "10000"])]
+                  ("trial " + name, os.devnull, ["trial", name, "7", str(ticks // TICKS_OF_A_FRAME)])]
     thin_line(at("thin"), ticks, chance)
     with open(at("comments"), "w") as file:
         file.write(("# " + "a comment " * 10 + "\n") * (ticks // 50))
@@ -128,10 +142,15 @@ def most_memory(child):
     return most / 1024
 
 
-def run(program, words, source, written, journal, memory=False):
-    """Seconds of processor time and the status; where it is asked for, the most memory in place of the seconds."""
+def make_journal(journal, words):
+    """A journal at 0 for the link of these words."""
     with open(journal, "wb") as file:
         file.write(bytes(32) + slot_of(0, tuple(words[1:3]) if words[0] in ("seal", "check") else ("rtu", "ab")) + bytes(24))
+
+
+def run(program, words, source, written, journal, memory=False):
+    """Seconds of processor time and the status; where it is asked for, the most memory in place of the seconds."""
+    make_journal(journal, words)
     with open(source) as given, open(written[0], "w") as out, open(written[1], "w") as log:
         child = subprocess.Popen([program] + words, stdin=given, stdout=out, stderr=log)
         if memory:
@@ -139,6 +158,45 @@ def run(program, words, source, written, journal, memory=False):
         _, status, used = os.wait4(child.pid, 0)
         child.returncode = os.waitstatus_to_exitcode(status)
     return used.ru_utime + used.ru_stime, child.returncode
+
+
+def instructions(program, words, source, written, journal):
+    """How many instructions a run takes, in millions, and its status."""
+    make_journal(journal, words)
+    counts = journal + ".counts"
+    count = ["valgrind", "--tool=callgrind", "--callgrind-out-file=/dev/null", "--log-file=" + counts, program]
+    with open(source) as given, open(written[0], "w") as out, open(written[1], "w") as log:
+        status = subprocess.run(count + words, stdin=given, stdout=out, stderr=log).returncode
+    with open(counts) as file:
+        said = re.search(r"Collected : (\d+)", file.read())
+    return int(said.group(1)) / 1e6 if said else 0, status
+
+
+def count(programs, case, most, folder):
+    """Counts the instructions of each program. Returns whether all is well."""
+    name, source, words = case
+    files = [[os.path.join(folder, "%s.%d" % (kind, place)) for kind in ("out", "log", "journal")] for place in range(len(programs))]
+    key = os.path.join(folder, "key")
+    counted = [instructions(program, words_of(words, key, paths[2]), source, paths[:2], paths[2]) for program, paths in zip(programs, files)]
+    taken, status = counted[0]
+    line, well = "%-22s %9.2f" % (name, taken), status == 0
+    if len(programs) > 1 and counted[1][1] == USAGE:
+        line += "   the other one doesn't know it"
+    elif len(programs) > 1:
+        other, other_status = counted[1]
+        over = 100 * (taken / other - 1) if other else 0
+        same = all(filecmp.cmp(a, b, shallow=False) for a, b in zip(*files))
+        line += " %9.2f %+7.1f %%%s%s" % (other, over, "   MORE" if over > most else "", "" if same else "   DIFFERS")
+        well = well and other_status == 0 and same and over <= most
+    print(line + ("" if status == 0 else "   status %d" % status), flush=True)
+    return well
+
+
+def count_all(programs, cases, most, folder):
+    print("%-22s %s, in millions of instructions" % ("case", "this one, the other one" if len(programs) > 1 else "this one"), flush=True)
+    well = [count(programs, case, most, folder) for case in cases]
+    print("all is well" if all(well) else "%d of %d cases are not as they should be" % (well.count(False), len(well)))
+    return 0 if all(well) else 1
 
 
 def measure(programs, case, rounds, folder):
@@ -163,20 +221,36 @@ def measure(programs, case, rounds, folder):
     return same
 
 
+def program_at(path):
+    """A program, or the one that a checkout has."""
+    return os.path.abspath(os.path.join(path, PROGRAM) if os.path.isdir(path) else path)
+
+
 def main():
     words = argparse.ArgumentParser(description=__doc__, formatter_class=argparse.RawDescriptionHelpFormatter)
     words.add_argument("program", nargs="?", default=PROGRAM)
     words.add_argument("--beside")
+    words.add_argument("--instructions", action="store_true")
+    words.add_argument("--most", type=float, default=5)
     words.add_argument("--rounds", type=int, default=5)
-    words.add_argument("--ticks", type=int, default=4000000)
+    words.add_argument("--ticks", type=int)
     words.add_argument("--only", default="")
     words.add_argument("--work", default="/dev/shm" if os.path.isdir("/dev/shm") else None)
     asked = words.parse_args()
-    programs = [os.path.abspath(program) for program in [asked.program] + [asked.beside] * bool(asked.beside)]
+    programs = [program_at(program) for program in [asked.program] + [asked.beside] * bool(asked.beside)]
+    for program in programs:
+        if not os.access(program, os.X_OK):
+            sys.exit("measure: there is no program %s" % program)
+    if asked.instructions and shutil.which("valgrind") is None:
+        print("measure: valgrind isn't on the path", file=sys.stderr)
+        return 2
+    ticks = asked.ticks or (FEW_TICKS if asked.instructions else TICKS)
     with tempfile.TemporaryDirectory(prefix="measure.", dir=asked.work) as folder:
         with open(os.path.join(folder, "key"), "w") as file:
             file.write(KEY)
-        cases = [case for case in make_inputs(folder, asked.ticks) if asked.only in case[0]]
+        cases = [case for case in make_inputs(folder, ticks) if asked.only in case[0]]
+        if asked.instructions:
+            return count_all(programs, cases, asked.most, folder)
         print("%-22s %9s %13s %9s" % ("case", "CPU time", "input read", "memory"), flush=True)
         same = [measure(programs, case, asked.rounds, folder) for case in cases]
     return 0 if all(same) else 1

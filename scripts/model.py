@@ -1,13 +1,14 @@
 """A model of transmitter, receiver, spacer and devices, over whole lines: the rules of docs/LINK.md, written anew in Python.
 
-It shares nothing with the program, so that the two can be compared (random_lines.py). A line is a list of ticks: a byte,
-or None for silence. The tags are by hashlib.
+It shares nothing with the program, so that the two can be compared (random_lines.py, audit.py, duplex.py). A line is a list of
+ticks: a byte, or None for silence. The tags are by hashlib.
 """
-import collections, hashlib, hmac
+import collections, hashlib, hmac, itertools
 
 LIMIT = (1 << 48) - 1
 
-# Silent ticks that end a burst, and that stand between a frame and its trailer; those that the program takes to follow a link.
+# Silent ticks that end a burst, and that stand between a frame and its trailer; those that the program takes to follow a link,
+# alone or beside the line of a device.
 CUT, PAUSE, LINK_REST = 4, 3, 320
 
 # Frames that may wait in the spacer of the program, and the silent ticks that it takes to follow a line.
@@ -172,7 +173,12 @@ def trailer(proto, key, direction, frame, number, profile=Y18):
 
 def seal(proto, key, direction, floor, line, profile=Y18):
     """The line of the link, the notes, the journal's floor after them, and the sealed frames with number and start."""
-    line = line + [None] * (profile.delay + 6)
+    link, notes, floor, sealed = seal_steps(proto, key, direction, floor, line + [None] * (profile.delay + 6), profile)
+    return link, [note for _, note in notes], floor, sealed
+
+
+def seal_steps(proto, key, direction, floor, line, profile=Y18):
+    """The same of a line with no silence added; each note comes with the tick in whose step it is made."""
     link, notes, free, sealed = [None] * len(line), [], 0, []
     for start, end in bursts(line):
         kept, has_extra = live(proto, line, start, end)
@@ -184,18 +190,18 @@ def seal(proto, key, direction, floor, line, profile=Y18):
         if end + CUT >= len(line):
             continue
         if early:
-            notes.append("unsealed at %d early" % start)
+            notes.append((end + CUT, "unsealed at %d early" % start))
         elif has_extra or not proto.is_frame(frame):
-            notes.append("unsealed at %d form" % start)
+            notes.append((end + CUT, "unsealed at %d form" % start))
         elif floor == LIMIT:
-            notes.append("unsealed at %d spent" % start)
+            notes.append((end + CUT, "unsealed at %d spent" % start))
         else:
             floor += 1
             for place, byte in enumerate(trailer(proto, key, direction, frame, floor, profile)):
                 if last + PAUSE + 1 + place < len(link):
                     link[last + PAUSE + 1 + place] = byte
             free = last + profile.delay + CUT
-            notes.append("sealed %d at %d len %d" % (floor, start, len(frame)))
+            notes.append((end + CUT, "sealed %d at %d len %d" % (floor, start, len(frame))))
             sealed.append((floor, start, frame))
     return link, notes, floor, sealed
 
@@ -222,7 +228,13 @@ def verdict(proto, key, direction, floor, frame, after, profile):
 
 def check(proto, key, direction, floor, link, profile=Y18):
     """The receiver's line, the notes, the journal's floor after them, and the passed frames with number and start."""
-    link, delay = link + [None] * LINK_REST, profile.delay
+    line, notes, floor, passed = check_steps(proto, key, direction, floor, link + [None] * LINK_REST, profile)
+    return line, [note for _, note in notes], floor, passed
+
+
+def check_steps(proto, key, direction, floor, link, profile=Y18):
+    """The same of a link with no silence added; each note comes with the tick in whose step it is made."""
+    delay = profile.delay
     behind = link + [None] * delay
     sent, notes, free, passed = {}, [], 0, []
     for start, end in bursts(link):
@@ -250,8 +262,23 @@ def check(proto, key, direction, floor, link, profile=Y18):
             sent.update((last + delay + place, 0) for place in range(1, owed + 1))
             sent[last + delay + owed] = spoil(proto, whole[:-1], whole[-1])
             free += owed
-    told = [note for tick, note in sorted(notes, key=lambda noted: noted[0]) if tick < len(link)]
+    told = [noted for noted in sorted(notes, key=lambda noted: noted[0]) if noted[0] < len(link)]
     return [sent.get(tick) for tick in range(len(link))], told, floor, passed
+
+
+def filled(line, link):
+    """Both lists with silence behind them, up to the longer one's length and so many ticks more as follow a link."""
+    ticks = max(len(line), len(link)) + LINK_REST
+    return [ticks_before + [None] * (ticks - len(ticks_before)) for ticks_before in (line, link)]
+
+
+def duplex(proto, key, direction, line, link, profile=Y18):
+    """What a box for both directions makes of its device's line and of the link: the link's ticks and the device's, and the notes
+    in the order of steps, the transmitter's first."""
+    line, link = filled(line, link)
+    sent, sealing, _, _ = seal_steps(proto, key, direction, 0, line, profile)
+    received, checking, _, _ = check_steps(proto, key, 1 - direction, 0, link, profile)
+    return sent, received, [note for _, note in sorted(sealing + checking, key=lambda noted: noted[0])]
 
 
 def space(proto, line, profile=Y18, cap=WAITING, rest=SPACER_REST):
@@ -274,11 +301,30 @@ def replay(proto, key, direction, line, link, profile=Y18):
     """The lines that `replay` writes: the frames that are sealed, passed, read and forged."""
     sealed = seal(proto, key, direction, 0, line, profile)[3]
     received, _, _, passed = check(proto, key, direction, 0, link, profile)
-    known = {(number, bytes(frame)) for number, _, frame in sealed}
-    forged = [entry for entry in passed if (entry[0], bytes(entry[2])) not in known]
     numbered = lambda word, entries: ["%s %d at %d %s" % (word, number, start, bytes(frame).hex()) for number, start, frame in entries]
     read = ["read at %d %s" % (start, bytes(frame).hex()) for start, frame in reads(proto, received)]
-    return numbered("sealed", sealed) + numbered("passed", passed) + read + numbered("forged", forged)
+    return numbered("sealed", sealed) + numbered("passed", passed) + read + numbered("forged", forged_of(sealed, passed))
+
+
+def forged_of(sealed, passed):
+    """The passed frames that weren't sealed with their number."""
+    known = {(number, bytes(frame)) for number, _, frame in sealed}
+    return [entry for entry in passed if (entry[0], bytes(entry[2])) not in known]
+
+
+def audit(proto, key, direction, floors, line, link, received, profile=Y18):
+    """The verdict on three recordings, as `audit` writes it: what was sealed from the sender's floor on, what passed from the
+    receiver's, and what the device reads of the third."""
+    sealed = seal(proto, key, direction, floors[0], line, profile)[3]
+    passed = check(proto, key, direction, floors[1], link, profile)[3]
+    read, forged = reads(proto, received), forged_of(sealed, passed)
+    if forged:
+        return "audit forged %d at %d" % forged[0][:2]
+    late = [(start + profile.delay, frame) for _, start, frame in passed]
+    for place, (one, other) in enumerate(itertools.zip_longest(late, read)):
+        if one != other:
+            return "audit differs %d" % place
+    return "audit clean sealed %d passed %d read %d" % (len(sealed), len(passed), len(read))
 
 
 def canonical(line):

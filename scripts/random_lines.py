@@ -4,11 +4,11 @@
     python3 scripts/random_lines.py [LINES] [PROGRAM] [SEED]
 
 A line has frames, packets (altered, cut, repeated or whole), noise and silence, with the lengths at which rules change.
-Compared are `read`, and `seal`, `check`, `space` and `replay` with both profiles: standard output, the notes, and the floor of
-the journal after the run. A journal is one of the link, or an old one that is taken over. A link that `replay` gets is that of its device's
-line, altered here and there, or one of its own. A line that `space` gets is one of these, or has many close frames, some of them
-cut, so that more would have to wait than may.
-It is no part of the gate.
+Compared are `read`, and `seal`, `check`, `space`, `replay`, `duplex` and `audit` with both profiles: standard output, the notes,
+and the floor of the journal after the run. A journal is one of the link, or an old one that is taken over. A link that `replay`
+or `audit` gets is that of its device's line, altered here and there, or one of its own; so is the line that a receiver made of it,
+for `audit`. A line that `space` gets is one of these, or has many close frames, some of them cut, so that more would have to wait
+than may. It is no part of the gate.
 """
 import os, random, subprocess, sys, tempfile
 
@@ -17,7 +17,11 @@ from killed import KEY, floor_of, old_slot_of, slot_of
 from model import LIMIT, PAUSE, Y18, Y24, Dnp3, Rtu
 
 # The words of notes and printed frames by which runs are counted.
-WORDS = ("sealed", "unsealed", "passed", "refused", "dropped", "read", "forged", "early", "form", "spent", "trailer", "number", "tag", "busy", "head", "lost")
+WORDS = ("sealed", "unsealed", "passed", "refused", "dropped", "read", "forged", "early", "form", "spent", "trailer", "number", "tag",
+         "busy", "head", "lost", "clean", "differs")
+
+# Commands that keep no journal; those of them that take two recordings, and those without a key.
+NO_JOURNAL, TWO_LINES, NO_KEY = ("read", "space", "replay", "duplex", "audit"), ("replay", "duplex"), ("read", "space")
 
 
 def some_frame(proto, chance):
@@ -89,9 +93,9 @@ def some_crowd(proto, chance):
     return line + [None] * chance.choice([0, 0, 10, 5000])
 
 
-def some_link(proto, key, direction, line, chance, profile):
+def some_link(proto, key, direction, line, floor, chance, profile):
     """What stands on the link behind the transmitter of this line: parts of what it sent, some altered, or a link of its own."""
-    link, parts = model.seal(proto, key, direction, 0, line, profile)[0], []
+    link, parts = model.seal(proto, key, direction, floor, line, profile)[0], []
     if chance.random() < 0.2:
         return link
     for _ in range(chance.randrange(1, 6)):
@@ -99,12 +103,12 @@ def some_link(proto, key, direction, line, chance, profile):
         part = link[first:first + chance.choice([30, 60, 200, 1000])]
         parts += altered(part, chance) if chance.random() < 0.4 else part
         parts += [None] * chance.choice([0, 4, 20, 40])
-    return parts if chance.random() < 0.7 else some_line(proto, key, direction, 0, True, chance, profile)
+    return parts if chance.random() < 0.7 else some_line(proto, key, direction, floor, True, chance, profile)
 
 
 def run(program, words, text, journal, floor, old):
     """What the program writes, and the journal's floor after it, from a journal at this floor on, which may be an old one."""
-    link = tuple(words[1:3]) if words[0] not in ("read", "space") else ("rtu", "ab")
+    link = tuple(words[1:3]) if words[0] not in NO_KEY else ("rtu", "ab")
     with open(journal, "wb") as file:
         file.write(old_slot_of(floor) if old else bytes(32) + slot_of(floor, link))
     ran = subprocess.run([program] + words, input=text, capture_output=True, text=True)
@@ -116,6 +120,11 @@ def expected(proto, profile, command, key, direction, lines, floor):
         return 0, "".join("read at %d %s\n" % (start, bytes(frame).hex()) for start, frame in model.reads(proto, lines[0])), [], floor
     if command == "replay":
         return 0, "".join(line + "\n" for line in model.replay(proto, key, direction, lines[0], lines[1], profile)), [], floor
+    if command == "duplex":
+        sent, received, notes = model.duplex(proto, key, direction, lines[0], lines[1], profile)
+        return 0, model.canonical(sent) + "%\n" + model.canonical(received), notes, floor
+    if command == "audit":
+        return 0, model.audit(proto, key, direction, (floor, floor), lines[0], lines[1], lines[2], profile) + "\n", [], floor
     if command == "space":
         spaced, lost, _ = model.space(proto, lines[0], profile)
         return 0, model.canonical(spaced), lost, floor
@@ -124,10 +133,28 @@ def expected(proto, profile, command, key, direction, lines, floor):
     return 0, model.canonical(other), notes, floor
 
 
-def words_of(proto, profile, command, direction, key_file, journal):
+def words_of(proto, profile, command, direction, key_file, journal, floor):
     name = {"rtu": "rtu", "dnp3": "dnp"}[proto.word] + profile.name if profile.name and command != "read" else proto.word
-    named = [["ab", "ba"][direction], key_file] + [journal] * (command != "replay")
-    return [command, name] + named * (command not in ("read", "space"))
+    named = [["ab", "ba"][direction], key_file] + [journal] * (command not in NO_JOURNAL) + [str(floor)] * 2 * (command == "audit")
+    return [command, name] + named * (command not in NO_KEY)
+
+
+def some_lines(proto, key, direction, command, floor, chance, profile):
+    """The recordings that a command gets."""
+    given = [some_line(proto, key, direction, floor, command == "check", chance, profile)]
+    if command == "space" and chance.random() < 0.5:
+        given = [some_crowd(proto, chance)]
+    if command == "duplex":
+        given.append(some_line(proto, key, 1 - direction, 0, True, chance, profile))
+    if command in ("replay", "audit"):
+        given.append(some_link(proto, key, direction, given[0], floor, chance, profile))
+    if command == "audit":
+        received = model.check(proto, key, direction, floor, given[1], profile)[0]
+        there = [place for place, byte in enumerate(received) if byte is not None]
+        if there and chance.random() < 0.3:
+            received[chance.choice(there)] = chance.choice([None, chance.randrange(256)])
+        given.append(received)
+    return given
 
 
 def main():
@@ -139,20 +166,17 @@ def main():
         open(key_file, "w").write(KEY)
         for _ in range(lines):
             proto, direction, profile = chance.choice([Rtu, Dnp3]), chance.randrange(2), chance.choice([Y18, Y18, Y24])
-            command = chance.choice(["read", "seal", "check", "check", "replay", "space"])
-            floor = 0 if command == "replay" else chance.choice([0, 0, 5, 65530, 70000, LIMIT - 3, LIMIT])
+            command = chance.choice(["read", "seal", "check", "check", "replay", "space", "duplex", "audit"])
+            floor = 0 if command in TWO_LINES else chance.choice([0, 0, 5, 65530, 70000, LIMIT - 3, LIMIT])
             old = chance.random() < 0.25
-            given = [some_line(proto, key, direction, floor, command == "check", chance, profile)]
-            if command == "space" and chance.random() < 0.5:
-                given = [some_crowd(proto, chance)]
-            if command == "replay":
-                given.append(some_link(proto, key, direction, given[0], chance, profile))
-            words, text = words_of(proto, profile, command, direction, key_file, journal), "%\n".join(map(model.canonical, given))
+            given = some_lines(proto, key, direction, command, floor, chance, profile)
+            words = words_of(proto, profile, command, direction, key_file, journal, floor)
+            text = "%\n".join(map(model.canonical, given))
             wrote = run(program, words, text, journal, floor, old)
             wanted = expected(proto, profile, command, key, direction, given, floor)
             if wrote != wanted:
                 sys.exit("`%s` from floor %d writes\n%s\nand the model\n%s\nof\n%s" % (" ".join(words), floor, wrote, wanted, text))
-            for note in wrote[2] + wrote[1].splitlines() * (command in ("read", "replay")):
+            for note in wrote[2] + wrote[1].splitlines() * (command in ("read", "replay", "audit")):
                 kind = " ".join(words[:2] + [word for word in note.split() if word.isalpha() and word in WORDS][:2])
                 seen[kind] = seen.get(kind, 0) + 1
     print("%d lines, and all is what the model writes. Seen were:" % lines)

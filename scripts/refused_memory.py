@@ -4,10 +4,10 @@
     python3 scripts/refused_memory.py [PROGRAM]
 
 A small library, compiled by `cc` and loaded before the C library's, counts the calls that take or grow memory: of a run, the
-N-th is refused alone, or it and each one behind it, for every N up to the last call that a whole run makes. `replay` and
-`space` must answer NoMemory with nothing in their output and their fault line in the log, or what they answer when nothing is
-refused; the other commands take no memory once their words are read. It ends with 1 where a run ends otherwise. It is no part
-of the gate.
+N-th is refused alone, or it and each one behind it, for every N up to the last call that a whole run makes. `replay`, `space`,
+`audit` and `duplex` must end with NoMemory, nothing in their output and their fault line alone in the log, or as they do when
+nothing is refused; the other commands take no memory once their words are read. It ends with 1 where a run ends otherwise. It is
+no part of the gate.
 """
 import os, subprocess, sys, tempfile
 
@@ -85,9 +85,9 @@ int posix_memalign(void **to, size_t alignment, size_t size) {
 """
 
 
-def recordings(device, link):
-    """One text of two recordings, with the mark between them."""
-    return b"%\n".join(open(os.path.join(EXAMPLES, name), "rb").read() for name in (device, link))
+def recordings(*names):
+    """One text of these recordings, with a mark between each two of them."""
+    return b"%\n".join(open(os.path.join(EXAMPLES, name), "rb").read() for name in names)
 
 
 class Runs:
@@ -114,9 +114,12 @@ class Runs:
 def main():
     program = sys.argv[1] if len(sys.argv) > 1 else "crates/link_replay/out/link_replay"
     requests, device = recordings("requests.ticks", "altered.ticks"), recordings("outstation.ticks", "outstation_altered.ticks")
+    session = recordings("requests.ticks", "altered.ticks", "expected/altered.received.ticks")
     long = b"%\n".join([b"+01030000000ac5cd\n-40\n" * 3000] * 2)
     cases = [
         ("replay rtu ab KEY", requests), ("replay dnp3 ab KEY", device), ("replay rtu ab KEY", long), ("read rtu", requests.split(b"%\n")[0]),
+        ("audit rtu ab KEY 0 0", session), ("audit rtu ab KEY 0 0", long + b"%\n" + long.split(b"%\n")[0]),
+        ("duplex rtu ab KEY", requests), ("duplex dnp3 ba KEY", device), ("duplex rtu ab KEY", long),
         ("space rtu", requests.split(b"%\n")[0]), ("space dnp24", device.split(b"%\n")[0]),
         ("seal rtu ab KEY JOURNAL", requests.split(b"%\n")[0]), ("check rtu ab KEY JOURNAL", requests.split(b"%\n")[1]), ("vectors", b""), ("trial rtu 7 20", b""),
     ]
@@ -131,7 +134,7 @@ def main():
                 for behind in (False, True):
                     end = runs.run(words, text, n, behind)[:3]
                     right = end == (status, out, log) or end[:2] == (NO_WORDS, b"") or end == (NO_MEMORY, b"", b"")
-                    if words[0] in ("replay", "space"):
+                    if words[0] in ("replay", "space", "audit", "duplex"):
                         right = right or end == (NO_MEMORY, b"", b"fault: memory\n")
                     ends[end[0]] = ends.get(end[0], 0) + 1
                     if not right:

@@ -64,3 +64,7 @@ module _ {R : Type 0} (proto : LineRules R) (first second : ℕ) where
 -- how many ticks it has heard
 abbrev pub family_ticks : {R : Type 0} → HuntingFamily R → ℕ
 family_ticks value = value.device.ticks
+
+-- the bytes of the frame that was read last
+abbrev pub family_lent : {R : Type 0} → HuntingFamily R → List ℕ
+family_lent value = value.device.frame.items

@@ -32,6 +32,10 @@ abbrev pub StartsAt : ℕ → List Timed → Type 0
 StartsAt start [] = Unit {0}
 StartsAt start (t ∷ x) = start ≡ t.tick
 
+-- the bytes of the frame that was read last
+abbrev pub frame_kept : {R : Type 0} → HuntingDevice R → List ℕ
+frame_kept value = value.frame.items
+
 module _ {R : Type 0} (proto : LineRules R) (first second : ℕ) where
   -- A device that holds these bytes, from this tick on, has heard such bytes.
   pub record HasHeard (rules : R) (bytes : List ℕ) (start : ℕ) (x : List Timed) : Type 0 where

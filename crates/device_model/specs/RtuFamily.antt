@@ -43,6 +43,10 @@ pub record RtuFamilyStandsFor (cut gap : ℕ) (value : RtuFamily) (line : List T
 abbrev pub ticks_heard : RtuFamily → ℕ
 ticks_heard value = value.ticks
 
+-- the bytes that it lends: what it keeps
+abbrev pub bytes_lent : RtuFamily → List ℕ
+bytes_lent value = value.bytes.items
+
 -- what the end of a burst gives, of which these bytes are kept from this tick on
 abbrev pub frame_at_end : Bool → ℕ → List ℕ → List FrameRead
 frame_at_end true start x = []

@@ -2,6 +2,7 @@ ghost use Rattle.std.specs.Prelude.{◌≡◌, ℕ, ◌<◌, ◌≤◌, length, 
 
 use crate::device::{Device, FrameAt, Heard};
 use crate::hunted::Hunted;
+use crate::lending::{LendingDevice, Met, frame_copied, heard_copied};
 use arrayvec::ArrayVec;
 use line_rules::Head;
 use memchr::memchr;
@@ -37,6 +38,8 @@ pub struct HuntingDevice<R> {
     bytes: ArrayVec<u8, 292>,
     rules: R,
     start: u64,
+    // the bytes of the frame that was read last
+    frame: ArrayVec<u8, 292>,
 }
 
 // How many of these bytes stand before the first one that is `byte`.
@@ -57,7 +60,7 @@ fn bytes_before(byte: u8, bytes: &[u8]) -> usize
 
 impl<R: Hunted> HuntingDevice<R> {
     ghost use Rattle.std.specs.Prelude.{◌+◌, false, List, [], ◌∷◌, ◌++◌};
-    ghost use Rattle.device_model.specs.Frames.{frames_of};
+    ghost use Rattle.device_model.specs.Frames.{frames_of, frames_lent};
     ghost use Rattle.device_model.specs.Hunt.{Timed};
     ghost use Rattle.std.specs.Prelude.{true, take};
     ghost use Rattle.device_model.specs.HuntingDevice.{TakesByte, TakesRun, MeetsEnd, next_by};
@@ -117,29 +120,33 @@ impl<R: Hunted> HuntingDevice<R> {
         ensures start { self.new.start ≡ self.old.start }
         ensures bytes { self.new.bytes.items ≡ [] }
         ensures rules { R.stands self.new.rules [] }
+        ensures frame { self.new.frame ≡ self.old.frame }
     {
         self.bytes.clear();
         self.rules.restart();
     }
 
-    // The end of the bytes that are held.
+    // The end of the bytes that are held: where their first one stands, if they are a frame. Those of a
+    // frame are put aside, to be lent, since the hunt goes on without them.
     #[inline]
-    fn end(&mut self) -> Option<FrameAt>
+    fn end(&mut self) -> Option<u64>
         ensures ticks { self.new.ticks ≡ self.old.ticks }
         ensures bytes { self.new.bytes.items ≡ [] }
         ensures rules { R.stands self.new.rules [] }
         ensures frame { R.stands self.old.rules self.old.bytes.items
-            → frames_of result ≡ frame_at R.rules self.old.start self.old.bytes.items }
+            → frames_lent result self.new.frame.items
+            ≡ frame_at R.rules self.old.start self.old.bytes.items }
     {
         if !self.rules.good() {
             self.lose();
             return None;
         }
-        self.rules.restart();
-        Some(FrameAt {
-            start: self.start,
-            bytes: self.bytes.take(),
-        })
+        self.frame.clear();
+        self.frame
+            .try_extend_from_slice(self.bytes.as_slice())
+            .unwrap();
+        self.lose();
+        Some(self.start)
     }
 
     // A byte that may be a header's first one; what is held before it goes.
@@ -193,10 +200,11 @@ impl<R: Hunted> HuntingDevice<R> {
 
     // A further byte where a header begins.
     #[inline]
-    fn go_on(&mut self, byte: u8) -> Option<FrameAt>
+    fn go_on(&mut self, byte: u8) -> Option<u64>
         requires { 2 ≤ length self.old.bytes.items }
         ensures { (at : ℕ) → TakesByte R.LineRules R.FIRST R.SECOND self.old self.new
-            (record { tick = at; byte = byte }) (frames_of result) }
+            (record { tick = at; byte = byte })
+            (frames_lent result self.new.frame.items) }
     {
         if self.meet(byte) {
             return self.end();
@@ -272,9 +280,10 @@ impl<R: Hunted> HuntingDevice<R> {
 
     // The next byte of the line.
     #[inline]
-    pub(crate) fn hear(&mut self, at: u64, byte: u8) -> Option<FrameAt>
+    pub(crate) fn hear(&mut self, at: u64, byte: u8) -> Option<u64>
         ensures { TakesByte R.LineRules R.FIRST R.SECOND self.old self.new
-            (record { tick = at; byte = byte }) (frames_of result) }
+            (record { tick = at; byte = byte })
+            (frames_lent result self.new.frame.items) }
     {
         if self.bytes.len() >= 2 {
             return self.go_on(byte);
@@ -300,11 +309,42 @@ impl<R: Hunted> Device for HuntingDevice<R> {
             bytes: ArrayVec::new(),
             rules: R::fresh(),
             start: 0,
+            frame: ArrayVec::new(),
         }
     }
 
     #[inline]
     fn step(&mut self, t: Tick) -> Option<FrameAt> {
+        let start = self.step_on(t);
+        frame_copied(start, self.frame_bytes())
+    }
+
+    #[inline(always)]
+    fn hear_some(&mut self, bytes: &[u8]) -> Heard {
+        let met = self.hear_on(bytes);
+        heard_copied(met, self.frame_bytes())
+    }
+
+    // Silence is nothing, however long.
+    #[inline]
+    fn wait_some(&mut self, ticks: usize) -> Heard {
+        let met = self.wait_on(ticks);
+        heard_copied(met, self.frame_bytes())
+    }
+}
+
+impl<R: Hunted> LendingDevice for HuntingDevice<R> {
+    ghost use Rattle.device_model.specs.HuntingDevice.{frame_kept};
+
+    ghost lent = { frame_kept };
+
+    #[inline]
+    fn frame_bytes(&self) -> &[u8] {
+        self.frame.as_slice()
+    }
+
+    #[inline]
+    fn step_on(&mut self, t: Tick) -> Option<u64> {
         let at = self.ticks;
         self.ticks += 1;
         match t {
@@ -313,9 +353,8 @@ impl<R: Hunted> Device for HuntingDevice<R> {
         }
     }
 
-    // Where no frame is read its room in the answer needn't be made, if the caller sees that.
-    #[inline(always)]
-    fn hear_some(&mut self, bytes: &[u8]) -> Heard {
+    #[inline]
+    fn hear_on(&mut self, bytes: &[u8]) -> Met {
         let from = self.ticks;
         let mut taken = 0;
         while taken < bytes.len() {
@@ -324,28 +363,28 @@ impl<R: Hunted> Device for HuntingDevice<R> {
             if !part.ends {
                 continue;
             }
-            if let Some(frame) = self.end() {
+            if let Some(start) = self.end() {
                 self.ticks = from + taken as u64;
-                return Heard {
+                return Met {
                     taken,
-                    frame: Some(frame),
+                    start: Some(start),
                 };
             }
         }
         self.ticks = from + bytes.len() as u64;
-        Heard {
+        Met {
             taken: bytes.len(),
-            frame: None,
+            start: None,
         }
     }
 
     // Silence is nothing, however long.
     #[inline]
-    fn wait_some(&mut self, ticks: usize) -> Heard {
+    fn wait_on(&mut self, ticks: usize) -> Met {
         self.ticks += ticks as u64;
-        Heard {
+        Met {
             taken: ticks,
-            frame: None,
+            start: None,
         }
     }
 }

@@ -1,6 +1,7 @@
 use crate::device::{Device, FrameAt};
 use crate::hunted::Hunted;
 use crate::hunting::HuntingDevice;
+use crate::lending::{LendingDevice, frame_copied};
 use crate::silence::Silence;
 use yasir_ticks::{MAX_TICKS, Tick};
 
@@ -13,11 +14,12 @@ pub struct HuntingFamily<R> {
 }
 
 impl<R: Hunted> HuntingFamily<R> {
-    ghost use Rattle.std.specs.Prelude.{◌≡◌, ℕ, ◌+◌, ◌<◌, ◌≤◌, ◌⊎◌, List, [], ◌∷◌, ◌++◌};
+    ghost use Rattle.std.specs.Prelude.{◌≡◌, ℕ, ◌+◌, ◌<◌, ◌≤◌, ◌⊎◌, List, [], ◌∷◌, ◌++◌, length};
     ghost use Rattle.yasir_ticks.specs.declared.tick.Tick.{Tick};
     ghost use Rattle.yasir_ticks.specs.declared.tick.Tick.TheVariants.{Silent, Byte};
-    ghost use Rattle.device_model.specs.Frames.{frames_of};
+    ghost use Rattle.device_model.specs.Frames.{frames_of, frames_lent};
     ghost use Rattle.device_model.specs.HuntFamily.{hunt_family, FamilyStandsFor, family_ticks};
+    ghost use Rattle.device_model.specs.HuntFamily.{family_lent};
 
     /// A device that has heard nothing. `cut` is 0, for a device that takes no notice of silence,
     /// or at least 2 silent ticks.
@@ -34,7 +36,7 @@ impl<R: Hunted> HuntingFamily<R> {
     }
 
     #[inline]
-    fn hear(&mut self, byte: u8) -> Option<FrameAt>
+    fn hear(&mut self, byte: u8) -> Option<u64>
         requires { family_ticks self.old < MAX_TICKS }
         ensures taken { family_ticks self.new ≡ family_ticks self.old + 1 }
         ensures stands { (cut : ℕ) (line : List Tick)
@@ -43,7 +45,8 @@ impl<R: Hunted> HuntingFamily<R> {
         ensures answer { (cut : ℕ) (line : List Tick)
             → FamilyStandsFor R.LineRules R.FIRST R.SECOND cut self.old line
             → hunt_family R.FIRST R.SECOND R.rules cut (line ++ Byte byte ∷ [])
-            ≡ hunt_family R.FIRST R.SECOND R.rules cut line ++ frames_of result }
+            ≡ hunt_family R.FIRST R.SECOND R.rules cut line
+            ++ frames_lent result (family_lent self.new) }
     {
         self.silence.end();
         let at = self.device.ticks;
@@ -70,8 +73,41 @@ impl<R: Hunted> HuntingFamily<R> {
         self.device.lose();
     }
 
-    /// Takes the next tick of the line. Answers the frame that is read in this very tick, and
-    /// `None` where none is. Fewer than `MAX_TICKS` ticks were taken before.
+    /// The bytes of the frame that was read last.
+    #[inline]
+    pub fn frame_bytes(&self) -> &[u8]
+        ensures bytes { result.now ≡ family_lent self.now }
+        ensures few { length result.now ≤ 292 }
+    {
+        self.device.frame_bytes()
+    }
+
+    /// Takes the next tick of the line. Answers the tick of the first byte of the frame that is read
+    /// in this very tick, which is lent then, and `None` where none is. Fewer than `MAX_TICKS` ticks
+    /// were taken before.
+    #[inline]
+    pub fn step_on(&mut self, t: Tick) -> Option<u64>
+        requires { family_ticks self.old < MAX_TICKS }
+        ensures taken { family_ticks self.new ≡ family_ticks self.old + 1 }
+        ensures stands { (cut : ℕ) (line : List Tick)
+            → FamilyStandsFor R.LineRules R.FIRST R.SECOND cut self.old line
+            → FamilyStandsFor R.LineRules R.FIRST R.SECOND cut self.new (line ++ t ∷ []) }
+        ensures answer { (cut : ℕ) (line : List Tick)
+            → FamilyStandsFor R.LineRules R.FIRST R.SECOND cut self.old line
+            → hunt_family R.FIRST R.SECOND R.rules cut (line ++ t ∷ [])
+            ≡ hunt_family R.FIRST R.SECOND R.rules cut line
+            ++ frames_lent result (family_lent self.new) }
+    {
+        match t {
+            Tick::Byte(byte) => self.hear(byte),
+            Tick::Silent => {
+                self.wait();
+                None
+            }
+        }
+    }
+
+    /// The same with the frame in a value of its own.
     #[inline]
     pub fn step(&mut self, t: Tick) -> Option<FrameAt>
         requires { family_ticks self.old < MAX_TICKS }
@@ -84,12 +120,7 @@ impl<R: Hunted> HuntingFamily<R> {
             → hunt_family R.FIRST R.SECOND R.rules cut (line ++ t ∷ [])
             ≡ hunt_family R.FIRST R.SECOND R.rules cut line ++ frames_of result }
     {
-        match t {
-            Tick::Byte(byte) => self.hear(byte),
-            Tick::Silent => {
-                self.wait();
-                None
-            }
-        }
+        let start = self.step_on(t);
+        frame_copied(start, self.frame_bytes())
     }
 }

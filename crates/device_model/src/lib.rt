@@ -7,6 +7,7 @@ mod hunted;
 mod hunting;
 mod hunting_family;
 mod laws;
+mod lending;
 mod rtu;
 mod rtu_family;
 mod run;
@@ -18,12 +19,15 @@ pub use hunted::Hunted;
 pub use hunting::HuntingDevice;
 pub use hunting_family::HuntingFamily;
 pub use laws::{forwarded_frames_are_read, hunts_by_cases, stated_devices_are_members};
+pub use lending::{LendingDevice, Met};
 pub use rtu::RtuDevice;
 pub use rtu_family::RtuFamily;
-pub use run::hear_run;
+pub use run::{hear_run, hear_run_on};
 
 #[cfg(test)]
 mod family_tests;
+#[cfg(test)]
+mod lending_tests;
 #[cfg(test)]
 mod run_tests;
 #[cfg(test)]

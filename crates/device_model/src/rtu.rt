@@ -1,4 +1,5 @@
 use crate::device::{Device, FrameAt, Heard};
+use crate::lending::{LendingDevice, Met, heard_copied};
 use crate::rtu_family::RtuFamily;
 use yasir_ticks::{T1_5_TICKS, T3_5_TICKS, Tick};
 
@@ -41,6 +42,37 @@ impl Device for RtuDevice {
 
     #[inline]
     fn wait_some(&mut self, ticks: usize) -> Heard {
-        self.family.wait_some(ticks)
+        let met = self.family.wait_on(ticks);
+        heard_copied(met, self.family.frame_bytes())
+    }
+}
+
+impl LendingDevice for RtuDevice {
+    ghost use Rattle.device_model.specs.RtuFamily.{bytes_lent};
+
+    ghost lent = { λ d. bytes_lent d.family };
+
+    #[inline]
+    fn frame_bytes(&self) -> &[u8] {
+        self.family.frame_bytes()
+    }
+
+    #[inline]
+    fn step_on(&mut self, t: Tick) -> Option<u64> {
+        self.family.step_on(t)
+    }
+
+    #[inline]
+    fn hear_on(&mut self, bytes: &[u8]) -> Met {
+        self.family.hear_some(bytes);
+        Met {
+            taken: bytes.len(),
+            start: None,
+        }
+    }
+
+    #[inline]
+    fn wait_on(&mut self, ticks: usize) -> Met {
+        self.family.wait_on(ticks)
     }
 }

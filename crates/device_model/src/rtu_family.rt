@@ -1,4 +1,5 @@
-use crate::device::{FrameAt, Heard};
+use crate::device::FrameAt;
+use crate::lending::{Met, frame_copied};
 use crate::silence::Silence;
 use arrayvec::ArrayVec;
 use rtu_frame::is_frame;
@@ -30,9 +31,9 @@ impl RtuFamily {
     ghost use Rattle.yasir_ticks.specs.Ticks.{silent};
     ghost use Rattle.yasir_ticks.specs.declared.tick.Tick.{Tick};
     ghost use Rattle.yasir_ticks.specs.declared.tick.Tick.TheVariants.{Silent, Byte};
-    ghost use Rattle.device_model.specs.Frames.{frames_of};
+    ghost use Rattle.device_model.specs.Frames.{frames_of, frames_lent};
     ghost use Rattle.device_model.specs.RtuFamily.{RtuFamilyStandsFor, rtu_family_reads};
-    ghost use Rattle.device_model.specs.RtuFamily.{ticks_heard, frame_at_end};
+    ghost use Rattle.device_model.specs.RtuFamily.{ticks_heard, bytes_lent, frame_at_end};
 
     /// A device that has heard nothing. `cut` is 2 to 18 silent ticks, `gap` at least 1 and fewer
     /// than `cut`.
@@ -155,14 +156,11 @@ impl RtuFamily {
         self.keep_some(bytes);
     }
 
-    // The end of a burst.
+    // The end of a burst: where its first byte stands, if its bytes are a frame.
     #[inline]
-    fn close(&mut self) -> Option<FrameAt>
-        ensures ticks { self.new.ticks ≡ self.old.ticks }
-        ensures silence { self.new.silence ≡ self.old.silence }
-        ensures gap { self.new.gap ≡ self.old.gap }
-        ensures frame { frames_of result
-            ≡ frame_at_end self.old.broken self.old.start self.old.bytes.items }
+    fn close(&self) -> Option<u64>
+        ensures { frames_lent result self.now.bytes.items
+            ≡ frame_at_end self.now.broken self.now.start self.now.bytes.items }
     {
         if self.broken {
             return None;
@@ -170,10 +168,7 @@ impl RtuFamily {
         if !is_frame(self.bytes.as_slice()) {
             return None;
         }
-        Some(FrameAt {
-            start: self.start,
-            bytes: self.bytes.take(),
-        })
+        Some(self.start)
     }
 
     #[inline]
@@ -197,7 +192,7 @@ impl RtuFamily {
     }
 
     #[inline]
-    fn wait(&mut self) -> Option<FrameAt>
+    fn wait(&mut self) -> Option<u64>
         requires { ticks_heard self.old < MAX_TICKS }
         ensures taken { ticks_heard self.new ≡ ticks_heard self.old + 1 }
         ensures cut { self.new.silence.cut ≡ self.old.silence.cut }
@@ -210,7 +205,7 @@ impl RtuFamily {
         ensures answer { (cut gap : ℕ) (line : List Tick)
             → RtuFamilyStandsFor cut gap self.old line
             → rtu_family_reads cut gap (line ++ Silent ∷ [])
-            ≡ rtu_family_reads cut gap line ++ frames_of result }
+            ≡ rtu_family_reads cut gap line ++ frames_lent result self.new.bytes.items }
     {
         self.ticks += 1;
         if self.silence.wait() {
@@ -279,13 +274,13 @@ impl RtuFamily {
         self.hear_behind(bytes);
     }
 
-    /// Takes so many silent ticks, up to the first one in which a frame is read. At most
-    /// `MAX_TICKS` ticks were then taken.
-    pub fn wait_some(&mut self, ticks: usize) -> Heard
+    /// Takes so many silent ticks, up to the first one in which a frame is read, which is lent then. At
+    /// most `MAX_TICKS` ticks were then taken.
+    pub fn wait_on(&mut self, ticks: usize) -> Met
         requires { ticks_heard self.old + ticks ≤ MAX_TICKS }
         ensures some { 0 < ticks → 0 < result.taken }
         ensures within { result.taken ≤ ticks }
-        ensures whole { result.frame ≡ None → result.taken ≡ ticks }
+        ensures whole { result.start ≡ None → result.taken ≡ ticks }
         ensures taken { ticks_heard self.new ≡ ticks_heard self.old + result.taken }
         ensures stands { (cut gap : ℕ) (line : List Tick)
             → RtuFamilyStandsFor cut gap self.old line
@@ -293,7 +288,7 @@ impl RtuFamily {
         ensures answer { (cut gap : ℕ) (line : List Tick)
             → RtuFamilyStandsFor cut gap self.old line
             → rtu_family_reads cut gap (line ++ silent result.taken)
-            ≡ rtu_family_reads cut gap line ++ frames_of result.frame }
+            ≡ rtu_family_reads cut gap line ++ frames_lent result.start (bytes_lent self.new) }
         ensures before { (cut gap n : ℕ) → n < result.taken → (line : List Tick)
             → RtuFamilyStandsFor cut gap self.old line
             → rtu_family_reads cut gap (line ++ silent n) ≡ rtu_family_reads cut gap line }
@@ -301,34 +296,67 @@ impl RtuFamily {
         let left = usize::from(self.silence.left());
         if left == 0 {
             self.rest(ticks);
-            return Heard {
+            return Met {
                 taken: ticks,
-                frame: None,
+                start: None,
             };
         }
         if ticks < left {
             self.rest(ticks);
-            return Heard {
+            return Met {
                 taken: ticks,
-                frame: None,
+                start: None,
             };
         }
         self.rest(left - 1);
-        if let Some(frame) = self.wait() {
-            return Heard {
+        if let Some(start) = self.wait() {
+            return Met {
                 taken: left,
-                frame: Some(frame),
+                start: Some(start),
             };
         }
         self.rest(ticks - left);
-        Heard {
+        Met {
             taken: ticks,
-            frame: None,
+            start: None,
         }
     }
 
-    /// Takes the next tick of the line. Answers the frame that is read in this very tick, and
-    /// `None` where none is. Fewer than `MAX_TICKS` ticks were taken before.
+    /// The bytes of the frame that was read in the last tick taken: those that are kept of the burst
+    /// that is running or was the last.
+    #[inline]
+    pub fn frame_bytes(&self) -> &[u8]
+        ensures bytes { result.now ≡ bytes_lent self.now }
+        ensures few { length result.now ≤ 292 }
+    {
+        self.bytes.as_slice()
+    }
+
+    /// Takes the next tick of the line. Answers the tick of the first byte of the frame that is read
+    /// in this very tick, which is lent then, and `None` where none is. Fewer than `MAX_TICKS` ticks
+    /// were taken before.
+    #[inline]
+    pub fn step_on(&mut self, t: Tick) -> Option<u64>
+        requires { ticks_heard self.old < MAX_TICKS }
+        ensures taken { ticks_heard self.new ≡ ticks_heard self.old + 1 }
+        ensures stands { (cut gap : ℕ) (line : List Tick)
+            → RtuFamilyStandsFor cut gap self.old line
+            → RtuFamilyStandsFor cut gap self.new (line ++ t ∷ []) }
+        ensures answer { (cut gap : ℕ) (line : List Tick)
+            → RtuFamilyStandsFor cut gap self.old line
+            → rtu_family_reads cut gap (line ++ t ∷ [])
+            ≡ rtu_family_reads cut gap line ++ frames_lent result (bytes_lent self.new) }
+    {
+        match t {
+            Tick::Byte(byte) => {
+                self.hear(byte);
+                None
+            }
+            Tick::Silent => self.wait(),
+        }
+    }
+
+    /// The same with the frame in a value of its own.
     #[inline]
     pub fn step(&mut self, t: Tick) -> Option<FrameAt>
         requires { ticks_heard self.old < MAX_TICKS }
@@ -341,12 +369,7 @@ impl RtuFamily {
             → rtu_family_reads cut gap (line ++ t ∷ [])
             ≡ rtu_family_reads cut gap line ++ frames_of result }
     {
-        match t {
-            Tick::Byte(byte) => {
-                self.hear(byte);
-                None
-            }
-            Tick::Silent => self.wait(),
-        }
+        let start = self.step_on(t);
+        frame_copied(start, self.frame_bytes())
     }
 }

@@ -2,9 +2,9 @@ ghost use Rattle.std.specs.Prelude.{◌≡◌, ℕ, ◌+◌, ◌<◌, ◌≤◌,
 ghost use Rattle.yasir_ticks.specs.TickRun.{run_ticks};
 ghost use Rattle.yasir_ticks.specs.declared.tick.Tick.{Tick};
 ghost use Rattle.yasir_ticks.specs.declared.TheConstants.{MAX_TICKS};
-ghost use Rattle.device_model.specs.Frames.{frames_of};
+ghost use Rattle.device_model.specs.Frames.{frames_of, frames_lent};
 
-use crate::{Device, Heard};
+use crate::{Device, Heard, LendingDevice, Met};
 use yasir_ticks::TickRun;
 
 /// A device takes the next ticks, which are those of this run, up to the first one in which a frame
@@ -27,5 +27,27 @@ pub fn hear_run<V: Device>(device: &mut V, run: TickRun<'_>) -> Heard
     match run {
         TickRun::Bytes(bytes) => device.hear_some(bytes),
         TickRun::Silence(ticks) => device.wait_some(ticks as usize),
+    }
+}
+
+/// The same with a device that lends the frame.
+#[inline(always)]
+pub fn hear_run_on<V: LendingDevice>(device: &mut V, run: TickRun<'_>) -> Met
+    requires { V.taken device.old + length (run_ticks run) ≤ MAX_TICKS }
+    ensures some { 0 < length (run_ticks run.entry) → 0 < result.taken }
+    ensures within { result.taken ≤ length (run_ticks run.entry) }
+    ensures whole { result.start ≡ None → result.taken ≡ length (run_ticks run.entry) }
+    ensures taken { V.taken device.new ≡ V.taken device.old + result.taken }
+    ensures stands { (line : List Tick) → V.stands device.old line
+        → V.stands device.new (line ++ take result.taken (run_ticks run.entry)) }
+    ensures answer { (line : List Tick) → V.stands device.old line
+        → V.reads (line ++ take result.taken (run_ticks run.entry))
+        ≡ V.reads line ++ frames_lent result.start (V.lent device.new) }
+    ensures before { (n : ℕ) → n < result.taken → (line : List Tick) → V.stands device.old line
+        → V.reads (line ++ take n (run_ticks run.entry)) ≡ V.reads line }
+{
+    match run {
+        TickRun::Bytes(bytes) => device.hear_on(bytes),
+        TickRun::Silence(ticks) => device.wait_on(ticks as usize),
     }
 }

@@ -3,7 +3,6 @@ use Rattle.std.specs.Prelude.{ℕ, List, ◌++◌, codes, decimal}
 use Rattle.std.specs.List.{flat_map}
 use Rattle.hex.specs.Hex.{encode_lower}
 use Rattle.device_model.specs.Frames.{FrameRead}
-use Rattle.device_model.specs.declared.device.FrameAt.{FrameAt}
 
 -- a frame with the tick of its first byte, behind some words
 abbrev pub frame_line_of : List ℕ → FrameRead → List ℕ
@@ -13,10 +12,6 @@ frame_line_of words read = words ++ decimal read.start ++ codes " " ++ encode_lo
 -- a frame that a device reads
 abbrev pub frame_line : FrameRead → List ℕ
 frame_line read = frame_line_of (codes "read at ") read
-
--- the frame of a step's answer
-abbrev pub read_at : FrameAt → FrameRead
-read_at frame = record { start = frame.start; frame = frame.bytes.items }
 
 abbrev pub frame_lines : List FrameRead → List ℕ
 frame_lines reads = flat_map frame_line reads

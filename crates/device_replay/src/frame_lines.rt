@@ -1,15 +1,15 @@
-ghost use Rattle.std.specs.Prelude.{◌≡◌, ℕ, ◌<◌, List, length, ◌++◌, Option, OnOk, OnErr};
+ghost use Rattle.std.specs.Prelude.{◌≡◌, ℕ, ◌<◌, ◌≤◌, List, length, ◌++◌, Option, OnOk, OnErr};
 ghost use Rattle.yasir_io.specs.Causes.{HasCause};
 ghost use Rattle.yasir_io.specs.Output.{Buffered, GotPrefix};
 ghost use Rattle.yasir_io.specs.TextBuffer.{waiting_bytes};
 ghost use Rattle.yasir_ticks.specs.TickRun.{run_ticks, run_items};
 ghost use Rattle.yasir_ticks.specs.declared.tick_run.TickRun.TheVariants.{Bytes, Silence};
 ghost use Rattle.tick_drive.specs.Consumers.{MayTake, GivesSome};
-ghost use Rattle.device_replay.specs.Lines.{frame_line, read_at};
+ghost use Rattle.device_replay.specs.Lines.{frame_line};
 ghost use Rattle.device_replay.specs.FrameLines.{printing};
 
 use crate::text::write_read_line;
-use device_model::{Device, FrameAt, Heard, hear_run};
+use device_model::{LendingDevice, Met, hear_run_on};
 use replay_status::Line;
 use tick_drive::{Consumer, Stop};
 use yasir_io::{Failed, Sink, TextBuffer};
@@ -28,19 +28,26 @@ pub struct FrameLines<'a, V, O> {
 
 // Adds the line of a frame. It stands apart from a step, since few ticks end a frame.
 #[inline(never)]
-fn push_frame<O: Sink>(lines: &mut TextBuffer, out: &mut O, frame: &FrameAt) -> Result<(), Failed>
-    ensures ok { OnOk result ((start : Option (List ℕ)) (text : List ℕ)
-        → Buffered start (O.held out.old) (waiting_bytes lines.old) text
-        → Buffered start (O.held out.new) (waiting_bytes lines.new)
-        (text ++ frame_line (read_at frame.now))) }
-    ensures err { OnErr result ((start : Option (List ℕ)) (text : List ℕ)
-        → Buffered start (O.held out.old) (waiting_bytes lines.old) text
-        → GotPrefix start (O.held out.new) (text ++ frame_line (read_at frame.now))) }
+fn push_frame<O: Sink>(
+    lines: &mut TextBuffer,
+    out: &mut O,
+    start: u64,
+    frame: &[u8],
+) -> Result<(), Failed>
+    requires { length frame.now ≤ 292 }
+    ensures ok { OnOk result ((held : Option (List ℕ)) (text : List ℕ)
+        → Buffered held (O.held out.old) (waiting_bytes lines.old) text
+        → Buffered held (O.held out.new) (waiting_bytes lines.new)
+        (text ++ frame_line (record { start = start; frame = frame.now }))) }
+    ensures err { OnErr result ((held : Option (List ℕ)) (text : List ℕ)
+        → Buffered held (O.held out.old) (waiting_bytes lines.old) text
+        → GotPrefix held (O.held out.new)
+        (text ++ frame_line (record { start = start; frame = frame.now }))) }
     ensures cause { HasCause (O.faults out.old) (O.faults out.new) result }
     ensures flushes { O.flushes out.new ≡ O.flushes out.old }
 {
     let mut line = Line::new();
-    write_read_line(&mut line, frame.start, frame.bytes.as_slice());
+    write_read_line(&mut line, start, frame);
     lines.push(out, line.as_slice())
 }
 
@@ -55,7 +62,7 @@ impl<'a, V, O> FrameLines<'a, V, O> {
     }
 }
 
-impl<'a, V: Device, O: Sink> FrameLines<'a, V, O> {
+impl<'a, V: LendingDevice, O: Sink> FrameLines<'a, V, O> {
     // Hears a run up to a tick in which a frame is read, and adds its line. Says how many ticks.
     #[inline(always)]
     fn print_some(&mut self, run: TickRun<'_>) -> Result<usize, Stop>
@@ -64,11 +71,11 @@ impl<'a, V: Device, O: Sink> FrameLines<'a, V, O> {
         ensures { GivesSome (printing V.Device O.Sink) self.old self.new (run_items run.entry)
             result }
     {
-        let Heard { taken, frame } = hear_run(self.device, run);
-        let Some(frame) = frame else {
+        let Met { taken, start } = hear_run_on(self.device, run);
+        let Some(start) = start else {
             return Ok(taken);
         };
-        match push_frame(self.lines, self.out, &frame) {
+        match push_frame(self.lines, self.out, start, self.device.frame_bytes()) {
             Ok(()) => Ok(taken),
             Err(Failed) => Err(Stop::WriteFault),
         }
@@ -97,13 +104,13 @@ impl<'a, V: Device, O: Sink> FrameLines<'a, V, O> {
     }
 }
 
-impl<'a, V: Device, O: Sink> Consumer for FrameLines<'a, V, O> {
+impl<'a, V: LendingDevice, O: Sink> Consumer for FrameLines<'a, V, O> {
     ghost use Rattle.device_replay.specs.FrameLinesLaws.{holds-none, holds-then};
 
     ghost meaning = { printing V.Device O.Sink };
 
     // Takes a run up to a tick in which a frame is read, and adds its line. Either kind has a part of
-    // its own, so that the compiler drops the copies of a frame in each before it joins them.
+    // its own, so that each is compiled for its kind.
     #[inline(always)]
     fn take_some(&mut self, run: TickRun<'_>) -> Result<usize, Stop> {
         match run {

@@ -9,3 +9,5 @@ pub use cut::Cut;
 
 #[cfg(test)]
 mod tests;
+#[cfg(test)]
+mod turn_tests;

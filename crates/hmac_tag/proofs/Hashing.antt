@@ -41,6 +41,20 @@ taken_short s n m d ys k j held len at short size same total h block =
           ∙ drop-replicate (length d) (64 - k) 0 ∙ ap (λ i. replicate i 0) left);
     }
 
+-- bytes that are laid out in a new block
+pub taken_anew : (s n : Sha1Hasher) (m d ys : List ℕ) (j : ℕ) → HasTaken s m
+    → length s.block ≡ 64 → s.total % 64 ≡ 0 → length d < 64 → j ≡ length d → ys ≡ d
+    → n.total ≡ (s.total + length d) % 2 ^ 64 → n.h ≡ s.h
+    → n.block ≡ ys ++ replicate (64 - j) 0 → HasTaken n (m ++ d)
+taken_anew s n m d ys j held len empty short size same total h block =
+    let before : s.total ≡ length m % 2 ^ 64 = held.total in
+    let none : length m % 64 ≡ 0 = omega arith in
+    let zeros : s.block ≡ replicate 64 0 = rw none at held.zeros in
+    let rest : drop j s.block ≡ replicate (64 - j) 0 =
+    ap (drop j) zeros ∙ drop-replicate j 64 0 in
+    taken_short s n m d ys 0 j held len (sym empty) (omega arith) size same total h
+    (block ∙ ap (λ z. ys ++ z) (sym rest))
+
 -- bytes that make the block whole
 pub taken_full : (s n : Sha1Hasher) (m d ys : List ℕ) (k j : ℕ) → HasTaken s m
     → length s.block ≡ 64 → k ≡ s.total % 64 → k + length d ≡ 64 → j ≡ 64 - k → ys ≡ d

@@ -1,5 +1,5 @@
 -- What a running HMAC stands for.
-use Rattle.std.specs.Prelude.{◌≡◌, ℕ, List, ◌++◌}
+use Rattle.std.specs.Prelude.{ℕ, List, ◌++◌}
 use Rattle.hmac_tag.specs.Hmac.{xored, key_block}
 use Rattle.hmac_tag.specs.declared.keyed_hash.Hmac.{Hmac}
 
@@ -9,7 +9,4 @@ pub record StandsFor {D : Type 0} {N : ℕ} (hash : List ℕ → List ℕ) (Hold
     (key text : List ℕ) : Type 0 where
   pub inner : Holds mac.inner (xored 0x36 (key_block hash key))
   pub outer : Holds mac.outer (xored 0x5C (key_block hash key))
-  -- what the running hasher has of the text; the rest of it waits
-  pub hashed : List ℕ
-  pub running : Holds mac.running (xored 0x36 (key_block hash key) ++ hashed)
-  pub all : text ≡ hashed ++ mac.waiting.items
+  pub running : Holds mac.running (xored 0x36 (key_block hash key) ++ text)

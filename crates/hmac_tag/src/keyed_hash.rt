@@ -17,14 +17,12 @@ const INNER_PAD: u8 = 0x36;
 const OUTER_PAD: u8 = 0x5C;
 
 /// HMAC (RFC 2104) of a text that comes in pieces: hashers that have taken the key's inner and
-/// outer block, and one that has taken the inner block and the text so far, but for its last bytes,
-/// which wait until they fill a block. So a piece of one byte costs no call of the hasher.
+/// outer block, and one that has taken the inner block and the text so far.
 #[derive(Drop)]
 pub struct Hmac<D, const N: usize> {
     inner: D,
     outer: D,
     running: D,
-    waiting: ArrayVec<u8, BLOCK_LEN>,
 }
 
 /// HMAC over SHA-1, whose tags are its first 12 bytes (RFC 2404).
@@ -78,15 +76,6 @@ fn xored(pad: u8, mut block: [u8; BLOCK_LEN]) -> [u8; BLOCK_LEN]
     block
 }
 
-// The digest of what the outer hasher has taken, followed by the digest of what the inner one has.
-fn nested<D: Digest<N>, const N: usize>(mut outer: D, inner: D) -> [u8; N]
-    ensures { (before message : List ℕ) → D.holds outer before → D.holds inner message
-        → result ≡ D.digest_of (before ++ D.digest_of message) }
-{
-    outer.update(&inner.finalize());
-    outer.finalize()
-}
-
 impl<D: Digest<N>, const N: usize> Hmac<D, N> {
     /// The whole code of a text under a key of any length.
     #[tactic(auto, unfolding(crate::specs::Hmac::hmac))]
@@ -96,42 +85,7 @@ impl<D: Digest<N>, const N: usize> Hmac<D, N> {
         let block = key_block::<D, N>(key);
         let mut inner = hasher_of::<D, N>(&xored(INNER_PAD, block));
         inner.update(text);
-        nested(hasher_of::<D, N>(&xored(OUTER_PAD, block)), inner)
-    }
-}
-
-impl<D: Digest<N>, const N: usize> Hmac<D, N> {
-    // Gives the hasher the bytes that wait.
-    fn hash_waiting(&mut self)
-        ensures stands { (key text : List ℕ) → StandsFor D.digest_of D.holds self.old key text
-            → StandsFor D.digest_of D.holds self.new key text }
-        ensures hashed { (key text : List ℕ) → StandsFor D.digest_of D.holds self.old key text
-            → D.holds self.new.running (xored 0x36 (key_block D.digest_of key) ++ text) }
-        ensures empty { self.new.waiting.items ≡ [] }
-    {
-        self.running.update(self.waiting.as_slice());
-        self.waiting.clear();
-    }
-
-    // Appends a byte to the text.
-    #[inline]
-    fn update_byte(&mut self, byte: u8)
-        ensures { (key text : List ℕ) → StandsFor D.digest_of D.holds self.old key text
-            → StandsFor D.digest_of D.holds self.new key (text ++ byte ∷ []) }
-    {
-        match self.waiting.try_push(byte) {
-            Ok(()) => {}
-            Err(_) => self.update_whole(&[byte]),
-        }
-    }
-
-    // Appends a piece of any length to the text.
-    fn update_whole(&mut self, part: &[u8])
-        ensures { (key text : List ℕ) → StandsFor D.digest_of D.holds self.old key text
-            → StandsFor D.digest_of D.holds self.new key (text ++ part.now) }
-    {
-        self.hash_waiting();
-        self.running.update(part);
+        hasher_of::<D, N>(&xored(OUTER_PAD, block)).nest(inner)
     }
 }
 
@@ -171,27 +125,21 @@ impl<D: Digest<N>, const N: usize> Mac for Hmac<D, N> {
             inner,
             outer,
             running,
-            waiting: ArrayVec::new(),
         }
     }
 
     fn begin(&mut self) {
         self.running = self.inner.fork();
-        self.waiting.clear();
     }
 
     #[inline]
     fn update(&mut self, part: &[u8]) {
-        match part {
-            [byte] => self.update_byte(*byte),
-            _ => self.update_whole(part),
-        }
+        self.running.update(part);
     }
 
     #[tactic(auto, unfolding(crate::specs::Hmac::hmac))]
     fn finish(&mut self) -> TagBytes {
-        self.hash_waiting();
         let inner = mem::replace(&mut self.running, self.inner.fork());
-        cut(&nested(self.outer.fork(), inner), D::TAG)
+        cut(&self.outer.nest(inner), D::TAG)
     }
 }

@@ -152,22 +152,20 @@ module _ (gap cap step : ℕ) (s : Spaced) (frame : FrameRead) where
 
 -- the same where the queue is one of buffers
 module _ (gap cap step : ℕ) (s : Spaced) (left : List ℕ) (rest : ℕ) (queue : List Frame)
-    (start : ℕ) (bytes : Frame)
-    (has : HasSent gap (step + 1) s.accepted left rest (frames_in queue)) where
-  abbrev read : FrameRead
-  read = record { start = start; frame = bytes.items }
-
+    (read : FrameRead) (has : HasSent gap (step + 1) s.accepted left rest (frames_in queue)) where
   count : length (frames_in queue) ≡ length queue
   count = length-map queue (λ x. x.items)
 
-  pub queued-sent : length queue < cap
+  -- this buffer has its bytes
+  pub queued-sent : (bytes : Frame) → bytes.items ≡ read.frame → length queue < cap
       → HasSent gap (step + 1) (taken_in gap cap step s (read ∷ [])).accepted left rest
       (frames_in (queue ++ bytes ∷ []))
-  queued-sent few =
+  queued-sent bytes is few =
       let same = count in
       let P : List (List ℕ) → Type 0 = λ x.
       HasSent gap (step + 1) (taken_in gap cap step s (read ∷ [])).accepted left rest x in
-      subst P (sym (map-append (λ x. x.items) queue (bytes ∷ [])))
+      subst P (ap (λ x. frames_in queue ++ x ∷ []) (sym is)
+      ∙ sym (map-append (λ x. x.items) queue (bytes ∷ [])))
       (kept-sent gap cap step s read left rest (frames_in queue) has (omega arith))
 
   pub queued-takes : length queue < cap → TakesIn gap cap step s (read ∷ []) []

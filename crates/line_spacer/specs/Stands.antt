@@ -83,6 +83,10 @@ module _ {V : Type 0} (device : Device V) where
   abbrev pub ticks_taken : {GAP : ℕ} → Spacer V GAP → ℕ
   ticks_taken value = device.taken value.device
 
+-- the bytes that its device lends, by what such a device lends
+abbrev pub bytes_lent : {V : Type 0} {GAP : ℕ} → (V → List ℕ) → Spacer V GAP → List ℕ
+bytes_lent lent value = lent value.device
+
 -- Behind a line these ticks come. In the same steps these ticks leave, and in the step of this tick
 -- these frames are lost.
 pub record AnswersSpaced (reads : List Tick → List FrameRead) (gap cap : ℕ)

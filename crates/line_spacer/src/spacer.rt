@@ -1,30 +1,32 @@
 use arrayvec::ArrayVec;
 use burst_walk::RunBytes;
 use circular_buffer::HeapCircularBuffer;
-use device_model::{Device, FrameAt, Heard, hear_run};
+use device_model::{LendingDevice, Met, hear_run_on};
 use std::alloc::Global;
 use yasir_io::NoMemory;
 use yasir_ticks::{MAX_TICKS, Tick, TickRun};
 
 /// What a spacer answers to a tick.
-#[derive(Drop)]
+#[derive(Clone, Copy)]
 pub struct SpaceStep {
     /// The tick of the other line.
     pub tick: Tick,
-    /// The frame that was read in this step, and is lost since too many wait.
-    pub lost: Option<FrameAt>,
+    /// The tick of the first byte of the frame that was read in this step, and is lost since too
+    /// many wait. The spacer lends its bytes.
+    pub lost: Option<u64>,
 }
 
 /// How many bytes leave in a run at most.
 const MAX_RUN: usize = 64;
 
 /// What a spacer answers to some ticks.
-#[derive(Drop)]
+#[derive(Clone, Copy)]
 pub struct SpaceRun {
     /// How many of the ticks it has taken.
     pub taken: usize,
-    /// The frame that was read in the last tick taken, and is lost since too many wait.
-    pub lost: Option<FrameAt>,
+    /// The tick of the first byte of the frame that was read in the last tick taken, and is lost
+    /// since too many wait. The spacer lends its bytes.
+    pub lost: Option<u64>,
 }
 
 /// A box that hears a line as the device `V` does, and sends each frame that is read on another
@@ -41,18 +43,18 @@ pub struct Spacer<V, const GAP: usize> {
     rest: usize,
 }
 
-impl<V: Device, const GAP: usize> Spacer<V, GAP> {
+impl<V: LendingDevice, const GAP: usize> Spacer<V, GAP> {
     ghost use Rattle.std.specs.Prelude.{◌≡◌, ℕ, ◌+◌, ◌<◌, ◌≤◌, List, [], ◌∷◌, ◌++◌, length, drop};
-    ghost use Rattle.std.specs.Prelude.{IfOk, ◌-◌, take};
+    ghost use Rattle.std.specs.Prelude.{IfOk, ◌-◌, take, Some};
     ghost use Rattle.yasir_ticks.specs.TickRun.{run_ticks};
     ghost use Rattle.burst_walk.specs.Answered.{answered};
     ghost use Rattle.line_spacer.specs.Runs.{StaysAlike, SendsRunBy};
     ghost use Rattle.yasir_ticks.specs.Bursts.{Burst};
     ghost use Rattle.yasir_ticks.specs.declared.tick.Tick.{Tick};
     ghost use Rattle.burst_walk.specs.Laid.{tick_at};
-    ghost use Rattle.device_model.specs.Frames.{frames_of};
+    ghost use Rattle.device_model.specs.Frames.{frames_lent};
     ghost use Rattle.line_spacer.specs.Spacing.{Spaced, waiting_of};
-    ghost use Rattle.line_spacer.specs.Stands.{StandsFor, AnswersSpaced, ticks_taken};
+    ghost use Rattle.line_spacer.specs.Stands.{StandsFor, AnswersSpaced, ticks_taken, bytes_lent};
     ghost use Rattle.line_spacer.specs.Stands.{SentBy, SendsBy, TakesIn, taken_in, tick_of};
     ghost use Rattle.line_spacer.specs.Stands.{rest_behind};
 
@@ -119,25 +121,48 @@ impl<V: Device, const GAP: usize> Spacer<V, GAP> {
         self.begin(frame)
     }
 
-    // Queues the frame that is read, or hands it back where too many wait.
+    // Queues the frame that begins here, which the device lends, and says so again where too many
+    // wait. It stands apart, since few ticks end a frame.
+    #[inline(never)]
+    fn keep_frame(&mut self, start: u64) -> Option<u64>
+        ensures device { self.new.device ≡ self.old.device }
+        ensures room { self.new.queue.capacity ≡ self.old.queue.capacity }
+        ensures sent { (step : ℕ) (s : Spaced) → SentBy self.old (step + 1) s.accepted
+            → SentBy self.new (step + 1) (taken_in GAP self.old.queue.capacity step s
+            (frames_lent (Some start) (bytes_lent V.lent self.old))).accepted }
+        ensures takes { (step : ℕ) (s : Spaced) → SentBy self.old (step + 1) s.accepted
+            → TakesIn GAP self.old.queue.capacity step s
+            (frames_lent (Some start) (bytes_lent V.lent self.old))
+            (frames_lent result (bytes_lent V.lent self.new)) }
+    {
+        let mut frame = ArrayVec::new();
+        frame
+            .try_extend_from_slice(self.device.frame_bytes())
+            .unwrap();
+        match self.queue.try_push_back(frame) {
+            Ok(()) => None,
+            Err(_) => Some(start),
+        }
+    }
+
+    // Queues the frame that is read, if one is, and says so again where too many wait.
     #[inline(always)]
-    fn keep(&mut self, read: Option<FrameAt>) -> Option<FrameAt>
+    fn keep(&mut self, read: Option<u64>) -> Option<u64>
         ensures device { self.new.device ≡ self.old.device }
         ensures room { self.new.queue.capacity ≡ self.old.queue.capacity }
         ensures sent { (step : ℕ) (s : Spaced) → SentBy self.old (step + 1) s.accepted
             → SentBy self.new (step + 1)
-            (taken_in GAP self.old.queue.capacity step s (frames_of read)).accepted }
+            (taken_in GAP self.old.queue.capacity step s
+            (frames_lent read (bytes_lent V.lent self.old))).accepted }
         ensures takes { (step : ℕ) (s : Spaced) → SentBy self.old (step + 1) s.accepted
-            → TakesIn GAP self.old.queue.capacity step s (frames_of read) (frames_of result) }
+            → TakesIn GAP self.old.queue.capacity step s
+            (frames_lent read (bytes_lent V.lent self.old))
+            (frames_lent result (bytes_lent V.lent self.new)) }
     {
-        let Some(frame) = read else {
+        let Some(start) = read else {
             return None;
         };
-        let FrameAt { start, bytes } = frame;
-        match self.queue.try_push_back(bytes) {
-            Ok(()) => None,
-            Err(bytes) => Some(FrameAt { start, bytes }),
-        }
+        self.keep_frame(start)
     }
 
     /// Takes the next tick of the line, and answers the tick of the other line at the same place,
@@ -150,10 +175,10 @@ impl<V: Device, const GAP: usize> Spacer<V, GAP> {
             → StandsFor V.Device cap self.new (line ++ t ∷ []) }
         ensures answer { (cap : ℕ) (line : List Tick) → StandsFor V.Device cap self.old line
             → AnswersSpaced V.reads GAP cap line (t ∷ []) (result.tick ∷ []) (length line)
-            (frames_of result.lost) }
+            (frames_lent result.lost (bytes_lent V.lent self.new)) }
     {
         let tick = self.send();
-        let read = self.device.step(t);
+        let read = self.device.step_on(t);
         let lost = self.keep(read);
         SpaceStep { tick, lost }
     }
@@ -213,7 +238,7 @@ impl<V: Device, const GAP: usize> Spacer<V, GAP> {
         ensures answer { (cap : ℕ) (line : List Tick) → StandsFor V.Device cap self.old line
             → AnswersSpaced V.reads GAP cap line (take result.taken (run_ticks run.entry))
             (answered result.taken left.new.items) (length line + (result.taken - 1))
-            (frames_of result.lost) }
+            (frames_lent result.lost (bytes_lent V.lent self.new)) }
     {
         left.clear();
         let most = self.alike().min(run.len());
@@ -222,9 +247,9 @@ impl<V: Device, const GAP: usize> Spacer<V, GAP> {
             return self.take_one(first, left);
         }
         let front = run.front(most);
-        let Heard { taken, frame } = hear_run(&mut self.device, front);
+        let Met { taken, start } = hear_run_on(&mut self.device, front);
         self.send_some(taken, left);
-        let lost = self.keep(frame);
+        let lost = self.keep(start);
         SpaceRun { taken, lost }
     }
 
@@ -239,13 +264,22 @@ impl<V: Device, const GAP: usize> Spacer<V, GAP> {
             → StandsFor V.Device cap self.new (line ++ t ∷ []) }
         ensures answer { (cap : ℕ) (line : List Tick) → StandsFor V.Device cap self.old line
             → AnswersSpaced V.reads GAP cap line (t ∷ []) (answered 1 left.new.items)
-            (length line) (frames_of result.lost) }
+            (length line) (frames_lent result.lost (bytes_lent V.lent self.new)) }
     {
         let SpaceStep { tick, lost } = self.step(t);
         if let Tick::Byte(byte) = tick {
             left.push(byte);
         }
         SpaceRun { taken: 1, lost }
+    }
+
+    /// The bytes of the frame that was read in the last tick taken, which the device lends.
+    #[inline]
+    pub fn frame_bytes(&self) -> &[u8]
+        ensures bytes { result.now ≡ bytes_lent V.lent self.now }
+        ensures few { length result.now ≤ 292 }
+    {
+        self.device.frame_bytes()
     }
 
     /// How many frames wait: they are accepted, and not begun.

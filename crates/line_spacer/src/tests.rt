@@ -1,10 +1,12 @@
-ghost use Rattle.std.specs.Prelude.{◌≡◌, ◌<◌, ◌≤◌, ◌+◌, ℕ, length, OnOk};
+ghost use Rattle.std.specs.Prelude.{◌≡◌, ◌<◌, ◌≤◌, ◌+◌, ℕ, [], length, OnOk};
 ghost use Rattle.yasir_ticks.specs.TickRun.{run_ticks};
 ghost use Rattle.yasir_ticks.specs.declared.TheConstants.{MAX_TICKS};
 
 use super::*;
 use burst_walk::RunBytes;
-use device_model::{Device, DnpDevice, FrameAt, Hunted, HuntingFamily, RtuDevice};
+use device_model::{
+    Device, DnpDevice, FrameAt, Hunted, HuntingFamily, LendingDevice, Met, RtuDevice,
+};
 use dnp_link_frame::Dnp;
 use std::alloc::{AllocError, Global};
 use std::process::Abort;
@@ -34,6 +36,79 @@ impl<R: Hunted> Device for ForgetfulDevice<R> {
     }
 }
 
+impl<R: Hunted> LendingDevice for ForgetfulDevice<R> {
+    ghost use Rattle.device_model.specs.HuntFamily.{family_lent};
+
+    ghost lent = { λ d. family_lent d.0 };
+
+    fn frame_bytes(&self) -> &[u8] {
+        self.0.frame_bytes()
+    }
+
+    fn step_on(&mut self, t: Tick) -> Option<u64> {
+        self.0.step_on(t)
+    }
+}
+
+// A device that reads no frame, and lends how often it heard bytes, silence, and single ticks.
+#[derive(Drop)]
+struct Deaf {
+    taken: u64,
+    calls: [u8; 3],
+}
+
+impl Device for Deaf {
+    ghost reads = { λ line. [] };
+
+    ghost stands = { λ value line. Unit {0} };
+
+    ghost taken = { λ value. value.taken };
+
+    fn fresh() -> Self {
+        Deaf {
+            taken: 0,
+            calls: [0; 3],
+        }
+    }
+
+    fn step(&mut self, _t: Tick) -> Option<FrameAt> {
+        self.taken += 1;
+        None
+    }
+}
+
+impl LendingDevice for Deaf {
+    ghost lent = { λ value. value.calls };
+
+    fn frame_bytes(&self) -> &[u8] {
+        &self.calls
+    }
+
+    fn step_on(&mut self, _t: Tick) -> Option<u64> {
+        self.calls[2] = self.calls[2].saturating_add(1);
+        self.taken += 1;
+        None
+    }
+
+    fn hear_on(&mut self, bytes: &[u8]) -> Met {
+        self.calls[0] = self.calls[0].saturating_add(1);
+        self.taken += bytes.len() as u64;
+        Met {
+            taken: bytes.len(),
+            start: None,
+        }
+    }
+
+    fn wait_on(&mut self, ticks: usize) -> Met {
+        self.calls[1] = self.calls[1].saturating_add(1);
+        self.taken += ticks as u64;
+        Met {
+            taken: ticks,
+            start: None,
+        }
+    }
+}
+
 // A spacer that hears as some device, so that one loop serves all of them.
 trait Spaces {
     ghost taken: { Self → ℕ };
@@ -50,7 +125,7 @@ trait Spaces {
         ensures taken { taken self.new ≡ taken self.old + result.taken };
 }
 
-impl<V: Device, const GAP: usize> Spaces for Spacer<V, GAP> {
+impl<V: LendingDevice, const GAP: usize> Spaces for Spacer<V, GAP> {
     ghost use Rattle.line_spacer.specs.Stands.{ticks_taken};
 
     ghost taken = { λ spacer. ticks_taken V.Device spacer };
@@ -109,8 +184,8 @@ fn answers<B: Spaces>(alloc: Global, spacer: &mut B, line: &[Tick]) -> Result<An
     for (at, tick) in line.iter().enumerate() {
         let step = spacer.take(*tick);
         ticks.push(step.tick)?;
-        if let Some(frame) = step.lost {
-            lost.push((at, frame.start))?;
+        if let Some(start) = step.lost {
+            lost.push((at, start))?;
         }
     }
     Ok((ticks, lost))
@@ -275,17 +350,26 @@ const RESETS: &[u8] =
 // then comes a run of its other nine bytes, at whose end the second one is read. Of the silence 21
 // ticks pass in a run; in the next tick the second one begins, its nine bytes follow, and then what
 // is left of the silence.
-#[test]
-fn runs_are_taken_at_once(rt: HostRuntime) -> Result<(), Fail> {
-    let alloc = rt.alloc();
-    let mut spacer = Spacer::<DnpDevice, 21>::new(alloc, 64)?;
+fn take_resets<B: Spaces>(rt: &impl Abort, alloc: Global, spacer: &mut B) -> Result<(), Fail>
+    requires { B.taken spacer.old ≡ 0 }
+{
     let mut line = Vec::new(alloc);
-    let heard = take_all(&mut spacer, TickRun::Bytes(RESETS), &mut line)?;
-    let waited = take_all(&mut spacer, TickRun::Silence(40), &mut line)?;
+    let heard = take_all(spacer, TickRun::Bytes(RESETS), &mut line)?;
+    let waited = take_all(spacer, TickRun::Silence(40), &mut line)?;
     assert_eq!(rt; (heard, waited), (3, 4));
     let row = &TWO_RESETS;
     assert_eq!(rt; line, line_of(alloc, row.leaves)?);
     Ok(())
+}
+
+// The same where the device goes through a run tick by tick.
+#[test]
+fn runs_are_taken_at_once(rt: HostRuntime) -> Result<(), Fail> {
+    let alloc = rt.alloc();
+    let mut spacer = Spacer::<DnpDevice, 21>::new(alloc, 64)?;
+    take_resets(&rt, alloc, &mut spacer)?;
+    let mut forgetful = Spacer::<ForgetfulDevice<Dnp>, 21>::new(alloc, 64)?;
+    take_resets(&rt, alloc, &mut forgetful)
 }
 
 // Silence where nothing waits is one run.
@@ -296,6 +380,29 @@ fn silence_is_one_run(rt: HostRuntime) -> Result<(), Fail> {
     let mut line = Vec::new(alloc);
     assert_eq!(rt; take_all(&mut spacer, TickRun::Silence(900), &mut line)?, 1);
     assert_eq!(rt; line, line_of(alloc, &[Silence(900)])?);
+    Ok(())
+}
+
+// Where nothing waits, a run is one call of the device.
+#[test]
+fn a_run_is_one_call_of_the_device(rt: HostRuntime) -> Result<(), Fail> {
+    let mut spacer = Spacer::<Deaf, 21>::new(rt.alloc(), 1)?;
+    let mut left = RunBytes::new();
+    let waited = spacer.take_some(TickRun::Silence(900), &mut left).taken;
+    let heard = spacer.take_some(TickRun::Bytes(RESETS), &mut left).taken;
+    assert_eq!(rt; (waited, heard), (900, 20));
+    assert_eq!(rt; spacer.frame_bytes(), [1, 1, 0].as_slice());
+    Ok(())
+}
+
+// The bytes of a frame that is lost are lent.
+#[test]
+fn a_lost_frame_is_lent(rt: HostRuntime) -> Result<(), Fail> {
+    let mut spacer = Spacer::<DnpDevice, 21>::new(rt.alloc(), 0)?;
+    let mut left = RunBytes::new();
+    let run = spacer.take_some(TickRun::Bytes(RESETS), &mut left);
+    assert_eq!(rt; (run.taken, run.lost), (10, Some(0)));
+    assert_eq!(rt; spacer.frame_bytes(), RESET_LINK);
     Ok(())
 }
 

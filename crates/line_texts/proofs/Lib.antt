@@ -1,2 +1,4 @@
+pub mod LineRooms
+pub mod LineWriters
 pub mod Sending
 pub mod PushedRuns

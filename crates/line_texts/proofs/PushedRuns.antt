@@ -1,8 +1,7 @@
 -- How runs of ticks go to the text of the other line, a line after the other.
-use Rattle.std.proofs.Common.{◌≡◌, ◌∙◌, ℕ, inl, inr, List, [], ◌∷◌, ◌++◌, Option, Result, Ok, Err}
+use Rattle.std.proofs.Common.{◌≡◌, ◌∙◌, ℕ, ◌+◌, ◌≤◌, inl, inr, List, [], ◌∷◌, ◌++◌, Option, Result, Ok, Err}
 use Rattle.std.proofs.Common.{refl, sym, ap, subst, append_assoc, append-nil, arith, length}
 use Rattle.std.proofs.Common.{take, drop}
-use Rattle.std.proofs.Math.Seq.{take-length}
 use Rattle.std.proofs.lemmas.List.{take-append-drop}
 use Rattle.std.specs.Io.KnownBytes.{append_known}
 use Rattle.std.specs.Prelude.{OnOk, OnErr}
@@ -15,12 +14,13 @@ use Rattle.yasir_io.specs.Output.{Buffered, GotPrefix}
 use Rattle.yasir_io.proofs.OutputLemmas.{append_known-nil, append_known-twice, nothing_written}
 use Rattle.yasir_io.proofs.FlushLaws.{none_flushed, none_flushed_then}
 use Rattle.yasir_io.specs.declared.sink.Sink.{Ghosts as Sink}
-use Rattle.yasir_ticks.specs.Writer.{HasWritten}
 use Rattle.yasir_ticks.specs.declared.tick.Tick.{Tick}
-use Rattle.yasir_ticks.specs.declared.writer.TickWriter.{TickWriter}
+use Rattle.line_texts.specs.Writer.{HasWritten, Takes, TakesInto}
 use Rattle.line_texts.specs.Runs.{TakesRun}
+use Rattle.line_texts.specs.declared.line_room.LineRoom.{LineRoom}
+use Rattle.line_texts.specs.declared.line_writer.LineWriter.{LineWriter}
 use Rattle.line_texts.specs.Sending.{SinkTexts, Waiting, PushesTexts, PushesTicks, HaveCause}
-use Rattle.line_texts.specs.Texts.{Writing, texts_held, waiting_in, Writes, PushesLine}
+use Rattle.line_texts.specs.Texts.{Writing, texts_held, waiting_in, Writes, MakesRoom}
 use Rattle.line_texts.specs.Texts.{Pushes, PushesFirst}
 use Rattle.line_texts.proofs.Sending.{front_of_nothing, texts_after_note, part_before, buffered_then, part_then}
 use Rattle.line_texts.proofs.Sending.{buffered_on, part_on}
@@ -92,6 +92,17 @@ module _ {X F T E : Type 0} (s0 s1 s2 : SinkTexts)
     ];
   }
 
+-- nothing was added
+texts_still : (texts : SinkTexts) (ticks notes : List ℕ)
+    → PushesTexts {T = Unit {0}} {E = Failed} texts texts ticks notes ticks notes (Ok tt)
+texts_still texts ticks notes = record {
+  text_goes = nothing_written texts.out ticks;
+  text_stops = tt;
+  notes_go = nothing_written texts.log notes;
+  notes_stop = tt;
+  notes_first = inl (refl, refl);
+}
+
 -- no tick yet
 pub pushes_none : {T E : Type 0} (x : T) (waits : Waiting) (texts : SinkTexts)
     → PushesTicks {T = T} {E = E} waits waits texts texts [] [] (Ok x)
@@ -109,21 +120,6 @@ pushes_none x waits texts = record {
     notes_stop = tt;
     notes_first = inl (refl, sym (append-nil waits.ticks));
   };
-}
-
--- ticks that complete no line
-pub pushes_extend : {T E : Type 0} (x : T) (w0 w1 : Waiting) (s0 s1 : SinkTexts)
-    (run more : List Tick) (writer : TickWriter)
-    → PushesTicks {T = T} {E = E} w0 w1 s0 s1 run [] (Ok x)
-    → ((ticks : List Tick) (answered : List ℕ) → HasWritten w1.writer ticks answered
-    → HasWritten writer (ticks ++ more) answered)
-    → PushesTicks {T = T} {E = E} w0 (record w1 { writer = writer }) s0 s1 (run ++ more) [] (Ok x)
-pushes_extend x w0 w1 s0 s1 run more writer pushed goes = record {
-  line = pushed.line;
-  written = λ ticks answered has.
-      subst (λ l. HasWritten writer l (answered ++ pushed.line)) (append_assoc ticks run more)
-      (goes (ticks ++ run) (answered ++ pushed.line) (pushed.written ticks answered has));
-  pushes = pushed.pushes;
 }
 
 -- ticks that complete a line, which goes to the text
@@ -160,43 +156,28 @@ pushes_then x w0 w1 w2 s0 s1 s2 run more result pushed then =
     (subst (λ l. PushesTexts s1 s2 w2.ticks w2.notes (w1.ticks ++ then.line) l result)
     (append-nil w1.notes) then.pushes)
 
--- after a failed write the writer alone goes on
-pub pushes_lost : {T E : Type 0} (e : E) (w0 w1 : Waiting) (s0 s1 : SinkTexts)
-    (run more : List Tick) (writer : TickWriter)
-    → PushesTicks {T = T} {E = E} w0 w1 s0 s1 run [] (Err e) → TakesRun w1.writer writer more
-    → PushesTicks {T = T} {E = E} w0 (record w1 { writer = writer }) s0 s1 (run ++ more) [] (Err e)
-pushes_lost e w0 w1 s0 s1 run more writer pushed takes = record {
-  line = pushed.line ++ takes.line;
-  written = λ ticks answered has.
-      subst (λ l. HasWritten writer l (answered ++ (pushed.line ++ takes.line)))
-      (append_assoc ticks run more)
-      (subst (HasWritten writer ((ticks ++ run) ++ more))
-      (append_assoc answered pushed.line takes.line)
-      (takes.written (ticks ++ run) (answered ++ pushed.line)
-      (pushed.written ticks answered has)));
-  pushes = record {
-    text_goes = tt;
-    text_stops = subst (GotPrefix s0.out s1.out) (append_assoc w0.ticks pushed.line takes.line)
-        (part_before s0.out s1.out (w0.ticks ++ pushed.line) takes.line
-        pushed.pushes.text_stops);
-    notes_go = tt;
-    notes_stop = pushed.pushes.notes_stop;
-    notes_first = elim pushed.pushes.notes_first [
-      | inl still ↦ inl (still.0, tt)
-      | inr logged ↦ inr (logged.0, tt)
-    ];
-  };
-}
-
 -- ---- the writer's runs
 
+-- some ticks, and then more
+takes_then : (w0 w1 w2 : LineWriter) (run more : List Tick) → TakesRun w0 w1 run
+    → (line : List ℕ) → Takes w1 w2 more line → TakesRun w0 w2 (run ++ more)
+takes_then w0 w1 w2 run more first line goes = record {
+  line = first.line ++ line;
+  written = λ ticks answered before.
+      subst (λ l. HasWritten w2 l (answered ++ (first.line ++ line)))
+      (append_assoc ticks run more)
+      (subst (HasWritten w2 ((ticks ++ run) ++ more))
+      (append_assoc answered first.line line)
+      (goes (ticks ++ run) (answered ++ first.line) (first.written ticks answered before)));
+}
+
 -- A writer has taken these of all ticks, and these are left.
-pub record HasSkipped (start now : TickWriter) (all left : List Tick) : Type 0 where
+pub record HasSkipped (start now : LineWriter) (all left : List Tick) : Type 0 where
   pub done : List Tick
   pub all_are : all ≡ done ++ left
   pub takes : TakesRun start now done
 
-pub skipped_none : (writer : TickWriter) (all : List Tick) → HasSkipped writer writer all all
+pub skipped_none : (writer : LineWriter) (all : List Tick) → HasSkipped writer writer all all
 skipped_none writer all = record {
   done = [];
   all_are = refl;
@@ -208,45 +189,20 @@ skipped_none writer all = record {
   };
 }
 
-pub skipped_tick : (w0 w1 w2 : TickWriter) (all left rest : List Tick) (t : Tick) (line : List ℕ)
-    → left ≡ t ∷ rest → HasSkipped w0 w1 all left
-    → ((ticks : List Tick) (answered : List ℕ) → HasWritten w1 ticks answered
-    → HasWritten w2 (ticks ++ t ∷ []) (answered ++ line))
+pub skipped_line : (w0 w1 w2 : LineWriter) (all left rest more : List Tick) (line : List ℕ)
+    → more ++ rest ≡ left → HasSkipped w0 w1 all left → Takes w1 w2 more line
     → HasSkipped w0 w2 all rest
-skipped_tick w0 w1 w2 all left rest t line is has goes = record {
-  done = has.done ++ t ∷ [];
-  all_are = has.all_are ∙ ap (λ l. has.done ++ l) is ∙ sym (append_assoc has.done (t ∷ []) rest);
-  takes = record {
-    line = has.takes.line ++ line;
-    written = λ ticks answered before.
-        subst (λ l. HasWritten w2 l (answered ++ (has.takes.line ++ line)))
-        (append_assoc ticks has.done (t ∷ []))
-        (subst (HasWritten w2 ((ticks ++ has.done) ++ t ∷ []))
-        (append_assoc answered has.takes.line line)
-        (goes (ticks ++ has.done) (answered ++ has.takes.line)
-        (has.takes.written ticks answered before)));
-  };
+skipped_line w0 w1 w2 all left rest more line is has goes = record {
+  done = has.done ++ more;
+  all_are = has.all_are ∙ ap (λ l. has.done ++ l) (sym is) ∙ sym (append_assoc has.done more rest);
+  takes = takes_then w0 w1 w2 has.done more has.takes line goes;
 }
 
-pub skipped_all : (w0 w1 : TickWriter) (all left : List Tick) → left ≡ []
-    → HasSkipped w0 w1 all left → TakesRun w0 w1 all
-skipped_all w0 w1 all left none has =
-    subst (TakesRun w0 w1)
-    (sym (has.all_are ∙ ap (λ l. has.done ++ l) none ∙ append-nil has.done)) has.takes
-
--- Ticks that complete no line, and one that does.
-pub completed : (w0 w1 w2 : TickWriter) (run all : List Tick) (t : Tick) (line : List ℕ)
-    → run ++ t ∷ [] ≡ all
-    → ((ticks : List Tick) (answered : List ℕ) → HasWritten w0 ticks answered
-    → HasWritten w1 (ticks ++ run) answered)
-    → ((ticks : List Tick) (answered : List ℕ) → HasWritten w1 ticks answered
-    → HasWritten w2 (ticks ++ t ∷ []) (answered ++ line))
-    → (ticks : List Tick) (answered : List ℕ) → HasWritten w0 ticks answered
-    → HasWritten w2 (ticks ++ all) (answered ++ line)
-completed w0 w1 w2 run all t line is extends completes = λ ticks answered has.
-    subst (λ l. HasWritten w2 (ticks ++ l) (answered ++ line)) is
-    (subst (λ l. HasWritten w2 l (answered ++ line)) (append_assoc ticks run (t ∷ []))
-    (completes (ticks ++ run) answered (extends ticks answered has)))
+pub skipped_all : (w0 w1 w2 : LineWriter) (all left : List Tick) → HasSkipped w0 w1 all left
+    → Takes w1 w2 left [] → TakesRun w0 w2 all
+skipped_all w0 w1 w2 all left has goes =
+    subst (TakesRun w0 w2) (sym has.all_are)
+    (takes_then w0 w1 w2 has.done left has.takes [] goes)
 
 -- ---- the texts, and the two sinks
 
@@ -294,75 +250,85 @@ module _ {O L : Type 0} (o : Sink O) (l : Sink L) where
   }
 
   -- ticks that complete no line
-  pub pushed_extend : (at : Writing O L) (writer : TickWriter) (run : List Tick)
-      → ((ticks : List Tick) (answered : List ℕ) → HasWritten at.texts.writer ticks answered
-      → HasWritten writer (ticks ++ run) answered)
+  pub pushed_joined : (at : Writing O L) (writer : LineWriter) (run : List Tick)
+      → Takes at.texts.writer writer run []
       → Pushes o l at (record at { texts = record at.texts { writer = writer } }) run [] (Ok tt)
-  pushed_extend at writer run goes = record {
-    adds = pushes_extend tt (waiting_in at.texts) (waiting_in at.texts) (texts_held o l at)
-        (texts_held o l at) [] run writer
-        (pushes_none tt (waiting_in at.texts) (texts_held o l at)) goes;
+  unfolding pushes_none
+  pushed_joined at writer run goes = record {
+    adds = let none = pushes_none {E = Failed} (tt {0}) (waiting_in at.texts) (texts_held o l at)
+        in record { line = []; written = goes; pushes = none.pushes };
     writes = let none = writes_none at in record { cause = none.cause; flushes = none.flushes };
   }
 
-  -- ticks that complete a line, which is added to the text of the ticks
-  pub pushed_line : (at : Writing O L) (writer : TickWriter) (next : Writing O L)
-      (run : List Tick) (line : List ℕ) (result : Result (Unit {0}) Failed)
-      → ((ticks : List Tick) (answered : List ℕ) → HasWritten at.texts.writer ticks answered
-      → HasWritten writer (ticks ++ run) (answered ++ line))
-      → PushesLine o l (record at { texts = record at.texts { writer = writer } }) next line result
-      → Pushes o l at next run [] result
-  pushed_line at writer next run line result goes pushed = record {
-    adds = pushes_line {F = Failed} (tt {0}) (waiting_in at.texts) (waiting_in at.texts)
-        (waiting_in next.texts) (texts_held o l at) (texts_held o l at) (texts_held o l next) [] run
-        line result (pushes_none (tt {0}) (waiting_in at.texts) (texts_held o l at))
-        (subst (λ w. (ticks : List Tick) (answered : List ℕ)
-        → HasWritten at.texts.writer ticks answered
-        → HasWritten w (ticks ++ run) (answered ++ line)) (sym pushed.writer) goes)
-        pushed.adds;
-    writes = record { cause = pushed.writes.cause; flushes = pushed.writes.flushes };
+  -- there is room already
+  pub room_stands : (at : Writing O L) → length at.texts.ticks.items + 66 ≤ 65536
+      → MakesRoom o l at at (Ok tt)
+  room_stands at fits = record {
+    writer = refl;
+    adds = texts_still (texts_held o l at) at.texts.ticks.items (waiting_bytes at.texts.notes);
+    room = fits;
+    writes = writes_none at;
   }
 
+  -- ticks that complete a line, for which there is room
+  pub pushed_line : (at made : Writing O L) (writer : LineWriter) (ticks : LineRoom)
+      (run : List Tick) → MakesRoom o l at made (Ok tt)
+      → TakesInto made.texts.writer writer run made.texts.ticks.items ticks.items
+      → Pushes o l at (record made { texts = record made.texts { writer = writer; ticks = ticks } })
+      run [] (Ok tt)
+  pushed_line at made writer ticks run room into =
+      let waits = made.texts.ticks.items in
+      let notes = waiting_bytes made.texts.notes in
+      let held = texts_held o l made in
+      record {
+        adds = record {
+          line = into.line;
+          written = subst (λ w. Takes w writer run into.line) room.writer into.taken;
+          pushes = subst (λ text. PushesTexts {E = Failed} (texts_held o l at) held text notes
+              (at.texts.ticks.items ++ into.line) (waiting_bytes at.texts.notes ++ []) (Ok tt))
+              (sym into.added)
+              (subst (λ more. PushesTexts {E = Failed} (texts_held o l at) held (waits ++ into.line) notes
+              (at.texts.ticks.items ++ into.line) more (Ok tt))
+              (sym (append-nil (waiting_bytes at.texts.notes)))
+              (texts_then (texts_held o l at) held held waits (waits ++ into.line) notes notes
+              at.texts.ticks.items into.line (waiting_bytes at.texts.notes) (Ok tt) tt room.adds
+              (texts_still held (waits ++ into.line) notes)));
+        };
+        writes = record { cause = room.writes.cause; flushes = room.writes.flushes };
+      }
+
   -- after a failed write the writer alone goes on
-  pub pushed_lost : (a b : Writing O L) (writer : TickWriter) (run more all : List Tick)
-      (e : Failed) → run ++ more ≡ all → Pushes o l a b run [] (Err e)
-      → TakesRun b.texts.writer writer more
-      → Pushes o l a (record b { texts = record b.texts { writer = writer } }) all [] (Err e)
-  pushed_lost a b writer run more all e is pushed takes = subst
-      (λ l1. Pushes o l a (record b { texts = record b.texts { writer = writer } }) l1 [] (Err e))
-      is (record {
-        adds = pushes_lost e (waiting_in a.texts) (waiting_in b.texts) (texts_held o l a)
-            (texts_held o l b) run more writer pushed.adds takes;
-        writes = record { cause = pushed.writes.cause; flushes = pushed.writes.flushes };
-      })
+  pub pushed_lost : (at made : Writing O L) (writer : LineWriter) (run : List Tick) (e : Failed)
+      → MakesRoom o l at made (Err e) → TakesRun made.texts.writer writer run
+      → Pushes o l at (record made { texts = record made.texts { writer = writer } }) run []
+      (Err e)
+  pushed_lost at made writer run e room takes = record {
+    adds = record {
+      line = takes.line;
+      written = subst (λ w. Takes w writer run takes.line) room.writer takes.written;
+      pushes = record {
+        text_goes = tt;
+        text_stops = part_before (o.held at.out) (o.held made.out) at.texts.ticks.items takes.line
+            room.adds.text_stops;
+        notes_go = tt;
+        notes_stop = subst (GotPrefix (l.held at.log) (l.held made.log))
+            (sym (append-nil (waiting_bytes at.texts.notes))) room.adds.notes_stop;
+        notes_first = elim room.adds.notes_first [
+          | inl still ↦ inl (still.0, tt)
+          | inr logged ↦ inr (
+            logged.0 ∙ ap (append_known (l.held at.log))
+                (sym (append-nil (waiting_bytes at.texts.notes))),
+            tt,
+          )
+        ];
+      };
+    };
+    writes = record { cause = room.writes.cause; flushes = room.writes.flushes };
+  }
 
   pub pushed_as : (a b : Writing O L) (run all : List Tick) (result : Result (Unit {0}) Failed)
       → run ≡ all → Pushes o l a b run [] result → Pushes o l a b all [] result
   pushed_as a b run all result is pushed = subst (λ r. Pushes o l a b r [] result) is pushed
-
-  -- so many ticks of a run complete no line, and then come the others
-  pub pushed_behind : (at : Writing O L) (writer : TickWriter) (next : Writing O L)
-      (run rest : List Tick) (n : ℕ) (result : Result (Unit {0}) Failed) → rest ≡ drop n run
-      → ((ticks : List Tick) (answered : List ℕ) → HasWritten at.texts.writer ticks answered
-      → HasWritten writer (ticks ++ take n run) answered)
-      → Pushes o l (record at { texts = record at.texts { writer = writer } }) next rest [] result
-      → Pushes o l at next run [] result
-  pushed_behind at writer next run rest n result is goes then =
-      pushed_as at next (take n run ++ rest) run result
-      (ap (λ r. take n run ++ r) is ∙ take-append-drop n run)
-      (pushed_then at (record at { texts = record at.texts { writer = writer } }) next
-      (take n run) rest result (pushed_extend at writer (take n run) goes) then)
-
-  -- all ticks of a run complete no line
-  pub pushed_whole : (at : Writing O L) (writer : TickWriter) (run : List Tick) (n : ℕ)
-      → n ≡ length run
-      → ((ticks : List Tick) (answered : List ℕ) → HasWritten at.texts.writer ticks answered
-      → HasWritten writer (ticks ++ take n run) answered)
-      → Pushes o l at (record at { texts = record at.texts { writer = writer } }) run [] (Ok tt)
-  pushed_whole at writer run n all goes =
-      pushed_as at (record at { texts = record at.texts { writer = writer } }) (take n run) run
-      (Ok tt) (ap (λ k. take k run) all ∙ take-length run)
-      (pushed_extend at writer (take n run) goes)
 
   -- ---- a note, and behind it a run
 
@@ -380,13 +346,13 @@ module _ {O L : Type 0} (o : Sink O) (l : Sink L) where
       line = then.adds.line;
       written = then.adds.written;
       pushes = texts_after_note result (o.held at.out) (o.held next.out) (l.held at.log)
-          (l.held log) (l.held next.log) (waiting_bytes next.texts.ticks)
-          (waiting_bytes next.texts.notes) (waiting_bytes at.texts.ticks ++ then.adds.line)
+          (l.held log) (l.held next.log) next.texts.ticks.items
+          (waiting_bytes next.texts.notes) (at.texts.ticks.items ++ then.adds.line)
           (waiting_bytes at.texts.notes ++ note) (waiting_bytes notes) goes
           (subst (λ waits. PushesTexts
           (texts_held o l (record at { texts = record at.texts { notes = notes }; log = log }))
-          (texts_held o l next) (waiting_bytes next.texts.ticks) (waiting_bytes next.texts.notes)
-          (waiting_bytes at.texts.ticks ++ then.adds.line) waits result)
+          (texts_held o l next) next.texts.ticks.items (waiting_bytes next.texts.notes)
+          (at.texts.ticks.items ++ then.adds.line) waits result)
           (append-nil (waiting_bytes notes)) then.adds.pushes);
     };
     writes = record {
@@ -400,7 +366,7 @@ module _ {O L : Type 0} (o : Sink O) (l : Sink L) where
   }
 
   -- The note failed, and the writer alone goes on.
-  pub note_lost : (at : Writing O L) (notes : TextBuffer) (log : L) (writer : TickWriter)
+  pub note_lost : (at : Writing O L) (notes : TextBuffer) (log : L) (writer : LineWriter)
       (run : List Tick) (note : List ℕ) (e : Failed)
       → GotPrefix (l.held at.log) (l.held log) (waiting_bytes at.texts.notes ++ note)
       → HasCause {T = Unit {0}} (l.faults at.log) (l.faults log) (Err e)
@@ -415,7 +381,7 @@ module _ {O L : Type 0} (o : Sink O) (l : Sink L) where
       written = takes.written;
       pushes = record {
         text_goes = tt;
-        text_stops = front_of_nothing (o.held at.out) (waiting_bytes at.texts.ticks ++ takes.line);
+        text_stops = front_of_nothing (o.held at.out) (at.texts.ticks.items ++ takes.line);
         notes_go = tt;
         notes_stop = stops;
         notes_first = inl (refl, tt);

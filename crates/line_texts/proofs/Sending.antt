@@ -1,5 +1,5 @@
 -- How what is made of a line goes on to the two sinks, by some ticks, and how it ends.
-use Rattle.std.proofs.Common.{◌≡◌, ◌∙◌, ℕ, inl, inr, List, [], ◌∷◌, ◌++◌, Option}
+use Rattle.std.proofs.Common.{◌≡◌, ◌∙◌, ℕ, inl, inr, List, [], ◌++◌, Option}
 use Rattle.std.proofs.Common.{Result, Ok, Err, refl, sym}
 use Rattle.std.proofs.Common.{ap, subst, append_assoc, append-nil}
 use Rattle.std.specs.Io.KnownBytes.{append_known}
@@ -10,9 +10,9 @@ use Rattle.yasir_io.proofs.OutputLemmas.{append_known-nil, append_known-twice, a
 use Rattle.yasir_io.proofs.OutputLemmas.{nothing_written, printed}
 use Rattle.yasir_ticks.specs.Ticks.{AreTicks}
 use Rattle.yasir_ticks.specs.CanonicalText.{canonical_text}
-use Rattle.yasir_ticks.specs.Writer.{HasWritten, line_ticks}
 use Rattle.yasir_ticks.specs.declared.tick.Tick.{Tick}
-use Rattle.yasir_ticks.specs.declared.writer.TickWriter.{TickWriter}
+use Rattle.line_texts.specs.Writer.{HasWritten, unfilled}
+use Rattle.line_texts.specs.declared.line_writer.LineWriter.{LineWriter}
 use Rattle.line_texts.specs.Sending.{LineAndNotes, AnswersNoted, SinkTexts, sink_texts, Waiting}
 use Rattle.line_texts.specs.Sending.{waiting, NotesFirst}
 use Rattle.line_texts.specs.Sending.{SendsTexts, HasSent, HasSentFronts, PushesTexts, PushesTicks}
@@ -62,6 +62,16 @@ part_on a b c text waits piece first then =
       all = ap (λ l. l ++ piece) first.all ∙ append_assoc first.front waits piece;
     }) then
 
+-- a piece behind what waits
+pub buffered_more : (a b : Option (List ℕ)) (text waits piece all : List ℕ)
+    → all ≡ waits ++ piece → Buffered a b waits text → Buffered a b all (text ++ piece)
+buffered_more a b text waits piece all is goes = record {
+  front = goes.front;
+  got = goes.got;
+  all = ap (λ l. l ++ piece) goes.all ∙ append_assoc goes.front waits piece
+      ∙ ap (λ l. goes.front ++ l) (sym is);
+}
+
 -- nothing has gone yet
 pub front_of_nothing : (known : Option (List ℕ)) (text : List ℕ) → GotPrefix known known text
 front_of_nothing known text = record {
@@ -87,6 +97,11 @@ part_before start now text more got = record {
 pub always_on_ok : {T E P : Type 0} (r : Result T E) → P → OnOk r P
 always_on_ok (Ok x) p = p
 always_on_ok (Err e) p = tt
+
+pub on_ok_both : {T E A B C : Type 0} (r : Result T E) → (A → B → C) → OnOk r A → OnOk r B
+    → OnOk r C
+on_ok_both (Ok x) both a b = both a b
+on_ok_both (Err e) both a b = tt
 
 -- a note was pushed, and nothing else
 pub only_note : {T E : Type 0} (result : Result T E) (out log0 log1 : Option (List ℕ))
@@ -131,11 +146,11 @@ texts_after_note result out0 out2 log0 log1 log2 ticks_wait notes_wait text note
     }
 
 -- what a writer has answered begins the text of its ticks
-pub answered-begins : (writer : TickWriter) (ticks : List Tick) (answered : List ℕ)
+pub answered-begins : (writer : LineWriter) (ticks : List Tick) (answered : List ℕ)
     → HasWritten writer ticks answered
     → (rest : List ℕ) × (answered ++ rest ≡ canonical_text ticks)
 answered-begins writer ticks answered has = (
-  canonical_text (line_ticks writer.unfilled ++ []),
+  canonical_text (unfilled writer ++ []),
   has.text [] ∙ ap canonical_text (append-nil ticks),
 )
 
@@ -176,7 +191,7 @@ notes_all made line front rest are text = record {
 -- ---- no tick yet
 
 -- nothing is on its way yet
-pub begins : (made : LineAndNotes) (writer : TickWriter) (ticks notes : List ℕ)
+pub begins : (made : LineAndNotes) (writer : LineWriter) (ticks notes : List ℕ)
     (texts : SinkTexts) → made.other_line [] ≡ [] → made.note_lines [] ≡ []
     → HasWritten writer [] [] → ticks ≡ [] → notes ≡ []
     → SendsTexts made (waiting writer ticks notes) texts texts []
@@ -208,7 +223,7 @@ begins made writer ticks notes texts no_tick no_note written no_ticks no_notes =
 -- ---- some ticks more
 
 -- a text that is on its way to `out`, and the text of its ticks
-text_on : (writer : TickWriter) (ticks : List Tick) (answered front left : List ℕ)
+text_on : (writer : LineWriter) (ticks : List Tick) (answered front left : List ℕ)
     (has : HasWritten writer ticks answered)
     → answered ≡ front ++ left → canonical_text ticks
     ≡ front ++ (left ++ (answered-begins writer ticks answered has).0)

@@ -6,9 +6,9 @@ use Rattle.yasir_io.specs.Causes.{Rose}
 use Rattle.yasir_io.specs.Output.{Buffered, GotPrefix}
 use Rattle.yasir_ticks.specs.Ticks.{AreTicks}
 use Rattle.yasir_ticks.specs.CanonicalText.{canonical_text}
-use Rattle.yasir_ticks.specs.Writer.{HasWritten}
 use Rattle.yasir_ticks.specs.declared.tick.Tick.{Tick}
-use Rattle.yasir_ticks.specs.declared.writer.TickWriter.{TickWriter}
+use Rattle.line_texts.specs.Writer.{HasWritten}
+use Rattle.line_texts.specs.declared.line_writer.LineWriter.{LineWriter}
 
 -- what is made of a line: another line, and the lines of notes
 pub record LineAndNotes : Type 0 where
@@ -33,11 +33,11 @@ sink_texts out log = record { out = out; log = log }
 -- what waits for a sink: the ticks of the last line, which isn't filled, and the bytes of the lines
 -- and the notes before
 pub record Waiting : Type 0 where
-  pub writer : TickWriter
+  pub writer : LineWriter
   pub ticks : List ℕ
   pub notes : List ℕ
 
-abbrev pub waiting : TickWriter → List ℕ → List ℕ → Waiting
+abbrev pub waiting : LineWriter → List ℕ → List ℕ → Waiting
 waiting writer ticks notes = record { writer = writer; ticks = ticks; notes = notes }
 
 -- The text of these ticks is on its way to `out`.

@@ -1,5 +1,6 @@
 -- What calls do to the two texts on their way, and to the two sinks that these go to.
-use Rattle.std.specs.Prelude.{◌≡◌, ℕ, ◌≤◌, ◌<◌, List, [], ◌++◌, length, take, Result, Ok, Err}
+use Rattle.std.specs.Prelude.{◌≡◌, ℕ, ◌+◌, ◌≤◌, ◌<◌, List, [], length, take, Result, Ok, Err}
+use Rattle.std.specs.Prelude.{OnOk}
 use Rattle.yasir_io.specs.Flushed.{NoneFlushed}
 use Rattle.yasir_io.specs.TextBuffer.{waiting_bytes}
 use Rattle.yasir_io.specs.declared.Failed.{Failed}
@@ -10,7 +11,7 @@ use Rattle.line_texts.specs.Sending.{PushesTexts, PushesTicks}
 use Rattle.line_texts.specs.declared.texts.Texts.{Texts}
 
 abbrev pub waiting_in : Texts → Waiting
-waiting_in texts = waiting texts.writer (waiting_bytes texts.ticks) (waiting_bytes texts.notes)
+waiting_in texts = waiting texts.writer texts.ticks.items (waiting_bytes texts.notes)
 
 -- the texts, and the two sinks
 pub record Writing (O L : Type 0) : Type 0 where
@@ -31,13 +32,14 @@ module _ {O L : Type 0} (o : Sink O) (l : Sink L) where
         (l.faults new.log) result
     pub flushes : NoneFlushed o l old.out new.out old.log new.log
 
-  -- A line was added to the text of the ticks.
-  pub record PushesLine (old new : Writing O L) (line : List ℕ)
-      (result : Result (Unit {0}) Failed) : Type 0 where
+  -- There is room for a line. Where there was none, the notes went to the log, and then the ticks
+  -- went out.
+  pub record MakesRoom (old new : Writing O L) (result : Result (Unit {0}) Failed) : Type 0 where
     pub writer : new.texts.writer ≡ old.texts.writer
-    pub adds : PushesTexts (texts_held old) (texts_held new) (waiting_bytes new.texts.ticks)
-        (waiting_bytes new.texts.notes) (waiting_bytes old.texts.ticks ++ line)
-        (waiting_bytes old.texts.notes) result
+    pub adds : PushesTexts (texts_held old) (texts_held new) new.texts.ticks.items
+        (waiting_bytes new.texts.notes) old.texts.ticks.items (waiting_bytes old.texts.notes)
+        result
+    pub room : OnOk result (length new.texts.ticks.items + 66 ≤ 65536)
     pub writes : Writes old new result
 
   -- A run of ticks and a note were added.

@@ -3,7 +3,11 @@
 //! them.
 #![tactic(auto)]
 
+mod line_room;
+mod line_writer;
 mod runs;
+#[cfg(test)]
+mod tests;
 mod texts;
 
 pub use runs::{answer_run, push_run};

@@ -1,45 +1,54 @@
 //! Runs of ticks on their way to the text of the other line.
-ghost use Rattle.std.specs.Prelude.{◌≡◌, ℕ, ◌≤◌, ◌<◌, List, [], ◌∷◌, ◌++◌, length, take, drop, false};
+ghost use Rattle.std.specs.Prelude.{◌≡◌, ◌<◌, [], length};
 ghost use Rattle.yasir_ticks.specs.TickRun.{run_ticks};
-ghost use Rattle.yasir_ticks.specs.Writer.{HasWritten, has_room_for};
-ghost use Rattle.yasir_ticks.specs.declared.tick.Tick.{Tick};
 ghost use Rattle.burst_walk.specs.Answered.{answered};
 ghost use Rattle.line_texts.specs.Runs.{TakesRun};
 ghost use Rattle.line_texts.specs.Texts.{writing, Pushes, PushesSome};
+ghost use Rattle.line_texts.specs.Writer.{Completes};
 
+use crate::line_room::LineRoom;
+use crate::line_writer::LineWriter;
 use crate::texts::Texts;
 use yasir_io::{Failed, Sink};
-use yasir_ticks::{TickRun, TickWriter};
+use yasir_ticks::TickRun;
 
-// After a failed write the writer alone takes what is left of a run.
-pub(crate) fn skip_run(writer: &mut TickWriter, run: TickRun<'_>)
+// After a failed write the writer alone takes what is left of a run, and its lines are lost.
+#[inline(never)]
+pub(crate) fn skip_run(writer: &mut LineWriter, run: TickRun<'_>)
     ensures { TakesRun writer.old writer.new (run_ticks run.entry) }
 {
+    let mut lost = LineRoom::new();
     let mut left = run;
-    while !left.is_empty() {
-        let first = left.first();
-        let _ = writer.push(first);
-        left = left.behind(1);
-    }
-}
-
-// The writer takes the first of these ticks, as far as they complete no line, and answers how many.
-#[inline(always)]
-fn extend_run(writer: &mut TickWriter, run: TickRun<'_>) -> usize
-    ensures within { result ≤ length (run_ticks run.entry) }
-    ensures taken { (ticks : List Tick) (text : List ℕ) → HasWritten writer.old ticks text
-        → HasWritten writer.new (ticks ++ take result (run_ticks run.entry)) text }
-    ensures completes { (t : Tick) (rest : List Tick)
-        → drop result (run_ticks run.entry) ≡ t ∷ rest → has_room_for writer.new t ≡ false }
-{
-    match run {
-        TickRun::Bytes(bytes) => writer.extend_bytes(bytes),
-        TickRun::Silence(ticks) => writer.extend_silence(ticks) as usize,
+    while !writer.join(left) {
+        lost.empty();
+        let taken = writer.complete(&mut lost, left);
+        left = left.behind(taken);
     }
 }
 
 // Adds the first of these ticks, up to and with the first one that completes a line, and answers
 // how many.
+#[inline(always)]
+fn push_line<O: Sink, L: Sink>(
+    texts: &mut Texts,
+    out: &mut O,
+    log: &mut L,
+    run: TickRun<'_>,
+) -> Result<usize, Failed>
+    requires { Completes texts.old.writer run }
+    ensures { PushesSome O.Sink L.Sink (writing texts.old out.old log.old)
+        (writing texts.new out.new log.new) (run_ticks run.entry) result }
+{
+    match texts.make_room(out, log) {
+        Ok(()) => Ok(texts.writer.complete(&mut texts.ticks, run)),
+        Err(Failed) => {
+            skip_run(&mut texts.writer, run);
+            Err(Failed)
+        }
+    }
+}
+
+// Adds the first of these ticks, those of one line at most, and answers how many.
 #[inline(always)]
 fn push_some<O: Sink, L: Sink>(
     texts: &mut Texts,
@@ -51,22 +60,10 @@ fn push_some<O: Sink, L: Sink>(
     ensures { PushesSome O.Sink L.Sink (writing texts.old out.old log.old)
         (writing texts.new out.new log.new) (run_ticks run.entry) result }
 {
-    let all = run.len();
-    let joined = extend_run(&mut texts.writer, run);
-    if joined == all {
-        return Ok(joined);
+    if texts.writer.join(run) {
+        return Ok(run.len());
     }
-    let rest = run.behind(joined);
-    let first = rest.first();
-    let line = texts.writer.complete(first);
-    match texts.push_line(out, log, line.as_slice()) {
-        Ok(()) => Ok(joined + 1),
-        Err(Failed) => {
-            let lost = rest.behind(1);
-            skip_run(&mut texts.writer, lost);
-            Err(Failed)
-        }
-    }
+    push_line(texts, out, log, run)
 }
 
 // Adds the ticks of a run, which may complete any number of lines.
@@ -89,7 +86,7 @@ fn push_long_run<O: Sink, L: Sink>(
     Ok(())
 }
 
-// Adds the ticks of a run of which the first completes a line.
+// Adds the ticks of a run that complete a line.
 #[inline(always)]
 fn push_several<O: Sink, L: Sink>(
     texts: &mut Texts,
@@ -97,22 +94,19 @@ fn push_several<O: Sink, L: Sink>(
     log: &mut L,
     run: TickRun<'_>,
 ) -> Result<(), Failed>
-    requires { 0 < length (run_ticks run) }
+    requires { Completes texts.old.writer run }
     ensures { Pushes O.Sink L.Sink (writing texts.old out.old log.old)
         (writing texts.new out.new log.new) (run_ticks run.entry) [] result }
 {
-    let some = match push_some(texts, out, log, run) {
+    let some = match push_line(texts, out, log, run) {
         Ok(some) => some,
         Err(Failed) => return Err(Failed),
     };
     let left = run.behind(some);
-    let all = left.len();
-    let joined = extend_run(&mut texts.writer, left);
-    if joined == all {
+    if texts.writer.join(left) {
         return Ok(());
     }
-    let rest = left.behind(joined);
-    push_long_run(texts, out, log, rest)
+    push_long_run(texts, out, log, left)
 }
 
 // The same for either kind of run in its own arm, so that each is compiled for its kind. It stands
@@ -125,7 +119,7 @@ fn push_completing_run<O: Sink, L: Sink>(
     log: &mut L,
     run: TickRun<'_>,
 ) -> Result<(), Failed>
-    requires { 0 < length (run_ticks run) }
+    requires { Completes texts.old.writer run }
     ensures { Pushes O.Sink L.Sink (writing texts.old out.old log.old)
         (writing texts.new out.new log.new) (run_ticks run.entry) [] result }
 {
@@ -147,13 +141,10 @@ pub fn push_run<O: Sink, L: Sink>(
     ensures { Pushes O.Sink L.Sink (writing texts.old out.old log.old)
         (writing texts.new out.new log.new) (run_ticks run.entry) [] result }
 {
-    let all = run.len();
-    let joined = extend_run(&mut texts.writer, run);
-    if joined == all {
+    if texts.writer.join(run) {
         return Ok(());
     }
-    let rest = run.behind(joined);
-    push_completing_run(texts, out, log, rest)
+    push_completing_run(texts, out, log, run)
 }
 
 /// What is answered to a run of ticks: these bytes, or so many silent ticks where there is none.

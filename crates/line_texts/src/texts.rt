@@ -1,23 +1,25 @@
-ghost use Rattle.std.specs.Prelude.{◌≡◌, List, false, [], ◌∷◌, OnOk, OnErr};
+ghost use Rattle.std.specs.Prelude.{◌≡◌, List, [], ◌∷◌, OnOk, OnErr};
 ghost use Rattle.yasir_io.specs.Flushed.{NoneFlushed};
 ghost use Rattle.yasir_io.specs.TextBuffer.{waiting_bytes};
 ghost use Rattle.yasir_ticks.specs.TickRun.{run_ticks};
-ghost use Rattle.yasir_ticks.specs.Writer.{HasWritten, has_room_for};
 ghost use Rattle.yasir_ticks.specs.declared.tick.Tick.{Tick};
+ghost use Rattle.line_texts.specs.Writer.{HasWritten};
 ghost use Rattle.line_texts.specs.Sending.{LineAndNotes, SinkTexts, sink_texts, SendsTexts};
 ghost use Rattle.line_texts.specs.Sending.{HasSent, HasSentFronts, HaveCause};
-ghost use Rattle.line_texts.specs.Texts.{waiting_in, writing, Pushes, PushesLine};
+ghost use Rattle.line_texts.specs.Texts.{waiting_in, writing, Pushes, MakesRoom};
 
+use crate::line_room::LineRoom;
+use crate::line_writer::LineWriter;
 use crate::runs::{push_run, skip_run};
 use yasir_io::{Failed, Sink, TextBuffer};
-use yasir_ticks::{Tick, TickRun, TickWriter};
+use yasir_ticks::{Tick, TickRun};
 
 /// The other line as canonical tick text, and a line for each note. Before a byte of the ticks goes
 /// out, all notes so far go to the log.
 #[derive(Drop)]
 pub struct Texts {
-    pub(crate) writer: TickWriter,
-    ticks: TextBuffer,
+    pub(crate) writer: LineWriter,
+    pub(crate) ticks: LineRoom,
     notes: TextBuffer,
 }
 
@@ -25,64 +27,41 @@ impl Texts {
     /// No text yet.
     pub fn new() -> Texts
         ensures written { HasWritten result.writer [] [] }
-        ensures ticks { waiting_bytes result.ticks ≡ [] }
+        ensures ticks { result.ticks.items ≡ [] }
         ensures notes { waiting_bytes result.notes ≡ [] }
     {
         Texts {
-            writer: TickWriter::new(),
-            ticks: TextBuffer::new(),
+            writer: LineWriter::new(),
+            ticks: LineRoom::new(),
             notes: TextBuffer::new(),
         }
     }
 
-    // Adds a line to the ticks' text where it has no room there: the notes go to the log, and then
-    // the ticks go out. It stands apart, since few lines have no room.
+    // The notes go to the log, and then the ticks go out. It stands apart, since few lines find no
+    // room.
     #[inline(never)]
-    fn push_line_by_drain<O: Sink, L: Sink>(
-        &mut self,
-        out: &mut O,
-        log: &mut L,
-        line: &[u8],
-    ) -> Result<(), Failed>
-        ensures { PushesLine O.Sink L.Sink (writing self.old out.old log.old)
-            (writing self.new out.new log.new) line.now result }
+    fn drain<O: Sink, L: Sink>(&mut self, out: &mut O, log: &mut L) -> Result<(), Failed>
+        ensures { MakesRoom O.Sink L.Sink (writing self.old out.old log.old)
+            (writing self.new out.new log.new) result }
     {
         self.notes.drain(log)?;
-        self.ticks.drain(out)?;
-        self.ticks.push(out, line)
+        self.ticks.drain(out)
     }
 
-    // Adds a line to the ticks' text.
+    // Makes room for a line of the ticks' text.
     #[inline(always)]
-    pub(crate) fn push_line<O: Sink, L: Sink>(
+    pub(crate) fn make_room<O: Sink, L: Sink>(
         &mut self,
         out: &mut O,
         log: &mut L,
-        line: &[u8],
     ) -> Result<(), Failed>
-        ensures { PushesLine O.Sink L.Sink (writing self.old out.old log.old)
-            (writing self.new out.new log.new) line.now result }
+        ensures { MakesRoom O.Sink L.Sink (writing self.old out.old log.old)
+            (writing self.new out.new log.new) result }
     {
-        if self.ticks.extend(line) {
+        if self.ticks.takes_a_line() {
             return Ok(());
         }
-        self.push_line_by_drain(out, log, line)
-    }
-
-    // Adds a tick that completes a line. It stands apart, since few ticks do.
-    #[inline(never)]
-    fn push_completing<O: Sink, L: Sink>(
-        &mut self,
-        out: &mut O,
-        log: &mut L,
-        tick: Tick,
-    ) -> Result<(), Failed>
-        requires { has_room_for self.old.writer tick ≡ false }
-        ensures { Pushes O.Sink L.Sink (writing self.old out.old log.old)
-            (writing self.new out.new log.new) (tick ∷ []) [] result }
-    {
-        let line = self.writer.complete(tick);
-        self.push_line(out, log, line.as_slice())
+        self.drain(out, log)
     }
 
     /// Adds a tick to the text of the other line.
@@ -96,10 +75,10 @@ impl Texts {
         ensures { Pushes O.Sink L.Sink (writing self.old out.old log.old)
             (writing self.new out.new log.new) (tick ∷ []) [] result }
     {
-        if self.writer.extend(tick) {
-            return Ok(());
+        match tick {
+            Tick::Silent => push_run(self, out, log, TickRun::Silence(1)),
+            Tick::Byte(byte) => push_run(self, out, log, TickRun::Bytes(&[byte])),
         }
-        self.push_completing(out, log, tick)
     }
 
     /// Adds a line to the text of the notes, and behind it the ticks of a run in which it falls to
@@ -143,9 +122,9 @@ impl Texts {
             mut ticks,
             mut notes,
         } = self;
-        let line = writer.finish();
         notes.drain(log)?;
-        ticks.push(out, line.as_slice())?;
+        ticks.make_room(out)?;
+        writer.finish(&mut ticks);
         ticks.drain(out)
     }
 }

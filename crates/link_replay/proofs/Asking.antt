@@ -6,7 +6,7 @@ use Rattle.std.specs.Prelude.{codes, decimal}
 use Rattle.std.specs.Str.Parse.{digits_value}
 use Rattle.hmac_tag.specs.declared.dir.Dir.{Dir}
 use Rattle.hmac_tag.specs.declared.dir.Dir.TheVariants.{Ab, Ba}
-use Rattle.link_replay.specs.Words.{dir_word, link_word, IsCommand, Asks}
+use Rattle.link_replay.specs.Words.{dir_word, link_word, IsCommand, Asks, AreFloors}
 use Rattle.link_replay.specs.declared.words.Profile.{Profile}
 use Rattle.link_replay.specs.declared.words.Profile.TheVariants.{Y18, Y24}
 use Rattle.link_replay.specs.declared.words.Proto.{Proto}
@@ -14,6 +14,7 @@ use Rattle.link_replay.specs.declared.words.Proto.TheVariants.{Rtu, Dnp3}
 use Rattle.link_replay.specs.declared.words.Command.{Command}
 use Rattle.link_replay.specs.declared.words.Command.TheVariants.{Init, Read, Vectors, Seal, Check}
 use Rattle.link_replay.specs.declared.words.Command.TheVariants.{Replay, Trial, Space}
+use Rattle.link_replay.specs.declared.words.Command.TheVariants.{Audit}
 
 -- A word as one number, so that two words are told apart by a test.
 abbrev number_of : List ℕ → ℕ
@@ -34,9 +35,9 @@ profile_by word =
 abbrev dir_by : List ℕ → Dir
 dir_by word = cond (is_word (codes "ab") word) Ab Ba
 
--- the command whose first word this is, with the three words behind it
-abbrev command_by : List ℕ → List ℕ → List ℕ → List ℕ → Command
-command_by verb first second third =
+-- the command whose first word this is, with the five words behind it
+abbrev command_by : List ℕ → List ℕ → List ℕ → List ℕ → List ℕ → List ℕ → Command
+command_by verb first second third fourth fifth =
     cond (is_word (codes "init") verb)
     (Init (proto_by first) (profile_by first) (dir_by second))
     (cond (is_word (codes "read") verb) (Read (proto_by first))
@@ -48,7 +49,10 @@ command_by verb first second third =
     (cond (is_word (codes "trial") verb)
     (Trial (proto_by first) (profile_by first) (digits_value 10 second) (digits_value 10 third))
     (cond (is_word (codes "space") verb) (Space (proto_by first) (profile_by first))
-    (Replay (proto_by first) (profile_by first) (dir_by second))))))))
+    (cond (is_word (codes "audit") verb)
+    (Audit (proto_by first) (profile_by first) (dir_by second) (digits_value 10 fourth)
+    (digits_value 10 fifth))
+    (Replay (proto_by first) (profile_by first) (dir_by second)))))))))
 
 abbrev word_at : ℕ → List (List ℕ) → List ℕ
 word_at zero [] = []
@@ -58,7 +62,7 @@ word_at (suc n) (word ∷ words) = word_at n words
 
 abbrev command_in : List (List ℕ) → Command
 command_in words = command_by (word_at 0 words) (word_at 1 words) (word_at 2 words)
-    (word_at 3 words)
+    (word_at 3 words) (word_at 4 words) (word_at 5 words)
 
 proto-by : (proto : Proto) (profile : Profile) → proto_by (link_word proto profile) ≡ proto
 proto-by Rtu Y18 = refl
@@ -104,6 +108,33 @@ command-in words (Trial proto profile seed count) h =
       number-by seed (omega (arith, h.0)),
       number-by count (omega (arith, h.2)),
     ) refl
+command-in words (Audit proto profile dir sent got) h =
+    ap command_in h.4 ∙ rw (
+      proto-by proto profile,
+      profile-by proto profile,
+      dir-by dir,
+      number-by sent (omega (arith, h.2)),
+      number-by got (omega (arith, h.3)),
+    ) refl
+
+-- a number is spelled in one way
+pub spelled-one : (m n : ℕ) → m < 2 ^ 64 → n < 2 ^ 64 → decimal m ≡ decimal n → m ≡ n
+spelled-one m n few_m few_n same =
+    sym (number-by m few_m) ∙ ap (digits_value 10) same ∙ number-by n few_n
+
+-- floors that words spell are numbers of frames
+pub asked-floors : (words : List (List ℕ)) (asked : Option Command) → Asks words asked
+    → AreFloors asked
+asked-floors words None asks = tt
+asked-floors words (Some (Init proto profile dir)) asks = tt
+asked-floors words (Some (Read proto)) asks = tt
+asked-floors words (Some Vectors) asks = tt
+asked-floors words (Some (Seal proto profile dir)) asks = tt
+asked-floors words (Some (Check proto profile dir)) asks = tt
+asked-floors words (Some (Replay proto profile dir)) asks = tt
+asked-floors words (Some (Trial proto profile seed count)) asks = tt
+asked-floors words (Some (Space proto profile)) asks = tt
+asked-floors words (Some (Audit proto profile dir sent got)) asks = (asks.2, asks.3)
 
 -- the words of a trial spell how many frames it has
 pub trial-counts : (first second seed count : List ℕ) (n : ℕ) (command : Command)

@@ -8,3 +8,4 @@ pub mod Spaced
 pub mod Trials
 pub mod Numbers
 pub mod Paths
+pub mod Auditing

@@ -1,5 +1,6 @@
--- A right key and a right text with a mark give `Done` or `NoMemory`, where nothing outside fails.
-use Rattle.std.proofs.Common.{◌≡◌, ◌⊎◌, inl, inr, refl, subst}
+-- A right key and a right text with its marks give `Done` or `NoMemory`, where nothing outside fails.
+use Rattle.std.proofs.Common.{◌≡◌, ◌⊎◌, ℕ, List, inl, inr, refl, subst}
+use Rattle.yasir_ticks.specs.Ticks.{Item}
 use Rattle.yasir_io.specs.declared.source.Source.{Ghosts as Source}
 use Rattle.yasir_io.specs.declared.sink.Sink.{Ghosts as Sink}
 use Rattle.yasir_io.specs.declared.disk.SlotDisk.{Ghosts as SlotDisk}
@@ -14,38 +15,96 @@ use Rattle.replay_status.specs.declared.status.Status.TheVariants.{WriteFault, T
 use Rattle.replay_status.specs.declared.status.Status.TheVariants.{NoMemory}
 use Rattle.replay_status.proofs.Readable.{not_refused, not_too_long}
 use Rattle.box_command.proofs.Replayable.{no_key_refused}
-use Rattle.link_replay.specs.ReplayCommand.{Replays, IsListable}
+use Rattle.recordings_replay.specs.Keyed.{ReadsKeyFirst, LeavesAll}
+use Rattle.recordings_replay.specs.Recorded.{PrintsItems, lines_of}
+use Rattle.recordings_replay.proofs.Keying.{keyed-so}
+use Rattle.link_replay.specs.AuditCommand.{Audits, audited_line}
+use Rattle.link_replay.specs.ReplayCommand.{Replays, ReplaysWith, IsListable}
+use Rattle.link_replay.specs.ReplayCommand.{replay_listing}
+use Rattle.link_replay.specs.SealCommand.{seal_rest}
+use Rattle.link_replay.specs.declared.commands.audit.Audited.{Audited}
 use Rattle.link_replay.specs.declared.words.Profile.{Profile}
 use Rattle.link_replay.specs.declared.words.Proto.{Proto}
 
 module _ {K S O L D : Type 0} (k : Source K) (s : Source S) (o : Sink O) (l : Sink L)
-    (d : SlotDisk D) (proto : Proto) (profile : Profile) (dir : Dir)
-    (before after : Outside K S O L D)
-    (right : IsListable (k.left before.key) (s.left before.input))
-    (calm : NoneRose (k.faults before.key) (k.faults after.key) (s.faults before.input)
-    (s.faults after.input)
-    (o.faults before.out) (o.faults after.out) (l.faults before.log) (l.faults after.log)
-    (d.faults before.disk) (d.faults after.disk)) where
-  pub listable_done : (status : Status) → Replays k s o l proto profile dir before after status
-      → ReadsCause (k.faults before.key) (k.faults after.key) (s.faults before.input)
-      (s.faults after.input) status
-      → SinkCause (o.faults before.out) (o.faults after.out) (l.faults before.log)
-      (l.faults after.log) status → (status ≡ Done) ⊎ (status ≡ NoMemory)
-  listable_done Done h reads sinks = inl refl
-  listable_done NoMemory h reads sinks = inr refl
-  listable_done (BadTicks bad) h reads sinks = absurd
-      (not_refused link_rest (s.left before.input) (s.left after.input) h.lists.does.items
-      right.input
-      bad h.lists.does.takes)
-  listable_done (TooLong what count) h reads sinks = absurd
-      (not_too_long link_rest (s.left before.input) (s.left after.input) h.lists.does.items
-      right.input what count h.lists.does.takes)
-  listable_done ReadFault h reads sinks =
-      elim reads.0 [ inl key ↦ absurd (calm.key key) | inr input ↦ absurd (calm.input input) ]
-  listable_done WriteFault h reads sinks =
-      elim sinks [ inl out ↦ absurd (calm.out out) | inr log ↦ absurd (calm.log log) ]
-  listable_done (BadKey place) h reads sinks = absurd (no_key_refused right.text right.key
-      h.lists.text (k.left after.key) place right.key_right
-      (subst (λ told. IsKeyMet told (k.left after.key) h.lists.text) right.key_told h.lists.met)
-      h.lists.refused)
-  listable_done status h reads sinks = absurd h.lists.does
+    (d : SlotDisk D) where
+  -- a run of recordings that reads a key first
+  abbrev RunsOver : ℕ → ℕ → (List ℕ → List Item → List ℕ) → Outside K S O L D
+      → Outside K S O L D → Status → Type 0
+  RunsOver marks rest text_of before after status = ReadsKeyFirst k before.key after.key
+      (λ key. PrintsItems marks rest (text_of key) (s.left before.input) (s.left after.input)
+      (o.held before.out) (o.held after.out))
+      (LeavesAll before.input after.input before.out after.out before.log after.log) status
+
+  module _ (marks rest : ℕ) (text_of : List ℕ → List Item → List ℕ)
+      (before after : Outside K S O L D)
+      (right : IsListable marks (k.left before.key) (s.left before.input))
+      (calm : NoneRose (k.faults before.key) (k.faults after.key) (s.faults before.input)
+      (s.faults after.input) (o.faults before.out) (o.faults after.out) (l.faults before.log)
+      (l.faults after.log) (d.faults before.disk) (d.faults after.disk)) where
+    over_done : (status : Status) → RunsOver marks rest text_of before after status
+        → ReadsCause (k.faults before.key) (k.faults after.key) (s.faults before.input)
+        (s.faults after.input) status
+        → SinkCause (o.faults before.out) (o.faults after.out) (l.faults before.log)
+        (l.faults after.log) status → (status ≡ Done) ⊎ (status ≡ NoMemory)
+    over_done Done h reads sinks = inl refl
+    over_done NoMemory h reads sinks = inr refl
+    over_done (BadTicks bad) h reads sinks = absurd (not_refused rest (s.left before.input)
+        (s.left after.input) h.does.items right.input bad h.does.takes)
+    over_done (TooLong what count) h reads sinks = absurd (not_too_long rest
+        (s.left before.input) (s.left after.input) h.does.items right.input what count
+        h.does.takes)
+    over_done ReadFault h reads sinks =
+        elim reads.0 [ inl key ↦ absurd (calm.key key) | inr input ↦ absurd (calm.input input) ]
+    over_done WriteFault h reads sinks =
+        elim sinks [ inl out ↦ absurd (calm.out out) | inr log ↦ absurd (calm.log log) ]
+    over_done (BadKey place) h reads sinks = absurd (no_key_refused right.text right.key h.text
+        (k.left after.key) place right.key_right
+        (subst (λ told. IsKeyMet told (k.left after.key) h.text) right.key_told h.met) h.refused)
+    over_done status h reads sinks = absurd h.does
+
+  -- what is printed of two recordings is their lines
+  replays-lines : (proto : Proto) (profile : Profile) (dir : Dir) (before after : Outside K S O L D)
+      (status : Status) (key : List ℕ)
+      → ReplaysWith proto profile dir (s.left before.input) (s.left after.input)
+      (o.held before.out) (o.held after.out) key status
+      → PrintsItems 1 link_rest (lines_of (replay_listing proto profile dir key)
+      (seal_rest profile)) (s.left before.input) (s.left after.input) (o.held before.out)
+      (o.held after.out) status
+  replays-lines proto profile dir before after Done key h =
+      record { items = h.items; recorded = h.recorded; printed = h.printed }
+  replays-lines proto profile dir before after status key h = h
+
+  module _ (before after : Outside K S O L D)
+      (calm : NoneRose (k.faults before.key) (k.faults after.key) (s.faults before.input)
+      (s.faults after.input) (o.faults before.out) (o.faults after.out) (l.faults before.log)
+      (l.faults after.log) (d.faults before.disk) (d.faults after.disk)) where
+    pub listable_done : (proto : Proto) (profile : Profile) (dir : Dir)
+        → IsListable 1 (k.left before.key) (s.left before.input) → (status : Status)
+        → Replays k s o l proto profile dir before after status
+        → ReadsCause (k.faults before.key) (k.faults after.key) (s.faults before.input)
+        (s.faults after.input) status
+        → SinkCause (o.faults before.out) (o.faults after.out) (l.faults before.log)
+        (l.faults after.log) status → (status ≡ Done) ⊎ (status ≡ NoMemory)
+    listable_done proto profile dir right status h reads sinks = over_done 1 link_rest
+        (λ key. lines_of (replay_listing proto profile dir key) (seal_rest profile)) before after
+        right calm status
+        (keyed-so k before.key after.key
+        (ReplaysWith proto profile dir (s.left before.input) (s.left after.input)
+        (o.held before.out) (o.held after.out))
+        (λ key. PrintsItems 1 link_rest (lines_of (replay_listing proto profile dir key)
+        (seal_rest profile)) (s.left before.input) (s.left after.input) (o.held before.out)
+        (o.held after.out))
+        (LeavesAll before.input after.input before.out after.out before.log after.log) status
+        (replays-lines proto profile dir before after status) h.lists)
+        reads sinks
+
+    pub auditable_done : (asked : Audited)
+        → IsListable 2 (k.left before.key) (s.left before.input) → (status : Status)
+        → Audits k s o l asked before after status
+        → ReadsCause (k.faults before.key) (k.faults after.key) (s.faults before.input)
+        (s.faults after.input) status
+        → SinkCause (o.faults before.out) (o.faults after.out) (l.faults before.log)
+        (l.faults after.log) status → (status ≡ Done) ⊎ (status ≡ NoMemory)
+    auditable_done asked right status h reads sinks = over_done 2 0 (audited_line asked) before
+        after right calm status h.prints reads sinks

@@ -6,10 +6,10 @@ use Rattle.std.specs.Str.Parse.{ParsesUnsigned}
 use Rattle.std.proofs.lemmas.Fmt.{parse-decimal}
 use Rattle.std.proofs.lemmas.Slice.Eq.{bytes_eq-Decides}
 
-module _ {E : Type 0} (word : List ℕ) (r : Result ℕ E) (n : ℕ) (few : n < 2 ^ 32)
-    (spelled : word ≡ decimal n) (parsed : ParsesUnsigned 32 10 word r) where
+module _ {E : Type 0} (word : List ℕ) (r : Result ℕ E) (n : ℕ) (few : n < 2 ^ 64)
+    (spelled : word ≡ decimal n) (parsed : ParsesUnsigned 64 10 word r) where
   is-read : r ≡ Ok n
-  is-read = parse-decimal 32 n word r few (omega (arith, few)) spelled parsed
+  is-read = parse-decimal 64 n word r few few spelled parsed
 
   pub not-refused : (e : E) → r ≡ Err e → ⊥
   not-refused e is =

@@ -26,6 +26,7 @@ use Rattle.replay_status.specs.declared.status.Status.TheVariants.{HasJournal}
 use Rattle.link_replay.specs.declared.words.Command.{Command}
 use Rattle.link_replay.specs.declared.words.Command.TheVariants.{Init, Read, Vectors, Seal, Check}
 use Rattle.link_replay.specs.declared.words.Command.TheVariants.{Replay, Trial, Space}
+use Rattle.link_replay.specs.declared.words.Command.TheVariants.{Audit}
 use Rattle.replay_status.proofs.Logging.{sinks_after}
 use Rattle.replay_status.proofs.FlushLaws.{flushes_after}
 use Rattle.device_replay.proofs.Readable.{readable_done}
@@ -34,7 +35,8 @@ use Rattle.link_replay.specs.Protocols.{link_of}
 use Rattle.link_replay.proofs.Links.{link-right}
 use Rattle.space_replay.proofs.Readable.{spaced_done}
 use Rattle.link_replay.specs.SpaceCommand.{spaced_by}
-use Rattle.link_replay.proofs.Listable.{listable_done}
+use Rattle.link_replay.specs.AuditCommand.{audited}
+use Rattle.link_replay.proofs.Listable.{listable_done, auditable_done}
 use Rattle.link_replay.proofs.Spaced.{whole-spaces}
 
 module _ (key0 key1 in0 in1 out0 out1 log0 log1 disk0 disk1 : ℕ)
@@ -84,6 +86,7 @@ module _ {K S O L D : Type 0} (k : Source K) (s : Source S) (o : Sink O) (l : Si
   own-after (Some (Replay proto profile dir)) before after noted status h = h
   own-after (Some (Trial proto profile seed count)) before after noted status h = h
   own-after (Some (Space proto profile)) before after noted status h = h
+  own-after (Some (Audit proto profile dir sent got)) before after noted status h = h
   own-after None before after noted status h = h
   own-after (Some (Init proto profile dir)) before after noted status h = h
   own-after (Some (Read proto)) before after noted status h = h
@@ -147,5 +150,8 @@ module _ {K S O L D : Type 0} (k : Source K) (s : Source S) (o : Sink O) (l : Si
       spaced_done (spaced_by proto profile) _ _ _ _ _ _ _ _ _ _ _ _ _ _ may calm status
       (whole-spaces proto profile _ _ _ _ status does.line) causes.own.0 causes.streams.sinks
   asked_done (Some (Replay proto profile dir)) before after status may calm does causes =
-      listable_done k s o l d proto profile dir before after may calm status does
+      listable_done k s o l d before after calm proto profile dir may status does
       causes.streams.reads causes.streams.sinks
+  asked_done (Some (Audit proto profile dir sent got)) before after status may calm does causes =
+      auditable_done k s o l d before after calm (audited proto profile dir sent got) may status
+      does causes.streams.reads causes.streams.sinks

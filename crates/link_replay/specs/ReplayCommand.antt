@@ -89,10 +89,11 @@ module _ {K S O L D : Type 0} (k : Source K) (s : Source S) (o : Sink O) (l : Si
     pub log : l.held after.log ≡ l.held before.log
     pub disk : after.disk ≡ before.disk
 
--- All that the command is given is right: a key text, and a text with one mark within the limits.
-pub record IsListable (key_before in_before : Option (List ℕ)) : Type 0 where
+-- All that a command of recordings is given is right: a key text, and a text with so many marks
+-- within the limits.
+pub record IsListable (marks : ℕ) (key_before in_before : Option (List ℕ)) : Type 0 where
   pub text : List ℕ
   pub key : List ℕ
   pub key_told : key_before ≡ Some text
   pub key_right : IsKeyText text key
-  pub input : IsReadableWith 1 in_before
+  pub input : IsReadableWith marks in_before

@@ -3,6 +3,7 @@ use Rattle.std.specs.Prelude.{◌≡◌, ◌≢◌, ℕ, ◌^◌, ◌<◌, ◌�
 use Rattle.std.specs.Prelude.{None, codes, slice_get}
 use Rattle.hmac_tag.specs.declared.dir.Dir.{Dir}
 use Rattle.hmac_tag.specs.declared.dir.Dir.TheVariants.{Ab, Ba}
+use Rattle.sequence_journal.specs.declared.numbers.TheConstants.{LIMIT}
 use Rattle.link_replay.specs.declared.words.Proto.{Proto}
 use Rattle.link_replay.specs.declared.words.Proto.TheVariants.{Rtu, Dnp3}
 use Rattle.link_replay.specs.declared.words.Profile.{Profile}
@@ -10,6 +11,7 @@ use Rattle.link_replay.specs.declared.words.Profile.TheVariants.{Y18, Y24}
 use Rattle.link_replay.specs.declared.words.Command.{Command}
 use Rattle.link_replay.specs.declared.words.Command.TheVariants.{Init, Read, Vectors, Seal, Check}
 use Rattle.link_replay.specs.declared.words.Command.TheVariants.{Replay, Trial, Space}
+use Rattle.link_replay.specs.declared.words.Command.TheVariants.{Audit}
 
 abbrev pub proto_word : Proto → List ℕ
 proto_word Rtu = codes "rtu"
@@ -45,6 +47,10 @@ IsCommand words (Replay proto profile dir) = (key : List ℕ) × (key ≢ [])
 IsCommand words (Trial proto profile seed count) = (seed < 2 ^ 32) × (1 ≤ count) × (count ≤ 10000)
     × (words ≡ codes "trial" ∷ link_word proto profile ∷ decimal seed ∷ decimal count ∷ [])
 IsCommand words (Space proto profile) = words ≡ codes "space" ∷ link_word proto profile ∷ []
+IsCommand words (Audit proto profile dir sent got) =
+    (key : List ℕ) × (key ≢ []) × (sent ≤ LIMIT) × (got ≤ LIMIT)
+    × (words ≡ codes "audit" ∷ link_word proto profile ∷ dir_word dir ∷ key ∷ decimal sent
+    ∷ decimal got ∷ [])
 
 -- the words ask for a new journal, of whatever link
 abbrev pub AskForJournal : List (List ℕ) → Type 0
@@ -56,6 +62,11 @@ abbrev pub Asks : List (List ℕ) → Option Command → Type 0
 Asks words None = (command : Command) → IsCommand words command → ⊥
 Asks words (Some command) = IsCommand words command
 
+-- Floors that were asked for are numbers of frames.
+abbrev pub AreFloors : Option Command → Type 0
+AreFloors (Some (Audit proto profile dir sent got)) = (sent ≤ LIMIT) × (got ≤ LIMIT)
+AreFloors asked = Unit {0}
+
 -- the place of the word that is the key file's path
 abbrev pub key_place : Command → Option ℕ
 key_place (Init proto profile dir) = None
@@ -66,6 +77,7 @@ key_place (Check proto profile dir) = Some 3
 key_place (Replay proto profile dir) = Some 3
 key_place (Trial proto profile seed count) = None
 key_place (Space proto profile) = None
+key_place (Audit proto profile dir sent got) = Some 3
 
 -- the place of the word that is the journal's path
 abbrev pub journal_place : Command → Option ℕ
@@ -77,6 +89,7 @@ journal_place (Check proto profile dir) = Some 4
 journal_place (Replay proto profile dir) = None
 journal_place (Trial proto profile seed count) = None
 journal_place (Space proto profile) = None
+journal_place (Audit proto profile dir sent got) = None
 
 -- the word at a place, where there is one
 abbrev pub word_in : List (List ℕ) → Option ℕ → Option (List ℕ)

@@ -1,6 +1,8 @@
 //! `link_replay`: replays a recorded serial line.
 #![tactic(auto)]
 
+#[cfg(test)]
+mod audit_tests;
 mod commands;
 #[cfg(test)]
 mod failing;

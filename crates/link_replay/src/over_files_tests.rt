@@ -160,7 +160,7 @@ impl OpenFile for Opened<'_> {
     }
 
     fn sync_data(&self) -> io::Result<()> {
-        Err(ErrorKind::Unsupported.into())
+        Ok(())
     }
 }
 

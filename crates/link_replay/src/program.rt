@@ -3,10 +3,11 @@ ghost use Rattle.std.specs.String.{string_bytes};
 ghost use Rattle.replay_status.specs.Ends.{outside_before, outside_after};
 ghost use Rattle.replay_status.specs.Outside.{outside};
 ghost use Rattle.link_replay.specs.declared.words.Command.{Command};
-ghost use Rattle.link_replay.specs.Words.{Asks};
+ghost use Rattle.link_replay.specs.Words.{Asks, AreFloors};
 ghost use Rattle.link_replay.specs.Commands.{Does, Runs, KeepsDisk, MayDo, IsCalm, EndsWell};
 ghost use Rattle.link_replay.specs.Commands.{HasCauses};
 
+use crate::commands::audit::{Audited, audit};
 use crate::commands::check::check;
 use crate::commands::init::make_journal;
 use crate::commands::read::read_line;
@@ -26,6 +27,7 @@ fn perform<K: Source, S: Source, O: Sink, L: Sink, D: SlotDisk>(
     command: Command,
     ends: Ends<K, S, O, L, D>,
 ) -> Status
+    requires { AreFloors (Some command) }
     ensures used { result ≡ Status.Usage → ⊥ }
     ensures does { Does K.Source S.Source O.Sink L.Sink D.SlotDisk (Some command)
         (outside_before ends.entry) (outside_after ends.exit) result }
@@ -45,6 +47,16 @@ fn perform<K: Source, S: Source, O: Sink, L: Sink, D: SlotDisk>(
             try_link(proto, profile, seed, count, ends)
         }
         Command::Space(proto, profile) => space(alloc, proto, profile, ends),
+        Command::Audit(proto, profile, dir, sent_floor, got_floor) => {
+            let asked = Audited {
+                proto,
+                profile,
+                dir,
+                sent_floor,
+                got_floor,
+            };
+            audit(alloc, asked, ends)
+        }
     }
 }
 
@@ -54,6 +66,7 @@ fn answer<K: Source, S: Source, O: Sink, L: Sink, D: SlotDisk>(
     asked: Option<Command>,
     ends: Ends<K, S, O, L, D>,
 ) -> Status
+    requires { AreFloors asked }
     ensures usage { (result ≡ Status.Usage) ↔ (asked ≡ None) }
     ensures does { Does K.Source S.Source O.Sink L.Sink D.SlotDisk asked
         (outside_before ends.entry) (outside_after ends.exit) result }
@@ -70,7 +83,8 @@ fn answer<K: Source, S: Source, O: Sink, L: Sink, D: SlotDisk>(
 
 // What the words ask for; none where they fit no command.
 fn asked_by(words: &[String]) -> Option<Command>
-    ensures { Asks (map string_bytes words.now) result }
+    ensures asks { Asks (map string_bytes words.now) result }
+    ensures floors { AreFloors result }
 {
     match read_words(words) {
         Ok(command) => Some(command),
@@ -79,7 +93,7 @@ fn asked_by(words: &[String]) -> Option<Command>
 }
 
 /// The program: reads its words, those after the program's name, and does what they ask for. No
-/// memory is taken but by `space` and by `replay`, whose clause in `runs` is the program's headline:
+/// memory is taken but by `space`, by `audit` and by `replay`, whose clause in `runs` is the program's headline:
 /// the record `Headline` of `specs/ReplayCommand.antt`.
 pub fn run<K: Source, S: Source, O: Sink, L: Sink, D: SlotDisk>(
     alloc: Global,
@@ -104,7 +118,7 @@ pub fn run<K: Source, S: Source, O: Sink, L: Sink, D: SlotDisk>(
         → KeepsDisk D.SlotDisk asked disk.old disk.new }
 
     // Where all that the command is given is right and nothing outside fails, it is done; or, of
-    // `replay` and `space` alone, there is no memory.
+    // `replay`, `space` and `audit` alone, there is no memory.
     ensures done { (asked : Option Command) → Asks (map string_bytes words.now) asked
         → MayDo K.Source S.Source O.Sink L.Sink D.SlotDisk asked
         (outside key.old input.old out.old log.old disk.old)

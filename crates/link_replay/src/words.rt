@@ -1,7 +1,8 @@
-ghost use Rattle.std.specs.Prelude.{◌≡◌, ◌↔◌, ℕ, ◌^◌, ◌<◌, [], ◌∷◌, None, IfOk, OnErr, IsTrue};
+ghost use Rattle.std.specs.Prelude.{◌≡◌, ◌↔◌, ℕ, ◌^◌, ◌<◌, ◌≤◌, [], ◌∷◌, None, IfOk, OnErr, IsTrue};
 ghost use Rattle.std.specs.Prelude.{map, codes, decimal};
 ghost use Rattle.std.specs.String.{string_bytes};
 ghost use Rattle.hmac_tag.specs.declared.dir.Dir.{Dir};
+ghost use Rattle.sequence_journal.specs.declared.numbers.TheConstants.{LIMIT};
 ghost use Rattle.link_replay.specs.declared.words.Profile.{Profile};
 ghost use Rattle.link_replay.specs.declared.words.Proto.{Proto};
 ghost use Rattle.link_replay.specs.declared.words.Command.{Command};
@@ -9,9 +10,13 @@ ghost use Rattle.link_replay.specs.Words.{IsCommand, Asks, proto_word, link_word
 ghost use Rattle.link_replay.specs.Words.{key_place, journal_place, AskForJournal};
 
 use hmac_tag::Dir;
+use sequence_journal::LIMIT;
 
 /// A trial has at most so many frames.
 const MOST_FRAMES: u32 = 10_000;
+
+/// The greatest number of 32 bits.
+const MOST_OF_32_BITS: u64 = 4_294_967_295;
 
 /// The protocol of a line.
 #[derive(Clone, Copy, Debug, PartialEq, Eq)]
@@ -50,6 +55,8 @@ pub enum Command {
     Trial(Proto, Profile, u32, u32),
     /// Sends the frames of a line spaced as the profile asks for.
     Space(Proto, Profile),
+    /// Judges a session by three recordings, from these floors of transmitter and receiver on.
+    Audit(Proto, Profile, Dir, u64, u64),
 }
 
 /// The words name no command.
@@ -144,12 +151,12 @@ fn read_init(first: &str, second: &str, third: &str, path: &str) -> Result<Comma
 }
 
 // The number that a word spells, in decimal digits without a leading zero.
-fn read_number(word: &str) -> Result<u32, Usage>
+fn read_wide(word: &str) -> Result<u64, Usage>
     ensures ok { IfOk result (λ n. word.now ≡ decimal n) }
-    ensures small { IfOk result (λ n. n < 2 ^ 32) }
-    ensures usage { OnErr result ((n : ℕ) → n < 2 ^ 32 → word.now ≡ decimal n → ⊥) }
+    ensures wide { IfOk result (λ n. n < 2 ^ 64) }
+    ensures usage { OnErr result ((n : ℕ) → n < 2 ^ 64 → word.now ≡ decimal n → ⊥) }
 {
-    let Ok(n) = word.parse::<u32>() else {
+    let Ok(n) = word.parse::<u64>() else {
         return Err(Usage);
     };
     // other texts may stand for the number too
@@ -159,6 +166,32 @@ fn read_number(word: &str) -> Result<u32, Usage>
     } else {
         Err(Usage)
     }
+}
+
+// The same of a number of 32 bits.
+fn read_number(word: &str) -> Result<u32, Usage>
+    ensures ok { IfOk result (λ n. word.now ≡ decimal n) }
+    ensures small { IfOk result (λ n. n < 2 ^ 32) }
+    ensures usage { OnErr result ((n : ℕ) → n < 2 ^ 32 → word.now ≡ decimal n → ⊥) }
+{
+    let n = read_wide(word)?;
+    if n > MOST_OF_32_BITS {
+        return Err(Usage);
+    }
+    Ok(n as u32)
+}
+
+// The same of the number of a frame, or of the floor 0.
+fn read_floor(word: &str) -> Result<u64, Usage>
+    ensures ok { IfOk result (λ n. word.now ≡ decimal n) }
+    ensures within { IfOk result (λ n. n ≤ LIMIT) }
+    ensures usage { OnErr result ((n : ℕ) → n ≤ LIMIT → word.now ≡ decimal n → ⊥) }
+{
+    let n = read_wide(word)?;
+    if n > LIMIT {
+        return Err(Usage);
+    }
+    Ok(n)
 }
 
 // The command `trial`: a seed, and how many frames.
@@ -240,6 +273,33 @@ fn read_five(
     }
 }
 
+// The command of six words: three recordings, the path of a key, which isn't empty, and two floors.
+fn read_six(
+    first: &str,
+    second: &str,
+    third: &str,
+    key: &str,
+    sent: &str,
+    got: &str,
+) -> Result<Command, Usage>
+    ensures ok { IfOk result (λ command. IsCommand
+        (first.now ∷ second.now ∷ third.now ∷ key.now ∷ sent.now ∷ got.now ∷ []) command) }
+    ensures usage { OnErr result ((command : Command) → IsCommand
+        (first.now ∷ second.now ∷ third.now ∷ key.now ∷ sent.now ∷ got.now ∷ []) command → ⊥) }
+{
+    if first != "audit" {
+        return Err(Usage);
+    }
+    if key.is_empty() {
+        return Err(Usage);
+    }
+    let (proto, profile) = read_link(second)?;
+    let dir = read_dir(third)?;
+    let sent = read_floor(sent)?;
+    let got = read_floor(got)?;
+    Ok(Command::Audit(proto, profile, dir, sent, got))
+}
+
 /// The command that the words after the program's name ask for, each word compared byte for byte.
 pub fn read_words(words: &[String]) -> Result<Command, Usage>
     ensures ok { IfOk result (λ command. IsCommand (map string_bytes words.now) command) }
@@ -262,6 +322,14 @@ pub fn read_words(words: &[String]) -> Result<Command, Usage>
             key.as_str(),
             path.as_str(),
         ),
+        [first, second, third, key, sent, got] => read_six(
+            first.as_str(),
+            second.as_str(),
+            third.as_str(),
+            key.as_str(),
+            sent.as_str(),
+            got.as_str(),
+        ),
         _ => Err(Usage),
     }
 }
@@ -277,6 +345,7 @@ pub fn key_word(words: &[String]) -> Option<usize>
         Ok(Command::Init(..) | Command::Read(_) | Command::Vectors) => None,
         Ok(Command::Trial(..) | Command::Space(..)) => None,
         Ok(Command::Seal(..) | Command::Check(..) | Command::Replay(..)) => Some(3),
+        Ok(Command::Audit(..)) => Some(3),
         Err(Usage) => None,
     }
 }
@@ -293,6 +362,7 @@ pub fn journal_word(words: &[String]) -> Option<usize>
         Ok(Command::Seal(..) | Command::Check(..)) => Some(4),
         Ok(Command::Read(_) | Command::Vectors) => None,
         Ok(Command::Replay(..) | Command::Trial(..) | Command::Space(..)) => None,
+        Ok(Command::Audit(..)) => None,
         Err(Usage) => None,
     }
 }
@@ -306,6 +376,7 @@ pub fn makes_journal(words: &[String]) -> bool
         Ok(Command::Init(..)) => true,
         Ok(Command::Read(_) | Command::Vectors | Command::Trial(..) | Command::Space(..)) => false,
         Ok(Command::Seal(..) | Command::Check(..) | Command::Replay(..)) => false,
+        Ok(Command::Audit(..)) => false,
         Err(Usage) => false,
     }
 }

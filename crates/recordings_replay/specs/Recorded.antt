@@ -1,4 +1,4 @@
--- What is printed of two recordings that a mark parts in the input, and when each status comes.
+-- What is printed of recordings that marks part in the input, and when each status comes.
 use Rattle.std.specs.Prelude.{◌≡◌, ℕ, List, ◌++◌, Option}
 use Rattle.std.specs.Io.KnownBytes.{append_known}
 use Rattle.yasir_io.specs.Output.{GotPrefix}
@@ -17,13 +17,18 @@ use Rattle.replay_status.specs.declared.status.Status.TheVariants.{Done, BadTick
 use Rattle.replay_status.specs.declared.status.Status.TheVariants.{WriteFault, TooLong, NoMemory}
 use Rattle.recordings_replay.specs.Listing.{Listing, listing_text}
 
--- The whole input was met and is a right text with one mark. It has these items, and all of them
--- were taken.
-pub record IsRecorded (before now : Option (List ℕ)) (items : List Item) : Type 0 where
+-- The whole input was met and is a right text with so many marks. It has these items, and all of
+-- them were taken.
+pub record IsRecordedWith (marks : ℕ) (before now : Option (List ℕ)) (items : List Item) : Type 0
+    where
   pub text : List ℕ
   pub met : IsMetWhole before now text
-  pub right : IsTickText 1 text items
+  pub right : IsTickText marks text items
   pub few : AreFew items
+
+-- two recordings, which one mark parts
+abbrev pub IsRecorded : Option (List ℕ) → Option (List ℕ) → List Item → Type 0
+IsRecorded before now items = IsRecordedWith 1 before now items
 
 -- the line of the device, which is recorded before the mark, and so many silent ticks behind it
 abbrev pub device_line : ℕ → List Item → List Tick
@@ -34,34 +39,43 @@ device_line device_rest items = before_mark items ++ silent device_rest
 abbrev pub link_ticks : List Item → List Tick
 link_ticks items = behind_mark items ++ silent link_rest
 
-module _ (listing : List Tick → List Tick → Listing) (device_rest : ℕ)
+-- `text_of` is what is printed of the items. Behind the last recording stand so many silent ticks.
+module _ (marks rest : ℕ) (text_of : List Item → List ℕ)
     (in_before in_now out_before out_now : Option (List ℕ)) where
-  -- `out` has got the lines of both recordings, and nothing else.
-  pub record PrintsListing : Type 0 where
+  -- `out` has got the text of the recordings, and nothing else.
+  pub record PrintsWhole : Type 0 where
     pub items : List Item
-    pub recorded : IsRecorded in_before in_now items
-    pub printed : out_now ≡ append_known out_before
-        (listing_text (listing (device_line device_rest items) (link_ticks items)))
+    pub recorded : IsRecordedWith marks in_before in_now items
+    pub printed : out_now ≡ append_known out_before (text_of items)
 
-  -- A write failed: `out` has got a front of these lines.
+  -- A write failed: `out` has got a front of it.
   pub record PrintsFront : Type 0 where
     pub items : List Item
-    pub recorded : IsRecorded in_before in_now items
-    pub printed : GotPrefix out_before out_now
-        (listing_text (listing (device_line device_rest items) (link_ticks items)))
+    pub recorded : IsRecordedWith marks in_before in_now items
+    pub printed : GotPrefix out_before out_now (text_of items)
 
   -- The input ended so, or there was no memory for what was taken of it; `out` has got nothing.
   pub record PrintsNothing (end : End) : Type 0 where
     pub items : List Item
-    pub takes : Takes 1 link_rest in_before in_now items end
+    pub takes : Takes marks rest in_before in_now items end
     pub out : out_now ≡ out_before
 
   -- What each status says of the input and of `out`.
-  abbrev pub PrintsRecorded : Status → Type 0
-  PrintsRecorded Done = PrintsListing
-  PrintsRecorded WriteFault = PrintsFront
-  PrintsRecorded (BadTicks bad) = PrintsNothing (Refused bad)
-  PrintsRecorded (TooLong what count) = PrintsNothing (ends.TooLong what count)
-  PrintsRecorded ReadFault = PrintsNothing ends.ReadFault
-  PrintsRecorded NoMemory = PrintsNothing (Stopped stops.NoMemory)
-  PrintsRecorded status = ⊥
+  abbrev pub PrintsItems : Status → Type 0
+  PrintsItems Done = PrintsWhole
+  PrintsItems WriteFault = PrintsFront
+  PrintsItems (BadTicks bad) = PrintsNothing (Refused bad)
+  PrintsItems (TooLong what count) = PrintsNothing (ends.TooLong what count)
+  PrintsItems ReadFault = PrintsNothing ends.ReadFault
+  PrintsItems NoMemory = PrintsNothing (Stopped stops.NoMemory)
+  PrintsItems status = ⊥
+
+-- the lines of two recordings
+abbrev pub lines_of : (List Tick → List Tick → Listing) → ℕ → List Item → List ℕ
+lines_of listing device_rest items =
+    listing_text (listing (device_line device_rest items) (link_ticks items))
+
+-- What each status says of two recordings and their lines.
+abbrev pub PrintsRecorded : (List Tick → List Tick → Listing) → ℕ → Option (List ℕ)
+    → Option (List ℕ) → Option (List ℕ) → Option (List ℕ) → Status → Type 0
+PrintsRecorded listing device_rest = PrintsItems 1 link_rest (lines_of listing device_rest)

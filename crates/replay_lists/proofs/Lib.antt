@@ -7,3 +7,6 @@ pub mod Runs
 pub mod Listed
 pub mod TakenLines
 pub mod InPlace
+pub mod Parted
+pub mod RunFronts
+pub mod SessionSteps

@@ -5,3 +5,5 @@ pub mod ReplayLists
 pub mod Lines
 pub mod Places
 pub mod Listed
+pub mod SessionLists
+pub mod SessionListed

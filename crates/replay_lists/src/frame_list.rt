@@ -3,10 +3,7 @@ ghost use Rattle.std.specs.Prelude.{length, OnOk, slice_index_or};
 ghost use Rattle.replay_lists.specs.FrameList.{Kept, Holds, IsWhole, list_len, longest_frame};
 
 use std::alloc::Global;
-
-/// There was no memory for a frame more.
-#[derive(Clone, Copy, Debug, PartialEq, Eq)]
-pub struct NoMemory;
+use yasir_io::NoMemory;
 
 /// What is kept of a frame beside its bytes, and where these end among those of all frames.
 #[derive(Clone, Copy)]

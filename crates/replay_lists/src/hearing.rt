@@ -8,12 +8,13 @@ ghost use Rattle.burst_walk.specs.Answered.{answered};
 ghost use Rattle.replay_lists.specs.FrameList.{list_len};
 ghost use Rattle.replay_lists.specs.ReplayLists.{Listens};
 
-use crate::frame_list::{FrameList, NoMemory};
+use crate::frame_list::FrameList;
 use device_model::Device;
+use yasir_io::NoMemory;
 
 // A device hears bytes up to the first one in which it reads a frame, which is kept. Answers how
 // many.
-fn hear_some<V: Device>(
+pub(crate) fn hear_some<V: Device>(
     device: &mut V,
     frames: &mut FrameList<u64>,
     bytes: &[u8],
@@ -22,6 +23,8 @@ fn hear_some<V: Device>(
     ensures within { IfOk result (λ n. n ≤ length bytes.now) }
     ensures some { 0 < length bytes.now → IfOk result (λ n. 0 < n) }
     ensures taken { IfOk result (λ n. V.taken device.new ≡ V.taken device.old + n) }
+    ensures few { 0 < length bytes.now
+        → IfOk result (λ n. list_len frames.new ≤ list_len frames.old + n) }
     ensures ok { IfOk result (λ n. (line : List Tick)
         → Listens V.Device device.old frames.old line
         → Listens V.Device device.new frames.new (line ++ map Byte (take n bytes.now))) }
@@ -38,7 +41,7 @@ fn hear_some<V: Device>(
 
 // The same of so many silent ticks.
 #[inline]
-fn wait_some<V: Device>(
+pub(crate) fn wait_some<V: Device>(
     device: &mut V,
     frames: &mut FrameList<u64>,
     ticks: usize,

@@ -1,20 +1,26 @@
 //! Recordings: a line of a device goes through a transmitter, a link through a receiver, and a line
 //! to a device, and what is sealed, passed and read is kept as lists of frames in memory. They come
-//! as two in one input, or each as a list of ticks.
+//! as two or three in one input, or each as a list of ticks.
 #![tactic(auto)]
 
 mod frame_box;
 mod frame_list;
+mod fronts;
 mod hearing;
 mod lines;
 mod places;
 mod recordings;
 mod replay_lists;
+mod session_lists;
+mod sessions;
 
 pub use burst_walk::RunBytes;
 pub use frame_box::{FrameBox, FrameStep, Numbered};
-pub use frame_list::{FrameList, NoMemory};
+pub use frame_list::FrameList;
 pub use lines::{list_frames, list_reads};
 pub use places::is_at_its_number;
 pub use recordings::list_recordings;
 pub use replay_lists::ReplayLists;
+pub use session_lists::{Rests, SessionLists};
+pub use sessions::list_session;
+pub use yasir_io::NoMemory;

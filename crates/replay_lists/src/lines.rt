@@ -10,12 +10,13 @@ ghost use Rattle.replay_lists.specs.Lines.{TakesOn, HearsOn};
 ghost use Rattle.replay_lists.specs.ReplayLists.{kept_reads};
 
 use crate::frame_box::{FrameBox, Numbered};
-use crate::frame_list::{FrameList, NoMemory};
+use crate::frame_list::FrameList;
 use crate::hearing::hear_silence;
 use crate::replay_lists::{hear_into, step_into};
 use device_model::Device;
 use hmac_tag::Dir;
 use std::alloc::Global;
+use yasir_io::NoMemory;
 use yasir_ticks::Tick;
 
 // A box takes these ticks, and its frames are kept.

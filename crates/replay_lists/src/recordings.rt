@@ -4,11 +4,10 @@ ghost use Rattle.tick_drive.specs.Input.{IsReadCause, is_read_fault};
 ghost use Rattle.replay_lists.specs.Listed.{ListsRecordings, MayList};
 
 use crate::frame_box::FrameBox;
-use crate::frame_list::NoMemory;
 use crate::replay_lists::ReplayLists;
 use device_model::Device;
 use tick_drive::{End, Stop, drive_to_rest};
-use yasir_io::{Sink, Source};
+use yasir_io::{NoMemory, Sink, Source};
 
 /// How many silent ticks stand behind the recording behind the mark, so that what passes is sent
 /// and read.

@@ -12,7 +12,7 @@ ghost use Rattle.replay_lists.specs.ReplayLists.{KeepsFrames, Listens, StepsInto
 ghost use Rattle.replay_lists.specs.declared.frame_box.Numbered.{Numbered};
 
 use crate::frame_box::{FrameBox, Numbered};
-use crate::frame_list::{FrameList, NoMemory};
+use crate::frame_list::FrameList;
 use crate::hearing::hear_answered;
 use crate::lines::take_silence;
 use burst_walk::RunBytes;
@@ -20,10 +20,11 @@ use device_model::Device;
 use hmac_tag::Dir;
 use std::alloc::Global;
 use tick_drive::{Consumer, Stop};
+use yasir_io::NoMemory;
 use yasir_ticks::{MAX_TICKS, Tick, TickRun};
 
 #[cfg(test)]
-mod turn_tests;
+pub(crate) mod turn_tests;
 
 // One step of a box, whose frame is kept. Answers the tick of the other line.
 #[inline]
@@ -54,7 +55,11 @@ pub(crate) fn step_into<B: FrameBox>(
 // A box takes the first ticks of this run at once. Answers how many, and puts the bytes of the
 // answer into `left`, or none for silence.
 #[inline(always)]
-fn pass_run<B: FrameBox>(line_box: &mut B, run: TickRun<'_>, left: &mut RunBytes) -> usize
+pub(crate) fn pass_run<B: FrameBox>(
+    line_box: &mut B,
+    run: TickRun<'_>,
+    left: &mut RunBytes,
+) -> usize
     requires room { B.taken line_box.old + length (run_ticks run) ≤ MAX_TICKS }
     requires able { B.able line_box.old }
     ensures within { result ≤ length (run_ticks run.entry) }

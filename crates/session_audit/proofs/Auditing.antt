@@ -28,6 +28,8 @@ use Rattle.receiver_laws.specs.Reading.{delivered}
 use Rattle.receiver_laws.proofs.Accounting.{sealed-rise, rising-accounted}
 use Rattle.receiver_laws.proofs.Headline.{all-stay, bytes-delivered, passed-sealed}
 use Rattle.receiver_laws.proofs.Rising.{have_passed}
+use Rattle.tick_drive.specs.declared.end.End.{End}
+use Rattle.session_audit.specs.AuditedInput.{AuditsInput}
 use Rattle.session_audit.specs.Clean.{IsClean}
 use Rattle.session_audit.specs.Sessions.{LinkKind, format_of, kind_of, sent_profile, got_profile}
 use Rattle.session_audit.specs.Sessions.{sealed_in, passed_in, read_in, line_received}
@@ -190,6 +192,14 @@ kind_at rtu short =
       reads = dnp_reads;
     }
 
+pub kind-so : (P : LinkKind → Type 0) (session : Session) (rtu short : Bool)
+    → (session.label == 1) ≡ rtu → (session.profile == 18) ≡ short → P (kind_at rtu short)
+    → P (kind_of session)
+kind-so P session rtu short rtu_is short_is holds =
+    let kind : kind_of session ≡ kind_at rtu short =
+    ap (λ b. kind_at b (session.profile == 18)) rtu_is ∙ ap (kind_at rtu) short_is in
+    subst P (sym kind) holds
+
 pub judged-so : {E : Type 0} (session : Session) (device link received : List Tick)
     (rtu short : Bool) → (session.label == 1) ≡ rtu → (session.profile == 18) ≡ short
     → (result : Result Verdict E)
@@ -197,7 +207,13 @@ pub judged-so : {E : Type 0} (session : Session) (device link received : List Ti
     ≡ verdict_with (kind_at rtu short) session device link received)
     → IfOk result (λ verdict. verdict ≡ verdict_of session device link received)
 judged-so session device link received rtu short rtu_is short_is result is =
-    let kind : kind_of session ≡ kind_at rtu short =
-    ap (λ b. kind_at b (session.profile == 18)) rtu_is ∙ ap (kind_at rtu) short_is in
-    subst (λ k. IfOk result (λ verdict. verdict ≡ verdict_with k session device link received))
-    (sym kind) is
+    kind-so (λ kind. IfOk result (λ verdict. verdict
+    ≡ verdict_with kind session device link received)) session rtu short rtu_is short_is is
+
+pub audited-so : (session : Session) (before now : Option (List ℕ)) (result : Result Verdict End)
+    (rtu short : Bool) → (session.label == 1) ≡ rtu → (session.profile == 18) ≡ short
+    → AuditsInput (verdict_with (kind_at rtu short) session) before now result
+    → AuditsInput (verdict_of session) before now result
+audited-so session before now result rtu short rtu_is short_is is =
+    kind-so (λ kind. AuditsInput (verdict_with kind session) before now result) session rtu short
+    rtu_is short_is is

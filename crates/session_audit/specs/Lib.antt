@@ -7,3 +7,4 @@ pub mod Verdicts
 pub mod Sessions
 pub mod Clean
 pub mod Judging
+pub mod AuditedInput

@@ -10,40 +10,15 @@ ghost use Rattle.session_audit.specs.Sessions.{verdict_of};
 ghost use Rattle.session_audit.specs.Verdicts.{verdict_on};
 
 use crate::judging::judge;
-use crate::{Session, ShownFrames, Verdict};
-use check_receiver::Checker;
+use crate::link_boxes::{
+    DEVICE_REST, DnpChecker18, DnpChecker24, DnpSealer18, DnpSealer24, LINK_REST, RtuChecker18,
+    RtuChecker24, RtuSealer18, RtuSealer24,
+};
+use crate::{Session, Verdict};
 use device_model::{Device, DnpDevice, RtuDevice};
-use dnp_link_frame::Dnp;
-use hmac_tag::{HmacSha1, HmacSha256};
 use replay_lists::{FrameBox, NoMemory, list_frames, list_reads};
-use rtu_frame::Rtu;
-use seal_transmitter::Sealer;
 use std::alloc::Global;
-use yasir_io::SteadySlots;
 use yasir_ticks::{T3_5_TICKS, Tick};
-
-/// How many silent ticks stand behind the link, so that the last verdict falls in them.
-const LINK_REST: u32 = 320;
-
-/// How many silent ticks more than the receiver's delay stand behind the line of the device that
-/// sends, so that its last burst is closed and its trailer is sent.
-const DEVICE_REST: u32 = 6;
-
-type RtuSealer18 = ShownFrames<Sealer<Rtu, HmacSha1, 2>, Rtu, SteadySlots>;
-
-type RtuChecker18 = ShownFrames<Checker<Rtu, HmacSha1, 2, 18>, Rtu, SteadySlots>;
-
-type DnpSealer18 = ShownFrames<Sealer<Dnp, HmacSha1, 2>, Dnp, SteadySlots>;
-
-type DnpChecker18 = ShownFrames<Checker<Dnp, HmacSha1, 2, 18>, Dnp, SteadySlots>;
-
-type RtuSealer24 = ShownFrames<Sealer<Rtu, HmacSha256, 4>, Rtu, SteadySlots>;
-
-type RtuChecker24 = ShownFrames<Checker<Rtu, HmacSha256, 4, 24>, Rtu, SteadySlots>;
-
-type DnpSealer24 = ShownFrames<Sealer<Dnp, HmacSha256, 4>, Dnp, SteadySlots>;
-
-type DnpChecker24 = ShownFrames<Checker<Dnp, HmacSha256, 4, 24>, Dnp, SteadySlots>;
 
 // The verdict by a transmitter, a receiver that is so late, and a device.
 fn audit_by<S: FrameBox, C: FrameBox, V: Device + Drop>(

@@ -6,7 +6,6 @@ use Rattle.yasir_io.specs.TextBuffer.{waiting_bytes}
 use Rattle.yasir_io.specs.declared.sink.Sink.{Ghosts as Sink}
 use Rattle.yasir_ticks.specs.CanonicalText.{canonical_text}
 use Rattle.yasir_ticks.specs.Ticks.{Item, ticks_in}
-use Rattle.yasir_ticks.specs.Writer.{HasWritten}
 use Rattle.yasir_ticks.specs.declared.tick.Tick.{Tick}
 use Rattle.device_model.specs.Frames.{FrameRead}
 use Rattle.tick_drive.specs.Consumers.{is_write_fault}
@@ -20,6 +19,7 @@ use Rattle.line_spacer.specs.Spacing.{spaced, none_yet}
 use Rattle.line_texts.specs.Sending.{LineAndNotes, SinkTexts, Waiting, waiting, SendsTexts, HasSent}
 use Rattle.line_texts.specs.Sending.{HasSentFronts}
 use Rattle.line_texts.specs.Texts.{texts_held, waiting_in}
+use Rattle.line_texts.specs.Writer.{HasWritten}
 use Rattle.line_texts.specs.declared.texts.Texts.{Texts}
 use Rattle.line_texts.proofs.Sending.{begins, notes_all}
 use Rattle.replay_status.specs.Endings.{status_of}
@@ -39,11 +39,11 @@ nothing_spaced reads gap = refl
 
 -- so nothing is on its way yet
 pub nothing_sends : (reads : List Tick → List FrameRead) (gap : ℕ) (texts : Texts)
-    → HasWritten texts.writer [] [] → waiting_bytes texts.ticks ≡ []
+    → HasWritten texts.writer [] [] → texts.ticks.items ≡ []
     → waiting_bytes texts.notes ≡ [] → (held : SinkTexts)
     → SendsTexts (spaced_texts reads gap) (waiting_in texts) held held []
 nothing_sends reads gap texts written ticks notes held =
-    begins (spaced_texts reads gap) texts.writer (waiting_bytes texts.ticks)
+    begins (spaced_texts reads gap) texts.writer texts.ticks.items
     (waiting_bytes texts.notes) held refl
     (ap (λ s. arrival_lines s.lost) (nothing_spaced reads gap)) written ticks notes
 

@@ -1,8 +1,7 @@
-ghost use Rattle.std.specs.Prelude.{◌≡◌, ◌<◌, length};
+ghost use Rattle.std.specs.Prelude.{◌≡◌, ◌<◌, ◌≤◌, length};
 ghost use Rattle.yasir_ticks.specs.TickRun.{run_ticks, run_items};
 ghost use Rattle.yasir_ticks.specs.declared.tick_run.TickRun.TheVariants.{Bytes, Silence};
-ghost use Rattle.device_model.specs.Frames.{frames_of};
-ghost use Rattle.device_replay.specs.Lines.{read_at};
+ghost use Rattle.device_model.specs.Frames.{frames_lent};
 ghost use Rattle.line_texts.specs.Texts.{writing, Pushes};
 ghost use Rattle.tick_drive.specs.Consumers.{MayTake, GivesSome};
 ghost use Rattle.space_replay.specs.SpacedLines.{spacing};
@@ -10,7 +9,6 @@ ghost use Rattle.space_replay.specs.SpacedTexts.{lost_line, lost_lines};
 
 use crate::spacers::LineSpacer;
 use burst_walk::RunBytes;
-use device_model::FrameAt;
 use device_replay::write_frame_line;
 use line_spacer::SpaceRun;
 use line_texts::{Texts, answer_run, push_run};
@@ -39,34 +37,38 @@ fn push_lost<O: Sink, L: Sink>(
     texts: &mut Texts,
     out: &mut O,
     log: &mut L,
-    frame: &FrameAt,
+    start: u64,
+    frame: &[u8],
     answer: TickRun<'_>,
 ) -> Result<(), Failed>
+    requires { length frame.now ≤ 292 }
     ensures { Pushes O.Sink L.Sink (writing texts.old out.old log.old)
-        (writing texts.new out.new log.new) (run_ticks answer.entry) (lost_line (read_at frame.now))
-        result }
+        (writing texts.new out.new log.new) (run_ticks answer.entry)
+        (lost_line (record { start = start; frame = frame.now })) result }
 {
     let mut line = Line::new();
-    write_frame_line(&mut line, b"lost at ", frame.start, frame.bytes.as_slice());
+    write_frame_line(&mut line, b"lost at ", start, frame);
     texts.push_noted(out, log, line.as_slice(), answer)
 }
 
-// Adds the ticks of a run, and before them the line of the frame that is lost in it.
+// Adds the ticks of a run, and before them the line of the frame that is lost in it, if one is.
 #[inline(always)]
 fn push_answer<O: Sink, L: Sink>(
     texts: &mut Texts,
     out: &mut O,
     log: &mut L,
-    lost: Option<FrameAt>,
+    lost: Option<u64>,
+    frame: &[u8],
     answer: TickRun<'_>,
 ) -> Result<(), Failed>
+    requires { length frame.now ≤ 292 }
     ensures { Pushes O.Sink L.Sink (writing texts.old out.old log.old)
-        (writing texts.new out.new log.new) (run_ticks answer.entry) (lost_lines (frames_of lost))
-        result }
+        (writing texts.new out.new log.new) (run_ticks answer.entry)
+        (lost_lines (frames_lent lost frame.now)) result }
 {
     match lost {
         None => push_run(texts, out, log, answer),
-        Some(frame) => push_lost(texts, out, log, &frame, answer),
+        Some(start) => push_lost(texts, out, log, start, frame, answer),
     }
 }
 
@@ -106,7 +108,8 @@ impl<'a, B: LineSpacer, O: Sink, L: Sink> SpacedLines<'a, B, O, L> {
         let front = run.front(most);
         let SpaceRun { taken, lost } = self.spacer.take_front(front, &mut left);
         let answer = answer_run(taken as u32, left.as_slice());
-        match push_answer(self.texts, self.out, self.log, lost, answer) {
+        let frame = self.spacer.frame_bytes();
+        match push_answer(self.texts, self.out, self.log, lost, frame, answer) {
             Ok(()) => Ok(taken),
             Err(Failed) => Err(Stop::WriteFault),
         }
@@ -142,8 +145,7 @@ impl<'a, B: LineSpacer, O: Sink, L: Sink> Consumer for SpacedLines<'a, B, O, L> 
 
     ghost meaning = { spacing B.LineSpacer O.Sink L.Sink };
 
-    // Either kind has a part of its own, so that the compiler drops the copies of a frame in each
-    // before it joins them.
+    // Either kind has a part of its own, so that each is compiled for its kind.
     #[inline(always)]
     fn take_some(&mut self, run: TickRun<'_>) -> Result<usize, Stop> {
         match run {

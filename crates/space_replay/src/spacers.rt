@@ -3,12 +3,12 @@ ghost use Rattle.yasir_ticks.specs.TickRun.{run_ticks};
 ghost use Rattle.yasir_ticks.specs.declared.TheConstants.{MAX_TICKS};
 ghost use Rattle.yasir_ticks.specs.declared.tick.Tick.{Tick};
 ghost use Rattle.burst_walk.specs.Answered.{answered};
-ghost use Rattle.device_model.specs.Frames.{FrameRead, frames_of};
+ghost use Rattle.device_model.specs.Frames.{FrameRead, frames_lent};
 ghost use Rattle.line_spacer.specs.Stands.{AnswersSpaced};
 ghost use Rattle.space_replay.specs.SpacedTexts.{most_waiting};
 
 use burst_walk::RunBytes;
-use device_model::Device;
+use device_model::LendingDevice;
 use line_spacer::{SpaceRun, Spacer};
 use std::alloc::Global;
 use yasir_io::NoMemory;
@@ -35,6 +35,9 @@ pub trait LineSpacer: Drop {
     /// How many ticks it has taken.
     ghost taken: { Self → ℕ };
 
+    /// The bytes that it lends: those of a frame that is lost, where the last call says so.
+    ghost lent: { Self → List ℕ };
+
     /// A spacer that has taken no tick. It takes its memory here, and none later.
     fn new(alloc: Global) -> Result<Self, NoMemory>
         requires { gap_fits }
@@ -55,11 +58,16 @@ pub trait LineSpacer: Drop {
         ensures answer { (line : List Tick) → stands self.old line
             → AnswersSpaced reads gap most_waiting line (take result.taken (run_ticks run.entry))
             (answered result.taken left.new.items) (length line + (result.taken - 1))
-            (frames_of result.lost) };
+            (frames_lent result.lost (lent self.new)) };
+
+    /// The bytes of the frame that was read in the last tick taken.
+    fn frame_bytes(&self) -> &[u8]
+        ensures bytes { result.now ≡ lent self.now }
+        ensures few { length result.now ≤ 292 };
 }
 
-impl<V: Device + Drop, const GAP: usize> LineSpacer for Spacer<V, GAP> {
-    ghost use Rattle.line_spacer.specs.Stands.{StandsFor, ticks_taken};
+impl<V: LendingDevice + Drop, const GAP: usize> LineSpacer for Spacer<V, GAP> {
+    ghost use Rattle.line_spacer.specs.Stands.{StandsFor, ticks_taken, bytes_lent};
 
     ghost reads = { V.reads };
 
@@ -71,6 +79,8 @@ impl<V: Device + Drop, const GAP: usize> LineSpacer for Spacer<V, GAP> {
 
     ghost taken = { ticks_taken V.Device };
 
+    ghost lent = { bytes_lent V.lent };
+
     fn new(alloc: Global) -> Result<Self, NoMemory> {
         Spacer::new(alloc, MOST_WAITING)
     }
@@ -78,5 +88,10 @@ impl<V: Device + Drop, const GAP: usize> LineSpacer for Spacer<V, GAP> {
     #[inline(always)]
     fn take_front(&mut self, run: TickRun<'_>, left: &mut RunBytes) -> SpaceRun {
         self.take_some(run, left)
+    }
+
+    #[inline(always)]
+    fn frame_bytes(&self) -> &[u8] {
+        Spacer::frame_bytes(self)
     }
 }

@@ -1,2 +1,2 @@
-mod Parting
+pub mod Parting
 mod Holding

@@ -5,7 +5,7 @@ mod listing;
 mod tick_lists;
 
 pub use listing::list_ticks;
-pub use tick_lists::TickLists;
+pub use tick_lists::{Place, TickLists};
 pub use yasir_io::NoMemory;
 
 #[cfg(test)]

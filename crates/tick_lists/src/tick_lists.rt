@@ -5,9 +5,9 @@ use tick_drive::{Consumer, Stop};
 use yasir_io::NoMemory;
 use yasir_ticks::{Tick, TickRun};
 
-/// Which list the next tick belongs to.
+/// Which recording the next tick belongs to.
 #[derive(Clone, Copy)]
-enum Place {
+pub enum Place {
     First,
     Second,
     Third,
@@ -18,8 +18,9 @@ impl Place {
     ghost use Rattle.std.specs.Prelude.{◌≡◌};
     ghost use Rattle.tick_lists.specs.Places.{place_behind};
 
-    // That behind a mark more.
-    fn behind(self) -> Place
+    /// That behind a mark more.
+    #[inline]
+    pub fn behind(self) -> Place
         ensures { result ≡ place_behind self }
     {
         match self {

@@ -1,5 +1,5 @@
 -- Slots in a file, old ones and new: where each stands, and how it is read and written there.
-use Rattle.std.specs.Prelude.{◌≡◌, ℕ, ◌-◌, ◌<◌, List, ◌++◌, length, replicate, Bool, true, false}
+use Rattle.std.specs.Prelude.{◌≡◌, ℕ, ◌+◌, ◌-◌, ◌<◌, List, ◌++◌, length, replicate, Bool, true, false}
 use Rattle.std.specs.Prelude.{Option, Some, None, IfSome, Result, IsErr, ⊤}
 use Rattle.std.specs.Io.KnownBytes.{Appends, Consumes, Keeps, IsAtEnd}
 use Rattle.std.specs.Fs.{new_options, with_read, with_write, with_create}
@@ -35,6 +35,10 @@ old_place B = 16
 abbrev pub slot_place : Slot → ℕ
 slot_place A = 32
 slot_place B = 56
+
+-- the place behind its last byte
+abbrev pub slot_end : Slot → ℕ
+slot_end slot = slot_place slot + SLOT_LEN
 
 -- how many bytes of the file slots have
 abbrev pub slots_end : ℕ

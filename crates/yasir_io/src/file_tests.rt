@@ -30,7 +30,10 @@ struct OneFile {
     calls: Cell<u32>,
     openings: Cell<u32>,
     syncs: Cell<u32>,
+    data_syncs: Cell<u32>,
     unsynced: Cell<bool>,
+    // Its length has grown since it was synced whole: a sync of its data alone leaves it unsynced.
+    longer: Cell<bool>,
 }
 
 impl OneFile {
@@ -62,7 +65,9 @@ fn file_of(len: usize, piece: usize, fail: u32) -> OneFile {
         calls: Cell::new(0),
         openings: Cell::new(0),
         syncs: Cell::new(0),
+        data_syncs: Cell::new(0),
         unsynced: Cell::new(true),
+        longer: Cell::new(true),
     }
 }
 
@@ -127,7 +132,10 @@ impl Opened<'_> {
         bytes[self.place..self.place + n].copy_from_slice(&buf[..n]);
         self.file.bytes.set(bytes);
         self.place += n;
-        self.file.len.set(self.file.len.get().max(self.place));
+        if self.file.len.get() < self.place {
+            self.file.len.set(self.place);
+            self.file.longer.set(true);
+        }
         self.file.unsynced.set(true);
         Ok(n)
     }
@@ -173,11 +181,16 @@ impl OpenFile for Opened<'_> {
         self.file.begin()?;
         self.file.syncs.set(self.file.syncs.get().saturating_add(1));
         self.file.unsynced.set(false);
+        self.file.longer.set(false);
         Ok(())
     }
 
     fn sync_data(&self) -> io::Result<()> {
-        Err(ErrorKind::Unsupported.into())
+        self.file.begin()?;
+        let count = self.file.data_syncs.get().saturating_add(1);
+        self.file.data_syncs.set(count);
+        self.file.unsynced.set(self.file.longer.get());
+        Ok(())
     }
 }
 
@@ -372,29 +385,46 @@ fn a_slot_is_written_whole_or_a_fault(rt: HostRuntime) -> Result<(), Fail> {
     Ok(())
 }
 
-// Slots one after the other.
-const NUMBERS: [(Slot, SlotBytes); 3] = [
-    (Slot::A, *b"the number one, and then"),
-    (Slot::B, *b"a number of three bytes."),
-    (Slot::A, *b"and the greatest of all."),
+// Slots one after the other, and how often the file has been synced whole, and its data alone,
+// behind each: the opening is synced whole, and the first write of a slot, which may make the file
+// longer.
+const NUMBERS: [(Slot, SlotBytes, u32, u32); 5] = [
+    (Slot::A, *b"the number one, and then", 2, 0),
+    (Slot::B, *b"a number of three bytes.", 3, 0),
+    (Slot::A, *b"and the greatest of all.", 3, 1),
+    (Slot::B, *b"one that is in its place", 3, 2),
+    (Slot::B, *b"and so is the last one..", 3, 3),
 ];
 
 #[test]
 fn each_write_is_synced_for_itself(rt: HostRuntime) -> Result<(), Fail> {
-    let file = file_of(80, 88, 0);
+    for len in [0, 56, 80] {
+        let file = file_of(len, 88, 0);
+        let folder = Folder(&file);
+        let mut disk = FileSlots::new(&folder, name(rt.alloc())?, SlotFile::Standing);
+        for (slot, bytes, syncs, data_syncs) in &NUMBERS {
+            assert_eq!(rt; disk.write_slot(*slot, bytes), Ok(()));
+            assert!(rt; file.unsynced.get());
+            assert_eq!(rt; disk.sync(), Ok(()));
+            assert!(rt; !file.unsynced.get());
+            assert_eq!(rt; file.syncs.get(), *syncs);
+            assert_eq!(rt; file.data_syncs.get(), *data_syncs);
+            assert_eq!(rt; disk.read_slot(*slot), Ok(*bytes));
+        }
+    }
+    Ok(())
+}
+
+// A sync that fails leaves the next one whole: the sixth call is the one behind the write.
+#[test]
+fn a_longer_file_is_synced_whole_in_the_end(rt: HostRuntime) -> Result<(), Fail> {
+    let file = file_of(32, 88, 6);
     let folder = Folder(&file);
     let mut disk = FileSlots::new(&folder, name(rt.alloc())?, SlotFile::Standing);
-    let mut syncs = 1u32;
-    for (slot, bytes) in &NUMBERS {
-        assert_eq!(rt; disk.write_slot(*slot, bytes), Ok(()));
-        assert!(rt; file.unsynced.get());
-        assert_eq!(rt; file.syncs.get(), syncs);
-        assert_eq!(rt; disk.sync(), Ok(()));
-        syncs = syncs.saturating_add(1);
-        assert!(rt; !file.unsynced.get());
-        assert_eq!(rt; file.syncs.get(), syncs);
-        assert_eq!(rt; disk.read_slot(*slot), Ok(*bytes));
-    }
+    assert_eq!(rt; disk.write_slot(Slot::B, &[99; 24]), Ok(()));
+    assert_eq!(rt; disk.sync(), Err(Failed));
+    assert_eq!(rt; disk.sync(), Ok(()));
+    assert!(rt; !file.unsynced.get());
     Ok(())
 }
 
@@ -421,7 +451,7 @@ fn one_disk_has_the_file(rt: HostRuntime) -> Result<(), Fail> {
 
 #[test]
 fn a_missing_file_is_made_where_it_is_said(rt: HostRuntime) -> Result<(), Fail> {
-    for (kind, made, syncs) in [(SlotFile::Standing, false, 0), (SlotFile::New, true, 2)] {
+    for (kind, made, syncs) in [(SlotFile::Standing, false, 0), (SlotFile::New, true, 1)] {
         let file = file_of(0, 88, 0);
         file.exists.set(false);
         let folder = Folder(&file);
@@ -429,6 +459,7 @@ fn a_missing_file_is_made_where_it_is_said(rt: HostRuntime) -> Result<(), Fail> 
         assert!(rt; disk.sync().is_ok() == made);
         assert!(rt; file.exists.get() == made);
         assert!(rt; file.syncs.get() == syncs);
+        assert!(rt; file.unsynced.get() != made);
     }
     Ok(())
 }

@@ -1,7 +1,7 @@
 //! Real files as a source and as a disk, opened at the first call. What stands in them isn't told;
 //! faults are counted.
 ghost use Rattle.std.specs.Prelude.{◌≡◌, ◌<◌, ◌≤◌, length, take, Some, None, IsSome, OnOk, OnErr};
-ghost use Rattle.std.specs.Prelude.{IfOk, IfSome, replicate};
+ghost use Rattle.std.specs.Prelude.{IfOk, IfSome, replicate, nat_lt};
 ghost use Rattle.std.specs.Io.{ReadsAtMost};
 ghost use Rattle.std.specs.Io.KnownBytes.{Appends, Consumes, IsAtEnd, ReadConsumes};
 ghost use Rattle.yasir_io.specs.Causes.{HasCause};
@@ -9,7 +9,7 @@ ghost use Rattle.yasir_io.specs.Edge.{file_of, file_path, file_options, file_fau
 ghost use Rattle.yasir_io.specs.Edge.{slots_file, slots_path, slots_kind, slots_options};
 ghost use Rattle.yasir_io.specs.Edge.{slots_faults};
 ghost use Rattle.yasir_io.specs.SlotFiles.{for_reading, for_slots, is_made, old_place, slot_place};
-ghost use Rattle.yasir_io.specs.SlotFiles.{OnOpen, slots_end};
+ghost use Rattle.yasir_io.specs.SlotFiles.{OnOpen, slot_end, slots_end};
 ghost use Rattle.yasir_io.specs.SlotFiles.{AnyStart, MovesTo, ReadsNext, ReadsAt, ReadsOld};
 ghost use Rattle.yasir_io.specs.SlotFiles.{ReadsSlot};
 ghost use Rattle.yasir_io.specs.SlotFiles.{WritesSlot, WritesFirst, WritesIn};
@@ -74,6 +74,7 @@ impl<'a, R: Files> LazyFile<'a, R> {
     }
 
     // Opens the file, unless it stands open.
+    #[inline(always)]
     fn open(&mut self) -> io::Result<()>
         ensures opened { OnOk result (IsSome self.new.file) }
         ensures closed { OnErr result (self.new.file ≡ self.old.file) }
@@ -148,16 +149,24 @@ where
         }
     }
 
-    fn sync(&mut self) -> io::Result<()>
+    fn sync(&mut self, whole: bool) -> io::Result<()>
         ensures file { OnOpen R.File.taken self.old.file self.new.file result (λ f g. g ≡ f) }
         ensures options { self.new.options ≡ self.old.options }
     {
         self.open_alone()?;
         match &self.file {
-            Some(file) => file.sync_all(),
+            Some(file) => sync_file(file, whole),
             None => Err(io::ErrorKind::NotFound.into()),
         }
     }
+}
+
+// By data, the times of a file need not be on the disk; what its bytes are read by always is.
+fn sync_file<F: OpenFile>(file: &F, whole: bool) -> io::Result<()> {
+    if whole {
+        return file.sync_all();
+    }
+    file.sync_data()
 }
 
 fn old_place_of(slot: Slot) -> u64
@@ -175,6 +184,58 @@ fn place_of(slot: Slot) -> u64
     match slot {
         Slot::A => 32,
         Slot::B => 56,
+    }
+}
+
+// The place behind a slot's last byte.
+fn end_of(slot: Slot) -> u64
+    ensures { result ≡ slot_end slot }
+{
+    match slot {
+        Slot::A => 56,
+        Slot::B => 80,
+    }
+}
+
+/// How far the writes of a disk reach into its file, and how far those did behind which the whole
+/// file was synced. A write that reaches no farther than these is in place: the file has had its
+/// bytes, and its length is on the disk.
+#[derive(Clone, Copy)]
+struct Reach {
+    written: u64,
+    synced: u64,
+}
+
+impl Reach {
+    fn none() -> Reach {
+        Reach {
+            written: 0,
+            synced: 0,
+        }
+    }
+
+    // A write to a slot begins.
+    fn write(&mut self, slot: Slot)
+        ensures reaches { slot_end slot ≤ self.new.written }
+        ensures grows { self.old.written ≤ self.new.written }
+        ensures same { self.new.synced ≡ self.old.synced }
+    {
+        self.written = self.written.max(end_of(slot));
+    }
+
+    // Whether a write may have made the file longer since.
+    fn is_longer(&self) -> bool
+        ensures { result ≡ nat_lt self.now.synced self.now.written }
+    {
+        self.synced < self.written
+    }
+
+    // The whole file was synced.
+    fn sync(&mut self)
+        ensures synced { self.new.synced ≡ self.old.written }
+        ensures same { self.new.written ≡ self.old.written }
+    {
+        self.synced = self.written;
     }
 }
 
@@ -327,6 +388,7 @@ impl<'a, R: Files> Source for FileSource<'a, R> {
 pub struct FileSlots<'a, R: Files> {
     file: LazyFile<'a, R>,
     kind: SlotFile,
+    reach: Reach,
     faults: Faults,
 }
 
@@ -347,6 +409,7 @@ where
         FileSlots {
             file: LazyFile::new(rt, path, options),
             kind,
+            reach: Reach::none(),
             faults: Faults::none(),
         }
     }
@@ -408,6 +471,7 @@ where
         ensures kind { OnErr result (slots_kind self.new ≡ slots_kind self.old) }
         ensures cause { HasCause (slots_faults self.old) (slots_faults self.new) result }
     {
+        self.reach.write(slot);
         match self.file.write_slot(self.kind, slot, bytes) {
             Ok(()) => {
                 self.kind = SlotFile::Standing;
@@ -417,6 +481,7 @@ where
         }
     }
 
+    /// The whole file where a write may have made it longer, and else what its bytes are read by.
     fn sync(&mut self) -> Result<(), Failed>
         ensures file { OnOpen R.File.taken (slots_file self.old) (slots_file self.new) result
             (λ f g. g ≡ f) }
@@ -424,8 +489,12 @@ where
         ensures kind { slots_kind self.new ≡ slots_kind self.old }
         ensures cause { HasCause (slots_faults self.old) (slots_faults self.new) result }
     {
-        match self.file.sync() {
-            Ok(()) => Ok(()),
+        let whole = self.reach.is_longer();
+        match self.file.sync(whole) {
+            Ok(()) => {
+                self.reach.sync();
+                Ok(())
+            }
             Err(_) => Err(self.faults.add()),
         }
     }

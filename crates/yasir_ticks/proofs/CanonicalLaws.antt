@@ -244,9 +244,3 @@ canonical_text-same a b are bre same =
     sym text_a.lines ∙ (ap (λ t. all_items (all_lines t)) same ∙ text_b.lines) in
     let one : map tick a ≡ map tick b = cc in
     sym (ticks_in-ticks a) ∙ (ap ticks_in one ∙ ticks_in-ticks b)
-
--- So a text that is the canonical one stands for the ticks.
-pub whole_text : (ticks : List Tick) (text : List ℕ) → text ≡ canonical_text ticks → AreTicks ticks
-    → IsTickText 0 text (map tick ticks)
-whole_text ticks text is are = let P : List ℕ → Type 0 = λ t. IsTickText 0 t (map tick ticks) in
-    subst P (sym is) (canonical_text-stands ticks are)

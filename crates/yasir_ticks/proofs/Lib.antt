@@ -16,6 +16,6 @@ pub mod RunFronts
 pub mod Worked
 pub mod TextLaws
 pub mod Writing
-pub mod Writers
+pub mod RightTicks
 pub mod CanonicalLaws
 pub mod TextTicks

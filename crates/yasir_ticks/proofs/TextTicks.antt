@@ -17,7 +17,7 @@ use Rattle.yasir_ticks.specs.declared.tick.Tick.TheVariants.{Silent, Byte}
 use Rattle.yasir_ticks.specs.declared.tick_run.TickRun.TheVariants.{Silence}
 use Rattle.yasir_ticks.proofs.Lines.{all_lines}
 use Rattle.yasir_ticks.proofs.TickRuns.{ticks_in-run}
-use Rattle.yasir_ticks.proofs.Writers.{are_silent}
+use Rattle.yasir_ticks.proofs.RightTicks.{are_silent}
 
 -- ---- items
 

@@ -8,7 +8,5 @@ pub mod CanonicalText
 pub mod Place
 pub mod Reader
 pub mod ReaderStep
-pub mod Line
-pub mod Writer
 pub mod Slices
 pub mod HexDigits

@@ -3,6 +3,7 @@
 
 mod fault;
 mod hex_digits;
+mod laws;
 mod place;
 mod reader;
 mod run;
@@ -12,17 +13,16 @@ mod tests;
 mod tick;
 mod tick_run;
 mod whole_lines;
-mod writer;
 
 pub use fault::{BadTicks, TickFault};
 pub use hex_digits::push_digits;
+pub use laws::canonical_text_stands_for_its_ticks;
 pub use place::Content;
 pub use reader::TickReader;
 pub use run::{LineBytes, Run};
 pub use tick::Tick;
 pub use tick_run::TickRun;
 pub use whole_lines::FedLine;
-pub use writer::{LineText, TickWriter};
 
 /// How many ticks may be taken at most by whatever counts its ticks: 2^62.
 pub const MAX_TICKS: u64 = 4_611_686_018_427_387_904;

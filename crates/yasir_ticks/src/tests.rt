@@ -1,4 +1,4 @@
-use crate::{BadTicks, Content, Run, Tick, TickFault, TickReader, TickRun, TickWriter};
+use crate::{BadTicks, Content, Run, Tick, TickFault, TickReader, TickRun};
 use std::alloc::Global;
 use std::process::Abort;
 use std::test::Fail;
@@ -190,67 +190,9 @@ fn reads_marks(rt: HostRuntime) -> Result<(), Fail> {
     Ok(())
 }
 
-/// Ticks as runs of the same tick, and their text.
-const WRITTEN: [(&[(Tick, u32)], &[u8]); 6] = [
-    (&[], b""),
-    (
-        &[(Tick::Byte(0xAB), 32)],
-        b"+abababababababababababababababababababababababababababababababab\n",
-    ),
-    (
-        &[(Tick::Byte(0xAB), 33)],
-        b"+abababababababababababababababababababababababababababababababab\n+ab\n",
-    ),
-    (&[(Tick::Silent, 1_000_000)], b"-1000000\n"),
-    (&[(Tick::Silent, 1_000_001)], b"-1000000\n-1\n"),
-    (
-        &[
-            (Tick::Silent, 3),
-            (Tick::Byte(15), 1),
-            (Tick::Silent, 20),
-            (Tick::Byte(0), 2),
-        ],
-        b"-3\n+0f\n-20\n+0000\n",
-    ),
-];
-
-/// All answers of a writer of these ticks, joined.
-fn write(alloc: Global, runs: &[(Tick, u32)]) -> Result<Vec<u8>, Fail> {
-    let mut writer = TickWriter::new();
-    let mut text = Vec::new(alloc);
-    for (tick, n) in runs {
-        for _ in 0..*n {
-            text.extend_from_slice(writer.push(*tick).as_slice())?;
-        }
-    }
-    text.extend_from_slice(writer.finish().as_slice())?;
-    Ok(text)
-}
-
-#[test]
-fn writes_full_lines(rt: HostRuntime) -> Result<(), Fail> {
-    for (runs, text) in &WRITTEN {
-        let written = write(rt.alloc(), runs)?;
-        assert_eq!(rt; written.as_slice(), *text);
-    }
-    Ok(())
-}
-
 /// The line of 32 bytes 7.
-const WRITTEN_SEVENS: [u8; 66] =
+const LINE_OF_SEVENS: [u8; 66] =
     *b"+0707070707070707070707070707070707070707070707070707070707070707\n";
-
-#[test]
-fn takes_runs(rt: HostRuntime) -> Result<(), Fail> {
-    let mut writer = TickWriter::new();
-    assert_eq!(rt; writer.extend_bytes(&[7; 40]), 31);
-    let line = writer.push(Tick::Byte(7));
-    assert_eq!(rt; line.as_slice(), WRITTEN_SEVENS.as_slice());
-    assert_eq!(rt; writer.extend_silence(5), 5);
-    assert_eq!(rt; writer.extend_bytes(&[7]), 0);
-    assert_eq!(rt; writer.finish().as_slice(), b"-5\n".as_slice());
-    Ok(())
-}
 
 /// Feeds a text in slices of so many bytes to a reader and ends it.
 fn read_slices(alloc: Global, marks: u8, text: &[u8], size: usize) -> Result<Seen, Fail> {
@@ -353,7 +295,7 @@ fn drawn_text(alloc: Global, length: usize, state: &mut u32) -> Result<Vec<u8>, 
     } else {
         b"\n"
     })?;
-    text.extend_from_slice(&WRITTEN_SEVENS)?;
+    text.extend_from_slice(&LINE_OF_SEVENS)?;
     text.extend_from_slice(b"-1000\n")?;
     Ok(text)
 }
@@ -374,7 +316,7 @@ fn reads_lines_as_bytes_at_each_length_and_cut(rt: HostRuntime) -> Result<(), Fa
 fn refuses_a_byte_at_each_place_of_a_line(rt: HostRuntime) -> Result<(), Fail> {
     for place in 1..66 {
         for byte in *b"/:@G`g\r\n\x00\xff" {
-            let mut text = WRITTEN_SEVENS;
+            let mut text = LINE_OF_SEVENS;
             text[place] = byte;
             read_both_ways(&rt, rt.alloc(), &text, 0)?;
         }

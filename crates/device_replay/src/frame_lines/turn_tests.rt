@@ -2,7 +2,7 @@
 ghost use Rattle.std.specs.Prelude.{[]};
 
 use super::FrameLines;
-use device_model::{Device, FrameAt, Heard};
+use device_model::{Device, FrameAt, LendingDevice, Met};
 use std::alloc::Global;
 use std::test::Fail;
 use tick_drive::{End, drive};
@@ -47,22 +47,36 @@ impl Device for Deaf {
         self.taken += 1;
         None
     }
+}
 
-    fn hear_some(&mut self, bytes: &[u8]) -> Heard {
+impl LendingDevice for Deaf {
+    ghost lent = { λ value. [] };
+
+    fn frame_bytes(&self) -> &[u8] {
+        &[]
+    }
+
+    fn step_on(&mut self, _t: Tick) -> Option<u64> {
+        self.calls.step = self.calls.step.saturating_add(1);
+        self.taken += 1;
+        None
+    }
+
+    fn hear_on(&mut self, bytes: &[u8]) -> Met {
         self.calls.bytes = self.calls.bytes.saturating_add(1);
         self.taken += bytes.len() as u64;
-        Heard {
+        Met {
             taken: bytes.len(),
-            frame: None,
+            start: None,
         }
     }
 
-    fn wait_some(&mut self, ticks: usize) -> Heard {
+    fn wait_on(&mut self, ticks: usize) -> Met {
         self.calls.silence = self.calls.silence.saturating_add(1);
         self.taken += ticks as u64;
-        Heard {
+        Met {
             taken: ticks,
-            frame: None,
+            start: None,
         }
     }
 }

@@ -16,10 +16,10 @@ use yasir_ticks::Tick;
 
 /// How often something took runs of bytes, runs of silence, and single ticks.
 #[derive(Clone, Copy, Debug, PartialEq, Eq)]
-struct Calls {
-    bytes: u32,
-    silence: u32,
-    step: u32,
+pub(crate) struct Calls {
+    pub(crate) bytes: u32,
+    pub(crate) silence: u32,
+    pub(crate) step: u32,
 }
 
 const NO_CALLS: Calls = Calls {
@@ -30,9 +30,9 @@ const NO_CALLS: Calls = Calls {
 
 /// A wire: it sends on what it takes, as it is, and counts the calls.
 #[derive(Drop)]
-struct Wire {
+pub(crate) struct Wire {
     taken: u64,
-    calls: Calls,
+    pub(crate) calls: Calls,
 }
 
 impl FrameBox for Wire {
@@ -90,9 +90,9 @@ impl FrameBox for Wire {
 
 /// A device that reads no frame, and counts the calls.
 #[derive(Drop)]
-struct Deaf {
+pub(crate) struct Deaf {
     taken: u64,
-    calls: Calls,
+    pub(crate) calls: Calls,
 }
 
 impl Device for Deaf {

@@ -12,13 +12,13 @@ use Rattle.link_replay.proofs.program.run.Goals as goal
 pub returns-clause-usage : goal.returns-clause-usage
 returns-clause-usage g c = (
   λ is. subst (Asks (map string_bytes c.args.words.now)) (c.answer-status.ensures.usage.0 is)
-      c.asked_by-asked.ensures,
-  λ none. c.answer-status.ensures.usage.1 (asks-one _ _ _ c.asked_by-asked.ensures none),
+      c.asked_by-asked.ensures.asks,
+  λ none. c.answer-status.ensures.usage.1 (asks-one _ _ _ c.asked_by-asked.ensures.asks none),
 )
 
 pub returns-clause-runs : goal.returns-clause-runs
 returns-clause-runs g c = λ asked asks.
-    let same = asks-one _ _ _ c.asked_by-asked.ensures asks in
+    let same = asks-one _ _ _ c.asked_by-asked.ensures.asks asks in
     let before = outside c.args.key.now c.args.input.now c.args.out.now c.args.log.now
     c.args.disk.now in
     let ends = c.answer-status.new.ends in
@@ -34,11 +34,11 @@ returns-clause-runs g c = λ asked asks.
 pub returns-clause-any_moment : goal.returns-clause-any_moment
 returns-clause-any_moment g c = λ asked asks.
     subst (λ a. KeepsDisk g.D.SlotDisk a c.args.disk.now c.answer-status.new.ends.1.1.1.1.0)
-    (asks-one _ _ _ c.asked_by-asked.ensures asks) c.answer-status.ensures.any_moment
+    (asks-one _ _ _ c.asked_by-asked.ensures.asks asks) c.answer-status.ensures.any_moment
 
 pub returns-clause-causes : goal.returns-clause-causes
 returns-clause-causes g c = λ asked asks.
-    let same = asks-one _ _ _ c.asked_by-asked.ensures asks in
+    let same = asks-one _ _ _ c.asked_by-asked.ensures.asks asks in
     let before = outside c.args.key.now c.args.input.now c.args.out.now c.args.log.now
     c.args.disk.now in
     let ends = c.answer-status.new.ends in
@@ -52,7 +52,7 @@ returns-clause-causes g c = λ asked asks.
 
 pub returns-clause-done : goal.returns-clause-done
 returns-clause-done g c = λ asked asks may calm.
-    let same = asks-one _ _ _ c.asked_by-asked.ensures asks in
+    let same = asks-one _ _ _ c.asked_by-asked.ensures.asks asks in
     let before = outside c.args.key.now c.args.input.now c.args.out.now c.args.log.now
     c.args.disk.now in
     let ends = c.answer-status.new.ends in

@@ -1,13 +1,9 @@
-use Rattle.std.proofs.Common.{◌∙◌, sym}
-use Rattle.link_replay.proofs.Numbers.{not-refused, not-another}
+use Rattle.std.proofs.Common.{◌∙◌, arith, sym}
+use Rattle.link_replay.proofs.Asking.{spelled-one}
 use Rattle.link_replay.proofs.words.read_number.Goals as goal
 
-pub returns-in_default-clause-usage : goal.returns-in_default-clause-usage
-returns-in_default-clause-usage c = λ n few spelled.
-    not-refused c.args.word.now c.parse.result n few spelled c.parse.ensures.value.0
-    c.in_default.field-0 c.in_default.is
-
-pub returns-else-eq-clause-usage : goal.returns-else-eq-clause-usage
-returns-else-eq-clause-usage c = λ n few spelled.
-    not-another c.args.word.now c.parse.result n few spelled c.parse.ensures.value.0 c.in-Ok.n
-    c.format.result.now c.in-Ok.is c.format.ensures.text (sym c.eq.ensures ∙ c.if-eq.false)
+pub returns-then-n-gt-MOST_OF_32_BITS-clause-usage : goal.returns-then-n-gt-MOST_OF_32_BITS-clause-usage
+returns-then-n-gt-MOST_OF_32_BITS-clause-usage c = λ m few spelled.
+    let same = spelled-one m c.in_ok-n.n (omega (arith, few)) c.in_ok-n.ensures.wide
+    (sym spelled ∙ c.in_ok-n.ensures.ok) in
+    omega (arith, same, few, c.if-n-gt-MOST_OF_32_BITS.true)

@@ -88,3 +88,55 @@ returns-in-len5-clause-usage c =
     c.as_str-in-len5-4.ensures.value c.as_str-in-len5-5.ensures.value in
     subst (λ l. OnErr c.read_five.result ((command : Command) → IsCommand l command → ⊥))
     (sym words) c.read_five.ensures.usage
+
+-- a list of six by its items
+six : {X : Type 0} (f : X → List ℕ) (xs : List X) (a b c d e g : X) (p q r s t u : List ℕ)
+    → 6 ≤ length xs → length xs < 7
+    → a ≡ get_or xs 0 a → b ≡ get_or xs 1 b → c ≡ get_or xs 2 c → d ≡ get_or xs 3 d
+    → e ≡ get_or xs 4 e → g ≡ get_or xs 5 g
+    → p ≡ f a → q ≡ f b → r ≡ f c → s ≡ f d → t ≡ f e → u ≡ f g
+    → map f xs ≡ p ∷ q ∷ r ∷ s ∷ t ∷ u ∷ []
+six f [] a b c d e g p q r s t u least below ai bi ci di ei gi pi qi ri si ti ui =
+    absurd (omega arith)
+six f (v ∷ []) a b c d e g p q r s t u least below ai bi ci di ei gi pi qi ri si ti ui =
+    absurd (omega arith)
+six f (v ∷ w ∷ []) a b c d e g p q r s t u least below ai bi ci di ei gi pi qi ri si ti ui =
+    absurd (omega arith)
+six f (v ∷ w ∷ x ∷ []) a b c d e g p q r s t u least below ai bi ci di ei gi pi qi ri si ti ui =
+    absurd (omega arith)
+six f (v ∷ w ∷ x ∷ y ∷ []) a b c d e g p q r s t u least below ai bi ci di ei gi pi qi ri si ti
+    ui = absurd (omega arith)
+six f (v ∷ w ∷ x ∷ y ∷ z ∷ []) a b c d e g p q r s t u least below ai bi ci di ei gi pi qi ri si
+    ti ui = absurd (omega arith)
+six f (v ∷ w ∷ x ∷ y ∷ z ∷ m ∷ []) a b c d e g p q r s t u least below ai bi ci di ei gi pi qi ri
+    si ti ui = cc
+six f (v ∷ w ∷ x ∷ y ∷ z ∷ m ∷ n ∷ xs) a b c d e g p q r s t u least below ai bi ci di ei gi pi qi
+    ri si ti ui = absurd (omega arith)
+
+pub returns-in-len6-clause-ok : goal.returns-in-len6-clause-ok
+returns-in-len6-clause-ok c =
+    let words = six string_bytes c.args.words.now c.first-item-then-words-lt7.result
+    c.second-item-then-words-lt7.result c.third-item-then-words-lt7.result
+    c.key-item-then-words-lt7.result c.sent-item.result c.got-item.result _ _ _ _ _ _
+    c.in-len6.len_at_least c.in-len6.len_below
+    c.first-item-then-words-lt7.is c.second-item-then-words-lt7.is
+    c.third-item-then-words-lt7.is c.key-item-then-words-lt7.is c.sent-item.is c.got-item.is
+    c.as_str-in-len6.ensures.value c.as_str-in-len6-2.ensures.value
+    c.as_str-in-len6-3.ensures.value c.as_str-in-len6-4.ensures.value
+    c.as_str-in-len6-5.ensures.value c.as_str-in-len6-6.ensures.value in
+    subst (λ l. IfOk c.read_six.result (λ command. IsCommand l command)) (sym words)
+    c.read_six.ensures.ok
+
+pub returns-in-len6-clause-usage : goal.returns-in-len6-clause-usage
+returns-in-len6-clause-usage c =
+    let words = six string_bytes c.args.words.now c.first-item-then-words-lt7.result
+    c.second-item-then-words-lt7.result c.third-item-then-words-lt7.result
+    c.key-item-then-words-lt7.result c.sent-item.result c.got-item.result _ _ _ _ _ _
+    c.in-len6.len_at_least c.in-len6.len_below
+    c.first-item-then-words-lt7.is c.second-item-then-words-lt7.is
+    c.third-item-then-words-lt7.is c.key-item-then-words-lt7.is c.sent-item.is c.got-item.is
+    c.as_str-in-len6.ensures.value c.as_str-in-len6-2.ensures.value
+    c.as_str-in-len6-3.ensures.value c.as_str-in-len6-4.ensures.value
+    c.as_str-in-len6-5.ensures.value c.as_str-in-len6-6.ensures.value in
+    subst (λ l. OnErr c.read_six.result ((command : Command) → IsCommand l command → ⊥))
+    (sym words) c.read_six.ensures.usage

@@ -4,7 +4,8 @@ use Rattle.replay_status.proofs.FlushLaws.{flushes_of_whole}
 use Rattle.replay_status.proofs.EndCauses.{input_cause_of_whole}
 use Rattle.recordings_replay.specs.Listing.{listing_with, listing_text}
 use Rattle.recordings_replay.specs.Printing.{PrintsText}
-use Rattle.recordings_replay.specs.Recorded.{device_line, link_ticks}
+use Rattle.recordings_replay.specs.Recorded.{device_line, lines_of, link_ticks}
+use Rattle.replay_lists.specs.Listed.{link_rest}
 use Rattle.recordings_replay.proofs.Recording.{recorded-prints}
 use Rattle.recordings_replay.proofs.command.replay_keyed.Goals as goal
 
@@ -17,7 +18,7 @@ returns-clause-prints g c =
     let link = link_ticks takes.told in
     let listed = both.listed setup c.new-lists.ensures.listed in
     let listing = listing_with g.S.FrameBox g.C.FrameBox g.V.Device c.args.dir c.args.key.now in
-    recorded-prints listing c.args.device_rest (g.I.Source.left c.args.ends.input.now)
+    recorded-prints 1 link_rest (lines_of listing c.args.device_rest) (g.I.Source.left c.args.ends.input.now)
     (g.I.Source.left c.list_recordings-end.new.input) (g.O.Sink.held c.args.ends.out.now)
     (g.O.Sink.held c.print_listing.new.out) takes.told
     (record { text = takes.text; met = takes.met; right = takes.right; few = takes.few })

@@ -1,4 +1,4 @@
-use Rattle.device_model.specs.Frames.{frames_of}
+use Rattle.device_model.specs.Frames.{frames_lent}
 use Rattle.device_model.proofs.HuntFamilyLaws.{hears}
 use Rattle.device_model.proofs.hunting_family.HuntingFamily.hear.Goals as goal
 
@@ -6,12 +6,12 @@ pub returns-clause-stands : goal.returns-clause-stands
 returns-clause-stands g c = λ cut line heard.
     (hears g.R.LineRules g.R.Hunted.FIRST g.R.Hunted.SECOND cut c.args.self.now
     (record { device = c.hear.new.self; silence = c.end.new.self }) line heard c.end.ensures.cut
-    c.hear.ensures.ticks c.args.byte (frames_of c.hear.result) c.end.ensures.quiet
+    c.hear.ensures.ticks c.args.byte (frames_lent c.hear.result c.hear.new.self.frame.items) c.end.ensures.quiet
     c.hear.ensures.hears c.hear.ensures.reads).stands
 
 pub returns-clause-answer : goal.returns-clause-answer
 returns-clause-answer g c = λ cut line heard.
     (hears g.R.LineRules g.R.Hunted.FIRST g.R.Hunted.SECOND cut c.args.self.now
     (record { device = c.hear.new.self; silence = c.end.new.self }) line heard c.end.ensures.cut
-    c.hear.ensures.ticks c.args.byte (frames_of c.hear.result) c.end.ensures.quiet
+    c.hear.ensures.ticks c.args.byte (frames_lent c.hear.result c.hear.new.self.frame.items) c.end.ensures.quiet
     c.hear.ensures.hears c.hear.ensures.reads).is

@@ -1,23 +1,23 @@
-use Rattle.std.proofs.Common.{◌∙◌, ◌+◌, sym, ap, refl}
-use Rattle.device_model.specs.Frames.{frames_of}
+use Rattle.std.proofs.Common.{◌∙◌, ◌+◌, sym, refl}
+use Rattle.device_model.specs.Frames.{frames_lent}
 use Rattle.device_model.proofs.RtuFamilyLaws.{waits_on, ends}
 use Rattle.device_model.proofs.rtu_family.RtuFamily.wait.Goals as goal
 
 pub returns-then-wait-clause-stands : goal.returns-then-wait-clause-stands
 returns-then-wait-clause-stands c = λ cut gap line heard.
-    (ends cut gap c.args.self.now c.close.new.self line heard
-    (ap (λ s. s.cut) c.close.ensures.silence ∙ c.wait.ensures.cut) c.close.ensures.gap
-    c.close.ensures.ticks (ap (λ s. s.quiet) c.close.ensures.silence ∙ c.wait.ensures.quiet)
-    (sym c.wait.ensures.parts ∙ c.if-wait.true) (frames_of c.close.result)
-    c.close.ensures.frame).stands
+    (ends cut gap c.args.self.now
+    (record c.args.self.now { silence = c.wait.new.self; ticks = c.args.self.now.ticks + 1 }) line
+    heard c.wait.ensures.cut refl refl c.wait.ensures.quiet
+    (sym c.wait.ensures.parts ∙ c.if-wait.true)
+    (frames_lent c.close.result c.args.self.now.bytes.items) c.close.ensures).stands
 
 pub returns-then-wait-clause-answer : goal.returns-then-wait-clause-answer
 returns-then-wait-clause-answer c = λ cut gap line heard.
-    (ends cut gap c.args.self.now c.close.new.self line heard
-    (ap (λ s. s.cut) c.close.ensures.silence ∙ c.wait.ensures.cut) c.close.ensures.gap
-    c.close.ensures.ticks (ap (λ s. s.quiet) c.close.ensures.silence ∙ c.wait.ensures.quiet)
-    (sym c.wait.ensures.parts ∙ c.if-wait.true) (frames_of c.close.result)
-    c.close.ensures.frame).is
+    (ends cut gap c.args.self.now
+    (record c.args.self.now { silence = c.wait.new.self; ticks = c.args.self.now.ticks + 1 }) line
+    heard c.wait.ensures.cut refl refl c.wait.ensures.quiet
+    (sym c.wait.ensures.parts ∙ c.if-wait.true)
+    (frames_lent c.close.result c.args.self.now.bytes.items) c.close.ensures).is
 
 pub returns-clause-stands : goal.returns-clause-stands
 returns-clause-stands c = λ cut gap line heard.

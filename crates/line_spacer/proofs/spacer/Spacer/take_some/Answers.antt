@@ -4,7 +4,7 @@ use Rattle.std.proofs.lemmas.List.{length-take, length-take-le, take-take}
 use Rattle.yasir_ticks.specs.TickRun.{run_ticks}
 use Rattle.yasir_ticks.specs.declared.tick.Tick.{Tick}
 use Rattle.burst_walk.specs.Answered.{answered}
-use Rattle.device_model.specs.Frames.{frames_of}
+use Rattle.device_model.specs.Frames.{frames_lent}
 use Rattle.line_spacer.specs.Spacing.{spaced, accepted_of}
 use Rattle.line_spacer.specs.Stands.{StandsFor, AnswersSpaced, frames_in}
 use Rattle.line_spacer.proofs.Runs.{IsQuiet, run-before, run-sent, run-answers}
@@ -15,7 +15,7 @@ returns-clause-stands g c = λ cap line stands.
     let reads = g.V.Device.reads in
     let gap = g.row.GAP in
     let sent = c.send_some.new.self in
-    let heard = c.hear_run-taken in
+    let heard = c.hear_run_on-taken in
     let all = run_ticks c.args.run in
     let most = c.min-most.result in
     let n = heard.result.taken in
@@ -36,10 +36,12 @@ returns-clause-stands g c = λ cap line stands.
     ap (λ y. reads (line ++ y)) (take-take k n part fewer)
     ∙ heard.ensures.before k before_end line stands.heard in
     let same : x ≡ take n all = ap (take n) c.front-front.ensures ∙ take-take n most all few in
-    let is = heard.ensures.answer line stands.heard in
+    let is = heard.ensures.answer line stands.heard
+    ∙ ap (λ d. reads line ++ frames_lent heard.result.start (g.V.LendingDevice.lent d))
+    (sym c.send_some.ensures.device) in
     let answer : List Tick = answered n c.send_some.new.left.items in
     let as_long : length answer ≡ length x = c.send_some.ensures.long ∙ sym long in
-    let frames = frames_of heard.result.frame in
+    let frames = frames_lent heard.result.start (g.V.LendingDevice.lent sent.device) in
     let fits = c.send_some.ensures.room ∙ stands.room in
     let accepted = accepted_of reads gap cap line in
     let run = c.send_some.ensures.sends (length line) accepted stands.sent in
@@ -63,7 +65,7 @@ returns-clause-answer g c = λ cap line stands.
     let reads = g.V.Device.reads in
     let gap = g.row.GAP in
     let sent = c.send_some.new.self in
-    let heard = c.hear_run-taken in
+    let heard = c.hear_run_on-taken in
     let all = run_ticks c.args.run in
     let most = c.min-most.result in
     let n = heard.result.taken in
@@ -84,17 +86,19 @@ returns-clause-answer g c = λ cap line stands.
     ap (λ y. reads (line ++ y)) (take-take k n part fewer)
     ∙ heard.ensures.before k before_end line stands.heard in
     let same : x ≡ take n all = ap (take n) c.front-front.ensures ∙ take-take n most all few in
-    let is = heard.ensures.answer line stands.heard in
+    let is = heard.ensures.answer line stands.heard
+    ∙ ap (λ d. reads line ++ frames_lent heard.result.start (g.V.LendingDevice.lent d))
+    (sym c.send_some.ensures.device) in
     let answer : List Tick = answered n c.send_some.new.left.items in
     let as_long : length answer ≡ length x = c.send_some.ensures.long ∙ sym long in
-    let frames = frames_of heard.result.frame in
+    let frames = frames_lent heard.result.start (g.V.LendingDevice.lent sent.device) in
     let fits = c.send_some.ensures.room ∙ stands.room in
     let accepted = accepted_of reads gap cap line in
     let run = c.send_some.ensures.sends (length line) accepted stands.sent in
     let before = run-before reads gap cap sent.queue.capacity fits line x frames some quiet is
     accepted (drop sent.sent sent.sending.items) sent.rest (frames_in sent.queue.items) answer
     as_long run.sent in
-    let lost = frames_of c.keep-lost.result in
+    let lost = frames_lent c.keep-lost.result (g.V.LendingDevice.lent c.keep-lost.new.self.device) in
     let answers = run-answers reads gap cap sent.queue.capacity fits line x frames some quiet is
     answer lost as_long run.leave
     (c.keep-lost.ensures.takes (length line + (length x - 1)) (spaced reads gap cap line) before) in

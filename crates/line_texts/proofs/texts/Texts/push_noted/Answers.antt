@@ -1,4 +1,3 @@
-use Rattle.std.proofs.Common.{refl}
 use Rattle.yasir_io.specs.TextBuffer.{waiting_bytes}
 use Rattle.yasir_io.proofs.OutputLemmas.{nothing_written}
 use Rattle.line_texts.specs.Texts.{writing}

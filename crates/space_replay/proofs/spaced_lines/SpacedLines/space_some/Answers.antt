@@ -1,10 +1,10 @@
-use Rattle.std.proofs.Common.{◌≡◌, ◌∙◌, ◌+◌, ◌-◌, ◌<◌, ◌≤◌, ◌++◌, length, take, Ok, Err, refl, ap, subst}
+use Rattle.std.proofs.Common.{◌≡◌, ◌∙◌, ◌+◌, ◌-◌, ◌<◌, ◌≤◌, ◌++◌, length, take, Ok, Err, refl, ap, subst, sym}
 use Rattle.std.proofs.Common.{arith}
 use Rattle.std.proofs.lemmas.List.{take-take, length-take}
 use Rattle.yasir_ticks.specs.TickRun.{run_ticks}
 use Rattle.yasir_ticks.proofs.TickRuns.{ticks_in-run}
 use Rattle.burst_walk.specs.Answered.{answered}
-use Rattle.device_model.specs.Frames.{frames_of}
+use Rattle.device_model.specs.Frames.{frames_lent}
 use Rattle.line_spacer.specs.Stands.{AnswersSpaced}
 use Rattle.line_texts.specs.Texts.{writing, Pushes}
 use Rattle.space_replay.specs.SpacedLines.{writing_behind}
@@ -26,7 +26,7 @@ returns-in-Ok g c =
     let heard = c.take_front-taken in
     let n = heard.result.taken in
     let left = heard.new.left.items in
-    let lost = frames_of heard.result.lost in
+    let lost = frames_lent heard.result.lost c.frame_bytes-frame.result.now in
     let reads = g.B.LineSpacer.reads in
     let gap = g.B.LineSpacer.gap in
     let all = run_ticks c.args.run in
@@ -48,7 +48,10 @@ returns-in-Ok g c =
     (λ line before. spacing_noted reads gap line (take n all) (answered n left)
     (length line + (n - 1)) lost
     (subst (λ x. AnswersSpaced reads gap most_waiting line x (answered n left)
-    (length line + (n - 1)) lost) first (heard.ensures.answer line before)))
+    (length line + (n - 1)) lost) first
+    (subst (λ x. AnswersSpaced reads gap most_waiting line (take n part) (answered n left)
+    (length line + (n - 1)) (frames_lent heard.result.lost x)) (sym c.frame_bytes-frame.ensures.bytes)
+    (heard.ensures.answer line before))))
     (subst (λ x. Pushes g.O.Sink g.L.Sink (writing_behind c.args.self.now)
     (writing c.push_answer.new.texts c.push_answer.new.out c.push_answer.new.log) x
     (lost_lines lost) (Ok tt)) same c.in-Ok.ensures) (record {
@@ -71,7 +74,7 @@ returns-in-Err g c =
     let heard = c.take_front-taken in
     let n = heard.result.taken in
     let left = heard.new.left.items in
-    let lost = frames_of heard.result.lost in
+    let lost = frames_lent heard.result.lost c.frame_bytes-frame.result.now in
     let reads = g.B.LineSpacer.reads in
     let gap = g.B.LineSpacer.gap in
     let all = run_ticks c.args.run in
@@ -93,7 +96,10 @@ returns-in-Err g c =
     (λ line before. spacing_noted reads gap line (take n all) (answered n left)
     (length line + (n - 1)) lost
     (subst (λ x. AnswersSpaced reads gap most_waiting line x (answered n left)
-    (length line + (n - 1)) lost) first (heard.ensures.answer line before)))
+    (length line + (n - 1)) lost) first
+    (subst (λ x. AnswersSpaced reads gap most_waiting line (take n part) (answered n left)
+    (length line + (n - 1)) (frames_lent heard.result.lost x)) (sym c.frame_bytes-frame.ensures.bytes)
+    (heard.ensures.answer line before))))
     c.in-Err.field-0
     (subst (λ x. Pushes g.O.Sink g.L.Sink (writing_behind c.args.self.now)
     (writing c.push_answer.new.texts c.push_answer.new.out c.push_answer.new.log) x

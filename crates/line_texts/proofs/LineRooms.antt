@@ -1,0 +1,55 @@
+-- Pieces of lines behind those that wait.
+use Rattle.std.proofs.Common.{◌≡◌, ◌∙◌, ℕ, zero, suc, ◌+◌, ◌*◌, ◌<◌, ◌≤◌, ◌/◌, ◌%◌, List, [], ◌∷◌, ◌++◌}
+use Rattle.std.proofs.Common.{length, take, get_or, refl, sym, ap, arith, append_assoc}
+use Rattle.std.proofs.Math.Seq.{take-append-add}
+use Rattle.std.proofs.lemmas.Fmt.{decimal_digit, decimal_step}
+use Rattle.std.proofs.lemmas.List.{take-append-le, take-take, length-take-le}
+use Rattle.std.specs.Fmt.{decimal}
+use Rattle.hex.specs.Hex.{encode_lower, encode_with, lower_digits}
+use Rattle.yasir_ticks.specs.CanonicalText.{byte_line}
+use Rattle.yasir_ticks.specs.Characters.{plus_sign, line_feed}
+
+-- the first bytes of a piece that was written behind the first ones of a room
+pub front_held : (len n whole : ℕ) (room piece part behind rest items : List ℕ)
+    → part ≡ take (len + whole) room → len + whole ≤ length room → n ≤ length piece
+    → items ≡ take len room
+    → take (len + n) ((take len part ++ (piece ++ behind)) ++ rest) ≡ items ++ take n piece
+front_held len n whole room piece part behind rest items is fits few held =
+    let same : take len part ≡ items =
+    ap (take len) is ∙ take-take len (len + whole) room (omega arith) ∙ sym held in
+    let long : length items ≡ len =
+    ap length held ∙ length-take-le len room (omega arith) in
+    let more = (piece ++ behind) ++ rest in
+    ap (λ front. take (len + n) ((front ++ (piece ++ behind)) ++ rest)) same
+    ∙ ap (take (len + n)) (append_assoc items (piece ++ behind) rest)
+    ∙ ap (λ k. take (k + n) (items ++ more)) (sym long)
+    ∙ take-append-add items more n
+    ∙ ap (λ l. items ++ take n l) (append_assoc piece behind rest)
+    ∙ ap (λ l. items ++ l) (take-append-le n piece (behind ++ rest) few)
+
+-- the digits of the first bytes
+encode-take : (t x : List ℕ) (n : ℕ) → take (2 * n) (encode_with t x) ≡ encode_with t (take n x)
+unfolding encode_with
+encode-take t x zero = refl
+encode-take t [] (suc n) = let e : 2 * suc n ≡ suc (suc (2 * n)) = omega arith in rw e refl
+encode-take t (b ∷ x) (suc n) =
+    let e : 2 * suc n ≡ suc (suc (2 * n)) = omega arith in
+    ap (λ k. take k (encode_with t (b ∷ x))) e
+    ∙ ap (λ l. get_or t (b / 16) 0 ∷ get_or t (b % 16) 0 ∷ l) (encode-take t x n)
+
+-- the same between a sign and a line feed
+pub byte_line_held : (n : ℕ) (before bytes line digits a b c : List ℕ) → line ≡ []
+    → digits ≡ line ++ encode_lower bytes
+    → a ≡ before ++ plus_sign ∷ [] → b ≡ a ++ take (2 * n) digits → c ≡ b ++ line_feed ∷ []
+    → c ≡ before ++ byte_line (take n bytes)
+byte_line_held n before bytes line digits a b c none is first second third =
+    third ∙ ap (λ l. l ++ line_feed ∷ []) (second ∙ ap (λ l. l ++ take (2 * n) digits) first
+    ∙ append_assoc before (plus_sign ∷ []) (take (2 * n) digits))
+    ∙ append_assoc before (plus_sign ∷ take (2 * n) digits) (line_feed ∷ [])
+    ∙ ap (λ l. before ++ plus_sign ∷ (l ++ line_feed ∷ []))
+    (ap (take (2 * n)) (is ∙ ap (λ l. l ++ encode_lower bytes) none)
+    ∙ encode-take lower_digits bytes n)
+
+pub two_digits : (n : ℕ) → 10 ≤ n → n < 100 → decimal n ≡ (48 + n / 10) ∷ (48 + n % 10) ∷ []
+two_digits n some few = decimal_step n some (omega arith)
+    ∙ ap (λ l. l ++ (48 + n % 10) ∷ []) (decimal_digit (n / 10) (omega arith))

@@ -1,0 +1,176 @@
+//! Lines of tick text in a fixed room.
+ghost use Rattle.std.specs.Prelude.{◌≡◌, ◌+◌, ◌*◌, ◌≤◌, [], ◌++◌, length, take, true};
+ghost use Rattle.yasir_ticks.specs.CanonicalText.{byte_line, silence_line};
+
+use arrayvec::ArrayVec;
+use itoa::Buffer;
+use std::marker::Model;
+use yasir_io::{Failed, Sink, write_all};
+use yasir_ticks::push_digits;
+
+/// The most bytes of text that wait.
+const ROOM: usize = 65_536;
+
+/// The most bytes that a line of tick text has.
+const LONGEST_LINE: usize = 66;
+
+/// Lines of tick text on their way to a sink, written where they wait: up to 65,536 bytes. Those
+/// that are let go stay where they lie, so that to empty it costs nothing.
+#[derive(Drop)]
+pub struct LineRoom {
+    bytes: [u8; 65536],
+    len: usize,
+}
+
+impl Model for LineRoom {
+    ghost use Rattle.std.specs.Prelude.{◌≤◌, take};
+    ghost use Rattle.yasir_io.specs.TextRoom.{Held};
+
+    ghost Value = { Held };
+
+    ghost view = { λ v. record { items = take v.len v.bytes } };
+
+    ghost invariant = { λ v. v.len ≤ 65536 };
+}
+
+impl LineRoom {
+    ghost use Rattle.std.specs.Prelude.{Option, ℕ, List, OnOk, OnErr};
+    ghost use Rattle.yasir_io.specs.Causes.{HasCause};
+    ghost use Rattle.yasir_io.specs.Output.{Buffered, GotPrefix};
+
+    /// No text yet.
+    pub(crate) fn new() -> LineRoom
+        ensures { result.items ≡ [] }
+    {
+        LineRoom {
+            bytes: Default::default(),
+            len: 0,
+        }
+    }
+
+    /// The text that waits.
+    #[inline]
+    fn as_slice(&self) -> &[u8]
+        ensures { result.now ≡ self.now.items }
+    {
+        &self.bytes[..self.len]
+    }
+
+    /// Whether there is room for any line.
+    #[inline]
+    pub(crate) fn takes_a_line(&self) -> bool
+        ensures { result ≡ true → length self.now.items + 66 ≤ 65536 }
+    {
+        self.len <= ROOM - LONGEST_LINE
+    }
+
+    // Appends the first bytes of a piece, so many. All of it is copied: that takes no loop.
+    #[inline(always)]
+    fn extend_front<const N: usize>(&mut self, piece: &[u8; N], count: usize)
+        requires within { count ≤ N }
+        requires room { length self.old.items + N ≤ 65536 }
+        ensures { self.new.items ≡ self.old.items ++ take count piece.now }
+    {
+        let len = self.len;
+        self.bytes[..len + N][len..].copy_from_slice(piece);
+        self.len = len + count;
+    }
+
+    // Appends a piece.
+    fn extend(&mut self, piece: &[u8])
+        requires { length self.old.items + length piece.now ≤ 65536 }
+        ensures { self.new.items ≡ self.old.items ++ piece.now }
+    {
+        let len = self.len;
+        let after = len + piece.len();
+        self.bytes[..after][len..].copy_from_slice(piece);
+        self.len = after;
+    }
+
+    /// Appends the line `+` of the first of these bytes, so many.
+    #[inline(always)]
+    pub(crate) fn push_byte_line(&mut self, bytes: &[u8; 32], count: usize)
+        requires within { count ≤ 32 }
+        requires room { length self.old.items + 66 ≤ 65536 }
+        ensures { self.new.items ≡ self.old.items ++ byte_line (take count bytes.now) }
+    {
+        let mut digits = ArrayVec::<u8, 64>::new();
+        push_digits(&mut digits, bytes);
+        let digits = digits.into_inner().unwrap();
+        self.extend_front(b"+", 1);
+        self.extend_front(&digits, 2 * count);
+        self.extend_front(b"\n", 1);
+    }
+
+    // Appends the line `-` of a hundred silent ticks or more. It stands apart, since most silence is
+    // shorter.
+    #[inline(never)]
+    fn push_long_silence(&mut self, ticks: u32)
+        requires { length self.old.items + 66 ≤ 65536 }
+        ensures { self.new.items ≡ self.old.items ++ silence_line ticks }
+    {
+        let mut buffer = Buffer::new();
+        self.extend_front(b"-", 1);
+        self.extend(buffer.format(ticks).as_bytes());
+        self.extend(b"\n");
+    }
+
+    /// Appends the line `-` of so many silent ticks.
+    #[inline(always)]
+    pub(crate) fn push_silence_line(&mut self, ticks: u32)
+        requires { length self.old.items + 66 ≤ 65536 }
+        ensures { self.new.items ≡ self.old.items ++ silence_line ticks }
+    {
+        if ticks < 10 {
+            self.extend_front(&[b'-', b'0' + ticks as u8, b'\n'], 3);
+        } else if ticks < 100 {
+            let (tens, ones) = ((ticks / 10) as u8, (ticks % 10) as u8);
+            self.extend_front(&[b'-', b'0' + tens, b'0' + ones, b'\n'], 4);
+        } else {
+            self.push_long_silence(ticks);
+        }
+    }
+
+    /// Lets all text go.
+    #[inline]
+    pub(crate) fn empty(&mut self)
+        ensures { self.new.items ≡ [] }
+    {
+        self.len = 0;
+    }
+
+    /// Makes room for a line: where there is none, what waits goes to the sink.
+    pub(crate) fn make_room<S: Sink>(&mut self, sink: &mut S) -> Result<(), Failed>
+        ensures ok { OnOk result ((start : Option (List ℕ)) (text : List ℕ)
+            → Buffered start (S.held sink.old) self.old.items text
+            → Buffered start (S.held sink.new) self.new.items text) }
+        ensures room { OnOk result (length self.new.items + 66 ≤ 65536) }
+        ensures err { OnErr result ((start : Option (List ℕ)) (text : List ℕ)
+            → Buffered start (S.held sink.old) self.old.items text
+            → GotPrefix start (S.held sink.new) text) }
+        ensures cause { HasCause (S.faults sink.old) (S.faults sink.new) result }
+        ensures flushes { S.flushes sink.new ≡ S.flushes sink.old }
+    {
+        if self.takes_a_line() {
+            return Ok(());
+        }
+        self.drain(sink)
+    }
+
+    /// Writes what waits to the sink. A flush is the caller's.
+    pub(crate) fn drain<S: Sink>(&mut self, sink: &mut S) -> Result<(), Failed>
+        ensures ok { OnOk result ((start : Option (List ℕ)) (text : List ℕ)
+            → Buffered start (S.held sink.old) self.old.items text
+            → Buffered start (S.held sink.new) [] text) }
+        ensures empty { OnOk result (self.new.items ≡ []) }
+        ensures err { OnErr result ((start : Option (List ℕ)) (text : List ℕ)
+            → Buffered start (S.held sink.old) self.old.items text
+            → GotPrefix start (S.held sink.new) text) }
+        ensures cause { HasCause (S.faults sink.old) (S.faults sink.new) result }
+        ensures flushes { S.flushes sink.new ≡ S.flushes sink.old }
+    {
+        write_all(sink, self.as_slice())?;
+        self.empty();
+        Ok(())
+    }
+}

@@ -1,0 +1,244 @@
+//! Ticks as lines of canonical tick text.
+ghost use Rattle.std.specs.Prelude.{◌≡◌, ◌+◌, ◌<◌, ◌≤◌, [], length, map, take, true, false};
+ghost use Rattle.yasir_ticks.specs.Ticks.{silent};
+ghost use Rattle.yasir_ticks.specs.TickRun.{run_ticks};
+ghost use Rattle.yasir_ticks.specs.declared.tick.Tick.TheVariants.{Byte};
+
+use crate::line_room::LineRoom;
+use yasir_ticks::TickRun;
+
+/// The most bytes that one line stands for.
+const MAX_BYTES: usize = 32;
+
+/// The most silent ticks that one line stands for.
+const MAX_SILENCE: u32 = 1_000_000;
+
+/// Writes ticks as canonical tick text into a room, a line as soon as ticks complete it. What it
+/// keeps is the line that isn't filled: fewer than 32 bytes, or fewer than 1,000,000 silent ticks.
+#[derive(Drop)]
+pub struct LineWriter {
+    bytes: [u8; 32],
+    count: usize,
+    silence: u32,
+    ghost few: { count < 32 },
+    ghost short: { silence < 1000000 },
+    ghost single: { 0 < silence → count ≡ 0 },
+}
+
+impl LineWriter {
+    ghost use Rattle.line_texts.specs.Writer.{HasWritten, Takes, TakesInto, Ends, Completes};
+
+    /// A writer that has taken no tick.
+    pub(crate) fn new() -> LineWriter
+        ensures { HasWritten result [] [] }
+    {
+        LineWriter {
+            bytes: [0; MAX_BYTES],
+            count: 0,
+            silence: 0,
+        }
+    }
+
+    // Takes bytes, one a tick, if they complete no line, and answers whether they do not.
+    #[inline(always)]
+    fn join_bytes(&mut self, bytes: &[u8]) -> bool
+        ensures joined { result ≡ true → Takes self.old self.new (map Byte bytes.now) [] }
+        ensures left { result ≡ false → self.new ≡ self.old }
+        ensures some { result ≡ false → 0 < length bytes.now }
+        ensures fills { result ≡ false → self.old.silence ≡ 0
+            → 32 ≤ self.old.count + length bytes.now }
+    {
+        if bytes.is_empty() {
+            return true;
+        }
+        if self.silence > 0 {
+            return false;
+        }
+        if bytes.len() >= MAX_BYTES - self.count {
+            return false;
+        }
+        let after = self.count + bytes.len();
+        self.bytes[self.count..after].copy_from_slice(bytes);
+        self.count = after;
+        true
+    }
+
+    // Takes silent ticks if they complete no line, and answers whether they do not.
+    #[inline(always)]
+    fn join_silence(&mut self, ticks: u32) -> bool
+        ensures joined { result ≡ true → Takes self.old self.new (silent ticks) [] }
+        ensures left { result ≡ false → self.new ≡ self.old }
+        ensures some { result ≡ false → 0 < ticks }
+        ensures fills { result ≡ false → self.old.count ≡ 0
+            → 1000000 ≤ self.old.silence + ticks }
+    {
+        if ticks == 0 {
+            return true;
+        }
+        if self.count > 0 {
+            return false;
+        }
+        if ticks >= MAX_SILENCE - self.silence {
+            return false;
+        }
+        self.silence += ticks;
+        true
+    }
+
+    // The line of silence that stands before these bytes, of which it takes the first.
+    #[inline(always)]
+    fn end_silence(&mut self, room: &mut LineRoom, bytes: &[u8]) -> usize
+        requires begun { 0 < self.old.silence }
+        requires some { 0 < length bytes.now }
+        requires room { length room.old.items + 66 ≤ 65536 }
+        ensures some { 0 < result }
+        ensures within { result ≤ length bytes.now }
+        ensures taken { TakesInto self.old self.new (map Byte (take result bytes.now))
+            room.old.items room.new.items }
+    {
+        room.push_silence_line(self.silence);
+        self.silence = 0;
+        let count = bytes.len().min(MAX_BYTES - 1);
+        self.bytes[0..count].copy_from_slice(&bytes[..count]);
+        self.count = count;
+        count
+    }
+
+    // The line of the first of these bytes, where none is begun.
+    #[inline(always)]
+    fn write_whole(&mut self, room: &mut LineRoom, bytes: &[u8]) -> usize
+        requires none { self.old.count ≡ 0 }
+        requires no_silence { self.old.silence ≡ 0 }
+        requires fills { 32 ≤ length bytes.now }
+        requires room { length room.old.items + 66 ≤ 65536 }
+        ensures some { 0 < result }
+        ensures within { result ≤ length bytes.now }
+        ensures taken { TakesInto self.old self.new (map Byte (take result bytes.now))
+            room.old.items room.new.items }
+    {
+        let Some((whole, _)) = bytes.split_first_chunk::<MAX_BYTES>() else {
+            return 0;
+        };
+        room.push_byte_line(whole, MAX_BYTES);
+        MAX_BYTES
+    }
+
+    // The line of bytes that the first of these bytes fill.
+    #[inline(always)]
+    fn fill(&mut self, room: &mut LineRoom, bytes: &[u8]) -> usize
+        requires no_silence { self.old.silence ≡ 0 }
+        requires fills { 32 ≤ self.old.count + length bytes.now }
+        requires room { length room.old.items + 66 ≤ 65536 }
+        ensures some { 0 < result }
+        ensures within { result ≤ length bytes.now }
+        ensures taken { TakesInto self.old self.new (map Byte (take result bytes.now))
+            room.old.items room.new.items }
+    {
+        let taken = MAX_BYTES - self.count;
+        self.bytes[self.count..].copy_from_slice(&bytes[..taken]);
+        room.push_byte_line(&self.bytes, MAX_BYTES);
+        self.count = 0;
+        taken
+    }
+
+    // Writes the first line that these bytes complete, and answers how many of them it took.
+    #[inline(always)]
+    fn complete_by_bytes(&mut self, room: &mut LineRoom, bytes: &[u8]) -> usize
+        requires some { 0 < length bytes.now }
+        requires fills { self.old.silence ≡ 0 → 32 ≤ self.old.count + length bytes.now }
+        requires room { length room.old.items + 66 ≤ 65536 }
+        ensures some { 0 < result }
+        ensures within { result ≤ length bytes.now }
+        ensures taken { TakesInto self.old self.new (map Byte (take result bytes.now))
+            room.old.items room.new.items }
+    {
+        if self.silence > 0 {
+            return self.end_silence(room, bytes);
+        }
+        if self.count == 0 {
+            return self.write_whole(room, bytes);
+        }
+        self.fill(room, bytes)
+    }
+
+    // The line of bytes that stands before these silent ticks, of which it takes the first.
+    #[inline(always)]
+    fn end_bytes(&mut self, room: &mut LineRoom, ticks: u32) -> u32
+        requires begun { 0 < self.old.count }
+        requires some { 0 < ticks }
+        requires room { length room.old.items + 66 ≤ 65536 }
+        ensures some { 0 < result }
+        ensures within { result ≤ ticks }
+        ensures taken { TakesInto self.old self.new (silent result) room.old.items
+            room.new.items }
+    {
+        room.push_byte_line(&self.bytes, self.count);
+        self.count = 0;
+        let taken = ticks.min(MAX_SILENCE - 1);
+        self.silence = taken;
+        taken
+    }
+
+    // Writes the first line that these silent ticks complete, and answers how many it took.
+    #[inline(always)]
+    fn complete_by_silence(&mut self, room: &mut LineRoom, ticks: u32) -> u32
+        requires some { 0 < ticks }
+        requires fills { self.old.count ≡ 0 → 1000000 ≤ self.old.silence + ticks }
+        requires room { length room.old.items + 66 ≤ 65536 }
+        ensures some { 0 < result }
+        ensures within { result ≤ ticks }
+        ensures taken { TakesInto self.old self.new (silent result) room.old.items
+            room.new.items }
+    {
+        if self.count > 0 {
+            return self.end_bytes(room, ticks);
+        }
+        let taken = MAX_SILENCE - self.silence;
+        room.push_silence_line(MAX_SILENCE);
+        self.silence = 0;
+        taken
+    }
+
+    /// Takes the ticks of a run if they complete no line, and answers whether they do not.
+    #[inline(always)]
+    pub(crate) fn join(&mut self, run: TickRun<'_>) -> bool
+        ensures joined { result ≡ true → Takes self.old self.new (run_ticks run.entry) [] }
+        ensures left { result ≡ false → self.new ≡ self.old }
+        ensures completes { result ≡ false → Completes self.old run.entry }
+    {
+        match run {
+            TickRun::Bytes(bytes) => self.join_bytes(bytes),
+            TickRun::Silence(ticks) => self.join_silence(ticks),
+        }
+    }
+
+    /// Writes the first line that the ticks of a run complete, and answers how many of them it took.
+    #[inline(always)]
+    pub(crate) fn complete(&mut self, room: &mut LineRoom, run: TickRun<'_>) -> usize
+        requires completes { Completes self.old run }
+        requires room { length room.old.items + 66 ≤ 65536 }
+        ensures some { 0 < result }
+        ensures within { result ≤ length (run_ticks run.entry) }
+        ensures taken { TakesInto self.old self.new (take result (run_ticks run.entry))
+            room.old.items room.new.items }
+    {
+        match run {
+            TickRun::Bytes(bytes) => self.complete_by_bytes(room, bytes),
+            TickRun::Silence(ticks) => self.complete_by_silence(room, ticks) as usize,
+        }
+    }
+
+    /// Writes the line that isn't filled.
+    pub(crate) fn finish(&self, room: &mut LineRoom)
+        requires { length room.old.items + 66 ≤ 65536 }
+        ensures { Ends self.now room.old.items room.new.items }
+    {
+        if self.count > 0 {
+            room.push_byte_line(&self.bytes, self.count);
+            return;
+        }
+        if self.silence > 0 {
+            room.push_silence_line(self.silence);
+        }
+    }
+}

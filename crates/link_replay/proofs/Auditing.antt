@@ -1,0 +1,103 @@
+-- The session of an audit's words, its verdict, and what an input that didn't end well leaves.
+use Rattle.std.proofs.Common.{◌≡◌, ◌⊎◌, ℕ, ◌+◌, List, ◌++◌, Option, true, false, inl, inr, refl}
+use Rattle.std.proofs.Common.{arith}
+use Rattle.std.proofs.lemmas.Bool.{eq-eqb, ne_eqb}
+use Rattle.yasir_ticks.specs.Ticks.{Item, silent}
+use Rattle.yasir_ticks.specs.declared.TheConstants.{T3_5_TICKS}
+use Rattle.yasir_ticks.specs.declared.tick.Tick.{Tick}
+use Rattle.tick_drive.specs.declared.consumer.Stop.{Stop}
+use Rattle.tick_drive.specs.declared.end.End.{End}
+use Rattle.tick_drive.specs.declared.end.End.TheVariants.{Whole, Refused, TooLong, ReadFault}
+use Rattle.tick_drive.specs.declared.end.End.TheVariants.{Stopped}
+use Rattle.replay_status.specs.Endings.{status_of}
+use Rattle.replay_status.specs.declared.status.Status.TheVariants.{NoMemory}
+use Rattle.sequence_journal.specs.declared.numbers.TheConstants.{LIMIT}
+use Rattle.seal_judgements.specs.Sealing.{sealed}
+use Rattle.link_verdicts.specs.Checking.{passed}
+use Rattle.replay_lists.specs.Listed.{link_rest}
+use Rattle.session_audit.specs.AuditedInput.{FindsNone}
+use Rattle.session_audit.specs.Sessions.{sent_setup, got_setup, verdict_of, verdict_with}
+use Rattle.session_audit.specs.Verdicts.{verdict_on}
+use Rattle.session_audit.specs.declared.session.Session.{Session}
+use Rattle.session_audit.specs.declared.verdict.Verdict.{Verdict}
+use Rattle.session_audit.proofs.Auditing.{kind-so}
+use Rattle.recordings_replay.specs.Recorded.{PrintsItems}
+use Rattle.link_replay.specs.Protocols.{rules_of, format_of, delay_of}
+use Rattle.link_replay.specs.ReadCommand.{device_reads}
+use Rattle.link_replay.specs.SealCommand.{seal_rest}
+use Rattle.link_replay.specs.declared.words.Profile.{Profile}
+use Rattle.link_replay.specs.declared.words.Profile.TheVariants.{Y18, Y24}
+use Rattle.link_replay.specs.declared.words.Proto.{Proto}
+use Rattle.link_replay.specs.declared.words.Proto.TheVariants.{Rtu, Dnp3}
+
+-- ---- the session
+
+pub label-known : (proto : Proto) (n : ℕ) → n ≡ (rules_of proto).label → (n ≡ 1) ⊎ (n ≡ 2)
+label-known Rtu n is = inl is
+label-known Dnp3 n is = inr is
+
+pub profile-known : (profile : Profile) (n : ℕ) → n ≡ delay_of profile → (n ≡ 18) ⊎ (n ≡ 24)
+profile-known Y18 n is = inl is
+profile-known Y24 n is = inr is
+
+-- the verdict on recordings of a session of this protocol and this profile
+abbrev verdict_by : Proto → Profile → Session → List Tick → List Tick → List Tick → Verdict
+verdict_by proto profile session device link received = verdict_on (delay_of profile)
+    (sealed (format_of profile (rules_of proto).label LIMIT (sent_setup session))
+    (rules_of proto) session.sent_floor (device ++ silent (seal_rest profile)))
+    (passed (format_of profile (rules_of proto).label LIMIT (got_setup session))
+    (rules_of proto) session.got_floor (link ++ silent link_rest))
+    (device_reads proto (received ++ silent T3_5_TICKS))
+
+pub verdict-is : (proto : Proto) (profile : Profile) (session : Session)
+    → session.label ≡ (rules_of proto).label → session.profile ≡ delay_of profile
+    → (device link received : List Tick)
+    → verdict_of session device link received ≡ verdict_by proto profile session device link received
+verdict-is Rtu Y18 session label delay device link received =
+    kind-so (λ kind. verdict_with kind session device link received
+    ≡ verdict_by Rtu Y18 session device link received) session true true
+    (eq-eqb session.label 1 label) (eq-eqb session.profile 18 delay) refl
+verdict-is Rtu Y24 session label delay device link received =
+    kind-so (λ kind. verdict_with kind session device link received
+    ≡ verdict_by Rtu Y24 session device link received) session true false
+    (eq-eqb session.label 1 label) (ne_eqb session.profile 18 (λ is. omega (arith, is, delay)))
+    refl
+verdict-is Dnp3 Y18 session label delay device link received =
+    kind-so (λ kind. verdict_with kind session device link received
+    ≡ verdict_by Dnp3 Y18 session device link received) session false true
+    (ne_eqb session.label 1 (λ is. omega (arith, is, label))) (eq-eqb session.profile 18 delay)
+    refl
+verdict-is Dnp3 Y24 session label delay device link received =
+    kind-so (λ kind. verdict_with kind session device link received
+    ≡ verdict_by Dnp3 Y24 session device link received) session false false
+    (ne_eqb session.label 1 (λ is. omega (arith, is, label)))
+    (ne_eqb session.profile 18 (λ is. omega (arith, is, delay))) refl
+
+-- ---- an input that didn't end well
+
+module _ (verdict_on_three : List Tick → List Tick → List Tick → Verdict)
+    (text_of : List Item → List ℕ) (in_before in_now out_before out_now : Option (List ℕ))
+    (same : out_now ≡ out_before) where
+  -- there was no memory
+  pub stopped-nothing : (end : End) (stop : Stop) → end ≡ Stopped stop
+      → FindsNone verdict_on_three in_before in_now end
+      → PrintsItems 2 0 text_of in_before in_now out_before out_now NoMemory
+  stopped-nothing (Stopped stop) other is none =
+      record { items = none.items; takes = none.takes; out = same }
+  stopped-nothing Whole other is none = cc
+  stopped-nothing (Refused bad) other is none = cc
+  stopped-nothing (TooLong what count) other is none = cc
+  stopped-nothing ReadFault other is none = cc
+
+  -- the input is refused
+  pub nothing-printed : (end : End) → ((stop : Stop) → end ≡ Stopped stop → ⊥)
+      → FindsNone verdict_on_three in_before in_now end
+      → PrintsItems 2 0 text_of in_before in_now out_before out_now (status_of end)
+  nothing-printed Whole other none = absurd (none.other refl)
+  nothing-printed (Refused bad) other none =
+      record { items = none.items; takes = none.takes; out = same }
+  nothing-printed (TooLong what count) other none =
+      record { items = none.items; takes = none.takes; out = same }
+  nothing-printed ReadFault other none =
+      record { items = none.items; takes = none.takes; out = same }
+  nothing-printed (Stopped stop) other none = absurd (other stop refl)

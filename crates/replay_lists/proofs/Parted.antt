@@ -1,0 +1,98 @@
+-- The parts of some items, with the ticks of a run more.
+use Rattle.std.proofs.Common.{◌≡◌, ◌∙◌, ◌≤◌, ℕ, zero, suc, List, [], ◌∷◌, ◌++◌, map, take, refl, ap, sym}
+use Rattle.std.proofs.Common.{arith}
+use Rattle.std.proofs.lemmas.List.{take-map}
+use Rattle.yasir_ticks.specs.Ticks.{Item, marks_in}
+use Rattle.yasir_ticks.specs.Ticks.Item.{tick, mark}
+use Rattle.yasir_ticks.specs.TickRun.{run_ticks, run_items}
+use Rattle.yasir_ticks.specs.declared.tick.Tick.{Tick}
+use Rattle.yasir_ticks.specs.declared.tick_run.TickRun.{TickRun}
+use Rattle.yasir_ticks.proofs.TickRuns.{items_of_ticks}
+use Rattle.tick_lists.specs.Parts.{part}
+use Rattle.tick_lists.specs.Places.{place_after}
+use Rattle.tick_lists.specs.declared.tick_lists.Place.TheVariants as place
+use Rattle.tick_lists.proofs.Parting.{place-none}
+
+part-all : (ticks : List Tick) → part 0 (map tick ticks) ≡ ticks
+part-all [] = refl
+part-all (t ∷ ticks) = ap (λ l. t ∷ l) (part-all ticks)
+
+part-no : (n : ℕ) (ticks : List Tick) → part (suc n) (map tick ticks) ≡ []
+part-no n [] = refl
+part-no n (t ∷ ticks) = part-no n ticks
+
+-- they go to the part behind all marks
+run-here : (n : ℕ) (items : List Item) (ticks : List Tick) → marks_in items ≡ n
+    → part n (items ++ map tick ticks) ≡ part n items ++ ticks
+run-here zero [] ticks marks = part-all ticks
+run-here (suc n) [] ticks marks = cc
+run-here zero (tick u ∷ items) ticks marks = ap (λ l. u ∷ l) (run-here zero items ticks marks)
+run-here (suc n) (tick u ∷ items) ticks marks = run-here (suc n) items ticks marks
+run-here zero (mark ∷ items) ticks marks = cc
+run-here (suc n) (mark ∷ items) ticks marks = run-here n items ticks (omega arith)
+
+-- and to no other one
+run-there : (n : ℕ) (items : List Item) (ticks : List Tick) → (marks_in items ≡ n → ⊥)
+    → part n (items ++ map tick ticks) ≡ part n items
+run-there zero [] ticks differ = absurd (differ refl)
+run-there (suc n) [] ticks differ = part-no n ticks
+run-there zero (tick u ∷ items) ticks differ = ap (λ l. u ∷ l) (run-there zero items ticks differ)
+run-there (suc n) (tick u ∷ items) ticks differ = run-there (suc n) items ticks differ
+run-there zero (mark ∷ items) ticks differ = refl
+run-there (suc n) (mark ∷ items) ticks differ =
+    run-there n items ticks (λ same. differ (ap suc same))
+
+no-mark : (ticks : List Tick) → marks_in (map tick ticks) ≡ 0
+no-mark [] = refl
+no-mark (t ∷ ticks) = no-mark ticks
+
+marks-ticks : (items : List Item) (ticks : List Tick)
+    → marks_in (items ++ map tick ticks) ≡ marks_in items
+marks-ticks [] ticks = no-mark ticks
+marks-ticks (tick u ∷ items) ticks = marks-ticks items ticks
+marks-ticks (mark ∷ items) ticks = ap suc (marks-ticks items ticks)
+
+-- the first ticks of a run as items
+front-items : (run : TickRun) (n : ℕ) → take n (run_items run) ≡ map tick (take n (run_ticks run))
+front-items run n = ap (take n) (items_of_ticks run) ∙ take-map tick n (run_ticks run)
+
+module _ (items : List Item) (run : TickRun) (k : ℕ) where
+  pub front-here : (n : ℕ) → marks_in items ≡ n
+      → part n (items ++ take k (run_items run)) ≡ part n items ++ take k (run_ticks run)
+  front-here n marks = ap (λ l. part n (items ++ l)) (front-items run k)
+      ∙ run-here n items (take k (run_ticks run)) marks
+
+  pub front-there : (n : ℕ) → (marks_in items ≡ n → ⊥)
+      → part n (items ++ take k (run_items run)) ≡ part n items
+  front-there n differ = ap (λ l. part n (items ++ l)) (front-items run k)
+      ∙ run-there n items (take k (run_ticks run)) differ
+
+  pub front-marks : marks_in (items ++ take k (run_items run)) ≡ marks_in items
+  front-marks = ap (λ l. marks_in (items ++ l)) (front-items run k)
+      ∙ marks-ticks items (take k (run_ticks run))
+
+-- ---- how many marks there were, by the place
+
+pub marks-first : (m : ℕ) → place.First ≡ place_after m → m ≡ 0
+marks-first zero is = refl
+marks-first (suc zero) is = cc
+marks-first (suc (suc zero)) is = cc
+marks-first (suc (suc (suc k))) is = let none = is ∙ place-none k in cc
+
+pub marks-second : (m : ℕ) → place.Second ≡ place_after m → m ≡ 1
+marks-second zero is = cc
+marks-second (suc zero) is = refl
+marks-second (suc (suc zero)) is = cc
+marks-second (suc (suc (suc k))) is = let none = is ∙ place-none k in cc
+
+pub marks-third : (m : ℕ) → place.Third ≡ place_after m → m ≡ 2
+marks-third zero is = cc
+marks-third (suc zero) is = cc
+marks-third (suc (suc zero)) is = refl
+marks-third (suc (suc (suc k))) is = let none = is ∙ place-none k in cc
+
+pub marks-many : (m : ℕ) → place.None ≡ place_after m → 3 ≤ m
+marks-many zero is = cc
+marks-many (suc zero) is = cc
+marks-many (suc (suc zero)) is = cc
+marks-many (suc (suc (suc k))) is = omega arith

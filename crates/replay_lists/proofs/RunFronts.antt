@@ -1,0 +1,59 @@
+-- The first ticks of a run at a box or a device.
+use Rattle.std.proofs.Common.{◌≡◌, ℕ, ◌+◌, ◌≤◌, List, [], ◌∷◌, ◌++◌, length, take, ap, sym, subst}
+use Rattle.std.proofs.Common.{arith}
+use Rattle.std.proofs.lemmas.List.{length-take-le}
+use Rattle.yasir_ticks.specs.declared.tick.Tick.{Tick}
+use Rattle.link_format.specs.Setup.{Setup}
+use Rattle.device_model.specs.declared.device.Device.{Ghosts as Device}
+use Rattle.replay_lists.specs.FrameBox.{AnswersFrameRun}
+use Rattle.replay_lists.specs.FrameList.{list_len}
+use Rattle.replay_lists.specs.Lines.{GoesOn, TakesOn, HearsOn}
+use Rattle.replay_lists.specs.ReplayLists.{Listens}
+use Rattle.replay_lists.specs.declared.frame_box.FrameBox.{Ghosts as FrameBox}
+use Rattle.replay_lists.specs.declared.frame_box.Numbered.{Numbered}
+use Rattle.replay_lists.specs.declared.frame_list.FrameList.{FrameList}
+use Rattle.replay_lists.proofs.Runs.{keeps-run}
+use Rattle.replay_lists.proofs.TakenLines.{goes-then}
+
+-- a box has taken some ticks at once, in which there is no frame
+pub passes-on : {B : Type 0} (box : FrameBox B) (old new : B) (list : FrameList Numbered)
+    (ticks answer : List Tick) (n : ℕ) → n ≤ length ticks → box.taken new ≡ box.taken old + n
+    → ((setup : Setup) (line : List Tick) → box.stands old setup line
+    → box.stands new setup (line ++ take n ticks))
+    → ((setup : Setup) (line : List Tick) → box.stands old setup line
+    → AnswersFrameRun (box.numbering setup) line (take n ticks) answer)
+    → TakesOn box old new list list (take n ticks)
+passes-on box old new list ticks answer n within counts stands answers =
+    let long : length (take n ticks) ≡ n = length-take-le n ticks within in
+    record {
+      counted = omega (arith, counts, long);
+      few = omega arith;
+      kept = λ setup line keeps. keeps-run box old new list setup line (take n ticks) answer keeps
+          (stands setup line keeps.steps) (answers setup line keeps.steps);
+    }
+
+-- none was taken, and then one alone
+pub one-on : {O S K : Type 0} (taken : S → ℕ)
+    (keeps : O → S → FrameList K → List Tick → Type 0) (a b c : S) (x y z : FrameList K)
+    (ticks rest : List Tick) (t : Tick) (n : ℕ) → n ≤ 0 → ticks ≡ t ∷ rest
+    → GoesOn taken keeps a b x y (take n ticks) → GoesOn taken keeps b c y z (t ∷ [])
+    → GoesOn taken keeps a c x z (take 1 ticks)
+one-on taken keeps a b c x y z ticks rest t n few is none then =
+    let zero_is : n ≡ 0 = omega (arith, few) in
+    let first : GoesOn taken keeps a b x y [] =
+    subst (λ k. GoesOn taken keeps a b x y (take k ticks)) zero_is none in
+    subst (GoesOn taken keeps a c x z) (sym (ap (λ l. take 1 l) is))
+    (goes-then taken keeps a b c x y z [] (t ∷ []) first then)
+
+-- a device has heard some ticks, up to one in which it reads a frame
+pub hears-on : {V : Type 0} (device : Device V) (old new : V) (before after : FrameList ℕ)
+    (ticks : List Tick) (n : ℕ) → length ticks ≡ n → device.taken new ≡ device.taken old + n
+    → list_len after ≤ list_len before + n
+    → ((line : List Tick) → Listens device old before line
+    → Listens device new after (line ++ ticks))
+    → HearsOn device old new before after ticks
+hears-on device old new before after ticks n long counts few ok = record {
+  counted = omega (arith, counts, long);
+  few = omega (arith, few, long);
+  kept = λ origin line listens. ok line listens;
+}

@@ -1,0 +1,48 @@
+use Rattle.std.proofs.Common.{[], arith, refl}
+use Rattle.link_format.specs.Setup.{setup_of}
+use Rattle.replay_lists.proofs.Lists.{holds-length}
+use Rattle.replay_lists.proofs.TakenLines.{keeps-none, listens-none}
+use Rattle.replay_lists.proofs.session_lists.SessionLists.new.Goals as goal
+
+pub returns-clause-has : goal.returns-clause-has
+returns-clause-has g c = record {
+  seals = keeps-none g.S.FrameBox c.new.result c.new-3.result
+      (setup_of c.args.key.now c.args.dir c.args.sent_floor) c.new.ensures.stands
+      (c.new.ensures.nothing (setup_of c.args.key.now c.args.dir c.args.sent_floor))
+      c.new-3.ensures;
+  passes = keeps-none g.C.FrameBox c.new-2.result c.new-4.result
+      (setup_of c.args.key.now c.args.dir c.args.got_floor) c.new-2.ensures.stands
+      (c.new-2.ensures.nothing (setup_of c.args.key.now c.args.dir c.args.got_floor))
+      c.new-4.ensures;
+  reads = listens-none g.V.Device c.fresh.result c.new-5.result c.fresh.ensures.stands
+      c.fresh.ensures.nothing c.new-5.ensures;
+}
+
+pub returns-clause-may_list : goal.returns-clause-may_list
+returns-clause-may_list g c = record {
+  none = omega (arith, c.new.ensures.taken, c.new-2.ensures.taken, c.fresh.ensures.taken);
+  able = record {
+    sealer = c.new.ensures.able;
+    checker = c.new-2.ensures.able;
+    few_sealed = omega (arith, holds-length c.new-3.result [] c.new-3.ensures);
+    few_passed = omega (arith, holds-length c.new-4.result [] c.new-4.ensures);
+    few_read = omega (arith, holds-length c.new-5.result [] c.new-5.ensures);
+  };
+  first = refl;
+  setups = record {
+    sent = setup_of c.args.key.now c.args.dir c.args.sent_floor;
+    got = setup_of c.args.key.now c.args.dir c.args.got_floor;
+  };
+  has = record {
+    seals = keeps-none g.S.FrameBox c.new.result c.new-3.result
+        (setup_of c.args.key.now c.args.dir c.args.sent_floor) c.new.ensures.stands
+        (c.new.ensures.nothing (setup_of c.args.key.now c.args.dir c.args.sent_floor))
+        c.new-3.ensures;
+    passes = keeps-none g.C.FrameBox c.new-2.result c.new-4.result
+        (setup_of c.args.key.now c.args.dir c.args.got_floor) c.new-2.ensures.stands
+        (c.new-2.ensures.nothing (setup_of c.args.key.now c.args.dir c.args.got_floor))
+        c.new-4.ensures;
+    reads = listens-none g.V.Device c.fresh.result c.new-5.result c.fresh.ensures.stands
+        c.fresh.ensures.nothing c.new-5.ensures;
+  };
+}

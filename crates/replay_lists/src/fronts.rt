@@ -1,0 +1,88 @@
+//! The first ticks of a run, as many as a box or a device takes at once, and one at least.
+ghost use Rattle.std.specs.Prelude.{◌+◌, ◌<◌, ◌≤◌, [], ◌∷◌, length, take, IfOk, OnOk};
+ghost use Rattle.yasir_ticks.specs.TickRun.{run_ticks};
+ghost use Rattle.yasir_ticks.specs.declared.TheConstants.{MAX_TICKS};
+ghost use Rattle.replay_lists.specs.Lines.{TakesOn, HearsOn};
+
+use crate::frame_box::{FrameBox, Numbered};
+use crate::frame_list::FrameList;
+use crate::hearing::{hear_some, wait_some};
+use crate::replay_lists::{pass_run, step_into};
+use burst_walk::RunBytes;
+use device_model::Device;
+use yasir_io::NoMemory;
+use yasir_ticks::{Tick, TickRun};
+
+// A box takes one tick, and its frame is kept.
+#[inline(never)]
+fn take_tick<B: FrameBox>(
+    line_box: &mut B,
+    frames: &mut FrameList<Numbered>,
+    tick: Tick,
+) -> Result<(), NoMemory>
+    requires room { B.taken line_box.old < MAX_TICKS }
+    requires able { B.able line_box.old }
+    ensures able { B.able line_box.new }
+    ensures takes { OnOk result (TakesOn B.FrameBox line_box.old line_box.new frames.old frames.new
+        (tick ∷ [])) }
+{
+    match step_into(line_box, frames, tick) {
+        Ok(_) => Ok(()),
+        Err(NoMemory) => Err(NoMemory),
+    }
+}
+
+/// A box takes the first ticks of this run: at once where it has an answer to them, and else one
+/// alone, whose frame is kept. Answers how many.
+#[inline(always)]
+pub(crate) fn take_front<B: FrameBox>(
+    line_box: &mut B,
+    frames: &mut FrameList<Numbered>,
+    run: TickRun<'_>,
+) -> Result<usize, NoMemory>
+    requires some { 0 < length (run_ticks run) }
+    requires room { B.taken line_box.old + length (run_ticks run) ≤ MAX_TICKS }
+    requires able { B.able line_box.old }
+    ensures some { IfOk result (λ n. 0 < n) }
+    ensures within { IfOk result (λ n. n ≤ length (run_ticks run.entry)) }
+    ensures able { B.able line_box.new }
+    ensures takes { IfOk result (λ n. TakesOn B.FrameBox line_box.old line_box.new frames.old
+        frames.new (take n (run_ticks run.entry))) }
+{
+    let mut left = RunBytes::new();
+    let count = pass_run(line_box, run, &mut left);
+    if count > 0 {
+        return Ok(count);
+    }
+    match take_tick(line_box, frames, run.first()) {
+        Ok(()) => Ok(1),
+        Err(NoMemory) => Err(NoMemory),
+    }
+}
+
+/// A device hears the first ticks of this run, up to the first one in which it reads a frame, which
+/// is kept. Answers how many.
+#[inline(always)]
+pub(crate) fn hear_front<V: Device>(
+    device: &mut V,
+    frames: &mut FrameList<u64>,
+    run: TickRun<'_>,
+) -> Result<usize, NoMemory>
+    requires some { 0 < length (run_ticks run) }
+    requires room { V.taken device.old + length (run_ticks run) ≤ MAX_TICKS }
+    ensures some { IfOk result (λ n. 0 < n) }
+    ensures within { IfOk result (λ n. n ≤ length (run_ticks run.entry)) }
+    ensures hears { IfOk result (λ n. HearsOn V.Device device.old device.new frames.old
+        frames.new (take n (run_ticks run.entry))) }
+{
+    match run {
+        TickRun::Bytes(bytes) => match hear_some(device, frames, bytes) {
+            Ok(count) => Ok(count),
+            Err(NoMemory) => Err(NoMemory),
+        },
+        TickRun::Silence(ticks) => match wait_some(device, frames, ticks as usize) {
+            Ok(count) => Ok(count),
+            Err(NoMemory) => Err(NoMemory),
+        },
+    }
+}

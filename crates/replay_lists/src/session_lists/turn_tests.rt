@@ -1,0 +1,65 @@
+//! How often the loop over three recordings calls the boxes and the device: each run is handed over
+//! whole. No clause says so.
+use super::{Rests, SessionLists};
+use crate::replay_lists::turn_tests::{Calls, Deaf, Wire};
+use crate::sessions::list_session;
+use hmac_tag::Dir;
+use std::alloc::Global;
+use std::test::Fail;
+use tick_drive::End;
+use yasir_io::SteadySource;
+
+// The first mark parts a line of bytes and one of silence from one of each, and the second these
+// from two lines of bytes and one of silence.
+const TEXT: &[u8] = b"+000102030405060708090a0b0c0d0e0f101112131415161718191a1b1c1d1e1f\n\
+      -1000000\n\
+      %\n\
+      +000102030405060708090a0b0c0d0e0f101112131415161718191a1b1c1d1e1f\n\
+      -1000000\n\
+      %\n\
+      +000102030405060708090a0b0c0d0e0f101112131415161718191a1b1c1d1e1f\n\
+      +41\n\
+      -1000000\n";
+
+const RESTS: Rests = Rests {
+    sent: 24,
+    link: 320,
+    received: 4,
+};
+
+// The lists of wires and of a device that reads nothing, behind all three recordings.
+fn listed(alloc: Global) -> Result<SessionLists<Wire, Wire, Deaf>, Fail> {
+    let mut lists: SessionLists<Wire, Wire, Deaf> =
+        SessionLists::new(alloc, &[0; 16], Dir::Ab, 0, 0);
+    let mut input = SteadySource::new(TEXT);
+    match list_session(RESTS, &mut lists, &mut input) {
+        End::Whole => Ok(lists),
+        _ => Err(Fail::from("the text isn't whole")),
+    }
+}
+
+// Each line of a recording goes to its box, or to the device, at once. The silence behind a
+// recording goes tick by tick to a box, and at once to the device.
+#[test]
+fn a_line_of_three_costs_one_call(rt: HostRuntime) -> Result<(), Fail> {
+    let lists = listed(rt.alloc())?;
+    let sealer = Calls {
+        bytes: 1,
+        silence: 1,
+        step: RESTS.sent,
+    };
+    let checker = Calls {
+        bytes: 1,
+        silence: 1,
+        step: RESTS.link,
+    };
+    let device = Calls {
+        bytes: 2,
+        silence: 2,
+        step: 0,
+    };
+    assert_eq!(rt; lists.sealer.calls, sealer);
+    assert_eq!(rt; lists.checker.calls, checker);
+    assert_eq!(rt; lists.device.calls, device);
+    Ok(())
+}

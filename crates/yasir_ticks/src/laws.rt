@@ -1,0 +1,16 @@
+//! What canonical text says of ticks.
+ghost use Rattle.std.specs.Prelude.{◌≡◌, List, map};
+ghost use Rattle.yasir_ticks.specs.CanonicalText.{canonical_text};
+ghost use Rattle.yasir_ticks.specs.TickText.{IsTickText};
+ghost use Rattle.yasir_ticks.specs.Ticks.{AreTicks};
+ghost use Rattle.yasir_ticks.specs.Ticks.Item.{tick};
+ghost use Rattle.yasir_ticks.specs.declared.tick.Tick.{Tick};
+
+/// A law of canonical text: that of any ticks is a right tick text without a mark, which stands for
+/// these ticks. So no other list of ticks has the same one.
+pub fn canonical_text_stands_for_its_ticks()
+    ensures stands { (ticks : List Tick) → AreTicks ticks
+        → IsTickText 0 (canonical_text ticks) (map tick ticks) }
+    ensures alone { (a b : List Tick) → AreTicks a → AreTicks b
+        → canonical_text a ≡ canonical_text b → a ≡ b }
+{}

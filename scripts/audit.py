@@ -1,0 +1,470 @@
+#!/usr/bin/env python3
+"""Compares the verdicts of `audit` with the model's, over sessions whose recordings or floors were tampered with.
+
+    python3 scripts/audit.py [SESSIONS] [PROGRAM] [SEED]
+
+A session is drawn from SEED (1): a device's line of some frames, its link, and the line of an honest receiver, with either
+protocol, profile and direction, a key of its own, and floors up to the greatest number. One of the deeds in DEEDS is done to it,
+by turns. The program's line must be the one that model.py makes of the same recordings, and the model's verdict must be one that
+the deed allows: a tag that an insider forged is always named, and an honest receiver never differs. Then the same is done over
+programs that are made wrong, each in one way (WRONG).
+
+It ends with 0 only if all agree, every verdict was seen, and each wrong program was told from the right one. It is no part of the
+gate.
+"""
+import collections, os, random, re, subprocess, sys, tempfile
+
+import model
+from model import LIMIT, PAUSE, Y18, Y24, Dnp3, Rtu
+
+Session = collections.namedtuple("Session", "proto profile key direction floors device link received sent")
+
+CLEAN, FORGED, DIFFERS = "clean", "forged", "differs"
+KINDS = (CLEAN, FORGED, DIFFERS)
+
+
+def some_frame(proto, chance):
+    if proto is Rtu:
+        body = [chance.randrange(256) for _ in range(chance.choice([2, 3, 6, 6, 6, 13, 30]))]
+        return body + list(Rtu.end(body))
+    user = [chance.randrange(256) for _ in range(chance.choice([0, 0, 6, 6, 15, 17]))]
+    header = [0x05, 0x64, 5 + len(user), 0xC4] + [chance.randrange(256) for _ in range(4)]
+    parts = [header] + [user[place:place + 16] for place in range(0, len(user), 16)]
+    return [byte for part in parts for byte in part + list(Dnp3.end(part))]
+
+
+def some_session(chance):
+    """An untouched session of 2 to 6 frames, all of which are sealed, pass and are read."""
+    proto, profile, direction = chance.choice([Rtu, Dnp3]), chance.choice([Y18, Y24]), chance.randrange(2)
+    key = bytes(chance.randrange(256) for _ in range(chance.choice([16, 32, 64])))
+    floor = chance.choice([0, 0, 7, 65530, 70000, LIMIT - 20])
+    device = [None] * chance.choice([0, 5, 40])
+    for _ in range(chance.randrange(2, 7)):
+        device += some_frame(proto, chance) + [None] * chance.choice([profile.delay + PAUSE, 30, 60])
+    got = max(0, floor - chance.choice([0, 0, 3, 500]))
+    link, _, _, sent = model.seal(proto, key, direction, floor, device, profile)
+    return heard(Session(proto, profile, key, direction, (floor, got), device, link, None, sent))
+
+
+def heard(session, link=None):
+    """The session with this link, and the line that its honest receiver makes of it."""
+    link = session.link if link is None else link
+    received = model.check(session.proto, session.key, session.direction, session.floors[1], link, session.profile)[0]
+    return session._replace(link=link, received=received)
+
+
+def packets(session):
+    """First tick and the one behind the last tick of each packet."""
+    return [(start, start + len(frame) + session.profile.delay - 1) for _, start, frame in session.sent]
+
+
+def put(ticks, place, piece):
+    """The ticks with a piece in place of as many that stood there."""
+    return ticks[:place] + piece + ticks[place + len(piece):]
+
+
+def packet_of(session, number, frame):
+    return frame + [None] * PAUSE + model.trailer(session.proto, session.key, session.direction, frame, number, session.profile)
+
+
+def other_byte(ticks, place, chance):
+    return put(ticks, place, [(ticks[place] or 0) ^ chance.randrange(1, 256)])
+
+
+# ---- what an attacker on the link does, behind which an honest receiver stands
+
+def on_link(change):
+    return lambda session, chance: heard(session, change(session, chance))
+
+
+def change_a_frame(session, chance):
+    first, _ = chance.choice(packets(session))
+    return other_byte(session.link, first + chance.randrange(4), chance)
+
+
+def change_a_trailer(session, chance):
+    _, behind = chance.choice(packets(session))
+    return other_byte(session.link, behind - 1 - chance.randrange(session.profile.word + session.profile.tag), chance)
+
+
+def remove(session, chance):
+    first, behind = chance.choice(packets(session))
+    return put(session.link, first, [None] * (behind - first))
+
+
+def repeat(session, chance):
+    first, behind = chance.choice(packets(session))
+    return session.link + [None] * 40 + session.link[first:behind]
+
+
+def swap(session, chance):
+    one, other = sorted(chance.sample(packets(session), 2))
+    link = session.link
+    return link[:one[0]] + link[other[0]:other[1]] + link[one[1]:other[0]] + link[one[0]:one[1]] + link[other[1]:]
+
+
+def cut(session, chance):
+    first, behind = chance.choice(packets(session))
+    kept = chance.randrange(1, behind - first)
+    return put(session.link, first + kept, [None] * (behind - first - kept))
+
+
+def send_back(session, chance):
+    """The link as it came, which the same key sealed in the other direction."""
+    return model.seal(session.proto, session.key, 1 - session.direction, session.floors[1], session.device, session.profile)[0]
+
+
+def delay_all(session, chance):
+    return [None] * chance.randrange(1, 500) + session.link
+
+
+# ---- what somebody with the key does
+
+def forge(session, chance):
+    """A frame of an insider with the next number, behind all others."""
+    number = session.sent[-1][0] + 1
+    return session.link + [None] * 40 + packet_of(session, number, some_frame(session.proto, chance)) + [None] * 4
+
+
+def forge_ahead(session, chance):
+    """The same, with a number so far ahead that it may be too far."""
+    number = min(LIMIT, session.sent[-1][0] + chance.choice([2, 1000, 65535, 65536, 65537, 1 << 33]))
+    return session.link + [None] * 40 + packet_of(session, number, some_frame(session.proto, chance)) + [None] * 4
+
+
+def forge_a_sealed_number(session, chance):
+    """Another frame in the place of one that was sealed, under its number and with the right tag."""
+    number, start, frame = chance.choice(session.sent)
+    other = some_frame(session.proto, chance)
+    while other == frame:
+        other = some_frame(session.proto, chance)
+    behind = start + len(frame) + session.profile.delay - 1
+    return session.link[:start] + packet_of(session, number, other) + session.link[behind:]
+
+
+def bring_an_old_one(session, chance):
+    """A packet of before the session, to a receiver whose journal was put back."""
+    while session.floors[0] == 0:
+        session = some_session(chance)
+    floor = session.floors[0]
+    old = packet_of(session, floor, some_frame(session.proto, chance))
+    return heard(session._replace(floors=(floor, floor - 1)), [None] * 4 + old + [None] * 40 + session.link)
+
+
+# ---- what is done to the line that the device got
+
+def on_received(change):
+    return lambda session, chance: session._replace(received=change(session, chance))
+
+
+def leaves(session, chance):
+    """Where a frame leaves the receiver, and how long it is."""
+    _, start, frame = chance.choice(session.sent)
+    return start + session.profile.delay, len(frame)
+
+
+def change_what_was_got(session, chance):
+    place, size = leaves(session, chance)
+    return other_byte(session.received, place + chance.randrange(size), chance)
+
+
+def add_a_frame(session, chance):
+    return session.received + [None] * 40 + some_frame(session.proto, chance)
+
+
+def insert_a_frame(session, chance):
+    place, size = leaves(session, chance)
+    return session.received[:place] + some_frame(session.proto, chance) + [None] * 30 + session.received[place:]
+
+
+def take_a_frame(session, chance):
+    place, size = leaves(session, chance)
+    return put(session.received, place, [None] * size)
+
+
+def let_one_come_later(session, chance):
+    place, size = leaves(session, chance)
+    return put(session.received, place, [None] + session.received[place:place + size])
+
+
+def cut_short(session, chance):
+    place, size = leaves(session, chance)
+    return session.received[:place + chance.randrange(size)]
+
+
+def cut_after_all(session, chance):
+    _, start, frame = session.sent[-1]
+    return session.received[:start + session.profile.delay + len(frame) + chance.randrange(20)]
+
+
+def stop_at_the_verdict(session, chance):
+    """All three recordings end in the tick of the last verdict: the last byte of the frame leaves one tick later."""
+    ticks = packets(session)[-1][1]
+    return session._replace(device=session.device[:ticks], link=session.link[:ticks], received=session.received[:ticks])
+
+
+def one_tick_longer(session, chance):
+    """The same, but for a third recording that is one tick longer."""
+    short = stop_at_the_verdict(session, chance)
+    return short._replace(received=session.received[:len(short.link) + 1])
+
+
+# ---- what is wrong with the floors or the first list, and lists of nothing
+
+def sender_floor(session, chance):
+    floor = session.floors[0]
+    wrong = chance.choice([other for other in (floor - 1, floor + 1, floor + 5, 0, LIMIT) if 0 <= other <= LIMIT and other != floor])
+    return session._replace(floors=(wrong, session.floors[1]))
+
+
+def receiver_floor(session, chance):
+    """A floor at or above the first number of the session, so that a packet seems to be refused."""
+    return session._replace(floors=(session.floors[0], chance.choice([session.sent[0][0], session.sent[-1][0], LIMIT])))
+
+
+def low_receiver_floor(session, chance):
+    """A floor below the right one, but near enough."""
+    return session._replace(floors=(session.floors[0], max(0, session.floors[1] - chance.choice([1, 2, 1000]))))
+
+
+def miss_a_frame(session, chance):
+    _, start, frame = chance.choice(session.sent)
+    return session._replace(device=put(session.device, start, [None] * len(frame)))
+
+
+def begin_late(session, chance):
+    """The device's recording begins behind its first frame."""
+    _, start, frame = session.sent[0]
+    return session._replace(device=session.device[start + len(frame):])
+
+
+def silence(session, chance):
+    return session._replace(**{name: [None] * chance.choice([0, 1, 50, 1000]) for name in ("device", "link", "received")})
+
+
+def some_noise(chance):
+    return [chance.choice([0x05, 0x64, None, None, chance.randrange(256)]) for _ in range(chance.randrange(1, 300))]
+
+
+def noise(session, chance):
+    return session._replace(device=some_noise(chance), link=some_noise(chance), received=some_noise(chance))
+
+
+def noise_between(session, chance):
+    """Noise on the link behind the packets, to an honest receiver."""
+    return heard(session, session.link + [None] * 40 + some_noise(chance))
+
+
+def other_key(session, chance):
+    return session._replace(key=bytes(byte ^ 1 for byte in session.key))
+
+
+def lose_a_list(session, chance):
+    return session._replace(**{chance.choice(["device", "link", "received"]): []})
+
+
+def exchange(session, chance):
+    return session._replace(link=session.received, received=session.link)
+
+
+# What is done, and the verdicts that may come of it.
+DEEDS = {
+    "nothing": (lambda session, chance: session, CLEAN),
+    "link: a frame changed": (on_link(change_a_frame), CLEAN),
+    "link: a trailer changed": (on_link(change_a_trailer), CLEAN),
+    "link: a packet removed": (on_link(remove), CLEAN),
+    "link: a packet repeated": (on_link(repeat), CLEAN),
+    "link: two packets swapped": (on_link(swap), CLEAN),
+    "link: a packet cut": (on_link(cut), CLEAN),
+    "link: sent back the way it came": (on_link(send_back), CLEAN),
+    "link: all of it later": (on_link(delay_all), CLEAN),
+    "link: noise behind it": (noise_between, CLEAN),
+    "insider: a tag forged": (on_link(forge), FORGED),
+    "insider: a number ahead": (on_link(forge_ahead), FORGED, CLEAN),
+    "insider: a frame under a sealed number": (on_link(forge_a_sealed_number), FORGED),
+    "journal put back: an old packet": (bring_an_old_one, FORGED),
+    "got: a byte changed": (on_received(change_what_was_got), DIFFERS),
+    "got: a frame more": (on_received(add_a_frame), DIFFERS),
+    "got: a frame between": (on_received(insert_a_frame), DIFFERS),
+    "got: a frame less": (on_received(take_a_frame), DIFFERS),
+    "got: a frame a tick later": (on_received(let_one_come_later), DIFFERS),
+    "got: cut inside a frame": (on_received(cut_short), DIFFERS),
+    "got: cut behind the last frame": (on_received(cut_after_all), CLEAN),
+    "all: cut in the tick of a verdict": (stop_at_the_verdict, DIFFERS),
+    "all: so cut, but the third longer": (one_tick_longer, CLEAN),
+    "floors: the sender's wrong": (sender_floor, FORGED),
+    "floors: the receiver's too high": (receiver_floor, DIFFERS),
+    "floors: the receiver's too low": (low_receiver_floor, CLEAN),
+    "first list: a frame missing": (miss_a_frame, FORGED),
+    "first list: begins too late": (begin_late, FORGED),
+    "key: that of another line": (other_key, DIFFERS),
+    "silence alone": (silence, CLEAN),
+    "noise alone": (noise,) + KINDS,
+    "a list missing": (lose_a_list,) + KINDS,
+    "second and third exchanged": (exchange,) + KINDS,
+}
+
+
+def words_of(session, key_file):
+    name = {"rtu": "rtu", "dnp3": "dnp"}[session.proto.word] + "24" if session.profile is Y24 else session.proto.word
+    return ["audit", name, ("ab", "ba")[session.direction], key_file] + [str(floor) for floor in session.floors]
+
+
+def lists_of(session):
+    return [session.device, session.link, session.received]
+
+
+class Program:
+    """The program that is tried. A wrong one of WRONG changes its words, its lists or its line."""
+
+    def __init__(self, path, folder):
+        self.path, self.key_file = path, os.path.join(folder, "key")
+
+    def run(self, session):
+        """What it writes; another status, or a line in the log, is a part of it."""
+        with open(self.key_file, "w") as file:
+            file.write(session.key.hex())
+        text = "%\n".join(map(model.canonical, self.lists(lists_of(session))))
+        ran = subprocess.run([self.path] + self.words(words_of(session, self.key_file)), input=text, capture_output=True, text=True)
+        return self.line(ran.stdout) + ran.stderr + ("" if ran.returncode == 0 else "status %d" % ran.returncode)
+
+    def words(self, words):
+        return words
+
+    def lists(self, lists):
+        return lists
+
+    def line(self, line):
+        return line
+
+
+def wrong(**changes):
+    return type("Wrong", (Program,), {name: staticmethod(change) for name, change in changes.items()})
+
+
+def one_more(pattern):
+    """A line with the number behind this word raised by one."""
+    return lambda line: re.sub(pattern, lambda found: found[1] + str(int(found[2]) + 1), line)
+
+
+def counts_for_numbers(line):
+    """The line of a program that compares how many there are, where a frame that passed wasn't read."""
+    return "audit clean sealed 2 passed 2 read 2\n" if line.startswith("audit differs") else line
+
+
+def sealed_in(session):
+    return model.seal(session.proto, session.key, session.direction, session.floors[0], session.device, session.profile)[3]
+
+
+def passed_in(session):
+    return model.check(session.proto, session.key, session.direction, session.floors[1], session.link, session.profile)[3]
+
+
+def counted(session):
+    """The line of a clean verdict, whatever is in the lists."""
+    read = model.reads(session.proto, session.received)
+    return "audit clean sealed %d passed %d read %d\n" % (len(sealed_in(session)), len(passed_in(session)), len(read))
+
+
+class ByNumberAlone(Program):
+    """A program that takes a passed frame for sealed where some frame was sealed with its number."""
+
+    def run(self, session):
+        line = super().run(session)
+        found = re.match(r"audit forged (\d+) ", line)
+        return counted(session) if found and int(found[1]) in [number for number, _, _ in sealed_in(session)] else line
+
+
+class ByFrameAlone(Program):
+    """A program that takes a passed frame for sealed where its bytes were, with whatever number."""
+
+    def run(self, session):
+        line, frames = super().run(session), [frame for _, _, frame in sealed_in(session)]
+        found = re.match(r"audit forged (\d+) ", line)
+        named = [frame for number, _, frame in passed_in(session) if found and number == int(found[1])]
+        return counted(session) if named and named[0] in frames else line
+
+
+class LongerIsClean(Program):
+    """A program that doesn't see frames behind the last one that passed."""
+
+    def run(self, session):
+        line = super().run(session)
+        return counted(session) if line == "audit differs %d\n" % len(passed_in(session)) else line
+
+
+WRONG = {
+    "differences counted from 1": wrong(line=one_more(r"(differs )(\d+)")),
+    "floors swapped": wrong(words=lambda words: words[:4] + words[:3:-1]),
+    "floors taken for 0": wrong(words=lambda words: words[:4] + ["0", "0"]),
+    "forged called clean": wrong(line=lambda line: "audit clean sealed 1 passed 1 read 1\n" if "forged" in line else line),
+    "forged called different": wrong(line=lambda line: "audit differs 0\n" if "forged" in line else line),
+    "differences not seen": wrong(line=counts_for_numbers),
+    "forged told by the number alone": ByNumberAlone,
+    "forged told by the frame alone": ByFrameAlone,
+    "frames behind the last one not seen": LongerIsClean,
+    "the tick of a forged frame a tick late": wrong(line=one_more(r"(forged \d+ at )(\d+)")),
+    "one too many read": wrong(line=one_more(r"(read )(\d+)")),
+    "sealed and passed exchanged": wrong(line=lambda line: re.sub(r"sealed (\d+) passed (\d+)", r"sealed \2 passed \1", line)),
+    "the third list cut to the second's length": wrong(lists=lambda lists: lists[:2] + [lists[2][:len(lists[1])]]),
+    "the first list taken for the second": wrong(lists=lambda lists: [lists[1], lists[1], lists[2]]),
+    "the third list without its last tick": wrong(lists=lambda lists: lists[:2] + [lists[2][:-1]]),
+    "the other direction": wrong(words=lambda words: words[:2] + [{"ab": "ba", "ba": "ab"}[words[2]]] + words[3:]),
+    "a fault line beside the verdict": wrong(line=lambda line: line + "fault: memory\n"),
+}
+
+
+def disagreements(program, sessions, seed, first_only=False):
+    """Where program, model and deed disagree, in words; and how often each deed came to each verdict."""
+    chance, seen, found = random.Random(seed), collections.Counter(), []
+    deeds = list(DEEDS)
+    for turn in range(sessions):
+        name = deeds[turn % len(deeds)]
+        deed, *allowed = DEEDS[name]
+        session = deed(some_session(chance), chance)
+        wanted = model.audit(session.proto, session.key, session.direction, session.floors, *lists_of(session), session.profile)
+        kind, wrote = wanted.split()[1], program.run(session)
+        seen[name, kind] += 1
+        if kind not in allowed:
+            found.append("%s: the model says `%s`, which can't come of it" % (name, wanted))
+        if wrote != wanted + "\n":
+            found.append("%s: the program says `%s` and the model `%s`, of `%s` and the lists\n%s" % (
+                name, wrote.strip(), wanted, " ".join(words_of(session, "KEY")), "%\n".join(map(model.canonical, lists_of(session)))))
+        if found and first_only:
+            break
+    return found, seen
+
+
+def compare(path, sessions, seed, folder):
+    found, seen = disagreements(Program(path, folder), sessions, seed)
+    print("%-40s%s" % ("%d sessions, seed %d" % (sessions, seed), "".join("%9s" % kind for kind in KINDS)))
+    for name in DEEDS:
+        print(("%-40s%s" % (name, "".join("%9s" % (seen[name, kind] or "") for kind in KINDS))).rstrip())
+    sums = [sum(count for (_, kind), count in seen.items() if kind == each) for each in KINDS]
+    print("%-40s%s" % ("all of them", "".join("%9d" % count for count in sums)))
+    found += ["no verdict was `%s`" % kind for kind, count in zip(KINDS, sums) if not count]
+    print("\n".join(found[:5] + ["%d disagreements" % len(found) if found else "all verdicts are what the model says"]))
+    return 1 if found else 0
+
+
+def try_wrong_ones(path, seed, folder):
+    missed = 0
+    for name, made in WRONG.items():
+        found, seen = disagreements(made(path, folder), 20 * len(DEEDS), seed, first_only=True)
+        missed += not found
+        said = "told after %3d sessions: %s" % (sum(seen.values()), found[0].split("\n")[0].split(", of `")[0]) if found else "NOT TOLD"
+        print("%-43s %s" % (name, said))
+    print("%d wrong programs, %d not told from the right one" % (len(WRONG), missed))
+    return 1 if missed else 0
+
+
+def main(words):
+    sessions = int(words[0]) if words else 660
+    path = os.path.abspath(words[1] if len(words) > 1 else "crates/link_replay/out/link_replay")
+    seed = int(words[2]) if len(words) > 2 else 1
+    with tempfile.TemporaryDirectory(prefix="audit.") as folder:
+        return compare(path, sessions, seed, folder) or try_wrong_ones(path, seed, folder)
+
+
+if __name__ == "__main__":
+    sys.exit(main(sys.argv[1:]))

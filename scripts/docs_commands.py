@@ -1,0 +1,73 @@
+#!/usr/bin/env python3
+"""Runs each command that a page shows behind a `$`, and compares what it writes with what the page shows below it.
+
+    python3 scripts/docs_commands.py [PROGRAM]
+
+The commands of a page run in its order in one new folder, which has a copy of examples/ and the program at its usual place, so
+that a file which one of them leaves is there for the next. What stands on standard error may come before or behind standard
+output. It ends with 1 where a page shows something else, and where a page shows no command. It is no part of the gate.
+"""
+import os, re, shutil, subprocess, sys, tempfile
+
+from killed import slot_of
+
+ROOT = os.path.dirname(os.path.dirname(os.path.abspath(__file__)))
+
+# The pages, and the files that their commands find: a journal that stands at 41.
+PAGES = {"docs/USAGE.md": {}, "docs/SECURITY.md": {"journal": bytes(32) + slot_of(41)}}
+
+
+def shown(text):
+    """The commands of a page, and the lines that are shown below each of them. A line that ends in | goes on."""
+    found = []
+    for line in text.splitlines():
+        code = re.match(r" {4,}(.*)", line)
+        if not code:
+            continue
+        if code[1].startswith("$ "):
+            found.append([code[1][2:], []])
+        elif found and not found[-1][1] and found[-1][0].rstrip().endswith("|"):
+            found[-1][0] += "\n" + code[1]
+        elif found:
+            found[-1][1].append(code[1])
+    return found
+
+
+def blocks(text):
+    """The parts of a page that are indented as code, each with the text of its own alone."""
+    return re.findall(r"(?:^ {4,}\S.*\n)+", text, re.M)
+
+
+def differing(page, program):
+    """What is wrong with the commands of a page, in words, and how many there are."""
+    with open(os.path.join(ROOT, page)) as file:
+        commands = [command for block in blocks(file.read()) for command in shown(block)]
+    wrong = []
+    with tempfile.TemporaryDirectory(prefix="docs_commands.") as folder:
+        shutil.copytree(os.path.join(ROOT, "examples"), os.path.join(folder, "examples"))
+        place = os.path.join(folder, "crates", "link_replay", "out")
+        os.makedirs(place)
+        os.symlink(program, os.path.join(place, "link_replay"))
+        for name, content in PAGES[page].items():
+            with open(os.path.join(folder, name), "wb") as file:
+                file.write(content)
+        for command, lines in commands:
+            ran = subprocess.run(["bash", "-c", command], cwd=folder, stdin=subprocess.DEVNULL, capture_output=True, text=True)
+            out, log = ran.stdout.splitlines(), ran.stderr.splitlines()
+            if lines not in (out + log, log + out):
+                wrong.append("%s: `%s` writes\n    %s" % (page, command, "\n    ".join(log + out)))
+    return wrong, len(commands)
+
+
+def main():
+    program = os.path.abspath(sys.argv[1] if len(sys.argv) > 1 else os.path.join(ROOT, "crates", "link_replay", "out", "link_replay"))
+    faults = 0
+    for page in PAGES:
+        wrong, commands = differing(page, program)
+        faults += len(wrong) + (not commands)
+        print("\n".join(wrong + ["%s: %d commands, %d write something else" % (page, commands, len(wrong))]))
+    return 1 if faults else 0
+
+
+if __name__ == "__main__":
+    sys.exit(main())
