@@ -1,4 +1,4 @@
-//! The link of the words of a command.
+//! The link of the words of a command, and what its protocol and profile are made of.
 ghost use Rattle.std.specs.Prelude.{◌≡◌};
 ghost use Rattle.sequence_journal.specs.Links.{IsLink};
 ghost use Rattle.link_replay.specs.Protocols.{link_of};
@@ -27,3 +27,40 @@ pub fn link_of(proto: Proto, profile: Profile, dir: Dir) -> LinkId
         },
     }
 }
+
+/// Does a command with what a protocol and a profile are made of, each row of which stands here and
+/// nowhere else: the rules of the protocol and its device, the MAC, the bytes of a number on the
+/// link, the receiver's delay in ticks, and the silent ticks that a spacer leaves between frames.
+/// The command is a macro that takes such a row, and behind it what it is given here.
+macro_rules! with_link {
+    ($proto:expr, $profile:expr, $command:ident ($($given:expr),*)) => {
+        match ($proto, $profile) {
+            ($crate::Proto::Rtu, $crate::Profile::Y18) => {
+                $command!(
+                    [rtu_frame::Rtu, device_model::RtuDevice, hmac_tag::HmacSha1, 2, 18, 21],
+                    $($given),*
+                )
+            }
+            ($crate::Proto::Dnp3, $crate::Profile::Y18) => {
+                $command!(
+                    [dnp_link_frame::Dnp, device_model::DnpDevice, hmac_tag::HmacSha1, 2, 18, 21],
+                    $($given),*
+                )
+            }
+            ($crate::Proto::Rtu, $crate::Profile::Y24) => {
+                $command!(
+                    [rtu_frame::Rtu, device_model::RtuDevice, hmac_tag::HmacSha256, 4, 24, 27],
+                    $($given),*
+                )
+            }
+            ($crate::Proto::Dnp3, $crate::Profile::Y24) => {
+                $command!(
+                    [dnp_link_frame::Dnp, device_model::DnpDevice, hmac_tag::HmacSha256, 4, 24, 27],
+                    $($given),*
+                )
+            }
+        }
+    };
+}
+
+pub(crate) use with_link;

@@ -24,10 +24,6 @@ mod verdict;
 pub use burst_bytes::BurstBytes;
 pub use hmac_tag::Dir;
 pub use laws::{clean_recordings_have_only_sealed_frames, own_line_of_a_receiver_never_differs};
-pub use link_boxes::{
-    DnpChecker18, DnpChecker24, DnpSealer18, DnpSealer24, RtuChecker18, RtuChecker24, RtuSealer18,
-    RtuSealer24,
-};
 pub use noting_box::NotingBox;
 pub use over_input::audit_input;
 pub use over_recordings::audit;

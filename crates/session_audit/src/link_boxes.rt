@@ -16,25 +16,25 @@ pub(crate) const LINK_REST: u32 = 320;
 pub(crate) const DEVICE_REST: u32 = 6;
 
 /// The transmitter of Modbus RTU by the profile of 18 ticks.
-pub type RtuSealer18 = ShownFrames<Sealer<Rtu, HmacSha1, 2>, Rtu, SteadySlots>;
+pub(crate) type RtuSealer18 = ShownFrames<Sealer<Rtu, HmacSha1, 2>, Rtu, SteadySlots>;
 
 /// The receiver of Modbus RTU by the profile of 18 ticks.
-pub type RtuChecker18 = ShownFrames<Checker<Rtu, HmacSha1, 2, 18>, Rtu, SteadySlots>;
+pub(crate) type RtuChecker18 = ShownFrames<Checker<Rtu, HmacSha1, 2, 18>, Rtu, SteadySlots>;
 
 /// The transmitter of DNP3 by the profile of 18 ticks.
-pub type DnpSealer18 = ShownFrames<Sealer<Dnp, HmacSha1, 2>, Dnp, SteadySlots>;
+pub(crate) type DnpSealer18 = ShownFrames<Sealer<Dnp, HmacSha1, 2>, Dnp, SteadySlots>;
 
 /// The receiver of DNP3 by the profile of 18 ticks.
-pub type DnpChecker18 = ShownFrames<Checker<Dnp, HmacSha1, 2, 18>, Dnp, SteadySlots>;
+pub(crate) type DnpChecker18 = ShownFrames<Checker<Dnp, HmacSha1, 2, 18>, Dnp, SteadySlots>;
 
 /// The transmitter of Modbus RTU by the profile of 24 ticks.
-pub type RtuSealer24 = ShownFrames<Sealer<Rtu, HmacSha256, 4>, Rtu, SteadySlots>;
+pub(crate) type RtuSealer24 = ShownFrames<Sealer<Rtu, HmacSha256, 4>, Rtu, SteadySlots>;
 
 /// The receiver of Modbus RTU by the profile of 24 ticks.
-pub type RtuChecker24 = ShownFrames<Checker<Rtu, HmacSha256, 4, 24>, Rtu, SteadySlots>;
+pub(crate) type RtuChecker24 = ShownFrames<Checker<Rtu, HmacSha256, 4, 24>, Rtu, SteadySlots>;
 
 /// The transmitter of DNP3 by the profile of 24 ticks.
-pub type DnpSealer24 = ShownFrames<Sealer<Dnp, HmacSha256, 4>, Dnp, SteadySlots>;
+pub(crate) type DnpSealer24 = ShownFrames<Sealer<Dnp, HmacSha256, 4>, Dnp, SteadySlots>;
 
 /// The receiver of DNP3 by the profile of 24 ticks.
-pub type DnpChecker24 = ShownFrames<Checker<Dnp, HmacSha256, 4, 24>, Dnp, SteadySlots>;
+pub(crate) type DnpChecker24 = ShownFrames<Checker<Dnp, HmacSha256, 4, 24>, Dnp, SteadySlots>;

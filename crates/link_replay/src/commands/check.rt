@@ -6,19 +6,29 @@ ghost use Rattle.link_replay.specs.Commands.{HasCauses};
 ghost use Rattle.link_replay.specs.Protocols.{link_of};
 ghost use Rattle.link_replay.specs.CheckCommand.{Checks};
 
-use crate::link::link_of;
+use crate::link::{link_of, with_link};
 use crate::{Profile, Proto};
 use box_command::replay_box;
 use check_receiver::Checker;
-use dnp_link_frame::Dnp;
-use hmac_tag::{Dir, HmacSha1, HmacSha256};
+use hmac_tag::Dir;
 use replay_status::{Ends, Status};
-use rtu_frame::Rtu;
 use yasir_io::{Sink, SlotDisk, Source};
 
 /// How many silent ticks stand behind a whole input, so that the verdict on its last burst falls
 /// and all that the receiver holds back leaves.
 const REST: u32 = 320;
+
+// The receiver over the input.
+macro_rules! check_by {
+    (
+        [$rules:ty, $device:ty, $mac:ty, $word:literal, $delay:literal, $gap:literal],
+        $link:expr, $dir:expr, $ends:expr
+    ) => {
+        replay_box::<Checker<$rules, $mac, $word, $delay>, K, S, O, L, D>(
+            $link, $dir, REST, $ends,
+        )
+    };
+}
 
 /// Checks the packets of a recorded line of a link, by a receiver whose delay is 18 ticks, or 24
 /// where words have four bytes and tags sixteen.
@@ -37,18 +47,5 @@ pub fn check<K: Source, S: Source, O: Sink, L: Sink, D: SlotDisk>(
         result }
 {
     let link = link_of(proto, profile, dir);
-    match (proto, profile) {
-        (Proto::Rtu, Profile::Y18) => replay_box::<Checker<Rtu, HmacSha1, 2, 18>, K, S, O, L, D>(
-            &link, dir, REST, ends,
-        ),
-        (Proto::Dnp3, Profile::Y18) => replay_box::<Checker<Dnp, HmacSha1, 2, 18>, K, S, O, L, D>(
-            &link, dir, REST, ends,
-        ),
-        (Proto::Rtu, Profile::Y24) => replay_box::<Checker<Rtu, HmacSha256, 4, 24>, K, S, O, L, D>(
-            &link, dir, REST, ends,
-        ),
-        (Proto::Dnp3, Profile::Y24) => {
-            replay_box::<Checker<Dnp, HmacSha256, 4, 24>, K, S, O, L, D>(&link, dir, REST, ends)
-        }
-    }
+    with_link!(proto, profile, check_by(&link, dir, ends))
 }

@@ -4,23 +4,39 @@ ghost use Rattle.link_replay.specs.declared.words.Command.TheVariants.{Replay};
 ghost use Rattle.link_replay.specs.Commands.{HasCauses};
 ghost use Rattle.link_replay.specs.ReplayCommand.{Replays};
 
+use crate::link::with_link;
 use crate::{Profile, Proto};
-use device_model::{DnpDevice, RtuDevice};
+use check_receiver::Checker;
 use hmac_tag::Dir;
 use recordings_replay::replay_recordings;
 use replay_status::{Ends, Status};
-use session_audit::{
-    DnpChecker18, DnpChecker24, DnpSealer18, DnpSealer24, RtuChecker18, RtuChecker24, RtuSealer18,
-    RtuSealer24,
-};
+use seal_transmitter::Sealer;
+use session_audit::ShownFrames;
 use std::alloc::Global;
-use yasir_io::{Sink, SlotDisk, Source};
+use yasir_io::{Sink, SlotDisk, Source, SteadySlots};
 
-/// How many silent ticks stand behind the line of the device, by each profile, so that its last
-/// burst is closed and its trailer sent: six more than the receiver's delay.
-const Y18_REST: u32 = 24;
+/// How many silent ticks stand behind the line of the device beyond the receiver's delay, so that
+/// its last burst is closed and its trailer sent.
+const REST: u32 = 6;
 
-const Y24_REST: u32 = 30;
+// Both boxes over the two recordings, with the bytes of their frames, and the device behind them.
+macro_rules! replay_by {
+    (
+        [$rules:ty, $device:ty, $mac:ty, $word:literal, $delay:literal, $gap:literal],
+        $alloc:expr, $dir:expr, $ends:expr
+    ) => {
+        replay_recordings::<
+            ShownFrames<Sealer<$rules, $mac, $word>, $rules, SteadySlots>,
+            ShownFrames<Checker<$rules, $mac, $word, $delay>, $rules, SteadySlots>,
+            $device,
+            K,
+            S,
+            O,
+            L,
+            D,
+        >($alloc, $dir, $delay + REST, $ends)
+    };
+}
 
 /// Takes the line of a device through the transmitter and a link through the receiver, and prints
 /// what was sealed, passed, read and forged.
@@ -37,26 +53,5 @@ pub fn replay<K: Source, S: Source, O: Sink, L: Sink, D: SlotDisk>(
         (Some (Replay proto profile dir)) (outside_before ends.entry) (outside_after ends.exit)
         result }
 {
-    match (proto, profile) {
-        (Proto::Rtu, Profile::Y18) => {
-            replay_recordings::<RtuSealer18, RtuChecker18, RtuDevice, K, S, O, L, D>(
-                alloc, dir, Y18_REST, ends,
-            )
-        }
-        (Proto::Dnp3, Profile::Y18) => {
-            replay_recordings::<DnpSealer18, DnpChecker18, DnpDevice, K, S, O, L, D>(
-                alloc, dir, Y18_REST, ends,
-            )
-        }
-        (Proto::Rtu, Profile::Y24) => {
-            replay_recordings::<RtuSealer24, RtuChecker24, RtuDevice, K, S, O, L, D>(
-                alloc, dir, Y24_REST, ends,
-            )
-        }
-        (Proto::Dnp3, Profile::Y24) => {
-            replay_recordings::<DnpSealer24, DnpChecker24, DnpDevice, K, S, O, L, D>(
-                alloc, dir, Y24_REST, ends,
-            )
-        }
-    }
+    with_link!(proto, profile, replay_by(alloc, dir, ends))
 }

@@ -6,21 +6,29 @@ ghost use Rattle.link_replay.specs.Commands.{HasCauses};
 ghost use Rattle.link_replay.specs.Protocols.{link_of};
 ghost use Rattle.link_replay.specs.SealCommand.{Seals};
 
-use crate::link::link_of;
+use crate::link::{link_of, with_link};
 use crate::{Profile, Proto};
 use box_command::replay_box;
-use dnp_link_frame::Dnp;
-use hmac_tag::{Dir, HmacSha1, HmacSha256};
+use hmac_tag::Dir;
 use replay_status::{Ends, Status};
-use rtu_frame::Rtu;
 use seal_transmitter::Sealer;
 use yasir_io::{Sink, SlotDisk, Source};
 
-/// How many silent ticks stand behind a whole input, by each profile, so that its last burst is
-/// closed and its trailer leaves: six more than the receiver's delay.
-const Y18_REST: u32 = 24;
+/// How many silent ticks stand behind a whole input beyond the receiver's delay, so that its last
+/// burst is closed and its trailer leaves.
+const REST: u32 = 6;
 
-const Y24_REST: u32 = 30;
+// The transmitter over the input.
+macro_rules! seal_by {
+    (
+        [$rules:ty, $device:ty, $mac:ty, $word:literal, $delay:literal, $gap:literal],
+        $link:expr, $dir:expr, $ends:expr
+    ) => {
+        replay_box::<Sealer<$rules, $mac, $word>, K, S, O, L, D>(
+            $link, $dir, $delay + REST, $ends,
+        )
+    };
+}
 
 /// Seals the frames of a recorded line of a device.
 pub fn seal<K: Source, S: Source, O: Sink, L: Sink, D: SlotDisk>(
@@ -38,18 +46,5 @@ pub fn seal<K: Source, S: Source, O: Sink, L: Sink, D: SlotDisk>(
         result }
 {
     let link = link_of(proto, profile, dir);
-    match (proto, profile) {
-        (Proto::Rtu, Profile::Y18) => replay_box::<Sealer<Rtu, HmacSha1, 2>, K, S, O, L, D>(
-            &link, dir, Y18_REST, ends,
-        ),
-        (Proto::Dnp3, Profile::Y18) => replay_box::<Sealer<Dnp, HmacSha1, 2>, K, S, O, L, D>(
-            &link, dir, Y18_REST, ends,
-        ),
-        (Proto::Rtu, Profile::Y24) => replay_box::<Sealer<Rtu, HmacSha256, 4>, K, S, O, L, D>(
-            &link, dir, Y24_REST, ends,
-        ),
-        (Proto::Dnp3, Profile::Y24) => replay_box::<Sealer<Dnp, HmacSha256, 4>, K, S, O, L, D>(
-            &link, dir, Y24_REST, ends,
-        ),
-    }
+    with_link!(proto, profile, seal_by(&link, dir, ends))
 }

@@ -4,13 +4,23 @@ ghost use Rattle.link_replay.specs.declared.words.Command.TheVariants.{Space};
 ghost use Rattle.link_replay.specs.Commands.{HasCauses};
 ghost use Rattle.link_replay.specs.SpaceCommand.{Spaces};
 
+use crate::link::with_link;
 use crate::{Profile, Proto};
-use device_model::{DnpDevice, RtuDevice};
 use line_spacer::Spacer;
 use replay_status::{Ends, Status};
 use space_replay::space_frames;
 use std::alloc::Global;
 use yasir_io::{Sink, SlotDisk, Source};
+
+// A spacer of the protocol's device over the input.
+macro_rules! space_by {
+    (
+        [$rules:ty, $device:ty, $mac:ty, $word:literal, $delay:literal, $gap:literal],
+        $alloc:expr, $input:expr, $out:expr, $log:expr
+    ) => {
+        space_frames::<Spacer<$device, $gap>, S, O, L>($alloc, $input, $out, $log)
+    };
+}
 
 /// Sends the frames that the device of a protocol reads from a recorded line with as much silence
 /// between them as the profile asks for.
@@ -31,18 +41,5 @@ pub fn space<K: Source, S: Source, O: Sink, L: Sink, D: SlotDisk>(
         log,
         ..
     } = ends;
-    match (proto, profile) {
-        (Proto::Rtu, Profile::Y18) => {
-            return space_frames::<Spacer<RtuDevice, 21>, S, O, L>(alloc, input, out, log);
-        }
-        (Proto::Dnp3, Profile::Y18) => {
-            return space_frames::<Spacer<DnpDevice, 21>, S, O, L>(alloc, input, out, log);
-        }
-        (Proto::Rtu, Profile::Y24) => {
-            return space_frames::<Spacer<RtuDevice, 27>, S, O, L>(alloc, input, out, log);
-        }
-        (Proto::Dnp3, Profile::Y24) => {}
-    }
-    let status = space_frames::<Spacer<DnpDevice, 27>, S, O, L>(alloc, input, out, log);
-    status
+    with_link!(proto, profile, space_by(alloc, input, out, log))
 }

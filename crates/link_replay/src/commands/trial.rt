@@ -6,30 +6,26 @@ ghost use Rattle.link_replay.specs.Commands.{HasCauses};
 ghost use Rattle.link_replay.specs.TrialCommand.{trial_counts, Tries};
 ghost use Rattle.link_replay.specs.Words.{link_word};
 
+use crate::link::with_link;
 use crate::{Profile, Proto};
 use check_receiver::Checker;
-use device_model::{DnpDevice, RtuDevice};
-use dnp_link_frame::Dnp;
-use hmac_tag::{HmacSha1, HmacSha256};
 use replay_status::{Ends, Line, Status, flush_both};
-use rtu_frame::Rtu;
 use seal_transmitter::Sealer;
 use trial_session::session_line;
 use yasir_io::{Failed, Sink, SlotDisk, Source, write_all};
 
-/// How many ticks follow a frame in its packet, by each profile: the pause and the trailer, one
-/// less than the receiver's delay.
-const Y18_BEHIND: usize = 17;
-
-const Y24_BEHIND: usize = 23;
-
-type Y18Sealer<R> = Sealer<R, HmacSha1, 2>;
-
-type Y18Checker<R> = Checker<R, HmacSha1, 2, 18>;
-
-type Y24Sealer<R> = Sealer<R, HmacSha256, 4>;
-
-type Y24Checker<R> = Checker<R, HmacSha256, 4, 24>;
+// The line of a session by both boxes.
+macro_rules! session_by {
+    (
+        [$rules:ty, $device:ty, $mac:ty, $word:literal, $delay:literal, $gap:literal],
+        $name:expr, $seed:expr, $count:expr
+    ) => {
+        // the pause and the trailer of a packet have one tick less than the receiver's delay
+        session_line::<$rules, Sealer<$rules, $mac, $word>, Checker<$rules, $mac, $word, $delay>, $device>(
+            $name, $seed, $count, $delay - 1,
+        )
+    };
+}
 
 // The word of a protocol and a profile.
 fn link_word(proto: Proto, profile: Profile) -> &'static [u8]
@@ -50,28 +46,7 @@ fn line_of_session(proto: Proto, profile: Profile, seed: u32, count: u32) -> Lin
         (trial_counts proto profile seed count) }
 {
     let name = link_word(proto, profile);
-    match (proto, profile) {
-        (Proto::Rtu, Profile::Y18) => {
-            session_line::<Rtu, Y18Sealer<Rtu>, Y18Checker<Rtu>, RtuDevice>(
-                name, seed, count, Y18_BEHIND,
-            )
-        }
-        (Proto::Dnp3, Profile::Y18) => {
-            session_line::<Dnp, Y18Sealer<Dnp>, Y18Checker<Dnp>, DnpDevice>(
-                name, seed, count, Y18_BEHIND,
-            )
-        }
-        (Proto::Rtu, Profile::Y24) => {
-            session_line::<Rtu, Y24Sealer<Rtu>, Y24Checker<Rtu>, RtuDevice>(
-                name, seed, count, Y24_BEHIND,
-            )
-        }
-        (Proto::Dnp3, Profile::Y24) => {
-            session_line::<Dnp, Y24Sealer<Dnp>, Y24Checker<Dnp>, DnpDevice>(
-                name, seed, count, Y24_BEHIND,
-            )
-        }
-    }
+    with_link!(proto, profile, session_by(name, seed, count))
 }
 
 /// Tries a link over so many frames that are drawn from a seed, and prints what came of them.
