@@ -13,7 +13,7 @@ use Rattle.link_replay.specs.declared.words.Proto.{Proto}
 use Rattle.link_replay.specs.declared.words.Proto.TheVariants.{Rtu, Dnp3}
 use Rattle.link_replay.specs.declared.words.Command.{Command}
 use Rattle.link_replay.specs.declared.words.Command.TheVariants.{Init, Read, Vectors, Seal, Check}
-use Rattle.link_replay.specs.declared.words.Command.TheVariants.{Replay, Trial, Space}
+use Rattle.link_replay.specs.declared.words.Command.TheVariants.{Replay, Trial, Space, Duplex}
 
 -- A word as one number, so that two words are told apart by a test.
 abbrev number_of : List ℕ → ℕ
@@ -48,7 +48,9 @@ command_by verb first second third =
     (cond (is_word (codes "trial") verb)
     (Trial (proto_by first) (profile_by first) (digits_value 10 second) (digits_value 10 third))
     (cond (is_word (codes "space") verb) (Space (proto_by first) (profile_by first))
-    (Replay (proto_by first) (profile_by first) (dir_by second))))))))
+    (cond (is_word (codes "duplex") verb)
+    (Duplex (proto_by first) (profile_by first) (dir_by second))
+    (Replay (proto_by first) (profile_by first) (dir_by second)))))))))
 
 abbrev word_at : ℕ → List (List ℕ) → List ℕ
 word_at zero [] = []
@@ -95,6 +97,7 @@ command-in words Vectors h = ap command_in h
 command-in words (Seal proto profile dir) h = ap command_in h.4 ∙ box-by Seal proto profile dir
 command-in words (Check proto profile dir) h = ap command_in h.4 ∙ box-by Check proto profile dir
 command-in words (Replay proto profile dir) h = ap command_in h.2 ∙ box-by Replay proto profile dir
+command-in words (Duplex proto profile dir) h = ap command_in h.2 ∙ box-by Duplex proto profile dir
 command-in words (Space proto profile) h =
     ap command_in h ∙ rw (proto-by proto profile, profile-by proto profile) refl
 command-in words (Trial proto profile seed count) h =

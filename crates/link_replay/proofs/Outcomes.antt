@@ -25,7 +25,7 @@ use Rattle.replay_status.specs.declared.status.Status.TheVariants.{Done, WriteFa
 use Rattle.replay_status.specs.declared.status.Status.TheVariants.{HasJournal}
 use Rattle.link_replay.specs.declared.words.Command.{Command}
 use Rattle.link_replay.specs.declared.words.Command.TheVariants.{Init, Read, Vectors, Seal, Check}
-use Rattle.link_replay.specs.declared.words.Command.TheVariants.{Replay, Trial, Space}
+use Rattle.link_replay.specs.declared.words.Command.TheVariants.{Replay, Trial, Space, Duplex}
 use Rattle.replay_status.proofs.Logging.{sinks_after}
 use Rattle.replay_status.proofs.FlushLaws.{flushes_after}
 use Rattle.device_replay.proofs.Readable.{readable_done}
@@ -34,6 +34,7 @@ use Rattle.link_replay.specs.Protocols.{link_of}
 use Rattle.link_replay.proofs.Links.{link-right}
 use Rattle.space_replay.proofs.Readable.{spaced_done}
 use Rattle.link_replay.specs.SpaceCommand.{spaced_by}
+use Rattle.link_replay.proofs.Duplexed.{duplex_done}
 use Rattle.link_replay.proofs.Listable.{listable_done}
 use Rattle.link_replay.proofs.Spaced.{whole-spaces}
 
@@ -84,6 +85,7 @@ module _ {K S O L D : Type 0} (k : Source K) (s : Source S) (o : Sink O) (l : Si
   own-after (Some (Replay proto profile dir)) before after noted status h = h
   own-after (Some (Trial proto profile seed count)) before after noted status h = h
   own-after (Some (Space proto profile)) before after noted status h = h
+  own-after (Some (Duplex proto profile dir)) before after noted status h = h
   own-after None before after noted status h = h
   own-after (Some (Init proto profile dir)) before after noted status h = h
   own-after (Some (Read proto)) before after noted status h = h
@@ -148,4 +150,7 @@ module _ {K S O L D : Type 0} (k : Source K) (s : Source S) (o : Sink O) (l : Si
       (whole-spaces proto profile _ _ _ _ status does.line) causes.own.0 causes.streams.sinks
   asked_done (Some (Replay proto profile dir)) before after status may calm does causes =
       listable_done k s o l d proto profile dir before after may calm status does
+      causes.streams.reads causes.streams.sinks
+  asked_done (Some (Duplex proto profile dir)) before after status may calm does causes =
+      duplex_done k s o l d proto profile dir before after may calm status does
       causes.streams.reads causes.streams.sinks

@@ -20,17 +20,19 @@ use Rattle.link_replay.specs.CheckCommand.{Checks}
 use Rattle.link_replay.specs.ReplayCommand.{Replays, IsListable}
 use Rattle.link_replay.specs.TrialCommand.{Tries}
 use Rattle.link_replay.specs.SpaceCommand.{Spaces}
+use Rattle.link_replay.specs.DuplexCommand.{Duplexes}
 use Rattle.replay_status.specs.declared.status.Status.{Status}
 use Rattle.replay_status.specs.declared.status.Status.TheVariants.{Usage, Done, NoMemory}
 use Rattle.link_replay.specs.declared.words.Command.{Command}
 use Rattle.link_replay.specs.declared.words.Command.TheVariants.{Init, Read, Vectors, Seal, Check}
-use Rattle.link_replay.specs.declared.words.Command.TheVariants.{Replay, Trial, Space}
+use Rattle.link_replay.specs.declared.words.Command.TheVariants.{Replay, Trial, Space, Duplex}
 
 -- How a command ends that is given what is right, and where nothing outside fails. Of all commands
--- `replay` and `space` alone take memory, and there may be none.
+-- `replay`, `space` and `duplex` alone take memory, and there may be none.
 abbrev pub EndsWell : Option Command → Status → Type 0
 EndsWell (Some (Replay proto profile dir)) status = (status ≡ Done) ⊎ (status ≡ NoMemory)
 EndsWell (Some (Space proto profile)) status = (status ≡ Done) ⊎ (status ≡ NoMemory)
+EndsWell (Some (Duplex proto profile dir)) status = (status ≡ Done) ⊎ (status ≡ NoMemory)
 EndsWell asked status = status ≡ Done
 
 -- What a crash may leave of the disk, at any moment of the run or at its end.
@@ -62,6 +64,8 @@ module _ {K S O L D : Type 0} (k : Source K) (s : Source S) (o : Sink O) (l : Si
       Tries o l proto profile seed count before after status
   Does (Some (Space proto profile)) before after status =
       Spaces s o l proto profile before after status
+  Does (Some (Duplex proto profile dir)) before after status =
+      Duplexes k s o l proto profile dir before after status
 
   -- What a run does: what was asked for, and then the fault line in the log, where the status has
   -- one.
@@ -89,6 +93,8 @@ module _ {K S O L D : Type 0} (k : Source K) (s : Source S) (o : Sink O) (l : Si
   MayDo (Some (Space proto profile)) before = IsReadable (s.left before.input)
   MayDo (Some (Replay proto profile dir)) before = IsListable (k.left before.key)
       (s.left before.input)
+  MayDo (Some (Duplex proto profile dir)) before = IsListable (k.left before.key)
+      (s.left before.input)
 
   -- Nothing outside failed.
   abbrev pub IsCalm : Outside K S O L D → Outside K S O L D → Type 0
@@ -103,6 +109,8 @@ module _ {K S O L D : Type 0} (k : Source K) (s : Source S) (o : Sink O) (l : Si
   HasOwnCauses (Some (Check proto profile dir)) before after status =
       BoxDiskCause (d.faults before.disk) (d.faults after.disk) status
   HasOwnCauses (Some (Replay proto profile dir)) before after status =
+      DiskCause (d.faults before.disk) (d.faults after.disk) status
+  HasOwnCauses (Some (Duplex proto profile dir)) before after status =
       DiskCause (d.faults before.disk) (d.faults after.disk) status
   HasOwnCauses asked before after status =
       InputCause (s.faults before.input) (s.faults after.input) status

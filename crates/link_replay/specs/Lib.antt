@@ -3,6 +3,7 @@ pub mod Protocols
 pub mod InitCommand
 pub mod ReadCommand
 pub mod SpaceCommand
+pub mod DuplexCommand
 pub mod VectorsCommand
 pub mod SealCommand
 pub mod CheckCommand

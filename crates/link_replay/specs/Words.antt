@@ -9,7 +9,7 @@ use Rattle.link_replay.specs.declared.words.Profile.{Profile}
 use Rattle.link_replay.specs.declared.words.Profile.TheVariants.{Y18, Y24}
 use Rattle.link_replay.specs.declared.words.Command.{Command}
 use Rattle.link_replay.specs.declared.words.Command.TheVariants.{Init, Read, Vectors, Seal, Check}
-use Rattle.link_replay.specs.declared.words.Command.TheVariants.{Replay, Trial, Space}
+use Rattle.link_replay.specs.declared.words.Command.TheVariants.{Replay, Trial, Space, Duplex}
 
 abbrev pub proto_word : Proto → List ℕ
 proto_word Rtu = codes "rtu"
@@ -45,6 +45,8 @@ IsCommand words (Replay proto profile dir) = (key : List ℕ) × (key ≢ [])
 IsCommand words (Trial proto profile seed count) = (seed < 2 ^ 32) × (1 ≤ count) × (count ≤ 10000)
     × (words ≡ codes "trial" ∷ link_word proto profile ∷ decimal seed ∷ decimal count ∷ [])
 IsCommand words (Space proto profile) = words ≡ codes "space" ∷ link_word proto profile ∷ []
+IsCommand words (Duplex proto profile dir) = (key : List ℕ) × (key ≢ [])
+    × (words ≡ codes "duplex" ∷ link_word proto profile ∷ dir_word dir ∷ key ∷ [])
 
 -- the words ask for a new journal, of whatever link
 abbrev pub AskForJournal : List (List ℕ) → Type 0
@@ -66,6 +68,7 @@ key_place (Check proto profile dir) = Some 3
 key_place (Replay proto profile dir) = Some 3
 key_place (Trial proto profile seed count) = None
 key_place (Space proto profile) = None
+key_place (Duplex proto profile dir) = Some 3
 
 -- the place of the word that is the journal's path
 abbrev pub journal_place : Command → Option ℕ
@@ -77,6 +80,7 @@ journal_place (Check proto profile dir) = Some 4
 journal_place (Replay proto profile dir) = None
 journal_place (Trial proto profile seed count) = None
 journal_place (Space proto profile) = None
+journal_place (Duplex proto profile dir) = None
 
 -- the word at a place, where there is one
 abbrev pub word_in : List (List ℕ) → Option ℕ → Option (List ℕ)

@@ -3,6 +3,8 @@
 
 mod commands;
 #[cfg(test)]
+mod duplex_tests;
+#[cfg(test)]
 mod failing;
 mod link;
 #[cfg(test)]

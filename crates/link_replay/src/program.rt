@@ -8,6 +8,7 @@ ghost use Rattle.link_replay.specs.Commands.{Does, Runs, KeepsDisk, MayDo, IsCal
 ghost use Rattle.link_replay.specs.Commands.{HasCauses};
 
 use crate::commands::check::check;
+use crate::commands::duplex::duplex;
 use crate::commands::init::make_journal;
 use crate::commands::read::read_line;
 use crate::commands::replay::replay;
@@ -45,6 +46,7 @@ fn perform<K: Source, S: Source, O: Sink, L: Sink, D: SlotDisk>(
             try_link(proto, profile, seed, count, ends)
         }
         Command::Space(proto, profile) => space(alloc, proto, profile, ends),
+        Command::Duplex(proto, profile, dir) => duplex(alloc, proto, profile, dir, ends),
     }
 }
 
@@ -79,8 +81,8 @@ fn asked_by(words: &[String]) -> Option<Command>
 }
 
 /// The program: reads its words, those after the program's name, and does what they ask for. No
-/// memory is taken but by `space` and by `replay`, whose clause in `runs` is the program's headline:
-/// the record `Headline` of `specs/ReplayCommand.antt`.
+/// memory is taken but by `space`, `duplex` and `replay`, whose clause in `runs` is the program's
+/// headline: the record `Headline` of `specs/ReplayCommand.antt`.
 pub fn run<K: Source, S: Source, O: Sink, L: Sink, D: SlotDisk>(
     alloc: Global,
     words: &[String],
@@ -104,7 +106,7 @@ pub fn run<K: Source, S: Source, O: Sink, L: Sink, D: SlotDisk>(
         → KeepsDisk D.SlotDisk asked disk.old disk.new }
 
     // Where all that the command is given is right and nothing outside fails, it is done; or, of
-    // `replay` and `space` alone, there is no memory.
+    // `replay`, `space` and `duplex` alone, there is no memory.
     ensures done { (asked : Option Command) → Asks (map string_bytes words.now) asked
         → MayDo K.Source S.Source O.Sink L.Sink D.SlotDisk asked
         (outside key.old input.old out.old log.old disk.old)

@@ -50,6 +50,8 @@ pub enum Command {
     Trial(Proto, Profile, u32, u32),
     /// Sends the frames of a line spaced as the profile asks for.
     Space(Proto, Profile),
+    /// Seals a device's line in one direction, and checks a link in the other one.
+    Duplex(Proto, Profile, Dir),
 }
 
 /// The words name no command.
@@ -197,6 +199,22 @@ fn read_replay(first: &str, second: &str, third: &str, key: &str) -> Result<Comm
     Ok(Command::Replay(proto, profile, dir))
 }
 
+// The command `duplex`: two recordings, and the path of a key, which isn't empty.
+fn read_duplex(first: &str, second: &str, third: &str, key: &str) -> Result<Command, Usage>
+    requires { first.now ≡ codes "duplex" }
+    ensures ok { IfOk result (λ command.
+        IsCommand (first.now ∷ second.now ∷ third.now ∷ key.now ∷ []) command) }
+    ensures usage { OnErr result ((command : Command)
+        → IsCommand (first.now ∷ second.now ∷ third.now ∷ key.now ∷ []) command → ⊥) }
+{
+    if key.is_empty() {
+        return Err(Usage);
+    }
+    let (proto, profile) = read_link(second)?;
+    let dir = read_dir(third)?;
+    Ok(Command::Duplex(proto, profile, dir))
+}
+
 // The command of four words.
 fn read_four(first: &str, second: &str, third: &str, fourth: &str) -> Result<Command, Usage>
     ensures ok { IfOk result (λ command.
@@ -208,6 +226,7 @@ fn read_four(first: &str, second: &str, third: &str, fourth: &str) -> Result<Com
         "init" => read_init(first, second, third, fourth),
         "replay" => read_replay(first, second, third, fourth),
         "trial" => read_trial(first, second, third, fourth),
+        "duplex" => read_duplex(first, second, third, fourth),
         _ => Err(Usage),
     }
 }
@@ -277,6 +296,7 @@ pub fn key_word(words: &[String]) -> Option<usize>
         Ok(Command::Init(..) | Command::Read(_) | Command::Vectors) => None,
         Ok(Command::Trial(..) | Command::Space(..)) => None,
         Ok(Command::Seal(..) | Command::Check(..) | Command::Replay(..)) => Some(3),
+        Ok(Command::Duplex(..)) => Some(3),
         Err(Usage) => None,
     }
 }
@@ -293,6 +313,7 @@ pub fn journal_word(words: &[String]) -> Option<usize>
         Ok(Command::Seal(..) | Command::Check(..)) => Some(4),
         Ok(Command::Read(_) | Command::Vectors) => None,
         Ok(Command::Replay(..) | Command::Trial(..) | Command::Space(..)) => None,
+        Ok(Command::Duplex(..)) => None,
         Err(Usage) => None,
     }
 }
@@ -306,6 +327,7 @@ pub fn makes_journal(words: &[String]) -> bool
         Ok(Command::Init(..)) => true,
         Ok(Command::Read(_) | Command::Vectors | Command::Trial(..) | Command::Space(..)) => false,
         Ok(Command::Seal(..) | Command::Check(..) | Command::Replay(..)) => false,
+        Ok(Command::Duplex(..)) => false,
         Err(Usage) => false,
     }
 }

@@ -1,6 +1,7 @@
 //! What each command does.
 
 pub mod check;
+pub mod duplex;
 pub mod init;
 pub mod read;
 pub mod replay;
