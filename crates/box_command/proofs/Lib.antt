@@ -10,3 +10,7 @@ pub mod Outcomes
 pub mod Replayable
 pub mod RunsAreUptimes
 pub mod Shown
+pub mod NotesInOrder
+pub mod Kept
+pub mod BothKept
+pub mod Filled

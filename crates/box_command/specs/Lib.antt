@@ -13,3 +13,9 @@ pub mod BoxLinesLaws
 pub mod DrivenBox
 pub mod ReplaysBox
 pub mod Uptimes
+pub mod TimedLines
+pub mod MemoryText
+pub mod KeptBox
+pub mod NoteOrder
+pub mod BothBoxes
+pub mod Recording

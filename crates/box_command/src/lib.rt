@@ -2,17 +2,23 @@
 //! goes out as text, and so does a line for each of its notes.
 #![tactic(auto)]
 
+mod both_boxes;
 mod box_lines;
 mod check_lines;
 mod command;
 mod driven_box;
+mod kept_box;
 mod laws;
 mod line_box;
+mod memory_text;
 mod note_lines;
+mod note_order;
 mod noted_steps;
+mod recording;
 mod seal_lines;
 
 pub use command::replay_box;
 pub use laws::runs_are_uptimes;
 pub use line_box::LineBox;
 pub use note_lines::NoteLine;
+pub use recording::{Recorded, print_both, record_both};

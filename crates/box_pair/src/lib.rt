@@ -6,4 +6,4 @@ mod laws;
 mod pair;
 
 pub use laws::directions_are_apart;
-pub use pair::{BoxPair, DuplexFault, PairStep};
+pub use pair::{BoxPair, DuplexFault, PairStep, opposite};

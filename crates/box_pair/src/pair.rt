@@ -37,8 +37,8 @@ pub struct BoxPair<S, C> {
     receiver: C,
 }
 
-// The other direction of a line.
-fn opposite(dir: Dir) -> Dir
+/// The other direction of a line.
+pub fn opposite(dir: Dir) -> Dir
     ensures { result ≡ opposite_of dir }
 {
     match dir {

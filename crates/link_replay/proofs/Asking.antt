@@ -14,7 +14,7 @@ use Rattle.link_replay.specs.declared.words.Proto.TheVariants.{Rtu, Dnp3}
 use Rattle.link_replay.specs.declared.words.Command.{Command}
 use Rattle.link_replay.specs.declared.words.Command.TheVariants.{Init, Read, Vectors, Seal, Check}
 use Rattle.link_replay.specs.declared.words.Command.TheVariants.{Replay, Trial, Space}
-use Rattle.link_replay.specs.declared.words.Command.TheVariants.{Audit}
+use Rattle.link_replay.specs.declared.words.Command.TheVariants.{Audit, Duplex}
 
 -- A word as one number, so that two words are told apart by a test.
 abbrev number_of : List ℕ → ℕ
@@ -52,7 +52,9 @@ command_by verb first second third fourth fifth =
     (cond (is_word (codes "audit") verb)
     (Audit (proto_by first) (profile_by first) (dir_by second) (digits_value 10 fourth)
     (digits_value 10 fifth))
-    (Replay (proto_by first) (profile_by first) (dir_by second)))))))))
+    (cond (is_word (codes "duplex") verb)
+    (Duplex (proto_by first) (profile_by first) (dir_by second))
+    (Replay (proto_by first) (profile_by first) (dir_by second))))))))))
 
 abbrev word_at : ℕ → List (List ℕ) → List ℕ
 word_at zero [] = []
@@ -99,6 +101,7 @@ command-in words Vectors h = ap command_in h
 command-in words (Seal proto profile dir) h = ap command_in h.4 ∙ box-by Seal proto profile dir
 command-in words (Check proto profile dir) h = ap command_in h.4 ∙ box-by Check proto profile dir
 command-in words (Replay proto profile dir) h = ap command_in h.2 ∙ box-by Replay proto profile dir
+command-in words (Duplex proto profile dir) h = ap command_in h.2 ∙ box-by Duplex proto profile dir
 command-in words (Space proto profile) h =
     ap command_in h ∙ rw (proto-by proto profile, profile-by proto profile) refl
 command-in words (Trial proto profile seed count) h =

@@ -3,7 +3,9 @@ pub mod Outcomes
 pub mod Flushing
 pub mod Headlines
 pub mod Links
+pub mod KeyedRuns
 pub mod Listable
+pub mod Duplexed
 pub mod Spaced
 pub mod Trials
 pub mod Numbers

@@ -1,20 +1,16 @@
 -- A right key and a right text with its marks give `Done` or `NoMemory`, where nothing outside fails.
-use Rattle.std.proofs.Common.{◌≡◌, ◌⊎◌, ℕ, List, inl, inr, refl, subst}
+use Rattle.std.proofs.Common.{◌≡◌, ◌⊎◌, ℕ, List}
 use Rattle.yasir_ticks.specs.Ticks.{Item}
 use Rattle.yasir_io.specs.declared.source.Source.{Ghosts as Source}
 use Rattle.yasir_io.specs.declared.sink.Sink.{Ghosts as Sink}
 use Rattle.yasir_io.specs.declared.disk.SlotDisk.{Ghosts as SlotDisk}
 use Rattle.hmac_tag.specs.declared.dir.Dir.{Dir}
-use Rattle.key_text.specs.KeyText.{IsKeyMet}
 use Rattle.replay_lists.specs.Listed.{link_rest}
 use Rattle.replay_status.specs.Outside.{Outside}
 use Rattle.replay_status.specs.Causes.{ReadsCause, SinkCause, NoneRose}
 use Rattle.replay_status.specs.declared.status.Status.{Status}
 use Rattle.replay_status.specs.declared.status.Status.TheVariants.{Done, BadTicks, ReadFault}
-use Rattle.replay_status.specs.declared.status.Status.TheVariants.{WriteFault, TooLong, BadKey}
-use Rattle.replay_status.specs.declared.status.Status.TheVariants.{NoMemory}
-use Rattle.replay_status.proofs.Readable.{not_refused, not_too_long}
-use Rattle.box_command.proofs.Replayable.{no_key_refused}
+use Rattle.replay_status.specs.declared.status.Status.TheVariants.{WriteFault, TooLong, NoMemory}
 use Rattle.recordings_replay.specs.Keyed.{ReadsKeyFirst, LeavesAll}
 use Rattle.recordings_replay.specs.Recorded.{PrintsItems, lines_of}
 use Rattle.recordings_replay.proofs.Keying.{keyed-so}
@@ -25,6 +21,7 @@ use Rattle.link_replay.specs.SealCommand.{seal_rest}
 use Rattle.link_replay.specs.declared.commands.audit.Audited.{Audited}
 use Rattle.link_replay.specs.declared.words.Profile.{Profile}
 use Rattle.link_replay.specs.declared.words.Proto.{Proto}
+use Rattle.link_replay.proofs.KeyedRuns.{EndsAs, keyed_done}
 
 module _ {K S O L D : Type 0} (k : Source K) (s : Source S) (o : Sink O) (l : Sink L)
     (d : SlotDisk D) where
@@ -35,6 +32,19 @@ module _ {K S O L D : Type 0} (k : Source K) (s : Source S) (o : Sink O) (l : Si
       (λ key. PrintsItems marks rest (text_of key) (s.left before.input) (s.left after.input)
       (o.held before.out) (o.held after.out))
       (LeavesAll before.input after.input before.out after.out before.log after.log) status
+
+  module _ (marks rest : ℕ) (before after : Outside K S O L D) where
+    ends-as : (text_of : List Item → List ℕ) (status : Status)
+        → PrintsItems marks rest text_of (s.left before.input) (s.left after.input)
+        (o.held before.out) (o.held after.out) status
+        → EndsAs k s o l d before after marks rest status
+    ends-as text_of Done h = tt
+    ends-as text_of NoMemory h = tt
+    ends-as text_of ReadFault h = tt
+    ends-as text_of WriteFault h = tt
+    ends-as text_of (BadTicks bad) h = (h.items, h.takes)
+    ends-as text_of (TooLong what count) h = (h.items, h.takes)
+    ends-as text_of status h = absurd h
 
   module _ (marks rest : ℕ) (text_of : List ℕ → List Item → List ℕ)
       (before after : Outside K S O L D)
@@ -47,21 +57,8 @@ module _ {K S O L D : Type 0} (k : Source K) (s : Source S) (o : Sink O) (l : Si
         (s.faults after.input) status
         → SinkCause (o.faults before.out) (o.faults after.out) (l.faults before.log)
         (l.faults after.log) status → (status ≡ Done) ⊎ (status ≡ NoMemory)
-    over_done Done h reads sinks = inl refl
-    over_done NoMemory h reads sinks = inr refl
-    over_done (BadTicks bad) h reads sinks = absurd (not_refused rest (s.left before.input)
-        (s.left after.input) h.does.items right.input bad h.does.takes)
-    over_done (TooLong what count) h reads sinks = absurd (not_too_long rest
-        (s.left before.input) (s.left after.input) h.does.items right.input what count
-        h.does.takes)
-    over_done ReadFault h reads sinks =
-        elim reads.0 [ inl key ↦ absurd (calm.key key) | inr input ↦ absurd (calm.input input) ]
-    over_done WriteFault h reads sinks =
-        elim sinks [ inl out ↦ absurd (calm.out out) | inr log ↦ absurd (calm.log log) ]
-    over_done (BadKey place) h reads sinks = absurd (no_key_refused right.text right.key h.text
-        (k.left after.key) place right.key_right
-        (subst (λ told. IsKeyMet told (k.left after.key) h.text) right.key_told h.met) h.refused)
-    over_done status h reads sinks = absurd h.does
+    over_done status h reads sinks = keyed_done k s o l d before after marks rest right calm _ _
+        status (λ key. ends-as marks rest before after (text_of key) status) h reads sinks
 
   -- what is printed of two recordings is their lines
   replays-lines : (proto : Proto) (profile : Profile) (dir : Dir) (before after : Outside K S O L D)

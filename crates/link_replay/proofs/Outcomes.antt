@@ -26,7 +26,7 @@ use Rattle.replay_status.specs.declared.status.Status.TheVariants.{HasJournal}
 use Rattle.link_replay.specs.declared.words.Command.{Command}
 use Rattle.link_replay.specs.declared.words.Command.TheVariants.{Init, Read, Vectors, Seal, Check}
 use Rattle.link_replay.specs.declared.words.Command.TheVariants.{Replay, Trial, Space}
-use Rattle.link_replay.specs.declared.words.Command.TheVariants.{Audit}
+use Rattle.link_replay.specs.declared.words.Command.TheVariants.{Audit, Duplex}
 use Rattle.replay_status.proofs.Logging.{sinks_after}
 use Rattle.replay_status.proofs.FlushLaws.{flushes_after}
 use Rattle.device_replay.proofs.Readable.{readable_done}
@@ -37,6 +37,7 @@ use Rattle.space_replay.proofs.Readable.{spaced_done}
 use Rattle.link_replay.specs.SpaceCommand.{spaced_by}
 use Rattle.link_replay.specs.AuditCommand.{audited}
 use Rattle.link_replay.proofs.Listable.{listable_done, auditable_done}
+use Rattle.link_replay.proofs.Duplexed.{duplex_done}
 use Rattle.link_replay.proofs.Spaced.{whole-spaces}
 
 module _ (key0 key1 in0 in1 out0 out1 log0 log1 disk0 disk1 : ℕ)
@@ -87,6 +88,7 @@ module _ {K S O L D : Type 0} (k : Source K) (s : Source S) (o : Sink O) (l : Si
   own-after (Some (Trial proto profile seed count)) before after noted status h = h
   own-after (Some (Space proto profile)) before after noted status h = h
   own-after (Some (Audit proto profile dir sent got)) before after noted status h = h
+  own-after (Some (Duplex proto profile dir)) before after noted status h = h
   own-after None before after noted status h = h
   own-after (Some (Init proto profile dir)) before after noted status h = h
   own-after (Some (Read proto)) before after noted status h = h
@@ -155,3 +157,6 @@ module _ {K S O L D : Type 0} (k : Source K) (s : Source S) (o : Sink O) (l : Si
   asked_done (Some (Audit proto profile dir sent got)) before after status may calm does causes =
       auditable_done k s o l d before after calm (audited proto profile dir sent got) may status
       does causes.streams.reads causes.streams.sinks
+  asked_done (Some (Duplex proto profile dir)) before after status may calm does causes =
+      duplex_done k s o l d proto profile dir before after may calm status does
+      causes.streams.reads causes.streams.sinks

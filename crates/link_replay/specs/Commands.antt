@@ -21,20 +21,22 @@ use Rattle.link_replay.specs.ReplayCommand.{Replays, IsListable}
 use Rattle.link_replay.specs.TrialCommand.{Tries}
 use Rattle.link_replay.specs.SpaceCommand.{Spaces}
 use Rattle.link_replay.specs.AuditCommand.{Audits, audited}
+use Rattle.link_replay.specs.DuplexCommand.{Duplexes}
 use Rattle.replay_status.specs.declared.status.Status.{Status}
 use Rattle.replay_status.specs.declared.status.Status.TheVariants.{Usage, Done, NoMemory}
 use Rattle.link_replay.specs.declared.words.Command.{Command}
 use Rattle.link_replay.specs.declared.words.Command.TheVariants.{Init, Read, Vectors, Seal, Check}
 use Rattle.link_replay.specs.declared.words.Command.TheVariants.{Replay, Trial, Space}
-use Rattle.link_replay.specs.declared.words.Command.TheVariants.{Audit}
+use Rattle.link_replay.specs.declared.words.Command.TheVariants.{Audit, Duplex}
 
 -- How a command ends that is given what is right, and where nothing outside fails. Of all commands
--- `replay`, `space` and `audit` alone take memory, and there may be none.
+-- `replay`, `space`, `audit` and `duplex` alone take memory, and there may be none.
 abbrev pub EndsWell : Option Command → Status → Type 0
 EndsWell (Some (Replay proto profile dir)) status = (status ≡ Done) ⊎ (status ≡ NoMemory)
 EndsWell (Some (Space proto profile)) status = (status ≡ Done) ⊎ (status ≡ NoMemory)
 EndsWell (Some (Audit proto profile dir sent got)) status =
     (status ≡ Done) ⊎ (status ≡ NoMemory)
+EndsWell (Some (Duplex proto profile dir)) status = (status ≡ Done) ⊎ (status ≡ NoMemory)
 EndsWell asked status = status ≡ Done
 
 -- What a crash may leave of the disk, at any moment of the run or at its end.
@@ -68,6 +70,8 @@ module _ {K S O L D : Type 0} (k : Source K) (s : Source S) (o : Sink O) (l : Si
       Spaces s o l proto profile before after status
   Does (Some (Audit proto profile dir sent got)) before after status =
       Audits k s o l (audited proto profile dir sent got) before after status
+  Does (Some (Duplex proto profile dir)) before after status =
+      Duplexes k s o l proto profile dir before after status
 
   -- What a run does: what was asked for, and then the fault line in the log, where the status has
   -- one.
@@ -97,6 +101,8 @@ module _ {K S O L D : Type 0} (k : Source K) (s : Source S) (o : Sink O) (l : Si
       (s.left before.input)
   MayDo (Some (Audit proto profile dir sent got)) before = IsListable 2 (k.left before.key)
       (s.left before.input)
+  MayDo (Some (Duplex proto profile dir)) before = IsListable 1 (k.left before.key)
+      (s.left before.input)
 
   -- Nothing outside failed.
   abbrev pub IsCalm : Outside K S O L D → Outside K S O L D → Type 0
@@ -113,6 +119,8 @@ module _ {K S O L D : Type 0} (k : Source K) (s : Source S) (o : Sink O) (l : Si
   HasOwnCauses (Some (Replay proto profile dir)) before after status =
       DiskCause (d.faults before.disk) (d.faults after.disk) status
   HasOwnCauses (Some (Audit proto profile dir sent got)) before after status =
+      DiskCause (d.faults before.disk) (d.faults after.disk) status
+  HasOwnCauses (Some (Duplex proto profile dir)) before after status =
       DiskCause (d.faults before.disk) (d.faults after.disk) status
   HasOwnCauses asked before after status =
       InputCause (s.faults before.input) (s.faults after.input) status

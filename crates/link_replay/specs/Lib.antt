@@ -4,6 +4,7 @@ pub mod InitCommand
 pub mod ReadCommand
 pub mod SpaceCommand
 pub mod AuditCommand
+pub mod DuplexCommand
 pub mod VectorsCommand
 pub mod SealCommand
 pub mod CheckCommand

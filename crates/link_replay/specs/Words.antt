@@ -11,7 +11,7 @@ use Rattle.link_replay.specs.declared.words.Profile.TheVariants.{Y18, Y24}
 use Rattle.link_replay.specs.declared.words.Command.{Command}
 use Rattle.link_replay.specs.declared.words.Command.TheVariants.{Init, Read, Vectors, Seal, Check}
 use Rattle.link_replay.specs.declared.words.Command.TheVariants.{Replay, Trial, Space}
-use Rattle.link_replay.specs.declared.words.Command.TheVariants.{Audit}
+use Rattle.link_replay.specs.declared.words.Command.TheVariants.{Audit, Duplex}
 
 abbrev pub proto_word : Proto → List ℕ
 proto_word Rtu = codes "rtu"
@@ -51,6 +51,8 @@ IsCommand words (Audit proto profile dir sent got) =
     (key : List ℕ) × (key ≢ []) × (sent ≤ LIMIT) × (got ≤ LIMIT)
     × (words ≡ codes "audit" ∷ link_word proto profile ∷ dir_word dir ∷ key ∷ decimal sent
     ∷ decimal got ∷ [])
+IsCommand words (Duplex proto profile dir) = (key : List ℕ) × (key ≢ [])
+    × (words ≡ codes "duplex" ∷ link_word proto profile ∷ dir_word dir ∷ key ∷ [])
 
 -- the words ask for a new journal, of whatever link
 abbrev pub AskForJournal : List (List ℕ) → Type 0
@@ -78,6 +80,7 @@ key_place (Replay proto profile dir) = Some 3
 key_place (Trial proto profile seed count) = None
 key_place (Space proto profile) = None
 key_place (Audit proto profile dir sent got) = Some 3
+key_place (Duplex proto profile dir) = Some 3
 
 -- the place of the word that is the journal's path
 abbrev pub journal_place : Command → Option ℕ
@@ -90,6 +93,7 @@ journal_place (Replay proto profile dir) = None
 journal_place (Trial proto profile seed count) = None
 journal_place (Space proto profile) = None
 journal_place (Audit proto profile dir sent got) = None
+journal_place (Duplex proto profile dir) = None
 
 -- the word at a place, where there is one
 abbrev pub word_in : List (List ℕ) → Option ℕ → Option (List ℕ)

@@ -5,6 +5,8 @@
 mod audit_tests;
 mod commands;
 #[cfg(test)]
+mod duplex_tests;
+#[cfg(test)]
 mod failing;
 mod link;
 #[cfg(test)]

@@ -9,6 +9,7 @@ ghost use Rattle.link_replay.specs.Commands.{HasCauses};
 
 use crate::commands::audit::{Audited, audit};
 use crate::commands::check::check;
+use crate::commands::duplex::duplex;
 use crate::commands::init::make_journal;
 use crate::commands::read::read_line;
 use crate::commands::replay::replay;
@@ -57,6 +58,7 @@ fn perform<K: Source, S: Source, O: Sink, L: Sink, D: SlotDisk>(
             };
             audit(alloc, asked, ends)
         }
+        Command::Duplex(proto, profile, dir) => duplex(alloc, proto, profile, dir, ends),
     }
 }
 
@@ -93,8 +95,8 @@ fn asked_by(words: &[String]) -> Option<Command>
 }
 
 /// The program: reads its words, those after the program's name, and does what they ask for. No
-/// memory is taken but by `space`, by `audit` and by `replay`, whose clause in `runs` is the program's headline:
-/// the record `Headline` of `specs/ReplayCommand.antt`.
+/// memory is taken but by `space`, `audit`, `duplex` and `replay`, whose clause in `runs` is the
+/// program's headline: the record `Headline` of `specs/ReplayCommand.antt`.
 pub fn run<K: Source, S: Source, O: Sink, L: Sink, D: SlotDisk>(
     alloc: Global,
     words: &[String],
@@ -118,7 +120,7 @@ pub fn run<K: Source, S: Source, O: Sink, L: Sink, D: SlotDisk>(
         → KeepsDisk D.SlotDisk asked disk.old disk.new }
 
     // Where all that the command is given is right and nothing outside fails, it is done; or, of
-    // `replay`, `space` and `audit` alone, there is no memory.
+    // `replay`, `space`, `audit` and `duplex` alone, there is no memory.
     ensures done { (asked : Option Command) → Asks (map string_bytes words.now) asked
         → MayDo K.Source S.Source O.Sink L.Sink D.SlotDisk asked
         (outside key.old input.old out.old log.old disk.old)

@@ -57,6 +57,8 @@ pub enum Command {
     Space(Proto, Profile),
     /// Judges a session by three recordings, from these floors of transmitter and receiver on.
     Audit(Proto, Profile, Dir, u64, u64),
+    /// Seals a device's line in one direction, and checks a link in the other one.
+    Duplex(Proto, Profile, Dir),
 }
 
 /// The words name no command.
@@ -230,6 +232,22 @@ fn read_replay(first: &str, second: &str, third: &str, key: &str) -> Result<Comm
     Ok(Command::Replay(proto, profile, dir))
 }
 
+// The command `duplex`: two recordings, and the path of a key, which isn't empty.
+fn read_duplex(first: &str, second: &str, third: &str, key: &str) -> Result<Command, Usage>
+    requires { first.now ≡ codes "duplex" }
+    ensures ok { IfOk result (λ command.
+        IsCommand (first.now ∷ second.now ∷ third.now ∷ key.now ∷ []) command) }
+    ensures usage { OnErr result ((command : Command)
+        → IsCommand (first.now ∷ second.now ∷ third.now ∷ key.now ∷ []) command → ⊥) }
+{
+    if key.is_empty() {
+        return Err(Usage);
+    }
+    let (proto, profile) = read_link(second)?;
+    let dir = read_dir(third)?;
+    Ok(Command::Duplex(proto, profile, dir))
+}
+
 // The command of four words.
 fn read_four(first: &str, second: &str, third: &str, fourth: &str) -> Result<Command, Usage>
     ensures ok { IfOk result (λ command.
@@ -241,6 +259,7 @@ fn read_four(first: &str, second: &str, third: &str, fourth: &str) -> Result<Com
         "init" => read_init(first, second, third, fourth),
         "replay" => read_replay(first, second, third, fourth),
         "trial" => read_trial(first, second, third, fourth),
+        "duplex" => read_duplex(first, second, third, fourth),
         _ => Err(Usage),
     }
 }
@@ -346,6 +365,7 @@ pub fn key_word(words: &[String]) -> Option<usize>
         Ok(Command::Trial(..) | Command::Space(..)) => None,
         Ok(Command::Seal(..) | Command::Check(..) | Command::Replay(..)) => Some(3),
         Ok(Command::Audit(..)) => Some(3),
+        Ok(Command::Duplex(..)) => Some(3),
         Err(Usage) => None,
     }
 }
@@ -363,6 +383,7 @@ pub fn journal_word(words: &[String]) -> Option<usize>
         Ok(Command::Read(_) | Command::Vectors) => None,
         Ok(Command::Replay(..) | Command::Trial(..) | Command::Space(..)) => None,
         Ok(Command::Audit(..)) => None,
+        Ok(Command::Duplex(..)) => None,
         Err(Usage) => None,
     }
 }
@@ -377,6 +398,7 @@ pub fn makes_journal(words: &[String]) -> bool
         Ok(Command::Read(_) | Command::Vectors | Command::Trial(..) | Command::Space(..)) => false,
         Ok(Command::Seal(..) | Command::Check(..) | Command::Replay(..)) => false,
         Ok(Command::Audit(..)) => false,
+        Ok(Command::Duplex(..)) => false,
         Err(Usage) => false,
     }
 }

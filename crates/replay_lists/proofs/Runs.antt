@@ -33,7 +33,7 @@ no_mark-front run n =
     run))
     ∙ no_mark-ticks (take n (run_ticks run))
 
-has_mark-run : (items more : List Item) → has_mark more ≡ false
+pub has_mark-run : (items more : List Item) → has_mark more ≡ false
     → has_mark (items ++ more) ≡ has_mark items
 has_mark-run [] more none = none
 has_mark-run (tick t ∷ items) more none = has_mark-run items more none
@@ -49,14 +49,14 @@ none_behind [] none = refl
 none_behind (tick t ∷ more) none = none_behind more none
 none_behind (mark ∷ more) none = cc
 
-before_mark-run : (items more : List Item) → has_mark items ≡ false → has_mark more ≡ false
+pub before_mark-run : (items more : List Item) → has_mark items ≡ false → has_mark more ≡ false
     → before_mark (items ++ more) ≡ before_mark items ++ ticks_in more
 before_mark-run [] more none unmarked = all_before more unmarked
 before_mark-run (tick t ∷ items) more none unmarked =
     ap (λ l. t ∷ l) (before_mark-run items more none unmarked)
 before_mark-run (mark ∷ items) more none unmarked = cc
 
-behind_mark-run : (items more : List Item) → has_mark items ≡ false → has_mark more ≡ false
+pub behind_mark-run : (items more : List Item) → has_mark items ≡ false → has_mark more ≡ false
     → behind_mark (items ++ more) ≡ behind_mark items
 behind_mark-run [] more none unmarked = none_behind more unmarked
 behind_mark-run (tick t ∷ items) more none unmarked = behind_mark-run items more none unmarked

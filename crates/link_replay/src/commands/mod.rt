@@ -2,6 +2,7 @@
 
 pub mod audit;
 pub mod check;
+pub mod duplex;
 pub mod init;
 pub mod read;
 pub mod replay;

@@ -1,0 +1,11 @@
+use Rattle.std.proofs.Common.{◌≡◌, ◌∙◌, ℕ, List, [], ◌∷◌, ◌++◌, subst}
+use Rattle.burst_walk.specs.Answers.{note_in}
+use Rattle.replay_lists.specs.FrameList.{Kept, Holds}
+use Rattle.box_command.specs.TimedLines.{timed_lines}
+use Rattle.box_command.proofs.kept_box.push_note.Goals as goal
+
+pub returns-in-Ok : goal.returns-in-Ok
+returns-in-Ok g c = λ lines holds.
+    rw c.in-Some.is (subst (λ line. Holds c.push.new.self
+    (lines ++ record { head = c.args.tick; frame = line } ∷ []))
+    (c.as_slice.ensures.value ∙ c.note_line-line.ensures) (c.in-Ok.ensures.kept lines holds))

@@ -1,0 +1,107 @@
+-- What `duplex` does follows from what its boxes make of both recordings; and where all that it is
+-- given is right, it gives `Done` or `NoMemory`.
+use Rattle.std.proofs.Common.{◌≡◌, ◌⊎◌, ℕ, List, Option, false, refl}
+use Rattle.yasir_io.specs.declared.source.Source.{Ghosts as Source}
+use Rattle.yasir_io.specs.declared.sink.Sink.{Ghosts as Sink}
+use Rattle.yasir_io.specs.declared.disk.SlotDisk.{Ghosts as SlotDisk}
+use Rattle.yasir_ticks.specs.declared.tick.Tick.{Tick}
+use Rattle.hmac_tag.specs.declared.dir.Dir.{Dir}
+use Rattle.replay_status.specs.Outside.{Outside}
+use Rattle.replay_status.specs.Causes.{ReadsCause, SinkCause, NoneRose}
+use Rattle.replay_status.specs.declared.status.Status.{Status}
+use Rattle.replay_status.specs.declared.status.Status.TheVariants.{Done, BadTicks, ReadFault}
+use Rattle.replay_status.specs.declared.status.Status.TheVariants.{WriteFault, TooLong, NoMemory}
+use Rattle.tick_drive.specs.Consumers.{is_write_fault}
+use Rattle.tick_drive.specs.Drive.{answer_of}
+use Rattle.tick_drive.specs.declared.consumer.Stop.TheVariants as stops
+use Rattle.tick_drive.specs.declared.end.End.{End}
+use Rattle.tick_drive.specs.declared.end.End.TheVariants.{Whole, Refused, Stopped}
+use Rattle.tick_drive.specs.declared.end.End.TheVariants as ends
+use Rattle.replay_status.specs.Endings.{status_of}
+use Rattle.box_command.specs.Recording.{BothTexts, HoldsTexts, PrintsBoth, RecordsWhole}
+use Rattle.box_command.specs.Recording.{EndsOtherwise}
+use Rattle.box_command.specs.declared.recording.Recorded.{Recorded}
+use Rattle.link_replay.specs.DuplexCommand.{DuplexesWith, Duplexes, duplex_texts}
+use Rattle.link_replay.specs.ReplayCommand.{IsListable}
+use Rattle.link_replay.specs.declared.words.Profile.{Profile}
+use Rattle.link_replay.specs.declared.words.Proto.{Proto}
+use Rattle.link_replay.proofs.KeyedRuns.{EndsAs, keyed_done}
+
+module _ {K S O L D : Type 0} (k : Source K) (s : Source S) (o : Sink O) (l : Sink L)
+    (d : SlotDisk D) (proto : Proto) (profile : Profile) (dir : Dir)
+    (before after : Outside K S O L D) where
+  ends-as : (texts : List Tick → List Tick → BothTexts) (status : Status)
+      → DuplexesWith texts (s.left before.input) (s.left after.input) (o.held before.out)
+      (o.held after.out) (l.held before.log) (l.held after.log) status
+      → EndsAs k s o l d before after 1 0 status
+  ends-as texts Done h = tt
+  ends-as texts NoMemory h = tt
+  ends-as texts ReadFault h = tt
+  ends-as texts WriteFault h = tt
+  ends-as texts (BadTicks bad) h = (h.items, h.takes)
+  ends-as texts (TooLong what count) h = (h.items, h.takes)
+  ends-as texts status h = absurd h
+
+  pub duplex_done : IsListable 1 (k.left before.key) (s.left before.input)
+      → NoneRose (k.faults before.key) (k.faults after.key) (s.faults before.input)
+      (s.faults after.input)
+      (o.faults before.out) (o.faults after.out) (l.faults before.log) (l.faults after.log)
+      (d.faults before.disk) (d.faults after.disk)
+      → (status : Status) → Duplexes k s o l proto profile dir before after status
+      → ReadsCause (k.faults before.key) (k.faults after.key) (s.faults before.input)
+      (s.faults after.input) status
+      → SinkCause (o.faults before.out) (o.faults after.out) (l.faults before.log)
+      (l.faults after.log) status → (status ≡ Done) ⊎ (status ≡ NoMemory)
+  duplex_done right calm status h reads sinks = keyed_done k s o l d before after 1 0 right calm _ _
+      status (λ key. ends-as (duplex_texts proto profile dir key) status) h.texts reads sinks
+
+-- ---- what becomes of both recordings
+
+module _ (texts : List Tick → List Tick → BothTexts) (in_before in_now : Option (List ℕ))
+    (out_before out_now log_before log_now : Option (List ℕ)) where
+  -- they were printed
+  pub prints-so : (recorded : Recorded) → RecordsWhole texts in_before in_now recorded
+      → (status : Status)
+      → ((held : BothTexts) → HoldsTexts recorded held
+      → PrintsBoth held out_before out_now log_before log_now status)
+      → DuplexesWith texts in_before in_now out_before out_now log_before log_now status
+  prints-so recorded whole Done prints = record {
+    items = whole.items;
+    whole = whole.whole;
+    prints = prints _ whole.holds;
+  }
+  prints-so recorded whole WriteFault prints = record {
+    items = whole.items;
+    whole = whole.whole;
+    prints = prints _ whole.holds;
+  }
+  prints-so recorded whole status prints = absurd (prints _ whole.holds)
+
+  -- the input ended otherwise, and nothing was written
+  pub ends-so : (end : End) → EndsOtherwise texts in_before in_now end → out_now ≡ out_before
+      → log_now ≡ log_before
+      → DuplexesWith texts in_before in_now out_before out_now log_before log_now (status_of end)
+  ends-so Whole ended out log = absurd (ended.other refl)
+  ends-so (Refused bad) ended out log =
+      record { items = ended.items; takes = ended.takes; out = out; log = log }
+  ends-so (ends.TooLong what count) ended out log =
+      record { items = ended.items; takes = ended.takes; out = out; log = log }
+  ends-so ends.ReadFault ended out log =
+      record { items = ended.items; takes = ended.takes; out = out; log = log }
+  ends-so (Stopped stops.NoMemory) ended out log =
+      record { items = ended.items; takes = ended.takes; out = out; log = log }
+  ends-so (Stopped stops.WriteFault) ended out log =
+      let never : stops.WriteFault ≡ stops.NoMemory = ended.memory stops.WriteFault refl in cc
+  ends-so (Stopped stops.JournalFault) ended out log =
+      let never : stops.JournalFault ≡ stops.NoMemory = ended.memory stops.JournalFault refl in cc
+
+  pub no-write : (end : End) → EndsOtherwise texts in_before in_now end
+      → is_write_fault (answer_of end) ≡ false
+  no-write Whole ended = refl
+  no-write (Refused bad) ended = refl
+  no-write (ends.TooLong what count) ended = refl
+  no-write ends.ReadFault ended = refl
+  no-write (Stopped stops.NoMemory) ended = refl
+  no-write (Stopped stops.JournalFault) ended = refl
+  no-write (Stopped stops.WriteFault) ended =
+      let never : stops.WriteFault ≡ stops.NoMemory = ended.memory stops.WriteFault refl in cc

@@ -1,0 +1,103 @@
+-- The command `duplex`: the transmitter of a line's one direction and the receiver of its other
+-- one, step by step over the recorded line of a device and a recorded link.
+use Rattle.std.specs.Prelude.{◌≡◌, ℕ, List, Option}
+use Rattle.yasir_io.specs.declared.source.Source.{Ghosts as Source}
+use Rattle.yasir_io.specs.declared.sink.Sink.{Ghosts as Sink}
+use Rattle.yasir_ticks.specs.Ticks.{Item}
+use Rattle.yasir_ticks.specs.declared.tick.Tick.{Tick}
+use Rattle.burst_walk.specs.Answers.{told_notes}
+use Rattle.hmac_tag.specs.declared.dir.Dir.{Dir}
+use Rattle.link_format.specs.Profile.{Profile as LinkProfile}
+use Rattle.link_format.specs.Setup.{Setup}
+use Rattle.sequence_journal.specs.declared.numbers.TheConstants.{LIMIT}
+use Rattle.seal_judgements.specs.Sealing.{seal_notes, link_line}
+use Rattle.seal_transmitter.specs.Answers.{brief_note as seal_brief}
+use Rattle.link_verdicts.specs.Checking.{check_notes, received_line, brief_note as check_brief}
+use Rattle.tick_drive.specs.Input.{Takes, IsWhole}
+use Rattle.tick_drive.specs.declared.consumer.Stop.TheVariants as stops
+use Rattle.tick_drive.specs.declared.end.End.{End}
+use Rattle.tick_drive.specs.declared.end.End.TheVariants.{Refused, Stopped}
+use Rattle.tick_drive.specs.declared.end.End.TheVariants as ends
+use Rattle.replay_lists.specs.Recordings.{before_mark, behind_mark}
+use Rattle.replay_status.specs.Outside.{Outside}
+use Rattle.replay_status.specs.declared.status.Status.{Status}
+use Rattle.replay_status.specs.declared.status.Status.TheVariants.{Done, BadTicks, ReadFault}
+use Rattle.replay_status.specs.declared.status.Status.TheVariants.{WriteFault, TooLong, NoMemory}
+use Rattle.recordings_replay.specs.Keyed.{ReadsKeyFirst, LeavesAll}
+use Rattle.box_command.specs.CheckLines.{check_line}
+use Rattle.box_command.specs.SealLines.{seal_line}
+use Rattle.box_command.specs.KeptBox.{TimedBox}
+use Rattle.box_command.specs.TimedLines.{timed_lines}
+use Rattle.box_command.specs.Recording.{BothTexts, both_with, PrintsBoth}
+use Rattle.link_replay.specs.Protocols.{rules_of, format_of}
+use Rattle.link_replay.specs.declared.words.Profile.{Profile}
+use Rattle.link_replay.specs.declared.words.Proto.{Proto}
+
+-- the profile of a box that is set up so
+abbrev pub duplex_profile : Proto → Profile → Setup → LinkProfile
+duplex_profile proto profile setup = format_of profile (rules_of proto).label LIMIT setup
+
+-- what the transmitter makes of the line of a device: the link, and the lines of its notes
+abbrev pub duplex_sealer : Proto → Profile → Setup → TimedBox
+duplex_sealer proto profile setup = record {
+  other_line = λ line.
+      link_line (duplex_profile proto profile setup) (rules_of proto) setup.floor line;
+  note_lines = λ line. timed_lines seal_line (told_notes seal_brief
+      (seal_notes (duplex_profile proto profile setup) (rules_of proto) setup.floor line));
+}
+
+-- what the receiver makes of a link: the ticks for the device, and the lines of its notes
+abbrev pub duplex_checker : Proto → Profile → Setup → TimedBox
+duplex_checker proto profile setup = record {
+  other_line = λ link.
+      received_line (duplex_profile proto profile setup) (rules_of proto) setup.floor link;
+  note_lines = λ link. timed_lines check_line (told_notes check_brief
+      (check_notes (duplex_profile proto profile setup) (rules_of proto) setup.floor link));
+}
+
+-- The texts of both recordings: the transmitter has this direction, and the receiver the other one.
+abbrev pub duplex_texts : Proto → Profile → Dir → List ℕ → List Tick → List Tick → BothTexts
+duplex_texts proto profile dir key =
+    both_with (duplex_sealer proto profile) (duplex_checker proto profile) key dir
+
+module _ (texts : List Tick → List Tick → BothTexts)
+    (in_before in_now out_before out_now log_before log_now : Option (List ℕ)) where
+  -- All of the input was taken. It is a text with one mark: the ticks of a device stand before it,
+  -- and those of a link behind it. The sinks have got the texts of both, as the status says.
+  pub record PrintsDuplex (status : Status) : Type 0 where
+    pub items : List Item
+    pub whole : IsWhole 1 0 in_before in_now items
+    pub prints : PrintsBoth (texts (before_mark items) (behind_mark items)) out_before out_now
+        log_before log_now status
+
+  -- The input ended so, or there was no memory for what is made of it; the sinks have got nothing.
+  pub record PrintsNeither (end : End) : Type 0 where
+    pub items : List Item
+    pub takes : Takes 1 0 in_before in_now items end
+    pub out : out_now ≡ out_before
+    pub log : log_now ≡ log_before
+
+  -- What each status says of the input and the sinks.
+  abbrev pub DuplexesWith : Status → Type 0
+  DuplexesWith Done = PrintsDuplex Done
+  DuplexesWith WriteFault = PrintsDuplex WriteFault
+  DuplexesWith (BadTicks bad) = PrintsNeither (Refused bad)
+  DuplexesWith (TooLong what count) = PrintsNeither (ends.TooLong what count)
+  DuplexesWith ReadFault = PrintsNeither ends.ReadFault
+  DuplexesWith NoMemory = PrintsNeither (Stopped stops.NoMemory)
+  DuplexesWith status = ⊥
+
+module _ {K S O L D : Type 0} (k : Source K) (s : Source S) (o : Sink O) (l : Sink L) where
+  -- the same behind the key, by the texts that are made with it
+  abbrev pub DuplexesKeyed : (List ℕ → List Tick → List Tick → BothTexts) → Outside K S O L D
+      → Outside K S O L D → Status → Type 0
+  DuplexesKeyed texts before after status = ReadsKeyFirst k before.key after.key
+      (λ key. DuplexesWith (texts key) (s.left before.input) (s.left after.input)
+      (o.held before.out) (o.held after.out) (l.held before.log) (l.held after.log))
+      (LeavesAll before.input after.input before.out after.out before.log after.log) status
+
+  -- What `duplex` does: the journal's disk isn't reached.
+  pub record Duplexes (proto : Proto) (profile : Profile) (dir : Dir)
+      (before after : Outside K S O L D) (status : Status) : Type 0 where
+    pub texts : DuplexesKeyed (duplex_texts proto profile dir) before after status
+    pub disk : after.disk ≡ before.disk

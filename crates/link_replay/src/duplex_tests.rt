@@ -1,0 +1,80 @@
+//! Runs of `duplex`: a frame that is sealed on its way out, one that the box's own direction brings
+//! back, and runs that end early.
+use crate::running::{KEY, Ran, ended, words_of};
+use crate::tests::run_over;
+use crate::{Command, Dir, Profile, Proto, key_word, read_words};
+use replay_status::Status;
+use std::alloc::Global;
+use std::process::Abort;
+use std::test::Fail;
+use yasir_io::SteadySlots;
+use yasir_ticks::{BadTicks, TickFault};
+
+/// A query of Modbus RTU, and no tick of a link.
+const QUERY: &[u8] = b"+01030000000ac5cd\n%\n";
+
+/// The same, and what a transmitter of the outgoing direction makes of it comes back 40 ticks
+/// later. Number and tag are those of number 1, the tag by openssl:
+///   printf 010001030000000ac5cd0000000000000001 | xxd -r -p
+///     | openssl dgst -sha1 -mac HMAC -macopt hexkey:000102030405060708090a0b0c0d0e0f | cut -c1-24
+const REFLECTED: &[u8] =
+    b"+01030000000ac5cd\n-40\n%\n+01030000000ac5cd\n-3\n+0001014c5b8d33c6d29a347013b0\n";
+
+/// Input, what goes out, and the notes: the text of the link, a mark, and that of the device, to
+/// whom a frame that is refused goes with its last byte spoiled.
+const ROWS: [(&[u8], &[u8], &[u8]); 2] = [
+    (
+        QUERY,
+        b"+01030000000ac5cd\n-3\n+0001014c5b8d33c6d29a347013b0\n-303\n%\n-328\n",
+        b"sealed 1 at 0 len 8\n",
+    ),
+    (
+        REFLECTED,
+        b"+01030000000ac5cd\n-3\n+0001014c5b8d33c6d29a347013b0\n-343\n%\n-18\n+01030000000ac5cc\n-342\n",
+        b"sealed 1 at 0 len 8\nrefused at 0 tag\n",
+    ),
+];
+
+// A run over this input, of whose output this call fails.
+fn duplex(alloc: Global, text: &'static [u8], fail: u32) -> Result<Ran, Fail> {
+    let mut disk = SteadySlots::new([0; 24], [0; 24]);
+    run_over(alloc, "duplex rtu ab key", KEY, text, fail, &mut disk)
+}
+
+#[test]
+fn both_directions_go_out(rt: HostRuntime) -> Result<(), Fail> {
+    for (text, out, log) in &ROWS {
+        let ran = duplex(rt.alloc(), text, 0)?;
+        ended(&rt, &ran, Status::Done, out, log);
+    }
+    Ok(())
+}
+
+// Nothing goes out of a text that is refused; and where `out` fails, the log has all notes.
+#[test]
+fn runs_that_end_early(rt: HostRuntime) -> Result<(), Fail> {
+    let bad = Status::BadTicks(BadTicks {
+        line: 2,
+        why: TickFault::Char,
+    });
+    let refused = duplex(rt.alloc(), b"+01030000000ac5cd\nx", 0)?;
+    ended(&rt, &refused, bad, b"", b"fault: line 2 char\n");
+    let failed = duplex(rt.alloc(), QUERY, 1)?;
+    ended(
+        &rt,
+        &failed,
+        Status::WriteFault,
+        b"",
+        b"sealed 1 at 0 len 8\n",
+    );
+    Ok(())
+}
+
+#[test]
+fn a_duplex_box_has_a_key(rt: HostRuntime) -> Result<(), Fail> {
+    let words = words_of(rt.alloc(), "duplex dnp24 ba key")?;
+    let asked = Command::Duplex(Proto::Dnp3, Profile::Y24, Dir::Ba);
+    assert_eq!(rt; read_words(words.as_slice()), Ok(asked));
+    assert_eq!(rt; key_word(words.as_slice()), Some(3));
+    Ok(())
+}
