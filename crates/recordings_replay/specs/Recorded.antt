@@ -20,11 +20,11 @@ use Rattle.recordings_replay.specs.Listing.{Listing, listing_text}
 -- The whole input was met and is a right text with so many marks. It has these items, and all of
 -- them were taken.
 pub record IsRecordedWith (marks : ℕ) (before now : Option (List ℕ)) (items : List Item) : Type 0
-    where
-  pub text : List ℕ
-  pub met : IsMetWhole before now text
-  pub right : IsTickText marks text items
-  pub few : AreFew items
+  where
+    pub text : List ℕ
+    pub met : IsMetWhole before now text
+    pub right : IsTickText marks text items
+    pub few : AreFew items
 
 -- two recordings, which one mark parts
 abbrev pub IsRecorded : Option (List ℕ) → Option (List ℕ) → List Item → Type 0

@@ -29,8 +29,13 @@ const RESTS: Rests = Rests {
 
 // The lists of wires and of a device that reads nothing, behind all three recordings.
 fn listed(alloc: Global) -> Result<SessionLists<Wire, Wire, Deaf>, Fail> {
-    let mut lists: SessionLists<Wire, Wire, Deaf> =
-        SessionLists::new(alloc, &[0; 16], Dir::Ab, 0, 0);
+    let mut lists: SessionLists<Wire, Wire, Deaf> = SessionLists::new(
+        alloc,
+        &[0; 16],
+        Dir::Ab,
+        0,
+        0,
+    );
     let mut input = SteadySource::new(TEXT);
     match list_session(RESTS, &mut lists, &mut input) {
         End::Whole => Ok(lists),
