@@ -9,7 +9,6 @@ use Rattle.yasir_io.specs.TextBuffer.{waiting_bytes}
 use Rattle.yasir_io.specs.declared.Failed.{Failed}
 use Rattle.yasir_ticks.specs.Ticks.{silent}
 use Rattle.yasir_ticks.specs.Bursts.{bursts_from}
-use Rattle.yasir_ticks.specs.Writer.{HasWritten}
 use Rattle.yasir_ticks.specs.declared.tick.Tick.{Tick}
 use Rattle.yasir_ticks.specs.declared.tick.Tick.TheVariants.{Silent}
 use Rattle.burst_walk.specs.Walk.{Walker, Noted, notes_of, line_of}
@@ -25,6 +24,7 @@ use Rattle.replay_lists.specs.FrameList.{Kept, Holds}
 use Rattle.line_texts.specs.Sending.{LineAndNotes, SinkTexts, sink_texts, SendsTexts}
 use Rattle.line_texts.specs.Sending.{PushesTicks}
 use Rattle.line_texts.specs.Texts.{waiting_in}
+use Rattle.line_texts.specs.Writer.{HasWritten}
 use Rattle.line_texts.proofs.Sending.{begins, sends_more}
 use Rattle.box_command.specs.KeptBox.{timed_of, line_alone, KeepsLine, IsSteady, KeepsOn, KeepsUpTo}
 use Rattle.box_command.specs.KeptBox.{KeepsSome, KeepsWaiting, ticks_kept}
@@ -214,7 +214,7 @@ module _ {B N : Type 0} (b : LinkBox B N) (line_of : N → List ℕ) where
   pub keeps-none : (value : KeptBox B) (setup : Setup)
       → b.stands value.line_box (journal_floor value.journal) setup []
       → ticks_kept value ≡ 0 → HasWritten value.texts.writer [] []
-      → waiting_bytes value.texts.ticks ≡ [] → waiting_bytes value.texts.notes ≡ []
+      → value.texts.ticks.items ≡ [] → waiting_bytes value.texts.notes ≡ []
       → text_bytes value.text ≡ [] → text_bytes value.log ≡ [] → Holds value.notes []
       → KeepsLine b line_of value setup []
   keeps-none value setup stands none written ticks notes text log holds =
