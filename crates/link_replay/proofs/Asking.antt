@@ -138,6 +138,7 @@ asked-floors words (Some (Replay proto profile dir)) asks = tt
 asked-floors words (Some (Trial proto profile seed count)) asks = tt
 asked-floors words (Some (Space proto profile)) asks = tt
 asked-floors words (Some (Audit proto profile dir sent got)) asks = (asks.2, asks.3)
+asked-floors words (Some (Duplex proto profile dir)) asks = tt
 
 -- the words of a trial spell how many frames it has
 pub trial-counts : (first second seed count : List ℕ) (n : ℕ) (command : Command)

@@ -55,10 +55,16 @@ duplex_checker proto profile setup = record {
       (check_notes (duplex_profile proto profile setup) (rules_of proto) setup.floor link));
 }
 
--- The texts of both recordings: the transmitter has this direction, and the receiver the other one.
+-- The texts of both recordings by two boxes with a key: the first has this direction, and the second
+-- the other one.
+abbrev pub both_in : (Setup → TimedBox) → (Setup → TimedBox) → Dir → List ℕ → List Tick
+    → List Tick → BothTexts
+both_in outgoing incoming dir key = both_with outgoing incoming key dir
+
+-- those by transmitter and receiver
 abbrev pub duplex_texts : Proto → Profile → Dir → List ℕ → List Tick → List Tick → BothTexts
-duplex_texts proto profile dir key =
-    both_with (duplex_sealer proto profile) (duplex_checker proto profile) key dir
+duplex_texts proto profile dir =
+    both_in (duplex_sealer proto profile) (duplex_checker proto profile) dir
 
 module _ (texts : List Tick → List Tick → BothTexts)
     (in_before in_now out_before out_now log_before log_now : Option (List ℕ)) where

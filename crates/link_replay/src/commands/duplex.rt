@@ -8,6 +8,7 @@ ghost use Rattle.box_command.specs.Recording.{both_with};
 ghost use Rattle.link_replay.specs.declared.words.Command.TheVariants.{Duplex};
 ghost use Rattle.link_replay.specs.Commands.{HasCauses};
 ghost use Rattle.link_replay.specs.DuplexCommand.{DuplexesWith, DuplexesKeyed, Duplexes};
+ghost use Rattle.link_replay.specs.DuplexCommand.{both_in};
 
 use crate::link::with_link;
 use crate::{Profile, Proto};
@@ -51,10 +52,11 @@ fn duplex_keyed<S: LineBox, C: LineBox, K: Source, I: Source, O: Sink, L: Sink, 
         log,
         ..
     } = ends;
-    match record_both::<S, C, I>(alloc, key, dir, input) {
-        Ok(recorded) => print_both(&recorded, out, log),
-        Err(end) => status_of(end),
-    }
+    let recorded = match record_both::<S, C, I>(alloc, key, dir, input) {
+        Ok(recorded) => recorded,
+        Err(end) => return status_of(end),
+    };
+    print_both(&recorded, out, log)
 }
 
 // Reads the key first.
@@ -66,7 +68,7 @@ fn duplex_with<S: LineBox, C: LineBox, K: Source, I: Source, O: Sink, L: Sink, D
     requires outgoing { S.widths_fit }
     requires incoming { C.widths_fit }
     ensures duplexes { DuplexesKeyed K.Source I.Source O.Sink L.Sink
-        (both_with (timed_of S.walking S.line_of) (timed_of C.walking C.line_of))
+        (both_in (timed_of S.walking S.line_of) (timed_of C.walking C.line_of) dir)
         (outside_before ends.entry) (outside_after ends.exit) result }
     ensures disk { (outside_after ends.exit).disk ≡ ends.entry.disk.now }
     ensures causes { HasStreamCauses K.Source I.Source O.Sink L.Sink (outside_before ends.entry)

@@ -18,7 +18,7 @@ macro_rules! space_by {
         [$rules:ty, $device:ty, $mac:ty, $word:literal, $delay:literal, $gap:literal],
         $alloc:expr, $input:expr, $out:expr, $log:expr
     ) => {
-        space_frames::<Spacer<$device, $gap>, S, O, L>($alloc, $input, $out, $log)
+        return space_frames::<Spacer<$device, $gap>, S, O, L>($alloc, $input, $out, $log)
     };
 }
 

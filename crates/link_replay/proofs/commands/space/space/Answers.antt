@@ -81,27 +81,27 @@ returns-in-Rtu-Y24-clause-causes g c = record {
   );
 }
 
-pub returns-clause-spaces : goal.returns-clause-spaces
-returns-clause-spaces g c = rw (c.in-Dnp3-Y24.is-0, c.in-Dnp3-Y24.is-1) (record {
-  line = spaces-by Dnp3 Y24 _ _ _ _ c.space_frames-status.result c.space_frames-status.ensures.spaces;
+pub returns-in-Dnp3-Y24-clause-spaces : goal.returns-in-Dnp3-Y24-clause-spaces
+returns-in-Dnp3-Y24-clause-spaces g c = rw (c.in-Dnp3-Y24.is-0, c.in-Dnp3-Y24.is-1) (record {
+  line = spaces-by Dnp3 Y24 _ _ _ _ c.space_frames-in-Dnp3-Y24.result c.space_frames-in-Dnp3-Y24.ensures.spaces;
   untouched = λ none. outside-same c.args.ends.key.now _ _ _ _ _ _ c.args.ends.disk.now
-      (c.space_frames-status.ensures.untouched none);
+      (c.space_frames-in-Dnp3-Y24.ensures.untouched none);
   key = refl;
   disk = refl;
 })
 
-pub returns-clause-causes : goal.returns-clause-causes
-returns-clause-causes g c = record {
+pub returns-in-Dnp3-Y24-clause-causes : goal.returns-in-Dnp3-Y24-clause-causes
+returns-in-Dnp3-Y24-clause-causes g c = record {
   streams = record {
     reads = reads-input (g.K.Source.faults c.args.ends.key.now)
-        (g.S.Source.faults c.args.ends.input.now) (g.S.Source.faults c.space_frames-status.new.input)
-        c.space_frames-status.result c.space_frames-status.ensures.input;
-    sinks = c.space_frames-status.ensures.sinks;
-    flushes = c.space_frames-status.ensures.flushes;
+        (g.S.Source.faults c.args.ends.input.now) (g.S.Source.faults c.space_frames-in-Dnp3-Y24.new.input)
+        c.space_frames-in-Dnp3-Y24.result c.space_frames-in-Dnp3-Y24.ensures.input;
+    sinks = c.space_frames-in-Dnp3-Y24.ensures.sinks;
+    flushes = c.space_frames-in-Dnp3-Y24.ensures.flushes;
   };
   own = (
-    c.space_frames-status.ensures.input,
+    c.space_frames-in-Dnp3-Y24.ensures.input,
     disk-of-spacing (spaced_by Dnp3 Y24) _ _ _ _ (g.D.SlotDisk.faults c.args.ends.disk.now)
-        c.space_frames-status.result c.space_frames-status.ensures.spaces,
+        c.space_frames-in-Dnp3-Y24.result c.space_frames-in-Dnp3-Y24.ensures.spaces,
   );
 }
