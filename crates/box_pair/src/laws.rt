@@ -1,3 +1,4 @@
+//! The law that the two directions of a pair don't touch each other.
 ghost use Rattle.std.specs.Prelude.{List, map};
 ghost use Rattle.yasir_ticks.specs.declared.tick.Tick.{Tick};
 ghost use Rattle.link_format.specs.Setup.{Setup};

@@ -1,3 +1,4 @@
+//! A pair of boxes, one for each direction, stepped together under one key.
 ghost use Rattle.std.specs.Prelude.{◌≡◌};
 ghost use Rattle.box_pair.specs.Directions.{opposite_of};
 

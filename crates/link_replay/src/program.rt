@@ -1,3 +1,4 @@
+//! The program over ends that it is handed: it reads its words, and does what they ask for.
 ghost use Rattle.std.specs.Prelude.{◌≡◌, ◌↔◌, Option, Some, None, map};
 ghost use Rattle.std.specs.String.{string_bytes};
 ghost use Rattle.replay_status.specs.Ends.{outside_before, outside_after};

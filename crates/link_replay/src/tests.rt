@@ -1,3 +1,4 @@
+//! Tests of the program's words, and of the commands `read`, `vectors`, `init`, `seal` and `check`.
 use crate::running::{Ends, KEY, Ran, ended, has_slots, plan, run_words, words_of};
 use crate::{
     Command, Dir, Profile, Proto, Usage, journal_word, key_word, makes_journal, read_words,

@@ -1,3 +1,4 @@
+//! The words of the program: which command they ask for, and which of them are paths.
 ghost use Rattle.std.specs.Prelude.{◌≡◌, ◌↔◌, ℕ, ◌^◌, ◌<◌, ◌≤◌, [], ◌∷◌, None, IfOk, OnErr, IsTrue};
 ghost use Rattle.std.specs.Prelude.{map, codes, decimal};
 ghost use Rattle.std.specs.String.{string_bytes};
@@ -12,7 +13,7 @@ ghost use Rattle.link_replay.specs.Words.{key_place, journal_place, AskForJourna
 use hmac_tag::Dir;
 use sequence_journal::LIMIT;
 
-/// A trial has at most so many frames.
+/// The most frames of a trial.
 const MOST_FRAMES: u32 = 10_000;
 
 /// The greatest number of 32 bits.
@@ -51,7 +52,7 @@ pub enum Command {
     Check(Proto, Profile, Dir),
     /// Lists what is sealed of a device's line, and what passes and is read of a link.
     Replay(Proto, Profile, Dir),
-    /// Tries a link over frames that are drawn from a seed, so many of them.
+    /// Tries a link over frames that are drawn: the seed, and how many frames.
     Trial(Proto, Profile, u32, u32),
     /// Sends the frames of a line spaced as the profile asks for.
     Space(Proto, Profile),
@@ -170,7 +171,7 @@ fn read_wide(word: &str) -> Result<u64, Usage>
     }
 }
 
-// The same of a number of 32 bits.
+// The number of at most 32 bits that a word spells, in decimal digits without a leading zero.
 fn read_number(word: &str) -> Result<u32, Usage>
     ensures ok { IfOk result (λ n. word.now ≡ decimal n) }
     ensures small { IfOk result (λ n. n < 2 ^ 32) }
@@ -183,7 +184,8 @@ fn read_number(word: &str) -> Result<u32, Usage>
     Ok(n as u32)
 }
 
-// The same of the number of a frame, or of the floor 0.
+// The floor that a word spells, in decimal digits without a leading zero: 0, or the number of a
+// frame.
 fn read_floor(word: &str) -> Result<u64, Usage>
     ensures ok { IfOk result (λ n. word.now ≡ decimal n) }
     ensures within { IfOk result (λ n. n ≤ LIMIT) }

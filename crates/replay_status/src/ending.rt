@@ -1,3 +1,4 @@
+//! How a command ends: by a text that is written and two flushes, or by the end of its input.
 ghost use Rattle.std.specs.Prelude.{◌≡◌, ◌⊎◌};
 ghost use Rattle.replay_status.specs.Causes.{SinkCause};
 ghost use Rattle.replay_status.specs.Endings.{status_of};

@@ -1,4 +1,4 @@
-//! What the receiver answers to each tick of some links.
+//! What the receiver returns for each tick of some links.
 ghost use Rattle.std.specs.Prelude.{◌≡◌, ◌<◌, length};
 ghost use Rattle.sequence_journal.specs.Journal.{Fits};
 ghost use Rattle.check_receiver.specs.Stands.{ticks_taken};
@@ -22,7 +22,7 @@ pub fn tick_of(letter: u8) -> Tick {
     }
 }
 
-// What the receiver answers to each tick.
+// What the receiver returns for each tick.
 pub fn steps<R: LineRules, M: Mac, S: SlotDisk, const B: usize, const D: usize>(
     alloc: Global,
     checker: &mut Checker<R, M, B, D>,

@@ -1,3 +1,4 @@
+//! The transmitter: its step for a tick, and its calls for runs of ticks.
 ghost use Rattle.std.specs.Prelude.{◌≡◌, length};
 
 use crate::silence::wait_open;

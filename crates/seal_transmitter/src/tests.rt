@@ -1,3 +1,4 @@
+//! Tests of the transmitter's steps, and a bound on its size.
 ghost use Rattle.std.specs.Prelude.{◌≡◌, ◌<◌, length};
 ghost use Rattle.sequence_journal.specs.Journal.{Fits};
 ghost use Rattle.seal_transmitter.specs.Stands.{ticks_taken};

@@ -1,3 +1,4 @@
+//! A session: drawn frames go through the transmitter, the link, the receiver and the device.
 ghost use Rattle.std.specs.Prelude.{◌≡◌, ◌+◌, ◌%◌, ◌<◌, ◌≤◌};
 ghost use Rattle.trial_session.specs.Alterations.{alteration_of};
 ghost use Rattle.trial_session.specs.Draws.{draw_state, state_after, nth_drawn};

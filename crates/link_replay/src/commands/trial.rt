@@ -1,3 +1,4 @@
+//! The command `trial`: run a session that is made from a number.
 ghost use Rattle.std.specs.Prelude.{◌≡◌, ◌≤◌, length, Some};
 ghost use Rattle.replay_status.specs.Ends.{outside_before, outside_after};
 ghost use Rattle.trial_session.specs.TrialLine.{trial_line};
