@@ -48,6 +48,7 @@ module _ {S A X : Type 0} (boxed : LinkBox S A) (d : SlotDisk X) where
   -- its step leaves them.
   pub record HasTaken (old new : OneWay S X) (t tick : Tick) (note : Option A) : Type 0 where
     pub counted : boxed.taken new.line_box ≡ boxed.taken old.line_box + 1
+    pub link : boxed.link_of new.line_box ≡ boxed.link_of old.line_box
     pub steps : Steps boxed.walking boxed.stands old.line_box (journal_floor old.journal)
         new.line_box (journal_floor new.journal) t tick note
     pub journal : KeepsJournal {A = BoxStep A} d old.journal new.journal old.disk new.disk
