@@ -60,6 +60,10 @@ pub enum Command {
     Audit(Proto, Profile, Dir, u64, u64),
     /// Seals a device's line in one direction, and checks a link in the other one.
     Duplex(Proto, Profile, Dir),
+    /// Prints the page of the program's words.
+    Help,
+    /// Prints the program's name and version.
+    Version,
 }
 
 /// The words name no command.
@@ -111,10 +115,11 @@ fn read_one(word: &str) -> Result<Command, Usage>
     ensures ok { IfOk result (λ command. IsCommand (word.now ∷ []) command) }
     ensures usage { OnErr result ((command : Command) → IsCommand (word.now ∷ []) command → ⊥) }
 {
-    if word == "vectors" {
-        Ok(Command::Vectors)
-    } else {
-        Err(Usage)
+    match word {
+        "vectors" => Ok(Command::Vectors),
+        "help" | "--help" | "-h" => Ok(Command::Help),
+        "version" | "--version" => Ok(Command::Version),
+        _ => Err(Usage),
     }
 }
 
@@ -364,7 +369,7 @@ pub fn key_word(words: &[String]) -> Option<usize>
 {
     match read_words(words) {
         Ok(Command::Init(..) | Command::Read(_) | Command::Vectors) => None,
-        Ok(Command::Trial(..) | Command::Space(..)) => None,
+        Ok(Command::Trial(..) | Command::Space(..) | Command::Help | Command::Version) => None,
         Ok(Command::Seal(..) | Command::Check(..) | Command::Replay(..)) => Some(3),
         Ok(Command::Audit(..)) => Some(3),
         Ok(Command::Duplex(..)) => Some(3),
@@ -382,7 +387,7 @@ pub fn journal_word(words: &[String]) -> Option<usize>
     match read_words(words) {
         Ok(Command::Init(..)) => Some(3),
         Ok(Command::Seal(..) | Command::Check(..)) => Some(4),
-        Ok(Command::Read(_) | Command::Vectors) => None,
+        Ok(Command::Read(_) | Command::Vectors | Command::Help | Command::Version) => None,
         Ok(Command::Replay(..) | Command::Trial(..) | Command::Space(..)) => None,
         Ok(Command::Audit(..)) => None,
         Ok(Command::Duplex(..)) => None,
@@ -398,6 +403,7 @@ pub fn makes_journal(words: &[String]) -> bool
     match read_words(words) {
         Ok(Command::Init(..)) => true,
         Ok(Command::Read(_) | Command::Vectors | Command::Trial(..) | Command::Space(..)) => false,
+        Ok(Command::Help | Command::Version) => false,
         Ok(Command::Seal(..) | Command::Check(..) | Command::Replay(..)) => false,
         Ok(Command::Audit(..)) => false,
         Ok(Command::Duplex(..)) => false,
