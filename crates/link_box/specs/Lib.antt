@@ -1,3 +1,4 @@
 pub mod Walking
 pub mod Stepping
 pub mod Runs
+pub mod Resting
