@@ -13,5 +13,5 @@
 mod laws;
 mod pair;
 
-pub use laws::directions_are_apart;
+pub use laws::{directions_are_apart, lines_go_on};
 pub use pair::{BoxPair, DuplexFault, PairStep, opposite};

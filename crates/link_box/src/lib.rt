@@ -12,6 +12,8 @@
 
 mod alike;
 mod box_trait;
+mod resting;
 
 pub use alike::take_alike;
 pub use box_trait::LinkBox;
+pub use resting::RestingBox;

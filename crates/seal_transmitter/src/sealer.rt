@@ -12,6 +12,8 @@ use sequence_journal::{Journal, JournalFault, LIMIT};
 use yasir_io::SlotDisk;
 use yasir_ticks::{LineBytes, MAX_TICKS, T3_5_TICKS, Tick};
 
+mod resting;
+
 /// The transmitter, by the rules `R` of a protocol, with words of `B` bytes and tags by `M`. It
 /// forwards the live bytes of a device's bursts, each in its own tick, and sends a trailer after
 /// each that is a frame: the low bytes of its number and its tag.
