@@ -20,6 +20,7 @@
 mod burst_bytes;
 mod check_noting;
 mod frame_room;
+mod judged_lists;
 mod judging;
 mod laws;
 mod link_boxes;

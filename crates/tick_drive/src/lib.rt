@@ -16,5 +16,5 @@ mod intake;
 
 pub use consumer::{Consumer, Stop};
 pub use end::{End, TooMuch};
-pub use input_loop::{MAX_INPUT_TICKS, drive, drive_to_rest};
+pub use input_loop::{MAX_INPUT_TICKS, drive, drive_to_rest, drive_with_room};
 pub use intake::MAX_INPUT_BYTES;

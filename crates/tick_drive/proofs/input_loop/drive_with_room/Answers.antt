@@ -3,14 +3,14 @@ use Rattle.tick_drive.proofs.Moving.{gives_none}
 use Rattle.tick_drive.proofs.Driving.{progress_start, progress_quiet, progress_line, step_ends}
 use Rattle.tick_drive.proofs.Driving.{line_lent, finish_ends, line_ends, last_ends, last_line_ends}
 use Rattle.tick_drive.proofs.Driving.{read_same}
-use Rattle.tick_drive.proofs.input_loop.drive.Goals as goal
+use Rattle.tick_drive.proofs.input_loop.drive_with_room.Goals as goal
 
 pub loop-content-init : goal.loop-content-init
 loop-content-init g c = (
   progress_start g.C.Consumer.meaning g.met.C.Consumer.went_then
       _ _ _ _ (c.new-intake.ensures (g.S.Source.left c.args.input.now))
-      (gives_none g.C.Consumer.meaning _ g.met.C.Consumer.went_none c.requires.fresh.able)
-      c.requires.fresh.none,
+      (gives_none g.C.Consumer.meaning _ g.met.C.Consumer.went_none c.requires.able)
+      c.requires.room,
   refl,
 )
 
@@ -31,7 +31,7 @@ loop-content-preserved g c =
     progress.met in
     let line = line_lent _ _ _ _ _ _ _ c.line_bytes-bytes.ensures.bytes answer in (
       progress_line g.C.Consumer.meaning g.met.C.Consumer.went_then
-          _ _ _ _ _ _ _ _ _ _ _ _ progress line c.in-Ok.ensures.handed c.in-Ok.ensures.taken,
+          _ _ _ _ _ _ _ _ _ _ _ _ progress line c.in-Ok.ensures,
       c.in-Ok-Some.ensures.cause.same refl ∙ c.loop-content.invariant.1,
     )
 
@@ -43,7 +43,7 @@ returns-in-Err-hand_over g c =
     let line = line_lent _ _ _ _ _ _ _ c.line_bytes-bytes.ensures.bytes answer in
     let ends = line_ends g.C.Consumer.meaning g.met.C.Consumer.went_then
     _ _ _ _ _ _ _ _ _ _ _ _ progress line
-    c.in-Err-hand_over.ensures.handed in
+    c.in-Err-hand_over.ensures in
     record {
       driven = ends.0;
       read = read_same _ _ _ (c.in-Ok-Some.ensures.cause.same refl
@@ -75,7 +75,7 @@ returns-in-Ok-hand_last-clause-driven g c =
     let met = (rw c.in-Ok-None.field-0-is at c.in-Ok-None.ensures.answer) _ _ progress.text
     progress.met in
     last_ends g.C.Consumer.meaning g.met.C.Consumer.went_then _ _ _ _ _ _ _ _ _ _ _ _ progress
-    met (c.in-Ok-finish.ensures _ progress.text met.fed) c.in-Ok-hand_last.ensures.handed
+    met (c.in-Ok-finish.ensures _ progress.text met.fed) c.in-Ok-hand_last.ensures
 
 pub returns-in-Err-hand_last : goal.returns-in-Err-hand_last
 returns-in-Err-hand_last g c =
@@ -84,7 +84,7 @@ returns-in-Err-hand_last g c =
     progress.met in
     let ends = last_line_ends g.C.Consumer.meaning g.met.C.Consumer.went_then
     _ _ _ _ _ _ _ _ _ _ _ _ progress met (c.in-Ok-finish.ensures _ progress.text met.fed)
-    c.in-Err-hand_last.ensures.handed in
+    c.in-Err-hand_last.ensures in
     record {
       driven = ends.0;
       read = read_same _ _ _ (c.in-Ok-None.ensures.cause.same refl
