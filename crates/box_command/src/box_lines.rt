@@ -1,3 +1,5 @@
+//! The consumer that drives a box over its journal, and writes the other line and the notes as
+//! text.
 ghost use Rattle.std.specs.Prelude.{◌≡◌, ◌<◌, [], ◌∷◌, length, Option};
 ghost use Rattle.yasir_io.specs.Disks.{Slots};
 ghost use Rattle.yasir_ticks.specs.Ticks.Item.{tick as tick_item};

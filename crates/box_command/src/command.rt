@@ -1,3 +1,5 @@
+//! The commands of a box: read the key, load the journal, and drive the whole input through the
+//! box.
 ghost use Rattle.std.specs.Prelude.{◌≡◌, List};
 ghost use Rattle.tick_drive.specs.Consumers.{is_write_fault};
 ghost use Rattle.tick_drive.specs.Drive.{answer_of};

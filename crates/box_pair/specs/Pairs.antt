@@ -1,5 +1,5 @@
 -- What a step of both directions does.
-use Rattle.std.specs.Prelude.{◌≡◌, ◌+◌, Option, Result, Ok, Err}
+use Rattle.std.specs.Prelude.{◌≡◌, ◌+◌, List, length, Option, Result, Ok, Err}
 use Rattle.hmac_tag.specs.declared.dir.Dir.{Dir}
 use Rattle.yasir_ticks.specs.declared.tick.Tick.{Tick}
 use Rattle.yasir_io.specs.declared.disk.SlotDisk.{Ghosts as SlotDisk}
@@ -8,6 +8,7 @@ use Rattle.sequence_journal.specs.declared.journal.JournalFault.{JournalFault}
 use Rattle.sequence_journal.specs.Journal.{journal_floor}
 use Rattle.burst_walk.specs.declared.box_step.BoxStep.{BoxStep}
 use Rattle.link_box.specs.declared.box_trait.LinkBox.{Ghosts as LinkBox}
+use Rattle.link_box.specs.Runs.{TakesRun}
 use Rattle.link_box.specs.Stepping.{Steps, FailsStep, KeepsJournal}
 use Rattle.box_pair.specs.declared.pair.BoxPair.{BoxPair}
 use Rattle.box_pair.specs.declared.pair.PairStep.{PairStep}
@@ -42,6 +43,13 @@ ways_of pair sent sent_disk got got_disk = record {
   outgoing = record { line_box = outgoing_box pair; journal = sent; disk = sent_disk };
   incoming = record { line_box = incoming_box pair; journal = got; disk = got_disk };
 }
+
+-- In one direction the box has taken this run, as so many steps without a note take it, and these
+-- ticks are what it answered. No number is used, so its journal and disk have no part in it.
+pub record HasPassed {S A : Type 0} (boxed : LinkBox S A) (old new : S) (run answer : List Tick) :
+    Type 0 where
+  pub counted : boxed.taken new ≡ boxed.taken old + length run
+  pub takes : TakesRun boxed.walking boxed.stands old new run answer
 
 module _ {S A X : Type 0} (boxed : LinkBox S A) (d : SlotDisk X) where
   -- In one direction the box has taken this tick and answered so, and its journal and disk are as

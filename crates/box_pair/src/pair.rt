@@ -1,3 +1,4 @@
+//! A pair of boxes, one for each direction, stepped together under one key.
 ghost use Rattle.std.specs.Prelude.{◌≡◌};
 ghost use Rattle.box_pair.specs.Directions.{opposite_of};
 
@@ -6,6 +7,8 @@ use link_box::LinkBox;
 use sequence_journal::{Journal, JournalFault};
 use yasir_io::SlotDisk;
 use yasir_ticks::Tick;
+
+mod runs;
 
 /// In which direction a number wasn't committed.
 #[derive(Clone, Copy, Debug, PartialEq, Eq)]
@@ -77,6 +80,22 @@ impl<S: LinkBox, C: LinkBox> BoxPair<S, C> {
             sender: S::new(key, outgoing),
             receiver: C::new(key, opposite(outgoing)),
         }
+    }
+
+    /// The box of the outgoing direction.
+    #[inline]
+    pub fn sender(&self) -> &S
+        ensures { result.now ≡ outgoing_box self.now }
+    {
+        &self.sender
+    }
+
+    /// The box of the incoming direction.
+    #[inline]
+    pub fn receiver(&self) -> &C
+        ensures { result.now ≡ incoming_box self.now }
+    {
+        &self.receiver
     }
 
     /// Takes the next tick of the device and the next one of the link, the outgoing direction first,

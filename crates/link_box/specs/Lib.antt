@@ -2,3 +2,4 @@ pub mod Links
 pub mod Walking
 pub mod Stepping
 pub mod Runs
+pub mod Resting

@@ -1,3 +1,4 @@
+//! The trait that transmitter and receiver implement: a key, a direction, a journal, and steps.
 ghost use Rattle.std.specs.Prelude.{◌≡◌, ℕ, ◌+◌, ◌≤◌, List, [], length, take, OnOk, OnErr, IfOk};
 ghost use Rattle.yasir_ticks.specs.TickRun.{run_ticks};
 ghost use Rattle.yasir_ticks.specs.declared.tick.Tick.{Tick};

@@ -1,6 +1,13 @@
 //! Recordings: a line of a device goes through a transmitter, a link through a receiver, and a line
 //! to a device, and what is sealed, passed and read is kept as lists of frames in memory. They come
 //! as two or three in one input, or each as a list of ticks.
+//!
+//! The frames that a device reads of a list of ticks, with four silent ticks behind it:
+//!
+//!     let frames = list_reads::<RtuDevice>(alloc, &line, 4)?;
+//!     for index in 0..frames.len() {
+//!         print(frames.head(index), frames.bytes(index));
+//!     }
 #![tactic(auto)]
 
 mod frame_box;

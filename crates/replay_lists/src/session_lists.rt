@@ -1,3 +1,4 @@
+//! The consumer that takes three recordings of a session, and keeps the frames of each.
 ghost use Rattle.std.specs.Prelude.{◌≡◌, ◌+◌, ◌<◌, ◌≤◌, List, [], ◌++◌, OnOk, IfOk, length};
 ghost use Rattle.yasir_ticks.specs.Ticks.{silent};
 ghost use Rattle.yasir_ticks.specs.TickRun.{run_ticks, run_items};

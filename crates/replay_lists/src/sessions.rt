@@ -1,3 +1,4 @@
+//! The frames of three recordings in one input, with silence behind each.
 ghost use Rattle.std.specs.Prelude.{◌≤◌};
 ghost use Rattle.tick_drive.specs.Input.{IsReadCause, is_read_fault};
 ghost use Rattle.replay_lists.specs.SessionListed.{ListsSession, MayListSession, all_rests};

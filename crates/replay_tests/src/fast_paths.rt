@@ -33,7 +33,7 @@ trait Turning: Drop {
 
     ghost able: { Self → Type 0 };
 
-    /// Takes the first of these bytes, one at least, and answers how many.
+    /// Takes the first of these bytes, one at least, and returns how many.
     fn turn_bytes(&mut self, bytes: &[u8]) -> Result<usize, Fail>
         requires able { able self.old }
         requires some { 0 < length bytes.now }
@@ -43,7 +43,7 @@ trait Turning: Drop {
         ensures within { IfOk result (λ count. count ≤ length bytes.now) }
         ensures taken { IfOk result (λ count. taken self.new ≡ taken self.old + count) };
 
-    /// The same of so many silent ticks.
+    /// Takes the first of these silent ticks, one at least, and returns how many.
     fn turn_silence(&mut self, ticks: u32) -> Result<u32, Fail>
         requires able { able self.old }
         requires some { 0 < ticks }

@@ -1,3 +1,4 @@
+//! Runs of `seal` and `check` over ends in memory, for the tests of this crate.
 ghost use Rattle.std.specs.Prelude.{◌≡◌};
 ghost use Rattle.link_box.specs.Links.{AreLinks};
 ghost use Rattle.sequence_journal.specs.Links.{IsLink};
@@ -179,7 +180,7 @@ pub fn replay(
     replay_on(alloc, kind, dir, key, disk, text, failing)
 }
 
-/// The same over this disk.
+/// Runs a box of the program over this disk, with this key and this input.
 pub fn replay_on(
     alloc: Global,
     kind: BoxKind,

@@ -160,7 +160,7 @@ fn packet_of(receiver: Receiver) -> &'static [u8] {
     }
 }
 
-// What each of them answers to the ticks of a link, and whether its runs come to the same.
+// What each of them returns for the ticks of a link, and whether its runs come to the same.
 fn rtu_steps(alloc: Global, link: &[u8]) -> Result<Vec<BoxStep<CheckNote>>, Fail>
     requires short { length link.now < 1000 }
 {

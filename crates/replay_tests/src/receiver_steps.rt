@@ -1,4 +1,4 @@
-//! What the receiver answers to each tick of some links.
+//! What the receiver returns for each tick of some links.
 ghost use Rattle.std.specs.Prelude.{◌≡◌, ◌<◌, length};
 ghost use Rattle.link_box.specs.Links.{link_by};
 ghost use Rattle.sequence_journal.specs.Journal.{journal_link, Fits};
@@ -24,7 +24,7 @@ pub fn tick_of(letter: u8) -> Tick {
     }
 }
 
-// What the receiver answers to each tick.
+// What the receiver returns for each tick.
 pub fn steps<R: LineRules, M: Mac, S: SlotDisk, const B: usize, const D: usize>(
     alloc: Global,
     checker: &mut Checker<R, M, B, D>,

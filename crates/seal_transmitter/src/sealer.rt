@@ -1,3 +1,4 @@
+//! The transmitter: its step for a tick, and its calls for runs of ticks.
 ghost use Rattle.std.specs.Prelude.{◌≡◌, length};
 
 use crate::silence::wait_open;
@@ -10,6 +11,8 @@ use link_format::Trailer;
 use sequence_journal::{Journal, JournalFault, LIMIT};
 use yasir_io::SlotDisk;
 use yasir_ticks::{LineBytes, MAX_TICKS, T3_5_TICKS, Tick};
+
+mod resting;
 
 /// The transmitter, by the rules `R` of a protocol, with words of `B` bytes and tags by `M`. It
 /// forwards the live bytes of a device's bursts, each in its own tick, and sends a trailer after

@@ -1,3 +1,4 @@
+//! A box over a journal of its own, with the bytes of the frames that it numbers.
 ghost use Rattle.std.specs.Prelude.{◌≡◌, ◌≤◌, take};
 ghost use Rattle.link_box.specs.Links.{AreLinks};
 ghost use Rattle.session_audit.specs.FramesOf.{told_by};

@@ -1,3 +1,4 @@
+//! A disk that never fails, with a journal that begins at a stated floor.
 ghost use Rattle.std.specs.Prelude.{◌≡◌, ◌≤◌, None, IsSomeAnd};
 ghost use Rattle.sequence_journal.specs.Journal.{Fits, journal_link, journal_floor};
 ghost use Rattle.sequence_journal.specs.Links.{IsLink};

@@ -1,3 +1,4 @@
+//! The loop over an input: each line of its text goes to the consumer as a run of ticks.
 ghost use Rattle.std.specs.Prelude.{◌≡◌, ℕ, ◌≤◌, length, IfOk};
 ghost use Rattle.yasir_ticks.specs.Ticks.{items_of_run, ticks_in};
 ghost use Rattle.yasir_ticks.specs.Reader.{items_of_content};

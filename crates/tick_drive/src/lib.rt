@@ -1,5 +1,12 @@
 //! The loop that drives a recorded input into whatever takes its ticks, proved once for every
 //! consumer.
+//!
+//! An input without marks goes into a consumer, and then 24 silent ticks:
+//!
+//!     match drive_to_rest(0, 24, &mut input, &mut consumer) {
+//!         End::Whole => {}
+//!         end => return status_of(end),
+//!     }
 #![tactic(auto)]
 
 mod consumer;

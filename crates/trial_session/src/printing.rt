@@ -1,3 +1,4 @@
+//! The line that is printed of a session.
 ghost use Rattle.std.specs.Prelude.{◌≡◌, ◌+◌, ◌<◌, ◌≤◌, ◌++◌, length};
 ghost use Rattle.link_box.specs.Links.{AreLinks};
 ghost use Rattle.trial_session.specs.Summaries.{session_summary};

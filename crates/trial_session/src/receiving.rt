@@ -1,3 +1,4 @@
+//! The receiver and the device behind it, over the link of a session.
 use crate::counting_box::CountingBox;
 use crate::link::Link;
 use crate::listening::{Listening, Waiting};

@@ -1,3 +1,4 @@
+//! A session: drawn frames go through the transmitter, the link, the receiver and the device.
 ghost use Rattle.std.specs.Prelude.{◌≡◌, ◌+◌, ◌%◌, ◌<◌, ◌≤◌};
 ghost use Rattle.link_box.specs.Links.{AreLinks};
 ghost use Rattle.trial_session.specs.Alterations.{alteration_of};

@@ -1,3 +1,4 @@
+//! A box of a session over a journal in memory, and the counts of its bursts.
 use crate::counting_box::CountingBox;
 use crate::fate::Fate;
 use crate::link::Link;
@@ -115,7 +116,7 @@ impl<X: CountingBox> Side<X> {
         }
     }
 
-    // Takes the next tick, and answers that of the other line.
+    // Takes the next tick, and returns that of the other line.
     #[inline]
     fn step(&mut self, t: Tick) -> Tick
         requires able { MayTake X.LinkBox self.old }
@@ -133,7 +134,7 @@ impl<X: CountingBox> Side<X> {
         step.tick
     }
 
-    /// Takes the first of these ticks, one at least, and answers how many. `left` gets the bytes of
+    /// Takes the first of these ticks, one at least, and returns how many. `left` gets the bytes of
     /// the other line, one for each, or none where that is silent.
     pub fn send(&mut self, run: TickRun<'_>, left: &mut RunBytes) -> usize
         requires some { 0 < length (run_ticks run) }

@@ -1,3 +1,4 @@
+//! The command `duplex`: run one box for both directions over two recordings.
 ghost use Rattle.std.specs.Prelude.{◌≡◌, Some};
 ghost use Rattle.replay_status.specs.Causes.{InputCause, SinkCause};
 ghost use Rattle.replay_status.specs.Ends.{outside_before, outside_after};
