@@ -1,4 +1,4 @@
-//! Captures of a serial line as pcap files of link type 250 (RTAC serial).
+//! Captures of a serial line as pcap and pcapng files of link type 250 (RTAC serial).
 //!
 //! The bytes and the events of a capture:
 //!
