@@ -17,12 +17,12 @@ pub enum PcapFault {
     Size,
     /// A packet without a time, in a simple or an old packet block.
     Timeless,
-    /// The times of an interface count another unit than those before it, or none from a second
-    /// down to a nanosecond in steps of ten.
+    /// The times of an interface don't count a power of ten from a second down to a nanosecond.
     Resolution,
     /// An option of an interface that is longer than its block, or one that moves its times.
     Option,
-    /// A packet of an interface that wasn't described before.
+    /// A packet of an interface that wasn't described before, or that counts its times in another
+    /// unit than one described later; or one interface more than a section may have.
     Interface,
     /// A time of 2^64 nanoseconds or more, some 584 years.
     Late,
