@@ -31,6 +31,8 @@ COMMANDS = [
     ("audit rtu ab KEY 0 0", NEW, (0, 1)),
     ("duplex rtu ab KEY", NEW, (0, 1, 2)),
     ("vectors", NEW, (1,)),
+    ("help", NEW, (1,)),
+    ("version", NEW, (1,)),
     ("trial rtu 7 3", NEW, (1,)),
 ]
 

@@ -11,6 +11,7 @@ import difflib, os, subprocess, sys, tempfile, threading, time
 
 import timeline
 from killed import old_slot_of
+from lanes import Lanes, run_in
 from prove import crates_below, lines_of, prove_all, room_here
 
 ROOT = os.path.dirname(os.path.dirname(os.path.abspath(__file__)))
@@ -20,11 +21,14 @@ EXAMPLES = os.path.join(ROOT, "examples")
 log_lock = threading.Lock()
 
 
-def prove(crate, jobs):
-    """Proves one crate, over those below it; the program is built and run too."""
-    words = ["rt", "run", "--jobs", str(jobs), "--", "vectors"] if crate == "link_replay" else ["rt", "lib", "--jobs", str(jobs)]
-    ran = subprocess.run(words, cwd=os.path.join(ROOT, "crates", crate), stdin=subprocess.DEVNULL,
-                         stdout=subprocess.PIPE, stderr=subprocess.STDOUT, text=True, errors="replace")
+def prove(lanes, crate, jobs):
+    """Proves one crate, over those below it. The program is proved in this checkout, and is built and run there too."""
+    if crate == "link_replay":
+        words = ["rt", "run", "--jobs", str(jobs), "--", "vectors"]
+        ran = run_in(ROOT, crate, words)
+    else:
+        words = ["rt", "lib", "--jobs", str(jobs)]
+        ran = lanes.run(crate, words)
     with log_lock, open(LOG, "a") as log:
         log.write("== %s: %s\n%s\n" % (crate, " ".join(words), ran.stdout))
     if ran.returncode != 0:
@@ -40,7 +44,9 @@ def prove_program(most):
     below, room, began = crates_below("link_replay"), room_here(), time.monotonic()
     print("== Proving the program: %d crates, over %d processors and %.0f GB of free memory" % (len(below), room.processors, room.memory))
     print("The first time this takes many minutes. Later only what changed is proved. What the prover says: %s\n" % os.path.relpath(LOG, ROOT), flush=True)
-    prove_all(below, {crate: lines_of(crate) for crate in below}, prove, say_proved, room, most)
+    with Lanes(most or room.processors) as lanes:
+        work = {crate: lines_of(crate) for crate in below}
+        prove_all(below, work, lambda crate, jobs: prove(lanes, crate, jobs), say_proved, room, most)
     print("\nProved in %.0f s.\n" % (time.monotonic() - began), flush=True)
 
 

@@ -9,6 +9,7 @@
 - A row of a table of docs/PROOF.md whose last column is a file of crates/ names functions and definitions in backquotes and
   clauses in italics: each must be in one of the row's files, a clause as a clause or a field.
 - No paragraph may have more than 120 words; a row of a table is a paragraph.
+- The page of `help` has the words of each command of docs/USAGE.md, and `version` prints the newest version of CHANGELOG.md.
 
 It ends with 1 where something is wrong. That a sentence says no more than its clause it can't see.
 """
@@ -89,8 +90,25 @@ def unknown_names(text, words):
             yield "%s is named, and is nowhere in the code" % name
 
 
+def printed(name):
+    """The text of a constant of the program's texts."""
+    return re.search(r'pub const %s: .*?=\s*\*b"(.*?)";' % name, read("crates/link_replay/src/commands/about.rt"), re.S)[1]
+
+
+def wrong_texts():
+    """What is wrong with what `help` and `version` print."""
+    page = printed("HELP_PAGE")
+    table = re.search(r"^## Commands\n(.*?)^- ", read("docs/USAGE.md"), re.S | re.M)[1]
+    for words in re.findall(r"^\| `([^`]+)`", table, re.M):
+        if not re.search(r"^  %s  +\S" % re.escape(words), page, re.M):
+            yield "help has no line for `%s`" % words
+    newest = re.search(r"^## ([\d.]+)", read("CHANGELOG.md"), re.M)[1]
+    if printed("VERSION_LINE") != "link_replay %s\\n" % newest:
+        yield "version isn't %s, the newest one of CHANGELOG.md" % newest
+
+
 def main():
-    wrong, words = [], words_of_the_code()
+    wrong, words = ["about.rt: " + fault for fault in wrong_texts()], words_of_the_code()
     texts = {page: read(page) for page in pages()}
     for page, text in texts.items():
         faults = list(missing_files(page, text)) if page not in OF_THE_PAST else []

@@ -81,7 +81,7 @@ def run(program, words, parts, folder):
 
 def main():
     program = sys.argv[1] if len(sys.argv) > 1 else "crates/link_replay/out/link_replay"
-    commands = ["init rtu ab NEW", "vectors", "trial rtu 7 10000", "trial dnp3 7 10000", "read rtu", "read dnp3", "space rtu", "space dnp3"]
+    commands = ["init rtu ab NEW", "vectors", "help", "version", "trial rtu 7 10000", "trial dnp3 7 10000", "read rtu", "read dnp3", "space rtu", "space dnp3"]
     for box in ("seal %s ab KEY JOURNAL", "check %s ab KEY JOURNAL", "replay %s ab KEY", "audit %s ab KEY 0 0", "duplex %s ab KEY"):
         commands += [box % proto for proto in ("rtu", "dnp3")]
     wrong = 0
@@ -90,7 +90,7 @@ def main():
             name, proto = (words.split() + [""])[:2]
             if sys.argv[2:] and name not in sys.argv[2:]:
                 continue
-            kinds = [("nothing is read", [], "")] if name in ("init", "vectors", "trial") else inputs(proto, MARKS.get(name, 0))
+            kinds = [("nothing is read", [], "")] if name in ("init", "vectors", "help", "version", "trial") else inputs(proto, MARKS.get(name, 0))
             for kind, parts, fault in kinds:
                 status, seconds, last = run(program, words, parts, folder)
                 right = status == (10 if fault else 0) and (last == fault or not fault)

@@ -121,7 +121,7 @@ def main():
         ("audit rtu ab KEY 0 0", session), ("audit rtu ab KEY 0 0", long + b"%\n" + long.split(b"%\n")[0]),
         ("duplex rtu ab KEY", requests), ("duplex dnp3 ba KEY", device), ("duplex rtu ab KEY", long),
         ("space rtu", requests.split(b"%\n")[0]), ("space dnp24", device.split(b"%\n")[0]),
-        ("seal rtu ab KEY JOURNAL", requests.split(b"%\n")[0]), ("check rtu ab KEY JOURNAL", requests.split(b"%\n")[1]), ("vectors", b""), ("trial rtu 7 20", b""),
+        ("seal rtu ab KEY JOURNAL", requests.split(b"%\n")[0]), ("check rtu ab KEY JOURNAL", requests.split(b"%\n")[1]), ("vectors", b""), ("help", b""), ("version", b""), ("trial rtu 7 20", b""),
     ]
     wrong = 0
     with tempfile.TemporaryDirectory() as folder:

@@ -13,10 +13,11 @@ use Rattle.yasir_ticks.specs.declared.tick_run.TickRun.{TickRun}
 use Rattle.yasir_ticks.proofs.TickRuns.{length-run_items}
 use Rattle.burst_walk.specs.Causal.{IsCausal}
 use Rattle.burst_walk.proofs.Runs.{run-none}
-use Rattle.sequence_journal.specs.Journal.{journal_floor, Fits}
+use Rattle.sequence_journal.specs.Journal.{journal_floor}
 use Rattle.link_format.specs.Setup.{Setup}
 use Rattle.link_box.specs.Walking.{number_after}
 use Rattle.link_box.specs.Runs.{HasTakenRun, TakesRun}
+use Rattle.link_box.specs.Stepping.{ServesLink}
 use Rattle.link_box.specs.declared.box_trait.LinkBox.{Ghosts as LinkBox}
 use Rattle.tick_drive.specs.Consumers.{Gives, GivesUpTo}
 use Rattle.tick_drive.specs.declared.consumer.Stop.TheVariants.{WriteFault}
@@ -55,7 +56,8 @@ module _ {B N O L D : Type 0} (b : LinkBox B N) (line_of : N → List ℕ) (o : 
     (ticks : List Tick) (first : ticks ≡ take n (run_ticks run))
     (within : n ≤ length (run_ticks run))
     (counts : b.taken box ≡ b.taken old.lines.line_box + n)
-    (able : Fits old.lines.journal (d.told old.disk)) where
+    (able : ServesLink (b.link_of old.lines.line_box) old.lines.journal (d.told old.disk))
+    (same : b.link_of box ≡ b.link_of old.lines.line_box) where
   abbrev front : List Item
   front = take n (run_items run)
 
@@ -119,7 +121,7 @@ module _ {B N O L D : Type 0} (b : LinkBox B N) (line_of : N → List ℕ) (o : 
         stopped = tt;
         counted = counts
             ∙ ap (λ k. b.taken old.lines.line_box + k) (sym (length-front run n within));
-        is_able = able;
+        is_able = record { of_link = able.of_link ∙ sym same; fits = able.fits };
         went = record {
           images = let none = images_none o l d only_now old in record {
             link = refl;

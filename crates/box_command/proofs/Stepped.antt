@@ -15,7 +15,7 @@ use Rattle.link_box.specs.Walking.{frames_of, number_after}
 use Rattle.link_box.specs.declared.box_trait.LinkBox.{Ghosts as LinkBox}
 use Rattle.sequence_journal.specs.declared.journal.Journal.{Journal}
 use Rattle.sequence_journal.specs.declared.journal.JournalFault.{JournalFault}
-use Rattle.sequence_journal.specs.Journal.{journal_floor}
+use Rattle.sequence_journal.specs.Journal.{journal_link, journal_floor}
 use Rattle.sequence_journal.specs.Uptimes.{RiseFrom}
 use Rattle.tick_drive.specs.Consumers.{Gives}
 use Rattle.tick_drive.specs.declared.consumer.Stop.TheVariants as stops
@@ -153,9 +153,10 @@ module _ {B N O L D : Type 0} (b : LinkBox B N) (line_of : N → List ℕ) (o : 
     Pushed result = Pushes o l (writing_at old) (writing texts out log) (step.tick ∷ [])
         (line_of_note line_of step.note) result
 
-    pub step_given : Pushed (Ok tt)
+    pub step_given : journal_link old.lines.journal ≡ b.link_of old.lines.line_box
+        → b.link_of box ≡ b.link_of old.lines.line_box → Pushed (Ok tt)
         → Gives (driving b line_of o l d) old answered (tick t ∷ []) (Ok tt)
-    step_given pushed = record {
+    step_given serves same pushed = record {
       moved = λ origin before drives. record {
         steps = subst (b.stands box (journal_floor journal) origin.setup) (more before)
             (stepped origin before drives).stands;
@@ -172,7 +173,7 @@ module _ {B N O L D : Type 0} (b : LinkBox B N) (line_of : N → List ℕ) (o : 
       };
       stopped = tt;
       counted = counts;
-      is_able = keeps.fits;
+      is_able = record { of_link = keeps.link ∙ (serves ∙ sym same); fits = keeps.fits };
       went = record {
         images = images;
         disk = record {

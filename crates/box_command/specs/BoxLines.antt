@@ -8,10 +8,11 @@ use Rattle.yasir_ticks.specs.Ticks.{Item, ticks_in}
 use Rattle.yasir_ticks.specs.Ticks.Item.{tick}
 use Rattle.yasir_ticks.specs.declared.tick.Tick.{Tick}
 use Rattle.sequence_journal.specs.declared.link.LinkId.{LinkId}
-use Rattle.sequence_journal.specs.Journal.{journal_link, journal_floor, Fits, IsCrashSafe}
+use Rattle.sequence_journal.specs.Journal.{journal_link, journal_floor, IsCrashSafe}
 use Rattle.sequence_journal.specs.Journal.{HasFloorFrom}
 use Rattle.sequence_journal.specs.Slots.{floor_of}
 use Rattle.link_format.specs.Setup.{Setup}
+use Rattle.link_box.specs.Stepping.{ServesLink}
 use Rattle.link_box.specs.Walking.{number_after}
 use Rattle.link_box.specs.declared.box_trait.LinkBox.{Ghosts as LinkBox}
 use Rattle.tick_drive.specs.Consumers.{Consuming, IsDiskCause, IsSinkCause, is_journal_fault}
@@ -137,6 +138,7 @@ module _ {B N O L D : Type 0} (b : LinkBox B N) (line_of : N → List ℕ) (o : 
     stands = λ state origin. DrivesBox b line_of state.lines origin (outputs_of o l d state);
     stopped = λ state stop origin. StopsBox b line_of state.lines stop origin (outputs_of o l d state);
     taken = λ state. b.taken state.lines.line_box;
-    able = λ state. Fits state.lines.journal (d.told state.disk);
+    able = λ state. ServesLink (b.link_of state.lines.line_box) state.lines.journal
+        (d.told state.disk);
     went = GoesOn o l d;
   }

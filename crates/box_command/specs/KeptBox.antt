@@ -8,7 +8,7 @@ use Rattle.burst_walk.specs.Answers.{told_notes}
 use Rattle.link_format.specs.Setup.{Setup}
 use Rattle.link_box.specs.Walking.{Walking, full_notes, other_line}
 use Rattle.link_box.specs.declared.box_trait.LinkBox.{Ghosts as LinkBox}
-use Rattle.sequence_journal.specs.Journal.{journal_floor, Fits}
+use Rattle.sequence_journal.specs.Journal.{journal_link, journal_floor, Fits}
 use Rattle.replay_lists.specs.FrameList.{Kept, Holds, IsWhole}
 use Rattle.line_texts.specs.Sending.{LineAndNotes, sink_texts, SendsTexts}
 use Rattle.line_texts.specs.Texts.{waiting_in}
@@ -57,8 +57,10 @@ module _ {B N : Type 0} (b : LinkBox B N) (line_of : N → List ℕ) where
     pub notes : Holds value.notes ((timed_of b.walking line_of setup).note_lines line)
     pub in_order : AreInOrder 0 (length line) ((timed_of b.walking line_of setup).note_lines line)
 
-  -- The disk is the journal's, the box has counted its ticks, and the bytes of the notes are whole.
+  -- The journal is that of the box's link, the disk is the journal's, the box has counted its ticks,
+  -- and the bytes of the notes are whole.
   pub record IsSteady (value : KeptBox B) : Type 0 where
+    pub of_link : journal_link value.journal ≡ b.link_of value.line_box
     pub fits : Fits value.journal (Some (steady_slots value.disk))
     pub level : b.taken value.line_box ≡ ticks_kept value
     pub whole : IsWhole value.notes

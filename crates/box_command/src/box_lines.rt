@@ -1,3 +1,5 @@
+//! The consumer that drives a box over its journal, and writes the other line and the notes as
+//! text.
 ghost use Rattle.std.specs.Prelude.{◌≡◌, ◌<◌, [], ◌∷◌, length, Option};
 ghost use Rattle.yasir_io.specs.Disks.{Slots};
 ghost use Rattle.yasir_ticks.specs.Ticks.Item.{tick as tick_item};
@@ -40,6 +42,7 @@ impl<B: LineBox> BoxLines<B> {
         requires { B.widths_fit }
         ensures taken { B.taken result.line_box ≡ 0 }
         ensures journal { result.journal ≡ journal }
+        ensures link { B.link_of result.line_box ≡ B.link_in dir }
         ensures drives { (link : LinkId) (texts : SinkTexts) (told : Option Slots)
             → journal_link journal ≡ link → Fits journal told
             → DrivesBox B.LinkBox B.line_of result

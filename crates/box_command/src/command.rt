@@ -1,3 +1,5 @@
+//! The commands of a box: read the key, load the journal, and drive the whole input through the
+//! box.
 ghost use Rattle.std.specs.Prelude.{◌≡◌, List};
 ghost use Rattle.tick_drive.specs.Consumers.{is_write_fault};
 ghost use Rattle.tick_drive.specs.Drive.{answer_of};
@@ -31,7 +33,7 @@ fn is_write_stop(end: &End) -> bool
     }
 }
 
-// Replays the input through a box with this key, over the journal of this link that the disk holds.
+// Replays the input through a box with this key, over the journal of its link that the disk holds.
 fn replay_keyed<B: LineBox, K: Source, S: Source, O: Sink, L: Sink, D: SlotDisk>(
     key: &[u8],
     link: &LinkId,
@@ -41,6 +43,7 @@ fn replay_keyed<B: LineBox, K: Source, S: Source, O: Sink, L: Sink, D: SlotDisk>
 ) -> Status
     requires widths { B.widths_fit }
     requires link { IsLink link.now }
+    requires of_box { link.now ≡ B.link_in dir }
     ensures runs { RunsBox S.Source O.Sink L.Sink D.SlotDisk link.now
         (boxed_with (boxed_of B.walking B.line_of) key.now dir) rest (around_of (outside_before ends.entry))
         (around_of (outside_after ends.exit)) result }
@@ -89,8 +92,8 @@ fn replay_keyed<B: LineBox, K: Source, S: Source, O: Sink, L: Sink, D: SlotDisk>
 }
 
 /// Reads a key, loads the journal of this link that the disk holds, and replays the input through a
-/// box: its other line goes to `out`, and a line for each note to the log. Behind a whole input
-/// follow `rest` silent ticks.
+/// box of this link: its other line goes to `out`, and a line for each note to the log. Behind a
+/// whole input follow `rest` silent ticks.
 pub fn replay_box<B: LineBox, K: Source, S: Source, O: Sink, L: Sink, D: SlotDisk>(
     link: &LinkId,
     dir: Dir,
@@ -99,6 +102,7 @@ pub fn replay_box<B: LineBox, K: Source, S: Source, O: Sink, L: Sink, D: SlotDis
 ) -> Status
     requires widths { B.widths_fit }
     requires link { IsLink link.now }
+    requires of_box { link.now ≡ B.link_in dir }
     ensures replays { ReplaysBox K.Source S.Source O.Sink L.Sink D.SlotDisk
         (boxed_of B.walking B.line_of) link.now dir rest (outside_before ends.entry) (outside_after ends.exit) result }
     ensures any_moment { KeepsFloorThroughout D.SlotDisk link.now ends.entry.disk.now

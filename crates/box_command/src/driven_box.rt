@@ -1,3 +1,4 @@
+//! A box and its sinks as one consumer of a recorded input.
 ghost use Rattle.std.specs.Prelude.{◌≡◌};
 ghost use Rattle.box_command.specs.BoxLines.{state_of};
 

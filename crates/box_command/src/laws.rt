@@ -1,3 +1,4 @@
+//! The law that runs of a box's command over one disk are uptimes that share it.
 ghost use Rattle.std.specs.Prelude.{◌≡◌, ℕ, Some};
 ghost use Rattle.yasir_io.specs.Disks.{Slots, OneImage};
 ghost use Rattle.hmac_tag.specs.declared.dir.Dir.{Dir};

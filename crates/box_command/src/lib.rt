@@ -1,5 +1,12 @@
 //! The commands `seal` and `check`: a box between two lines over a recorded line. The other line
 //! goes out as text, and so does a line for each of its notes.
+//!
+//! The command `seal rtu ab`, with 24 silent ticks behind the input:
+//!
+//!     let link = LinkId { label: 1, dir: 0, profile: 18 };
+//!     let status = replay_box::<Sealer<Rtu, HmacSha1, 2>, _, _, _, _, _>(
+//!         &link, Dir::Ab, 24, ends,
+//!     );
 #![tactic(auto)]
 
 mod both_boxes;

@@ -1,3 +1,4 @@
+//! What a command asks of a box: a line of text for each note.
 ghost use Rattle.std.specs.Prelude.{◌≡◌, ℕ, List};
 ghost use Rattle.yasir_ticks.specs.declared.tick.Tick.{Tick};
 ghost use Rattle.burst_walk.specs.Causal.{IsCausal};

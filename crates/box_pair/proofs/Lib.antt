@@ -1,1 +1,2 @@
 mod OneDirection
+mod PassedRuns

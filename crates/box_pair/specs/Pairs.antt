@@ -1,5 +1,5 @@
 -- What a step of both directions does.
-use Rattle.std.specs.Prelude.{◌≡◌, ◌+◌, Option, Result, Ok, Err}
+use Rattle.std.specs.Prelude.{◌≡◌, ◌+◌, List, length, Option, Result, Ok, Err}
 use Rattle.hmac_tag.specs.declared.dir.Dir.{Dir}
 use Rattle.yasir_ticks.specs.declared.tick.Tick.{Tick}
 use Rattle.yasir_io.specs.declared.disk.SlotDisk.{Ghosts as SlotDisk}
@@ -8,6 +8,7 @@ use Rattle.sequence_journal.specs.declared.journal.JournalFault.{JournalFault}
 use Rattle.sequence_journal.specs.Journal.{journal_floor}
 use Rattle.burst_walk.specs.declared.box_step.BoxStep.{BoxStep}
 use Rattle.link_box.specs.declared.box_trait.LinkBox.{Ghosts as LinkBox}
+use Rattle.link_box.specs.Runs.{TakesRun}
 use Rattle.link_box.specs.Stepping.{Steps, FailsStep, KeepsJournal}
 use Rattle.box_pair.specs.declared.pair.BoxPair.{BoxPair}
 use Rattle.box_pair.specs.declared.pair.PairStep.{PairStep}
@@ -43,11 +44,19 @@ ways_of pair sent sent_disk got got_disk = record {
   incoming = record { line_box = incoming_box pair; journal = got; disk = got_disk };
 }
 
+-- In one direction the box has taken this run, as so many steps without a note take it, and these
+-- ticks are what it answered. No number is used, so its journal and disk have no part in it.
+pub record HasPassed {S A : Type 0} (boxed : LinkBox S A) (old new : S) (run answer : List Tick) :
+    Type 0 where
+  pub counted : boxed.taken new ≡ boxed.taken old + length run
+  pub takes : TakesRun boxed.walking boxed.stands old new run answer
+
 module _ {S A X : Type 0} (boxed : LinkBox S A) (d : SlotDisk X) where
   -- In one direction the box has taken this tick and answered so, and its journal and disk are as
   -- its step leaves them.
   pub record HasTaken (old new : OneWay S X) (t tick : Tick) (note : Option A) : Type 0 where
     pub counted : boxed.taken new.line_box ≡ boxed.taken old.line_box + 1
+    pub link : boxed.link_of new.line_box ≡ boxed.link_of old.line_box
     pub steps : Steps boxed.walking boxed.stands old.line_box (journal_floor old.journal)
         new.line_box (journal_floor new.journal) t tick note
     pub journal : KeepsJournal {A = BoxStep A} d old.journal new.journal old.disk new.disk

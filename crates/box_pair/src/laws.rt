@@ -1,29 +1,46 @@
-ghost use Rattle.std.specs.Prelude.{List, map};
+//! The law that the two directions of a pair don't touch each other.
+ghost use Rattle.std.specs.Prelude.{◌≡◌, List, ◌++◌, length, Option};
+ghost use Rattle.std.specs.List.{flat_map};
 ghost use Rattle.yasir_ticks.specs.declared.tick.Tick.{Tick};
 ghost use Rattle.link_format.specs.Setup.{Setup};
 ghost use Rattle.sequence_journal.specs.Journal.{journal_floor};
-ghost use Rattle.box_pair.specs.Pairs.{BothWays};
+ghost use Rattle.box_pair.specs.Pairs.{OneWay, BothWays};
 ghost use Rattle.box_pair.specs.Turns.{Turn, Turns, MakesLine};
+ghost use Rattle.box_pair.specs.Turns.{ticks_from_device, ticks_from_link, ticks_to_link};
+ghost use Rattle.box_pair.specs.Turns.{ticks_to_device, notes_sealed, notes_checked};
 
 use link_box::LinkBox;
 use yasir_io::SlotDisk;
 
-/// A law of the steps of a pair, whatever ticks come from the device and from the link: in each
-/// direction the steps have answered with the other line and with the notes that the definition of
-/// its box makes of the ticks of this direction alone.
+/// A law of the steps and runs of a pair, in any order, whatever ticks come from the device and from
+/// the link: in each direction they have answered with the other line and with the notes that the
+/// definition of its box makes of the ticks of this direction alone. A run has no notes.
 pub fn directions_are_apart<S: LinkBox, C: LinkBox, X: SlotDisk, Y: SlotDisk>()
     ensures outgoing { (old new : BothWays S C X Y) (turns : List (Turn S.Note C.Note))
         → Turns S.LinkBox C.LinkBox X.SlotDisk Y.SlotDisk old turns new
         → (setup : Setup) (line : List Tick)
         → S.stands old.outgoing.line_box (journal_floor old.outgoing.journal) setup line
         → MakesLine S.LinkBox X.SlotDisk old.outgoing new.outgoing setup line
-        (map (λ turn. turn.from_device) turns) (map (λ turn. turn.step.link) turns)
-        (map (λ turn. turn.step.sealed) turns) }
+        (flat_map ticks_from_device turns) (flat_map ticks_to_link turns)
+        (flat_map notes_sealed turns) }
     ensures incoming { (old new : BothWays S C X Y) (turns : List (Turn S.Note C.Note))
         → Turns S.LinkBox C.LinkBox X.SlotDisk Y.SlotDisk old turns new
         → (setup : Setup) (line : List Tick)
         → C.stands old.incoming.line_box (journal_floor old.incoming.journal) setup line
         → MakesLine C.LinkBox Y.SlotDisk old.incoming new.incoming setup line
-        (map (λ turn. turn.from_link) turns) (map (λ turn. turn.step.device) turns)
-        (map (λ turn. turn.step.checked) turns) }
+        (flat_map ticks_from_link turns) (flat_map ticks_to_device turns)
+        (flat_map notes_checked turns) }
+{}
+
+/// A law of one direction: ticks that follow others, with one note or none for each of those, make
+/// of the line what all of them make of it. So steps and runs may be put together as they come.
+pub fn lines_go_on<S: LinkBox, X: SlotDisk>()
+    ensures { (old mid new : OneWay S X) (setup : Setup) (line : List Tick)
+        (ticks answers more answers_to_more : List Tick) (notes notes_of_more : List (Option S.Note))
+        → length notes ≡ length ticks
+        → MakesLine S.LinkBox X.SlotDisk old mid setup line ticks answers notes
+        → MakesLine S.LinkBox X.SlotDisk mid new setup (line ++ ticks) more answers_to_more
+        notes_of_more
+        → MakesLine S.LinkBox X.SlotDisk old new setup line (ticks ++ more)
+        (answers ++ answers_to_more) (notes ++ notes_of_more) }
 {}

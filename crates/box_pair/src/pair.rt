@@ -1,3 +1,4 @@
+//! A pair of boxes, one for each direction, stepped together under one key.
 ghost use Rattle.std.specs.Prelude.{◌≡◌};
 ghost use Rattle.box_pair.specs.Directions.{opposite_of};
 
@@ -6,6 +7,8 @@ use link_box::LinkBox;
 use sequence_journal::{Journal, JournalFault};
 use yasir_io::SlotDisk;
 use yasir_ticks::Tick;
+
+mod runs;
 
 /// In which direction a number wasn't committed.
 #[derive(Clone, Copy, Debug, PartialEq, Eq)]
@@ -64,6 +67,9 @@ impl<S: LinkBox, C: LinkBox> BoxPair<S, C> {
         ensures direction { outgoing_direction result ≡ outgoing }
         ensures none_sent { S.taken (outgoing_box result) ≡ 0 }
         ensures none_got { C.taken (incoming_box result) ≡ 0 }
+        ensures outgoing_link { S.link_of (outgoing_box result) ≡ S.link_in outgoing }
+        ensures incoming_link { C.link_of (incoming_box result)
+            ≡ C.link_in (opposite_of outgoing) }
         ensures sends { (floor : ℕ) → S.stands (outgoing_box result) floor
             (setup_of key.now outgoing floor) [] }
         ensures gets { (floor : ℕ) → C.stands (incoming_box result) floor
@@ -76,11 +82,27 @@ impl<S: LinkBox, C: LinkBox> BoxPair<S, C> {
         }
     }
 
+    /// The box of the outgoing direction.
+    #[inline]
+    pub fn sender(&self) -> &S
+        ensures { result.now ≡ outgoing_box self.now }
+    {
+        &self.sender
+    }
+
+    /// The box of the incoming direction.
+    #[inline]
+    pub fn receiver(&self) -> &C
+        ensures { result.now ≡ incoming_box self.now }
+    {
+        &self.receiver
+    }
+
     /// Takes the next tick of the device and the next one of the link, the outgoing direction first,
     /// and answers what leaves in both directions with the notes that fall into this step. `sent`
     /// and `sent_disk` are the journal of the outgoing direction and its disk, `got` and `got_disk`
-    /// those of the incoming one, each as the steps before left it. Fewer than `MAX_TICKS` ticks
-    /// were taken before in each direction.
+    /// those of the incoming one, each as the steps before left it: each journal serves the link of
+    /// its box. Fewer than `MAX_TICKS` ticks were taken before in each direction.
     ///
     /// It fails where the number of a frame isn't committed. No step follows.
     #[inline(always)]
@@ -94,10 +116,10 @@ impl<S: LinkBox, C: LinkBox> BoxPair<S, C> {
         got_disk: &mut Y,
     ) -> Result<PairStep<S::Note, C::Note>, DuplexFault>
         requires journals { AreOfLine (outgoing_direction self.old) sent.old got.old }
-        requires outgoing { MayStep (S.taken (outgoing_box self.old)) sent.old
-            (X.told sent_disk.old) }
-        requires incoming { MayStep (C.taken (incoming_box self.old)) got.old
-            (Y.told got_disk.old) }
+        requires outgoing { MayStep (S.link_of (outgoing_box self.old))
+            (S.taken (outgoing_box self.old)) sent.old (X.told sent_disk.old) }
+        requires incoming { MayStep (C.link_of (incoming_box self.old))
+            (C.taken (incoming_box self.old)) got.old (Y.told got_disk.old) }
 
         ensures direction { outgoing_direction self.new ≡ outgoing_direction self.old }
         ensures steps { StepsBoth S.LinkBox C.LinkBox X.SlotDisk Y.SlotDisk from_device from_link

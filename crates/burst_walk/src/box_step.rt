@@ -1,8 +1,8 @@
+//! What a box returns for a tick, and for a run of ticks.
 use arrayvec::ArrayVec;
 use yasir_ticks::Tick;
 
-/// What a box between two lines answers to a tick of the one. A note is written where it is needed,
-/// since few steps have one.
+/// What a box between two lines returns for a tick of the one. Few steps have a note.
 #[derive(Clone, Copy, Debug, PartialEq, Eq)]
 pub struct BoxStep<N> {
     /// The tick of the other line, at the same place.

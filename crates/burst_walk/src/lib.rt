@@ -6,6 +6,14 @@
 //! over whole lists of ticks, and what it means that it needs no tick before its time; `proofs/`
 //! has the law that notes and line of a longer list of ticks begin with those of the list, and what
 //! one more tick adds.
+//!
+//! A box returns a step for each tick that it takes:
+//!
+//!     let step: BoxStep<SealNote> = sealer.step(tick, &mut journal, &mut disk)?;
+//!     send(step.tick);
+//!     if let Some(note) = step.note {
+//!         log(note);
+//!     }
 #![tactic(auto)]
 
 mod box_step;

@@ -1,5 +1,10 @@
 //! Readers that take a format byte by byte: what such a reader comes to over a whole list of bytes,
 //! and what it takes to show that it reads a format exactly.
+//!
+//! A function whose proof needs the law, for places, items and faults that are numbers, calls its
+//! function, which does nothing when it runs:
+//!
+//!     walks_in_pieces();
 #![tactic(auto)]
 
 ghost use Rattle.std.specs.Prelude.{◌≡◌, ℕ, ◌++◌, List, Option, Result, Ok};

@@ -1,4 +1,15 @@
 //! Captures of a serial line as pcap files of link type 250 (RTAC serial).
+//!
+//! The bytes and the events of a capture:
+//!
+//!     let mut reader = PcapReader::new();
+//!     for b in file {
+//!         match reader.feed(*b)? {
+//!             Some(Seen::Byte(byte)) => keep(byte),
+//!             _ => {}
+//!         }
+//!     }
+//!     reader.finish()?;
 #![tactic(auto)]
 
 mod body;

@@ -1,4 +1,14 @@
 //! Captures as text: lines of a time in seconds and the bytes of a record in hex digits.
+//!
+//! The bytes of a capture, each with the time of its record:
+//!
+//!     let mut reader = TextReader::new();
+//!     for b in text {
+//!         if let Some(byte) = reader.feed(*b)? {
+//!             keep(byte);
+//!         }
+//!     }
+//!     reader.finish()?;
 #![tactic(auto)]
 
 mod digits;

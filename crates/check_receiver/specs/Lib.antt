@@ -5,3 +5,4 @@ pub mod Turning
 pub mod Between
 pub mod Runs
 pub mod Boxed
+pub mod Resting

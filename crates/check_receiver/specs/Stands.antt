@@ -85,3 +85,7 @@ module _ {R M : Type 0} (proto : LineRules R) (code : Mac M) where
 -- how many ticks it has taken
 abbrev pub ticks_taken : {R M : Type 0} {B D : ℕ} → Checker R M B D → ℕ
 ticks_taken value = ticks_cut value.cut
+
+-- the number of its direction
+abbrev pub direction_of : {R M : Type 0} {B D : ℕ} → Checker R M B D → ℕ
+direction_of value = direction_number value.direction

@@ -1,3 +1,4 @@
+//! The trailer that a receiver collects from the link, and the comparison of its tag.
 ghost use Rattle.std.specs.Prelude.{◌≡◌, bytes_eq};
 ghost use Rattle.link_format.specs.Profile.{IsWordLen};
 

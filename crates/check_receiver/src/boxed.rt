@@ -2,14 +2,16 @@
 ghost use Rattle.std.specs.Prelude.{◌≡◌, ◌+◌, ◌≤◌};
 ghost use Rattle.link_format.specs.Profile.{IsWordLen};
 ghost use Rattle.check_receiver.specs.Boxed.{check_walking};
-ghost use Rattle.check_receiver.specs.Stands.{StandsAt, ticks_taken};
+ghost use Rattle.check_receiver.specs.Stands.{StandsAt, direction_of, ticks_taken};
+ghost use Rattle.hmac_tag.specs.Tag.{direction_number};
+ghost use Rattle.link_box.specs.Links.{link_by};
 
 use crate::{CheckNote, Checker};
 use burst_walk::{BoxStep, RunBytes};
 use hmac_tag::{Dir, Mac};
 use line_rules::LineRules;
 use link_box::LinkBox;
-use sequence_journal::{Journal, JournalFault};
+use sequence_journal::{Journal, JournalFault, LinkId};
 use yasir_io::SlotDisk;
 use yasir_ticks::{Tick, TickRun};
 
@@ -23,6 +25,18 @@ impl<R: LineRules, M: Mac, const B: usize, const D: usize> LinkBox for Checker<R
     ghost walking = { check_walking R.LineRules M.Mac B };
 
     ghost widths_fit = { IsWordLen B × (2 ≤ B) × (D ≡ 4 + B + M.TAG) };
+
+    ghost link_of = { λ value. link_by R.LineRules M.Mac B (direction_of value) };
+
+    ghost link_in = { λ dir. link_by R.LineRules M.Mac B (direction_number dir) };
+
+    fn link(dir: Dir) -> LinkId {
+        LinkId {
+            label: R::LABEL,
+            dir: dir.number(),
+            profile: (4 + B + M::TAG) as u8,
+        }
+    }
 
     fn new(key: &[u8], dir: Dir) -> Self {
         Checker::new(key, dir)

@@ -11,6 +11,7 @@ use spoiler::Outlet;
 use yasir_io::SlotDisk;
 use yasir_ticks::{MAX_TICKS, Tick};
 
+mod resting;
 mod run_steps;
 mod single_steps;
 mod verdict;
@@ -57,7 +58,9 @@ impl<R: LineRules, M: Mac, const B: usize, const D: usize> Checker<R, M, B, D> {
     ghost use Rattle.link_format.specs.Setup.{Setup, setup_of};
     ghost use Rattle.sequence_journal.specs.declared.numbers.TheConstants.{LIMIT};
     ghost use Rattle.sequence_journal.specs.Commits.{HasFailed};
-    ghost use Rattle.sequence_journal.specs.Journal.{journal_floor, Fits};
+    ghost use Rattle.sequence_journal.specs.Journal.{journal_link, journal_floor, Fits};
+    ghost use Rattle.hmac_tag.specs.Tag.{direction_number};
+    ghost use Rattle.link_box.specs.Links.{link_by};
     ghost use Rattle.check_receiver.specs.Checkings.{PassesWith, KeepsJournal};
     ghost use Rattle.check_receiver.specs.Stands.{StandsFor, HasTaken, ticks_taken};
     ghost use Rattle.line_rules.specs.Rules.{head_of};
@@ -68,7 +71,7 @@ impl<R: LineRules, M: Mac, const B: usize, const D: usize> Checker<R, M, B, D> {
     ghost use Rattle.yasir_ticks.specs.Ticks.{silent};
     ghost use Rattle.line_rules.specs.declared.head.Head.TheVariants.{Good};
     ghost use Rattle.burst_walk.specs.Answered.{answered};
-    ghost use Rattle.check_receiver.specs.Stands.{StandsAt};
+    ghost use Rattle.check_receiver.specs.Stands.{StandsAt, direction_of};
     ghost use Rattle.check_receiver.specs.Runs.{HasTakenRun};
 
     /// A receiver that has taken no tick, for a key of any length and a direction. A word has two
@@ -78,6 +81,7 @@ impl<R: LineRules, M: Mac, const B: usize, const D: usize> Checker<R, M, B, D> {
         requires wide { 2 ≤ B }
         requires delay { D ≡ 4 + B + M.TAG }
         ensures taken { ticks_taken result ≡ 0 }
+        ensures direction { direction_of result ≡ direction_number dir }
         ensures stands { (floor : ℕ) → StandsAt R.LineRules M.Mac result floor
             (setup_of key.now dir floor) [] }
     {
@@ -96,8 +100,9 @@ impl<R: LineRules, M: Mac, const B: usize, const D: usize> Checker<R, M, B, D> {
     }
 
     /// Takes the next tick of the link, and answers the tick that the device is sent at the same
-    /// place, with the note that falls into this step. The journal is that of the steps before, and
-    /// the disk is the journal's. Fewer than `MAX_TICKS` ticks were taken before.
+    /// place, with the note that falls into this step. The journal is that of the steps before and
+    /// serves the receiver's own link, and the disk is the journal's. Fewer than `MAX_TICKS` ticks
+    /// were taken before.
     ///
     /// It fails where the number of a frame that passes isn't committed. No step follows.
     #[inline(always)]
@@ -108,6 +113,8 @@ impl<R: LineRules, M: Mac, const B: usize, const D: usize> Checker<R, M, B, D> {
         disk: &mut S,
     ) -> Result<BoxStep<CheckNote>, JournalFault>
         requires room { ticks_taken self.old < MAX_TICKS }
+        requires of_link { journal_link journal.old
+            ≡ link_by R.LineRules M.Mac B (direction_of self.old) }
         requires fits { Fits journal.old (S.told disk.old) }
 
         ensures taken { OnOk result (ticks_taken self.new ≡ ticks_taken self.old + 1) }
@@ -123,6 +130,7 @@ impl<R: LineRules, M: Mac, const B: usize, const D: usize> Checker<R, M, B, D> {
             → PassesWith (profile_of R.LineRules M.Mac B LIMIT setup) R.rules setup.floor line t
             number)) }
         ensures journal { KeepsJournal S.SlotDisk journal.old journal.new disk.old disk.new result }
+        ensures direction { direction_of self.new ≡ direction_of self.old }
     {
         let cut = self.cut.step(t);
         self.until = self.until.saturating_sub(1);
@@ -146,6 +154,7 @@ impl<R: LineRules, M: Mac, const B: usize, const D: usize> Checker<R, M, B, D> {
             → StandsAt R.LineRules M.Mac self.old last setup line
             → HasTakenRun R.LineRules M.Mac self.new last setup line
             (map Byte (take result bytes.now)) (answered result left.new.items) }
+        ensures direction { direction_of self.new ≡ direction_of self.old }
     {
         left.clear();
         if self.waits {
@@ -173,6 +182,7 @@ impl<R: LineRules, M: Mac, const B: usize, const D: usize> Checker<R, M, B, D> {
             → StandsAt R.LineRules M.Mac self.old last setup line
             → HasTakenRun R.LineRules M.Mac self.new last setup line
             (silent result) (answered result left.new.items) }
+        ensures direction { direction_of self.new ≡ direction_of self.old }
     {
         left.clear();
         if self.waits {

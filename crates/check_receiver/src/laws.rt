@@ -1,3 +1,4 @@
+//! The law that the receiver's steps are steps of an uptime: no number passes twice.
 ghost use Rattle.std.specs.Prelude.{◌≡◌, Result};
 ghost use Rattle.sequence_journal.specs.declared.journal.Journal.{Journal};
 ghost use Rattle.sequence_journal.specs.declared.journal.JournalFault.{JournalFault};

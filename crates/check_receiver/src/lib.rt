@@ -1,5 +1,12 @@
 //! The receiver: it hands each byte of a link on a fixed number of ticks later, before it knows the
 //! verdict on its burst, and spoils the ending of what it refuses.
+//!
+//! Modbus RTU with the profile y18, whose delay is 18 ticks:
+//!
+//!     let mut checker: Checker<Rtu, HmacSha1, 2, 18> = Checker::new(&key, Dir::Ab);
+//!     let mut journal = Journal::load(&mut disk, &link)?;
+//!     let step = checker.step(tick, &mut journal, &mut disk)?;
+//!     send_to_device(step.tick);
 #![tactic(auto)]
 
 mod arriving;

@@ -1,3 +1,4 @@
+//! The ring that holds the last ticks of a line until they leave.
 ghost use Rattle.std.specs.Prelude.{◌≡◌, ◌+◌, ◌<◌, ◌≤◌, ◌++◌, length, take, drop};
 
 use crate::lanes::{LANES, bytes_from, silence_from};
@@ -96,7 +97,7 @@ impl<const D: usize> DelayRing<D> {
         self.oldest = 0;
     }
 
-    /// Takes the next tick, and answers the one that came `D` turns before.
+    /// Takes the next tick, and returns the one that came `D` turns before.
     #[inline]
     pub fn turn(&mut self, t: Tick) -> Tick
         ensures answer { result ≡ slice_index_or (ring_ticks self.old) 0 Silent }

@@ -1,3 +1,4 @@
+//! Tests of the delay ring: ticks leave late by its length, and runs give what single ticks give.
 use super::mark_runs::silence_in_front;
 use super::*;
 use yasir_ticks::Tick;

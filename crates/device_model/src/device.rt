@@ -1,3 +1,4 @@
+//! What a device is: it hears ticks, and reads frames of them.
 use arrayvec::ArrayVec;
 use yasir_ticks::Tick;
 

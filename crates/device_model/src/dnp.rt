@@ -1,3 +1,4 @@
+//! The DNP3 device and its family, as devices that hunt for frames.
 use crate::hunted::Hunted;
 use crate::hunting::HuntingDevice;
 use crate::hunting_family::HuntingFamily;

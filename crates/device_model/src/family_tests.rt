@@ -1,3 +1,4 @@
+//! Tests of the families of devices: which frames each member reads of a line.
 ghost use Rattle.std.specs.Prelude.{◌≡◌, ◌<◌, length, IfOk};
 ghost use Rattle.device_model.specs.RtuFamily.{ticks_heard};
 ghost use Rattle.device_model.specs.HuntFamily.{family_ticks};

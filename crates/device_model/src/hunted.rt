@@ -1,3 +1,4 @@
+//! The rules of a protocol whose devices hunt for frames.
 use line_rules::LineRules;
 
 /// The rules of a protocol whose devices hunt for frames: two bytes mark that a header begins.

@@ -1,3 +1,4 @@
+//! A device that hunts for frames among all bytes, and ignores silence.
 ghost use Rattle.std.specs.Prelude.{◌≡◌, ℕ, ◌<◌, ◌≤◌, length, slice_index};
 
 use crate::device::{Device, FrameAt, Heard};

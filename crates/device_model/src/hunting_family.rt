@@ -1,3 +1,4 @@
+//! A device that hunts for frames, and starts anew after a stated number of silent ticks.
 use crate::device::{Device, FrameAt};
 use crate::hunted::Hunted;
 use crate::hunting::HuntingDevice;
@@ -107,7 +108,7 @@ impl<R: Hunted> HuntingFamily<R> {
         }
     }
 
-    /// The same with the frame in a value of its own.
+    /// Takes the next tick, and returns a copy of the frame that is read in this step, if one is.
     #[inline]
     pub fn step(&mut self, t: Tick) -> Option<FrameAt>
         requires { family_ticks self.old < MAX_TICKS }

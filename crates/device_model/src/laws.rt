@@ -1,3 +1,4 @@
+//! Laws of the devices' definitions: what a transmitter takes for a frame is what a device reads.
 ghost use Rattle.std.specs.Prelude.{◌≡◌, true, List};
 ghost use Rattle.std.specs.List.{Contains};
 ghost use Rattle.yasir_ticks.specs.Ticks.{bytes_in};

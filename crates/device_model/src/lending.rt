@@ -1,3 +1,4 @@
+//! A device that lends the bytes of a frame, so that a long frame isn't copied.
 ghost use Rattle.std.specs.Prelude.{◌≡◌, ◌≤◌, length};
 ghost use Rattle.device_model.specs.Frames.{frames_of, frames_lent};
 

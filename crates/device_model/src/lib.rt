@@ -1,4 +1,13 @@
 //! The devices that stand at the end of a serial line.
+//!
+//! A device takes a line tick by tick, and returns a frame in the step in which it reads it:
+//!
+//!     let mut device = RtuDevice::fresh();
+//!     for tick in &line {
+//!         if let Some(frame) = device.step(*tick) {
+//!             print(frame.start, &frame.bytes);
+//!         }
+//!     }
 #![tactic(auto)]
 
 mod device;

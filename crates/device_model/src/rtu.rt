@@ -1,3 +1,4 @@
+//! The Modbus RTU device of the standard.
 use crate::device::{Device, FrameAt, Heard};
 use crate::lending::{LendingDevice, Met, heard_copied};
 use crate::rtu_family::RtuFamily;

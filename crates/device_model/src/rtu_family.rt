@@ -1,3 +1,4 @@
+//! Modbus RTU devices with other silences than the standard's.
 use crate::device::FrameAt;
 use crate::lending::{Met, frame_copied};
 use crate::silence::Silence;
@@ -356,7 +357,7 @@ impl RtuFamily {
         }
     }
 
-    /// The same with the frame in a value of its own.
+    /// Takes the next tick, and returns a copy of the frame that is read in this step, if one is.
     #[inline]
     pub fn step(&mut self, t: Tick) -> Option<FrameAt>
         requires { ticks_heard self.old < MAX_TICKS }

@@ -1,3 +1,4 @@
+//! A device over a run of ticks, up to the first frame that it reads.
 ghost use Rattle.std.specs.Prelude.{◌≡◌, ℕ, ◌+◌, ◌<◌, ◌≤◌, List, ◌++◌, length, take, None};
 ghost use Rattle.yasir_ticks.specs.TickRun.{run_ticks};
 ghost use Rattle.yasir_ticks.specs.declared.tick.Tick.{Tick};
@@ -30,7 +31,8 @@ pub fn hear_run<V: Device>(device: &mut V, run: TickRun<'_>) -> Heard
     }
 }
 
-/// The same with a device that lends the frame.
+/// A device that lends its frames takes the next ticks, which are those of this run, up to the first
+/// one in which a frame is read.
 #[inline(always)]
 pub fn hear_run_on<V: LendingDevice>(device: &mut V, run: TickRun<'_>) -> Met
     requires { V.taken device.old + length (run_ticks run) ≤ MAX_TICKS }

@@ -42,7 +42,7 @@ fn by_ticks<D: Device + Drop>(first: &[u8], pause: usize, second: &[u8], rest: u
     Heard { taken, frame: None }
 }
 
-// The same by runs.
+// What a device hears of two pieces of bytes and the silence behind each, by runs.
 fn by_runs<D: Device + Drop>(first: &[u8], pause: usize, second: &[u8], rest: usize) -> Heard
     requires { length first.now + pause + length second.now + rest < 1000 }
 {

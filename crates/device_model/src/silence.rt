@@ -1,3 +1,5 @@
+//! How long a line has been silent, as a device counts it.
+
 /// How long a line has been silent, as a device counts it: up to the silence that parts the line.
 #[derive(Clone, Copy)]
 pub(crate) struct Silence {

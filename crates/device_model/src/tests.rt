@@ -1,3 +1,4 @@
+//! Tests of the stated devices: which frames each of them reads of a line, and when.
 ghost use Rattle.std.specs.Prelude.{◌<◌, length};
 
 use super::*;

@@ -1,3 +1,4 @@
+//! The consumer that drives a device and writes the lines of its frames.
 ghost use Rattle.std.specs.Prelude.{◌≡◌, ℕ, ◌<◌, ◌≤◌, List, length, ◌++◌, Option, OnOk, OnErr};
 ghost use Rattle.yasir_io.specs.Causes.{HasCause};
 ghost use Rattle.yasir_io.specs.Output.{Buffered, GotPrefix};
@@ -81,7 +82,7 @@ impl<'a, V: LendingDevice, O: Sink> FrameLines<'a, V, O> {
         }
     }
 
-    // The same with bytes.
+    // Takes the first of these bytes, and prints the line of the frame that they end, if one does.
     #[inline]
     fn hear_part(&mut self, bytes: &[u8]) -> Result<usize, Stop>
         requires some { 0 < length (run_ticks (Bytes bytes)) }
@@ -92,7 +93,8 @@ impl<'a, V: LendingDevice, O: Sink> FrameLines<'a, V, O> {
         self.print_some(TickRun::Bytes(bytes))
     }
 
-    // The same with silent ticks.
+    // Takes the first of these silent ticks, and prints the line of the frame that they end, if one
+    // does.
     #[inline]
     fn wait_part(&mut self, ticks: u32) -> Result<usize, Stop>
         requires some { 0 < length (run_ticks (Silence ticks)) }

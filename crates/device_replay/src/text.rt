@@ -1,3 +1,4 @@
+//! The text of the line that is printed for a frame.
 ghost use Rattle.std.specs.Prelude.{◌≡◌, ◌≤◌, [], length};
 ghost use Rattle.device_replay.specs.Lines.{frame_line, frame_line_of};
 

@@ -1,3 +1,4 @@
+//! How a DNP3 frame is built from its header and its user data.
 ghost use Rattle.std.specs.Prelude.{◌≡◌, ◌+◌, ◌<◌, ◌≤◌, ◌++◌, ◌↔◌, length, IsErr, IfOk, IfErr};
 ghost use Rattle.arrayvec.specs.ArrayVec.{array_vec_len};
 ghost use Rattle.dnp_link_frame.specs.Frame.{with_crc, header_fields, frame_of};

@@ -1,3 +1,4 @@
+//! The CRC of DNP3, by tables.
 ghost use Rattle.std.specs.Prelude.{◌≡◌};
 ghost use Rattle.dnp_link_frame.specs.Crc.{crc_dnp};
 

@@ -1,3 +1,4 @@
+//! The rules of the DNP3 link layer, over the bytes of a burst so far.
 use crate::crc::FIRST_REGISTER;
 use crate::size::{HEADER_LEN, LONGEST, room_by, size_by};
 use crate::steps::{

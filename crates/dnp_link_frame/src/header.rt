@@ -1,3 +1,5 @@
+//! The fields of a DNP3 header.
+
 /// What the header of a frame says besides the length.
 #[derive(Clone, Copy, Debug, PartialEq, Eq)]
 pub struct Header {

@@ -19,8 +19,8 @@ pub fn frames_of_the_standard()
 {}
 
 /// A frame has one header and one user data, so that `build` and `user_data` undo each other: what
-/// `user_data` answers for what `build` answered is what that was built of, and what `build`
-/// answers for what `user_data` answered is the frame.
+/// `user_data` returns for what `build` returned is what that was built of, and what `build`
+/// returns for what `user_data` returned is the frame.
 pub fn one_header_and_user_data()
     ensures header { (header other : Header) (user more frame : List ℕ)
         → IsFrameOf header user frame → IsFrameOf other more frame → header ≡ other }

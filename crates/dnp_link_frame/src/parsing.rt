@@ -1,3 +1,4 @@
+//! The user data of a DNP3 frame, or where the bytes stop being a frame.
 ghost use Rattle.std.specs.Prelude.{◌≡◌, ◌+◌, ◌*◌, ◌≤◌, ◌↔◌, length, IsOk, IfOk, IfErr};
 ghost use Rattle.std.specs.Prelude.{slice_index, ◌++◌, ◌==◌, ◌&&◌};
 ghost use Rattle.arrayvec.specs.ArrayVec.{array_vec_len};

@@ -1,3 +1,4 @@
+//! The size of a DNP3 frame by its LEN.
 ghost use Rattle.std.specs.Prelude.{◌≡◌, if◌then◌else◌, nat_lt};
 ghost use Rattle.dnp_link_frame.specs.Blocks.{size_by, room_by};
 

@@ -1,3 +1,4 @@
+//! Tests of DNP3 frames: CRCs, sizes, wrong endings, building and parsing.
 ghost use Rattle.std.specs.Prelude.{◌≤◌, length};
 
 use crate::{Dnp, Header, NotAFrame, TooMuchData, UserBytes, build, dnp_crc, size_of, user_data};

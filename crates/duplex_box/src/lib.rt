@@ -1,5 +1,14 @@
 //! Both directions of a line in one box: the transmitter of the outgoing one and the receiver of
 //! the incoming one, under one key.
+//!
+//! The box of the end that sends in direction `ab`, for Modbus RTU with the profile y18:
+//!
+//!     let mut duplex: Duplex<Rtu, HmacSha1, 2, 18> = Duplex::new(&key, Dir::Ab);
+//!     let step = duplex.step(
+//!         from_device, from_link, &mut sent, &mut sent_disk, &mut got, &mut got_disk,
+//!     )?;
+//!     send_to_link(step.link);
+//!     send_to_device(step.device);
 #![tactic(auto)]
 
 pub use box_pair::DuplexFault;

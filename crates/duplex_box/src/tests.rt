@@ -1,3 +1,4 @@
+//! Tests of the duplex box: both directions, the reflected link, and a journal that fails.
 use super::*;
 use hmac_tag::HmacSha1;
 use rtu_frame::Rtu;

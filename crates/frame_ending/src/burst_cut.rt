@@ -1,3 +1,4 @@
+//! The machine that cuts a line into bursts, and tells which bytes of a burst are live.
 use crate::Cut;
 use line_rules::LineRules;
 use yasir_ticks::{MAX_TICKS, T1_5_TICKS, T3_5_TICKS, Tick};

@@ -1,3 +1,5 @@
+//! What a tick of a line is to the machine that cuts it into bursts.
+
 /// What a tick of a line is.
 #[derive(Clone, Copy, Debug, PartialEq, Eq)]
 pub enum Cut {

@@ -1,3 +1,4 @@
+//! Tests of the cut of a line into bursts, tick by tick and in runs.
 ghost use Rattle.std.specs.Prelude.{◌≡◌, ◌+◌, ◌<◌, ◌≤◌, length};
 ghost use Rattle.frame_ending.specs.Stands.{ticks_taken};
 

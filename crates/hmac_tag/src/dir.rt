@@ -1,3 +1,4 @@
+//! The direction of a line, and its number in the text of a tag.
 ghost use Rattle.std.specs.Prelude.{◌≡◌};
 ghost use Rattle.hmac_tag.specs.Tag.{direction_number};
 

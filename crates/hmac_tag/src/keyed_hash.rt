@@ -1,3 +1,4 @@
+//! HMAC over a hash function, as a stream.
 ghost use Rattle.std.specs.Prelude.{◌≡◌, ℕ, List, [], ◌∷◌, ◌++◌, ◌≤◌, ◌<◌, length, take};
 ghost use Rattle.arrayvec.specs.ArrayVec.{array_vec_len};
 ghost use Rattle.hmac_tag.specs.Digests.{length-hmac_cut, All-hmac_cut};

@@ -1,3 +1,4 @@
+//! What a box asks of a keyed code, and the bytes of its tag.
 ghost use Rattle.std.specs.Prelude.{◌≡◌, ℕ, ◌<◌, List, [], ◌++◌, length, All};
 ghost use Rattle.arrayvec.specs.ArrayVec.{array_vec_len};
 ghost use Rattle.hmac_tag.specs.Tag.{IsTagSize};

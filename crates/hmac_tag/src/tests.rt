@@ -1,3 +1,4 @@
+//! Tests of HMAC against known answers, over texts that come in pieces.
 use crate::{Digest, Dir, HmacSha1, HmacSha256, Mac, Sha1Hasher, TagBytes};
 use sha1::Sha1;
 

@@ -1,3 +1,4 @@
+//! The reader of a key's text: 32 to 128 hex digits, and at most one line ending.
 ghost use Rattle.std.specs.Prelude.{◌≡◌, ◌⊎◌, ℕ, ◌%◌, ◌≤◌, List, length, take, slice_index, true};
 ghost use Rattle.std.specs.Prelude.{false, Ok, OnErr, IfOk, IfErr};
 ghost use Rattle.std.specs.List.{AllPass};

@@ -1,3 +1,4 @@
+//! A CRC of 16 bits, bit by bit: the definition that the tables are proved against.
 ghost use Rattle.std.specs.Prelude.{◌≡◌};
 ghost use Rattle.line_rules.specs.Crc.{bit_step, bit_steps, crc};
 

@@ -1,3 +1,4 @@
+//! A table for a CRC of 16 bits, which takes a byte at a time.
 ghost use Rattle.std.specs.Prelude.{◌≡◌, ℕ, ◌*◌, ◌<◌, ◌≤◌, [], ◌∷◌, slice_index};
 ghost use Rattle.line_rules.specs.Crc.{bit_steps, crc};
 ghost use Rattle.line_rules.specs.CrcTables.{AreCrcTables};

@@ -1,3 +1,4 @@
+//! Eight tables for a CRC of 16 bits, which take eight bytes at a time.
 ghost use Rattle.std.specs.Prelude.{◌≡◌, suc, ◌*◌, ◌<◌, [], ◌∷◌};
 ghost use Rattle.line_rules.specs.Crc.{bit_steps, crc};
 ghost use Rattle.line_rules.specs.CrcTables.{AreCrcTables};

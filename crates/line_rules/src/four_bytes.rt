@@ -1,3 +1,4 @@
+//! An example of a protocol's rules, for the tests of generic code.
 use crate::{Head, LineRules};
 
 const FRAME_LEN: u16 = 4;

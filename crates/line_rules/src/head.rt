@@ -1,3 +1,5 @@
+//! What the first bytes of a burst say of a frame's header.
+
 /// What the first bytes of a list say, where a frame of the protocol begins with a header.
 #[derive(Clone, Copy, Debug, PartialEq, Eq)]
 pub enum Head {

@@ -1,5 +1,14 @@
 //! The rules of a protocol's frames on a serial line, as what transmitter and receiver ask of a
 //! protocol.
+//!
+//! The rules see a burst byte by byte, and say whether it is a frame so far. `FourBytes` is the
+//! smallest example:
+//!
+//!     let mut burst = FourBytes::fresh();
+//!     for byte in [1, 2, 3, 0] {
+//!         burst.take(byte);
+//!     }
+//!     assert!(rt; burst.good());
 #![tactic(auto)]
 
 mod crc_bits;

@@ -1,3 +1,4 @@
+//! What the boxes ask of a protocol: its rules, over the bytes of a burst so far.
 ghost use Rattle.std.specs.Prelude.{◌≡◌, ℕ, ◌<◌, ◌≤◌, Bool, true, false, List, [], ◌∷◌, ◌++◌};
 ghost use Rattle.std.specs.Prelude.{length, take};
 ghost use Rattle.line_rules.specs.Bytes.{AreBytes};

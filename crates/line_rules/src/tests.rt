@@ -1,3 +1,4 @@
+//! Tests of the CRCs against known registers.
 use super::{CrcTable, crc_by_bits};
 
 #[test]

@@ -1,3 +1,4 @@
+//! The spacer: its queue of frames, and its answer to a tick and to a run of ticks.
 use arrayvec::ArrayVec;
 use burst_walk::RunBytes;
 use circular_buffer::HeapCircularBuffer;
@@ -6,7 +7,7 @@ use std::alloc::Global;
 use yasir_io::NoMemory;
 use yasir_ticks::{MAX_TICKS, Tick, TickRun};
 
-/// What a spacer answers to a tick.
+/// What a spacer returns for a tick.
 #[derive(Clone, Copy)]
 pub struct SpaceStep {
     /// The tick of the other line.
@@ -19,7 +20,7 @@ pub struct SpaceStep {
 /// How many bytes leave in a run at most.
 const MAX_RUN: usize = 64;
 
-/// What a spacer answers to some ticks.
+/// What a spacer returns for some ticks.
 #[derive(Clone, Copy)]
 pub struct SpaceRun {
     /// How many of the ticks it has taken.
@@ -165,7 +166,7 @@ impl<V: LendingDevice, const GAP: usize> Spacer<V, GAP> {
         self.keep_frame(start)
     }
 
-    /// Takes the next tick of the line, and answers the tick of the other line at the same place,
+    /// Takes the next tick of the line, and returns the tick of the other line at the same place,
     /// and the frame that is lost in this step. Fewer than `MAX_TICKS` ticks were taken before.
     #[inline(always)]
     pub fn step(&mut self, t: Tick) -> SpaceStep

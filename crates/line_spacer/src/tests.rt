@@ -1,3 +1,4 @@
+//! Tests of the spacer: gaps, frames that wait or are lost, and how few calls a run takes.
 ghost use Rattle.std.specs.Prelude.{◌≡◌, ◌<◌, ◌≤◌, ◌+◌, ℕ, [], length, OnOk};
 ghost use Rattle.yasir_ticks.specs.TickRun.{run_ticks};
 ghost use Rattle.yasir_ticks.specs.declared.TheConstants.{MAX_TICKS};
@@ -320,7 +321,7 @@ fn add_run(line: &mut Vec<Tick>, run: &SpaceRun, left: &RunBytes) -> Result<(), 
     Ok(())
 }
 
-// Adds the other line by runs, and answers how many runs it took.
+// Adds the other line by runs, and returns how many runs it took.
 fn take_all<B: Spaces>(
     spacer: &mut B,
     run: TickRun<'_>,
@@ -362,7 +363,7 @@ fn take_resets<B: Spaces>(rt: &impl Abort, alloc: Global, spacer: &mut B) -> Res
     Ok(())
 }
 
-// The same where the device goes through a run tick by tick.
+// Runs cost few calls of the spacer, also where the device goes through them tick by tick.
 #[test]
 fn runs_are_taken_at_once(rt: HostRuntime) -> Result<(), Fail> {
     let alloc = rt.alloc();

@@ -2,6 +2,13 @@
 //!
 //! Times are exact: a nanosecond has as many parts as the rate has baud, so that a character of
 //! 11 bits has 11,000,000,000 parts at each rate.
+//!
+//! The silence before a byte of a capture, in ticks:
+//!
+//!     if let Some(rate) = Rate::read("9600x11") {
+//!         let mut placer = Placer::new(Timing { rate, spacing: Spacing::ByTime, origin: 0 });
+//!         let silent_ticks = placer.place(byte)?;
+//!     }
 #![tactic(auto)]
 
 mod capture;

@@ -1,6 +1,14 @@
 //! The texts that are made of a line, on their way to two sinks: another line as canonical tick text,
 //! and a line of text for each note. No byte of the ticks goes out before the notes that fall into
 //! them.
+//!
+//! A run of bytes and one of silence, as tick text:
+//!
+//!     let mut texts = Texts::new();
+//!     push_run(&mut texts, &mut out, &mut log, TickRun::Bytes(&[0, 171]))?;
+//!     push_run(&mut texts, &mut out, &mut log, TickRun::Silence(90))?;
+//!     texts.finish(&mut out, &mut log)?;
+//!     assert_eq!(rt; out.held(), b"+00ab\n-90\n");
 #![tactic(auto)]
 
 mod line_room;

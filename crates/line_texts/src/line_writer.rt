@@ -39,7 +39,7 @@ impl LineWriter {
         }
     }
 
-    // Takes bytes, one a tick, if they complete no line, and answers whether they do not.
+    // Takes bytes, one a tick, if they complete no line, and returns whether they do not.
     #[inline(always)]
     fn join_bytes(&mut self, bytes: &[u8]) -> bool
         ensures joined { result ≡ true → Takes self.old self.new (map Byte bytes.now) [] }
@@ -63,7 +63,7 @@ impl LineWriter {
         true
     }
 
-    // Takes silent ticks if they complete no line, and answers whether they do not.
+    // Takes silent ticks if they complete no line, and returns whether they do not.
     #[inline(always)]
     fn join_silence(&mut self, ticks: u32) -> bool
         ensures joined { result ≡ true → Takes self.old self.new (silent ticks) [] }
@@ -141,7 +141,7 @@ impl LineWriter {
         taken
     }
 
-    // Writes the first line that these bytes complete, and answers how many of them it took.
+    // Writes the first line that these bytes complete, and returns how many of them it took.
     #[inline(always)]
     fn complete_by_bytes(&mut self, room: &mut LineRoom, bytes: &[u8]) -> usize
         requires some { 0 < length bytes.now }
@@ -179,7 +179,7 @@ impl LineWriter {
         taken
     }
 
-    // Writes the first line that these silent ticks complete, and answers how many it took.
+    // Writes the first line that these silent ticks complete, and returns how many it took.
     #[inline(always)]
     fn complete_by_silence(&mut self, room: &mut LineRoom, ticks: u32) -> u32
         requires some { 0 < ticks }
@@ -199,7 +199,7 @@ impl LineWriter {
         taken
     }
 
-    /// Takes the ticks of a run if they complete no line, and answers whether they do not.
+    /// Takes the ticks of a run if they complete no line, and returns whether they do not.
     #[inline(always)]
     pub(crate) fn join(&mut self, run: TickRun<'_>) -> bool
         ensures joined { result ≡ true → Takes self.old self.new (run_ticks run.entry) [] }
@@ -212,7 +212,7 @@ impl LineWriter {
         }
     }
 
-    /// Writes the first line that the ticks of a run complete, and answers how many of them it took.
+    /// Writes the first line that the ticks of a run complete, and returns how many it took.
     #[inline(always)]
     pub(crate) fn complete(&mut self, room: &mut LineRoom, run: TickRun<'_>) -> usize
         requires completes { Completes self.old run }

@@ -48,7 +48,7 @@ fn push_line<O: Sink, L: Sink>(
     }
 }
 
-// Adds the first of these ticks, those of one line at most, and answers how many.
+// Adds the first of these ticks, those of one line at most, and returns how many.
 #[inline(always)]
 fn push_some<O: Sink, L: Sink>(
     texts: &mut Texts,
@@ -109,9 +109,9 @@ fn push_several<O: Sink, L: Sink>(
     push_long_run(texts, out, log, left)
 }
 
-// The same for either kind of run in its own arm, so that each is compiled for its kind. It stands
-// apart, so that a run that completes none costs little. A loop would cost more: the compiler makes
-// ready before it what few lines need.
+// Adds a run that completes a line, of either kind in an arm of its own, so that each is compiled
+// for its kind. It is a function of its own, so that a run that completes no line costs little. A
+// loop would cost more: the compiler makes ready before it what few lines need.
 #[inline(never)]
 fn push_completing_run<O: Sink, L: Sink>(
     texts: &mut Texts,

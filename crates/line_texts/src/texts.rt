@@ -1,3 +1,4 @@
+//! The text of a line and the lines of notes, written so that a note goes out before its ticks.
 ghost use Rattle.std.specs.Prelude.{◌≡◌, List, [], ◌∷◌, OnOk, OnErr};
 ghost use Rattle.yasir_io.specs.Flushed.{NoneFlushed};
 ghost use Rattle.yasir_io.specs.TextBuffer.{waiting_bytes};

@@ -1,3 +1,5 @@
+pub mod Links
 pub mod Walking
 pub mod Stepping
 pub mod Runs
+pub mod Resting

@@ -11,14 +11,23 @@ use Rattle.link_format.specs.NumberedFrame.{NumberedFrame}
 use Rattle.link_format.specs.Setup.{Setup}
 use Rattle.sequence_journal.specs.declared.journal.Journal.{Journal}
 use Rattle.sequence_journal.specs.declared.journal.JournalFault.{JournalFault}
+use Rattle.sequence_journal.specs.declared.link.LinkId.{LinkId}
 use Rattle.sequence_journal.specs.Commits.{HasFailed}
 use Rattle.sequence_journal.specs.Journal.{journal_link, journal_floor, Fits, IsCrashSafe}
 use Rattle.sequence_journal.specs.Journal.{HasFloorFrom}
 use Rattle.link_box.specs.Walking.{Walking, full_notes, number_after}
 
--- A box that has taken so many ticks may take one more: the disk is its journal's.
-pub record MayStep (taken : ℕ) (journal : Journal) (told : Option Slots) : Type 0 where
+-- The journal serves this link, and the disk is the journal's.
+pub record ServesLink (link : LinkId) (journal : Journal) (told : Option Slots) : Type 0 where
+  pub of_link : journal_link journal ≡ link
+  pub fits : Fits journal told
+
+-- A box of this link that has taken so many ticks may take one more: the journal is its own link's,
+-- and the disk is the journal's.
+pub record MayStep (link : LinkId) (taken : ℕ) (journal : Journal) (told : Option Slots) :
+    Type 0 where
   pub room : taken < MAX_TICKS
+  pub of_link : journal_link journal ≡ link
   pub fits : Fits journal told
 
 -- The walk of a box; and what it is that, set up so, the box has taken a line, and that the last

@@ -28,6 +28,7 @@ fn forward_alike<X: LinkBox>(line_box: &mut X, run: TickRun<'_>, left: &mut RunB
     requires { X.taken line_box.old + length (run_ticks run) ≤ MAX_TICKS }
     ensures within { result ≤ length (run_ticks run.entry) }
     ensures taken { X.taken line_box.new ≡ X.taken line_box.old + result }
+    ensures link { X.link_of line_box.new ≡ X.link_of line_box.old }
     ensures run { TakesRun X.walking X.stands line_box.old line_box.new
         (take result (run_ticks run.entry)) (answered result left.new.items) }
 {
@@ -56,6 +57,7 @@ pub fn take_alike<X: LinkBox>(line_box: &mut X, run: TickRun<'_>, left: &mut Run
     requires { X.taken line_box.old + length (run_ticks run) ≤ MAX_TICKS }
     ensures within { result ≤ length (run_ticks run.entry) }
     ensures taken { X.taken line_box.new ≡ X.taken line_box.old + result }
+    ensures link { X.link_of line_box.new ≡ X.link_of line_box.old }
     ensures run { TakesRun X.walking X.stands line_box.old line_box.new
         (take result (run_ticks run.entry)) (answered result left.new.items) }
 {

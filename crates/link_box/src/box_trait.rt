@@ -1,8 +1,11 @@
+//! The trait that transmitter and receiver implement: a key, a direction, a journal, and steps.
 ghost use Rattle.std.specs.Prelude.{◌≡◌, ℕ, ◌+◌, ◌≤◌, List, [], length, take, OnOk, OnErr, IfOk};
 ghost use Rattle.yasir_ticks.specs.TickRun.{run_ticks};
 ghost use Rattle.yasir_ticks.specs.declared.tick.Tick.{Tick};
 ghost use Rattle.burst_walk.specs.Answered.{answered};
+ghost use Rattle.hmac_tag.specs.declared.dir.Dir.{Dir};
 ghost use Rattle.link_format.specs.Setup.{Setup, setup_of};
+ghost use Rattle.sequence_journal.specs.declared.link.LinkId.{LinkId};
 ghost use Rattle.sequence_journal.specs.Journal.{journal_floor};
 ghost use Rattle.link_box.specs.Walking.{Walking};
 ghost use Rattle.link_box.specs.Stepping.{MayStep, Steps, FailsStep, KeepsJournal};
@@ -10,13 +13,13 @@ ghost use Rattle.link_box.specs.Runs.{TakesRun};
 
 use burst_walk::{BoxStep, RunBytes};
 use hmac_tag::Dir;
-use sequence_journal::{Journal, JournalFault};
+use sequence_journal::{Journal, JournalFault, LinkId};
 use yasir_io::SlotDisk;
 use yasir_ticks::{MAX_TICKS, Tick, TickRun};
 
 /// A box between two lines, set up with a key and a direction: it takes one line tick by tick and
 /// answers the other one. The numbers that it uses come from a journal, which is that of the steps
-/// before.
+/// before and serves the link of the box.
 pub trait LinkBox: Drop {
     /// What it notes in a step.
     type Note: Copy;
@@ -34,15 +37,27 @@ pub trait LinkBox: Drop {
     /// What must hold of the widths that it is made with.
     ghost widths_fit: { Type 0 };
 
+    /// The link of a box. It never changes.
+    ghost link_of: { Self → LinkId };
+
+    /// The link of a box of each direction.
+    ghost link_in: { Dir → LinkId };
+
+    /// The link of a box of this direction, which its journal serves.
+    fn link(dir: Dir) -> LinkId
+        requires { widths_fit }
+        ensures { result ≡ link_in dir };
+
     /// A box that has taken no tick, for a key of any length and a direction.
     fn new(key: &[u8], dir: Dir) -> Self
         requires { widths_fit }
         ensures taken { taken result ≡ 0 }
+        ensures link { link_of result ≡ link_in dir }
         ensures stands { (floor : ℕ) → stands result floor (setup_of key.now dir floor) [] };
 
     /// Takes the next tick, and answers that of the other line at the same place, with the note
-    /// that falls into this step. The journal is that of the steps before, and the disk is the
-    /// journal's. Fewer than `MAX_TICKS` ticks were taken before.
+    /// that falls into this step. The journal is that of the steps before and serves the box's own
+    /// link, and the disk is the journal's. Fewer than `MAX_TICKS` ticks were taken before.
     ///
     /// It fails where the number of a frame isn't committed. No step follows.
     fn step<D: SlotDisk>(
@@ -51,7 +66,8 @@ pub trait LinkBox: Drop {
         journal: &mut Journal,
         disk: &mut D,
     ) -> Result<BoxStep<Self::Note>, JournalFault>
-        requires { MayStep (taken self.old) journal.old (D.told disk.old) }
+        requires { MayStep (link_of self.old) (taken self.old) journal.old (D.told disk.old) }
+        ensures link { link_of self.new ≡ link_of self.old }
         ensures taken { OnOk result (taken self.new ≡ taken self.old + 1) }
         ensures steps { IfOk result (λ step. Steps walking stands
             self.old (journal_floor journal.old) self.new (journal_floor journal.new)
@@ -68,6 +84,7 @@ pub trait LinkBox: Drop {
         requires { taken self.old + length (run_ticks _run) ≤ MAX_TICKS }
         ensures within { result ≤ length (run_ticks _run.entry) }
         ensures taken { taken self.new ≡ taken self.old + result }
+        ensures link { link_of self.new ≡ link_of self.old }
         ensures run { TakesRun walking stands self.old self.new
             (take result (run_ticks _run.entry)) (take result (run_ticks _run.entry)) }
     {
@@ -82,6 +99,7 @@ pub trait LinkBox: Drop {
         requires { taken self.old + length (run_ticks _run) ≤ MAX_TICKS }
         ensures within { result ≤ length (run_ticks _run.entry) }
         ensures taken { taken self.new ≡ taken self.old + result }
+        ensures link { link_of self.new ≡ link_of self.old }
         ensures run { TakesRun walking stands self.old self.new
             (take result (run_ticks _run.entry)) (answered result left.new.items) }
     {

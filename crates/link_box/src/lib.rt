@@ -1,9 +1,19 @@
 //! What transmitter and receiver are alike in: a box between two lines, which takes the one tick by
 //! tick or in runs, answers the other one, and uses the numbers of a journal.
+//!
+//! Code that is generic over boxes takes what it can as a run, and the rest tick by tick:
+//!
+//!     let taken = take_alike(&mut line_box, run, &mut left);
+//!     if taken == 0 {
+//!         let step = line_box.step(run.first(), &mut journal, &mut disk)?;
+//!         send(step.tick);
+//!     }
 #![tactic(auto)]
 
 mod alike;
 mod box_trait;
+mod resting;
 
 pub use alike::take_alike;
 pub use box_trait::LinkBox;
+pub use resting::RestingBox;

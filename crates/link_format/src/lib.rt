@@ -1,4 +1,11 @@
 //! What stands on a link behind a frame: profiles, words, trailers, and what a box is set up with.
+//!
+//! A trailer leaves byte by byte, the word first:
+//!
+//!     let mut trailer: Trailer<2> = Trailer::none();
+//!     trailer.load(0x10203, &tag);
+//!     assert_eq!(rt; trailer.next_tick(), Tick::Byte(0x02));
+//!     assert_eq!(rt; trailer.next_tick(), Tick::Byte(0x03));
 #![tactic(auto)]
 
 #[cfg(test)]

@@ -1,3 +1,4 @@
+//! A test of the trailer: the word comes before the tag.
 use super::*;
 use arrayvec::ArrayVec;
 use std::test::Fail;

@@ -1,3 +1,4 @@
+//! The trailer of a sealed frame, and what of it is still to be sent.
 ghost use Rattle.link_format.specs.Profile.{IsWordLen};
 
 use arrayvec::ArrayVec;

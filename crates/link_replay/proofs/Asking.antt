@@ -1,6 +1,7 @@
 -- Words ask for one thing and no other.
 use Rattle.std.proofs.Common.{◌≡◌, ◌∙◌, ℕ, zero, suc, ◌+◌, ◌*◌, Bool, List, [], ◌∷◌, Option, Some}
 use Rattle.std.proofs.Common.{None, cond, nat_eq, refl, sym, ap, arith, subst, ◌≤◌, ◌^◌, ◌<◌}
+use Rattle.std.proofs.Common.{inl, inr}
 use Rattle.std.proofs.lemmas.Fmt.{decimal_is_IsNumeral}
 use Rattle.std.specs.Prelude.{codes, decimal}
 use Rattle.std.specs.Str.Parse.{digits_value}
@@ -14,7 +15,7 @@ use Rattle.link_replay.specs.declared.words.Proto.TheVariants.{Rtu, Dnp3}
 use Rattle.link_replay.specs.declared.words.Command.{Command}
 use Rattle.link_replay.specs.declared.words.Command.TheVariants.{Init, Read, Vectors, Seal, Check}
 use Rattle.link_replay.specs.declared.words.Command.TheVariants.{Replay, Trial, Space}
-use Rattle.link_replay.specs.declared.words.Command.TheVariants.{Audit, Duplex}
+use Rattle.link_replay.specs.declared.words.Command.TheVariants.{Audit, Duplex, Help, Version}
 
 -- A word as one number, so that two words are told apart by a test.
 abbrev number_of : List ℕ → ℕ
@@ -54,7 +55,12 @@ command_by verb first second third fourth fifth =
     (digits_value 10 fifth))
     (cond (is_word (codes "duplex") verb)
     (Duplex (proto_by first) (profile_by first) (dir_by second))
-    (Replay (proto_by first) (profile_by first) (dir_by second))))))))))
+    (cond (is_word (codes "help") verb) Help
+    (cond (is_word (codes "--help") verb) Help
+    (cond (is_word (codes "-h") verb) Help
+    (cond (is_word (codes "version") verb) Version
+    (cond (is_word (codes "--version") verb) Version
+    (Replay (proto_by first) (profile_by first) (dir_by second)))))))))))))))
 
 abbrev word_at : ℕ → List (List ℕ) → List ℕ
 word_at zero [] = []
@@ -98,6 +104,11 @@ command-in words (Init proto profile dir) h = ap command_in h.2 ∙ box-by Init 
 command-in words (Read Rtu) h = ap command_in h
 command-in words (Read Dnp3) h = ap command_in h
 command-in words Vectors h = ap command_in h
+command-in words Help (inl h) = ap command_in h
+command-in words Help (inr (inl h)) = ap command_in h
+command-in words Help (inr (inr h)) = ap command_in h
+command-in words Version (inl h) = ap command_in h
+command-in words Version (inr h) = ap command_in h
 command-in words (Seal proto profile dir) h = ap command_in h.4 ∙ box-by Seal proto profile dir
 command-in words (Check proto profile dir) h = ap command_in h.4 ∙ box-by Check proto profile dir
 command-in words (Replay proto profile dir) h = ap command_in h.2 ∙ box-by Replay proto profile dir
@@ -139,6 +150,8 @@ asked-floors words (Some (Trial proto profile seed count)) asks = tt
 asked-floors words (Some (Space proto profile)) asks = tt
 asked-floors words (Some (Audit proto profile dir sent got)) asks = (asks.2, asks.3)
 asked-floors words (Some (Duplex proto profile dir)) asks = tt
+asked-floors words (Some Help) asks = tt
+asked-floors words (Some Version) asks = tt
 
 -- the words of a trial spell how many frames it has
 pub trial-counts : (first second seed count : List ℕ) (n : ℕ) (command : Command)

@@ -1,11 +1,8 @@
 -- A command that ends by a flush of both sinks, or by a write that failed: what it leaves of them,
 -- and the causes of its status where neither key nor disk was reached.
-use Rattle.std.proofs.Common.{◌≡◌, ◌⊎◌, ℕ, List, [], Option, inl, inr, refl, subst, sym}
-use Rattle.std.proofs.Common.{append-nil, arith}
-use Rattle.std.specs.Io.KnownBytes.{append_known}
+use Rattle.std.proofs.Common.{◌≡◌, ◌⊎◌, ℕ, List, Option, inl, inr, refl, subst, sym, arith}
 use Rattle.yasir_ticks.specs.declared.tick.Tick.{Tick}
 use Rattle.yasir_io.specs.Disks.{Slots}
-use Rattle.yasir_io.specs.Output.{GotPrefix}
 use Rattle.yasir_io.specs.declared.sink.Sink.{Ghosts as Sink}
 use Rattle.sequence_journal.specs.declared.link.LinkId.{LinkId}
 use Rattle.device_model.specs.Frames.{FrameRead}
@@ -16,9 +13,7 @@ use Rattle.replay_status.specs.Causes.{InputCause, ReadsCause, DiskCause}
 use Rattle.replay_status.specs.declared.status.Status.{Status}
 use Rattle.replay_status.specs.declared.status.Status.TheVariants.{Done, ReadFault, WriteFault}
 use Rattle.replay_status.specs.declared.status.Status.TheVariants.{JournalFault}
-use Rattle.trial_session.specs.TrialLine.{PrintsLine}
 use Rattle.link_replay.specs.InitCommand.{LeavesSinks, MakesJournal, IsNewJournal}
-use Rattle.link_replay.specs.VectorsCommand.{PrintsTables, table_lines}
 
 module _ {O L : Type 0} (o : Sink O) (l : Sink L) (out_before out_now : O)
     (log_before log_now : L) where
@@ -37,27 +32,6 @@ journal-made link old new may_old may_new status (inl done) made =
     subst (MakesJournal link old new may_old may_new) (sym done) made
 journal-made link old new may_old may_new status (inr fault) made =
     subst (MakesJournal link old new may_old may_new) (sym fault) made
-
--- a text that was written whole
-got-whole : (before now : Option (List ℕ)) (text : List ℕ) → now ≡ append_known before text
-    → GotPrefix before now text
-got-whole before now text is =
-    record { front = text; rest = []; got = is; all = sym (append-nil text) }
-
-pub line-printed : (before now : Option (List ℕ)) (line : List ℕ) (status : Status)
-    → (status ≡ Done) ⊎ (status ≡ WriteFault) → now ≡ append_known before line
-    → PrintsLine before now line status
-line-printed before now line status (inl done) is =
-    subst (PrintsLine before now line) (sym done) is
-line-printed before now line status (inr fault) is =
-    subst (PrintsLine before now line) (sym fault) (got-whole before now line is)
-
-pub tables-printed : (before now : Option (List ℕ)) (status : Status)
-    → (status ≡ Done) ⊎ (status ≡ WriteFault) → now ≡ append_known before table_lines
-    → PrintsTables before now status
-tables-printed before now status (inl done) is = subst (PrintsTables before now) (sym done) is
-tables-printed before now status (inr fault) is =
-    subst (PrintsTables before now) (sym fault) (got-whole before now table_lines is)
 
 -- where neither key nor input was read, no cause is one of theirs
 pub reads-unread : (key input : ℕ) (status : Status) → (status ≡ Done) ⊎ (status ≡ WriteFault)

@@ -16,8 +16,7 @@ use Rattle.link_replay.specs.Commands.{Does, MayDo, IsCalm, HasOwnCauses, HasCau
 use Rattle.link_replay.specs.Commands.{EndsWell}
 use Rattle.link_replay.specs.InitCommand.{MakesJournal, IsBlank}
 use Rattle.link_replay.specs.ReadCommand.{device_reads}
-use Rattle.link_replay.specs.VectorsCommand.{PrintsTables}
-use Rattle.trial_session.specs.TrialLine.{PrintsLine}
+use Rattle.replay_status.specs.PrintsText.{PrintsText}
 use Rattle.link_replay.specs.SealCommand.{seal_boxed, seal_rest}
 use Rattle.link_replay.specs.CheckCommand.{check_boxed, check_rest}
 use Rattle.replay_status.specs.declared.status.Status.{Status}
@@ -26,7 +25,7 @@ use Rattle.replay_status.specs.declared.status.Status.TheVariants.{HasJournal}
 use Rattle.link_replay.specs.declared.words.Command.{Command}
 use Rattle.link_replay.specs.declared.words.Command.TheVariants.{Init, Read, Vectors, Seal, Check}
 use Rattle.link_replay.specs.declared.words.Command.TheVariants.{Replay, Trial, Space}
-use Rattle.link_replay.specs.declared.words.Command.TheVariants.{Audit, Duplex}
+use Rattle.link_replay.specs.declared.words.Command.TheVariants.{Audit, Duplex, Help, Version}
 use Rattle.replay_status.proofs.Logging.{sinks_after}
 use Rattle.replay_status.proofs.FlushLaws.{flushes_after}
 use Rattle.device_replay.proofs.Readable.{readable_done}
@@ -57,21 +56,13 @@ module _ (key0 key1 in0 in1 out0 out1 log0 log1 disk0 disk1 : ℕ)
       cc
   journal_done link old new images_old images_new status blank h sinks disk = absurd h
 
-  tables_done : (out_before out_now : Option (List ℕ)) (status : Status)
-      → PrintsTables out_before out_now status → SinkCause out0 out1 log0 log1 status
+  text_done : (text : List ℕ) (out_before out_now : Option (List ℕ)) (status : Status)
+      → PrintsText text out_before out_now status → SinkCause out0 out1 log0 log1 status
       → status ≡ Done
-  tables_done out_before out_now Done h sinks = refl
-  tables_done out_before out_now WriteFault h sinks =
+  text_done text out_before out_now Done h sinks = refl
+  text_done text out_before out_now WriteFault h sinks =
       elim sinks [ inl out ↦ absurd (calm.out out) | inr log ↦ absurd (calm.log log) ]
-  tables_done out_before out_now status h sinks = absurd h
-
-  line_done : (out_before out_now : Option (List ℕ)) (line : List ℕ) (status : Status)
-      → PrintsLine out_before out_now line status → SinkCause out0 out1 log0 log1 status
-      → status ≡ Done
-  line_done out_before out_now line Done h sinks = refl
-  line_done out_before out_now line WriteFault h sinks =
-      elim sinks [ inl out ↦ absurd (calm.out out) | inr log ↦ absurd (calm.log log) ]
-  line_done out_before out_now line status h sinks = absurd h
+  text_done text out_before out_now status h sinks = absurd h
 
 rose-then : (a b c : ℕ) → Rose a b → b ≤ c → Rose a c
 rose-then a b c rose le = omega (arith, rose, le)
@@ -93,6 +84,8 @@ module _ {K S O L D : Type 0} (k : Source K) (s : Source S) (o : Sink O) (l : Si
   own-after (Some (Init proto profile dir)) before after noted status h = h
   own-after (Some (Read proto)) before after noted status h = h
   own-after (Some Vectors) before after noted status h = h
+  own-after (Some Help) before after noted status h = h
+  own-after (Some Version) before after noted status h = h
 
   -- the causes with a fault line that was written, or failed
   pub causes_after : (asked : Option Command) (before after : Outside K S O L D) (noted : L)
@@ -137,7 +130,11 @@ module _ {K S O L D : Type 0} (k : Source K) (s : Source S) (o : Sink O) (l : Si
       readable_done (device_reads proto) _ _ _ _ _ _ _ _ _ _ _ _ _ _ may calm status
       does.frames causes.own.0 causes.streams.sinks
   asked_done (Some Vectors) before after status may calm does causes =
-      tables_done _ _ _ _ _ _ _ _ _ _ calm _ _ status does.tables causes.streams.sinks
+      text_done _ _ _ _ _ _ _ _ _ _ calm _ _ _ status does.tables causes.streams.sinks
+  asked_done (Some Help) before after status may calm does causes =
+      text_done _ _ _ _ _ _ _ _ _ _ calm _ _ _ status does.printed causes.streams.sinks
+  asked_done (Some Version) before after status may calm does causes =
+      text_done _ _ _ _ _ _ _ _ _ _ calm _ _ _ status does.printed causes.streams.sinks
   asked_done (Some (Seal proto profile dir)) before after status may calm does causes =
       replayable_done k s o l d (seal_boxed proto profile) (link_of proto profile dir)
       (link-right proto profile dir) dir (seal_rest profile) before after may calm status does
@@ -147,7 +144,7 @@ module _ {K S O L D : Type 0} (k : Source K) (s : Source S) (o : Sink O) (l : Si
       (link-right proto profile dir) dir check_rest before after may calm status
       does causes.streams.reads causes.own causes.streams.sinks
   asked_done (Some (Trial proto profile seed count)) before after status may calm does causes =
-      line_done _ _ _ _ _ _ _ _ _ _ calm _ _ _ status does.line causes.streams.sinks
+      text_done _ _ _ _ _ _ _ _ _ _ calm _ _ _ status does.line causes.streams.sinks
   asked_done (Some (Space proto profile)) before after status may calm does causes =
       spaced_done (spaced_by proto profile) _ _ _ _ _ _ _ _ _ _ _ _ _ _ may calm status
       (whole-spaces proto profile _ _ _ _ status does.line) causes.own.0 causes.streams.sinks

@@ -4,7 +4,7 @@ use Rattle.yasir_io.specs.declared.files.SlotFile.TheVariants.{Standing, New}
 use Rattle.link_replay.specs.declared.words.Command.{Command}
 use Rattle.link_replay.specs.declared.words.Command.TheVariants.{Init, Read, Vectors, Seal, Check}
 use Rattle.link_replay.specs.declared.words.Command.TheVariants.{Replay, Trial, Space}
-use Rattle.link_replay.specs.declared.words.Command.TheVariants.{Audit, Duplex}
+use Rattle.link_replay.specs.declared.words.Command.TheVariants.{Audit, Duplex, Help, Version}
 use Rattle.link_replay.specs.Words.{IsCommand, AskForJournal, Asks, word_in}
 use Rattle.link_replay.specs.OverFiles.{path_in, journal_kind}
 use Rattle.link_replay.proofs.Asking.{asks-one}
@@ -40,3 +40,5 @@ kind-kept words (Some (Audit proto profile dir sent got)) other asks = refl
 kind-kept words (Some (Trial proto profile seed count)) other asks = refl
 kind-kept words (Some (Space proto profile)) other asks = refl
 kind-kept words (Some (Duplex proto profile dir)) other asks = refl
+kind-kept words (Some Help) other asks = refl
+kind-kept words (Some Version) other asks = refl

@@ -22,12 +22,13 @@ use Rattle.link_replay.specs.TrialCommand.{Tries}
 use Rattle.link_replay.specs.SpaceCommand.{Spaces}
 use Rattle.link_replay.specs.AuditCommand.{Audits, audited}
 use Rattle.link_replay.specs.DuplexCommand.{Duplexes}
+use Rattle.link_replay.specs.AboutCommands.{Helps, TellsVersion}
 use Rattle.replay_status.specs.declared.status.Status.{Status}
 use Rattle.replay_status.specs.declared.status.Status.TheVariants.{Usage, Done, NoMemory}
 use Rattle.link_replay.specs.declared.words.Command.{Command}
 use Rattle.link_replay.specs.declared.words.Command.TheVariants.{Init, Read, Vectors, Seal, Check}
 use Rattle.link_replay.specs.declared.words.Command.TheVariants.{Replay, Trial, Space}
-use Rattle.link_replay.specs.declared.words.Command.TheVariants.{Audit, Duplex}
+use Rattle.link_replay.specs.declared.words.Command.TheVariants.{Audit, Duplex, Help, Version}
 
 -- How a command ends that is given what is right, and where nothing outside fails. Of all commands
 -- `replay`, `space`, `audit` and `duplex` alone take memory, and there may be none.
@@ -72,6 +73,8 @@ module _ {K S O L D : Type 0} (k : Source K) (s : Source S) (o : Sink O) (l : Si
       Audits k s o l (audited proto profile dir sent got) before after status
   Does (Some (Duplex proto profile dir)) before after status =
       Duplexes k s o l proto profile dir before after status
+  Does (Some Help) before after status = Helps o l before after status
+  Does (Some Version) before after status = TellsVersion o l before after status
 
   -- What a run does: what was asked for, and then the fault line in the log, where the status has
   -- one.
@@ -103,6 +106,8 @@ module _ {K S O L D : Type 0} (k : Source K) (s : Source S) (o : Sink O) (l : Si
       (s.left before.input)
   MayDo (Some (Duplex proto profile dir)) before = IsListable 1 (k.left before.key)
       (s.left before.input)
+  MayDo (Some Help) before = Unit {0}
+  MayDo (Some Version) before = Unit {0}
 
   -- Nothing outside failed.
   abbrev pub IsCalm : Outside K S O L D → Outside K S O L D → Type 0

@@ -10,5 +10,6 @@ pub mod SealCommand
 pub mod CheckCommand
 pub mod ReplayCommand
 pub mod TrialCommand
+pub mod AboutCommands
 pub mod Commands
 pub mod OverFiles

@@ -4,6 +4,7 @@ use Rattle.yasir_io.specs.declared.sink.Sink.{Ghosts as Sink}
 use Rattle.link_format.specs.Profile.{Profile as FormatProfile}
 use Rattle.sequence_journal.specs.declared.numbers.TheConstants.{LIMIT}
 use Rattle.replay_status.specs.Outside.{Outside}
+use Rattle.replay_status.specs.PrintsText.{PrintsText}
 use Rattle.replay_status.specs.declared.status.Status.{Status}
 use Rattle.trial_session.specs.Boxes.{trial_setup}
 use Rattle.trial_session.specs.DnpDrawn.{dnp_drawing}
@@ -11,7 +12,7 @@ use Rattle.trial_session.specs.DrawnFrames.{Drawing}
 use Rattle.trial_session.specs.RtuDrawn.{rtu_drawing}
 use Rattle.trial_session.specs.Summaries.{trial_summary}
 use Rattle.trial_session.specs.Telling.{Tells}
-use Rattle.trial_session.specs.TrialLine.{trial_line, PrintsLine}
+use Rattle.trial_session.specs.TrialLine.{trial_line}
 use Rattle.trial_session.specs.declared.summary.Summary.{Summary}
 use Rattle.link_replay.specs.Protocols.{rules_of, format_of}
 use Rattle.link_replay.specs.ReadCommand.{device_reads}
@@ -39,9 +40,9 @@ trial_counts proto profile seed count = trial_summary (drawing_of proto)
 -- passed. Nothing is read, and the disk is as it was.
 pub record Tries {K S O L D : Type 0} (o : Sink O) (l : Sink L) (proto : Proto) (profile : Profile)
     (seed count : ℕ) (before after : Outside K S O L D) (status : Status) : Type 0 where
-  pub line : PrintsLine (o.held before.out) (o.held after.out)
+  pub line : PrintsText
       (trial_line (link_word proto profile) seed count (trial_counts proto profile seed count))
-      status
+      (o.held before.out) (o.held after.out) status
   pub tells : Tells (trial_counts proto profile seed count) count
   pub log : l.held after.log ≡ l.held before.log
   pub key : after.key ≡ before.key

@@ -1,14 +1,12 @@
 -- The command `vectors`: a line for each table of known answers.
-use Rattle.std.specs.Prelude.{◌≡◌, ℕ, List, ◌++◌, length, Option, Result, Ok, Err, codes, decimal}
-use Rattle.std.specs.Io.KnownBytes.{append_known}
+use Rattle.std.specs.Prelude.{◌≡◌, ℕ, List, ◌++◌, length, Result, Ok, Err, codes, decimal}
 use Rattle.yasir_io.specs.declared.sink.Sink.{Ghosts as Sink}
-use Rattle.yasir_io.specs.Output.{GotPrefix}
 use Rattle.vectors.specs.Cases.{answer}
 use Rattle.vectors.specs.Tables.{crc_cases, hmac_cases, frames_cases, user_cases}
 use Rattle.vectors.specs.declared.table.Miss.{Miss}
 use Rattle.replay_status.specs.Outside.{Outside}
+use Rattle.replay_status.specs.PrintsText.{PrintsText}
 use Rattle.replay_status.specs.declared.status.Status.{Status}
-use Rattle.replay_status.specs.declared.status.Status.TheVariants.{Done, WriteFault}
 
 -- `NAME N ok`, or `NAME miss ROW` with the first row that isn't right
 abbrev pub table_line : List ℕ → ℕ → Result (Unit {0}) Miss → List ℕ
@@ -23,16 +21,10 @@ table_lines =
     ++ table_line (codes "frames") (length frames_cases) (answer frames_cases)
     ++ table_line (codes "user") (length user_cases) (answer user_cases)
 
--- What each status says of `out`.
-abbrev pub PrintsTables : Option (List ℕ) → Option (List ℕ) → Status → Type 0
-PrintsTables out_before out_now Done = out_now ≡ append_known out_before table_lines
-PrintsTables out_before out_now WriteFault = GotPrefix out_before out_now table_lines
-PrintsTables out_before out_now status = ⊥
-
 -- What `vectors` does: nothing is read, and the disk is as it was.
 pub record Tabulates {K S O L D : Type 0} (o : Sink O) (l : Sink L)
     (before after : Outside K S O L D) (status : Status) : Type 0 where
-  pub tables : PrintsTables (o.held before.out) (o.held after.out) status
+  pub tables : PrintsText table_lines (o.held before.out) (o.held after.out) status
   pub log : l.held after.log ≡ l.held before.log
   pub key : after.key ≡ before.key
   pub input : after.input ≡ before.input

@@ -1,5 +1,5 @@
 -- The words of the program's commands.
-use Rattle.std.specs.Prelude.{◌≡◌, ◌≢◌, ℕ, ◌^◌, ◌<◌, ◌≤◌, decimal, List, [], ◌∷◌, Option, Some}
+use Rattle.std.specs.Prelude.{◌≡◌, ◌≢◌, ◌⊎◌, ℕ, ◌^◌, ◌<◌, ◌≤◌, decimal, List, [], ◌∷◌, Option, Some}
 use Rattle.std.specs.Prelude.{None, codes, slice_get}
 use Rattle.hmac_tag.specs.declared.dir.Dir.{Dir}
 use Rattle.hmac_tag.specs.declared.dir.Dir.TheVariants.{Ab, Ba}
@@ -11,7 +11,7 @@ use Rattle.link_replay.specs.declared.words.Profile.TheVariants.{Y18, Y24}
 use Rattle.link_replay.specs.declared.words.Command.{Command}
 use Rattle.link_replay.specs.declared.words.Command.TheVariants.{Init, Read, Vectors, Seal, Check}
 use Rattle.link_replay.specs.declared.words.Command.TheVariants.{Replay, Trial, Space}
-use Rattle.link_replay.specs.declared.words.Command.TheVariants.{Audit, Duplex}
+use Rattle.link_replay.specs.declared.words.Command.TheVariants.{Audit, Duplex, Help, Version}
 
 abbrev pub proto_word : Proto → List ℕ
 proto_word Rtu = codes "rtu"
@@ -51,6 +51,9 @@ IsCommand words (Audit proto profile dir sent got) =
     (key : List ℕ) × (key ≢ []) × (sent ≤ LIMIT) × (got ≤ LIMIT)
     × (words ≡ codes "audit" ∷ link_word proto profile ∷ dir_word dir ∷ key ∷ decimal sent
     ∷ decimal got ∷ [])
+IsCommand words Help = (words ≡ codes "help" ∷ []) ⊎ (words ≡ codes "--help" ∷ [])
+    ⊎ (words ≡ codes "-h" ∷ [])
+IsCommand words Version = (words ≡ codes "version" ∷ []) ⊎ (words ≡ codes "--version" ∷ [])
 IsCommand words (Duplex proto profile dir) = (key : List ℕ) × (key ≢ [])
     × (words ≡ codes "duplex" ∷ link_word proto profile ∷ dir_word dir ∷ key ∷ [])
 
@@ -81,6 +84,8 @@ key_place (Trial proto profile seed count) = None
 key_place (Space proto profile) = None
 key_place (Audit proto profile dir sent got) = Some 3
 key_place (Duplex proto profile dir) = Some 3
+key_place Help = None
+key_place Version = None
 
 -- the place of the word that is the journal's path
 abbrev pub journal_place : Command → Option ℕ
@@ -94,6 +99,8 @@ journal_place (Trial proto profile seed count) = None
 journal_place (Space proto profile) = None
 journal_place (Audit proto profile dir sent got) = None
 journal_place (Duplex proto profile dir) = None
+journal_place Help = None
+journal_place Version = None
 
 -- the word at a place, where there is one
 abbrev pub word_in : List (List ℕ) → Option ℕ → Option (List ℕ)

@@ -1,6 +1,12 @@
-//! `link_replay`: replays a recorded serial line.
+//! `link_replay`: a program that runs the boxes, and models of the devices, over recorded lines. Its
+//! words are in `docs/USAGE.md`, and `link_replay help` prints a page of them:
+//!
+//!     link_replay init rtu ab sent.journal
+//!     link_replay seal rtu ab key.txt sent.journal < line.ticks > link.ticks
 #![tactic(auto)]
 
+#[cfg(test)]
+mod about_tests;
 #[cfg(test)]
 mod audit_tests;
 mod commands;

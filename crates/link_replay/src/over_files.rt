@@ -112,7 +112,7 @@ fn take_places<R: Files>(files: &R) -> io::Result<(R::File, R::File, R::File)> {
 }
 
 /// The program with the words behind the first argument, its name: the key and the journal are
-/// files of this system. Answers the exit status.
+/// files of this system. Returns the exit status.
 pub fn run_over_files<'a, R: Files + AllocGlobal, S: Source, O: Sink, L: Sink>(
     system: &'a R,
     args: io::Result<Args>,

@@ -260,7 +260,7 @@ const NEW_JOURNAL: &[u8] = &[
     253,
 ];
 
-/// The same, with number 1 in slot B.
+/// A journal of `rtu ab` with number 0 in slot A and number 1 in slot B.
 const USED_JOURNAL: &[u8] = &[
     0, 0, 0, 0, 0, 0, 0, 0, 0, 0, 0, 0, 0, 0, 0, 0, 0, 0, 0, 0, 0, 0, 0, 0, 0, 0, 0, 0, 0, 0, 0, 0,
     0, 0, 0, 0, 0, 0, 0, 0, 1, 0, 18, 2, 255, 255, 255, 255, 255, 255, 255, 255, 254, 255, 237,

@@ -1,3 +1,4 @@
+//! The program over ends that it is handed: it reads its words, and does what they ask for.
 ghost use Rattle.std.specs.Prelude.{◌≡◌, ◌↔◌, Option, Some, None, map};
 ghost use Rattle.std.specs.String.{string_bytes};
 ghost use Rattle.replay_status.specs.Ends.{outside_before, outside_after};
@@ -7,6 +8,7 @@ ghost use Rattle.link_replay.specs.Words.{Asks, AreFloors};
 ghost use Rattle.link_replay.specs.Commands.{Does, Runs, KeepsDisk, MayDo, IsCalm, EndsWell};
 ghost use Rattle.link_replay.specs.Commands.{HasCauses};
 
+use crate::commands::about::{print_help, print_version};
 use crate::commands::audit::{Audited, audit};
 use crate::commands::check::check;
 use crate::commands::duplex::duplex;
@@ -59,6 +61,8 @@ fn perform<K: Source, S: Source, O: Sink, L: Sink, D: SlotDisk>(
             audit(alloc, asked, ends)
         }
         Command::Duplex(proto, profile, dir) => duplex(alloc, proto, profile, dir, ends),
+        Command::Help => print_help(ends),
+        Command::Version => print_version(ends),
     }
 }
 

@@ -1,3 +1,4 @@
+//! Tests of `replay` over recordings with an attacker, and over ends that fail.
 use crate::running::{Ends, KEY, ended, plan, run_words};
 use crate::tests::run_over;
 use replay_status::Status;
@@ -144,7 +145,7 @@ const ROWS: [Row; 10] = [
     },
 ];
 
-/// The same polls by the profile y24.
+/// The six polls above, by the profile y24.
 const POLLS_Y24: Row = Row {
     words: "replay rtu24 ab key",
     text: b"+01030000000ac5cd\n-92\n\

@@ -1,3 +1,4 @@
+//! Tests of the program's words, and of the commands `read`, `vectors`, `init`, `seal` and `check`.
 use crate::running::{Ends, KEY, Ran, ended, has_slots, plan, run_words, words_of};
 use crate::{
     Command, Dir, Profile, Proto, Usage, journal_word, key_word, makes_journal, read_words,
@@ -107,7 +108,16 @@ fn refuse(rt: &impl Abort, alloc: Global, words: &str) -> Result<(), Fail> {
     Ok(())
 }
 
-const WORDS_OF_NO_COMMAND: [&str; 33] = [
+const WORDS_OF_NO_COMMAND: [&str; 42] = [
+    "help x",
+    "help help",
+    "Help",
+    "-help",
+    "--h",
+    "-h --help",
+    "-V",
+    "version x",
+    "-version",
     "",
     "read",
     "read dnp",
@@ -152,7 +162,12 @@ fn refuses_words_of_no_command(rt: HostRuntime) -> Result<(), Fail> {
 }
 
 /// Words, command, place of the journal's path, whether the journal is made.
-const KEYLESS: [(&str, Command, Option<usize>, bool); 6] = [
+const KEYLESS: [(&str, Command, Option<usize>, bool); 11] = [
+    ("help", Command::Help, None, false),
+    ("--help", Command::Help, None, false),
+    ("-h", Command::Help, None, false),
+    ("version", Command::Version, None, false),
+    ("--version", Command::Version, None, false),
     (
         "init rtu ab j",
         Command::Init(RTU, Y18, Dir::Ab),

@@ -1,3 +1,4 @@
+//! Tests of `trial`: its numbers, and its counts as a model in Python computes them.
 use crate::running::{ended, words_of};
 use crate::tests::run_over;
 use crate::{Command, Profile, Proto, read_words};

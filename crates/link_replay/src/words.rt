@@ -1,3 +1,4 @@
+//! The words of the program: which command they ask for, and which of them are paths.
 ghost use Rattle.std.specs.Prelude.{◌≡◌, ◌↔◌, ℕ, ◌^◌, ◌<◌, ◌≤◌, [], ◌∷◌, None, IfOk, OnErr, IsTrue};
 ghost use Rattle.std.specs.Prelude.{map, codes, decimal};
 ghost use Rattle.std.specs.String.{string_bytes};
@@ -12,7 +13,7 @@ ghost use Rattle.link_replay.specs.Words.{key_place, journal_place, AskForJourna
 use hmac_tag::Dir;
 use sequence_journal::LIMIT;
 
-/// A trial has at most so many frames.
+/// The most frames of a trial.
 const MOST_FRAMES: u32 = 10_000;
 
 /// The greatest number of 32 bits.
@@ -51,7 +52,7 @@ pub enum Command {
     Check(Proto, Profile, Dir),
     /// Lists what is sealed of a device's line, and what passes and is read of a link.
     Replay(Proto, Profile, Dir),
-    /// Tries a link over frames that are drawn from a seed, so many of them.
+    /// Tries a link over frames that are drawn: the seed, and how many frames.
     Trial(Proto, Profile, u32, u32),
     /// Sends the frames of a line spaced as the profile asks for.
     Space(Proto, Profile),
@@ -59,6 +60,10 @@ pub enum Command {
     Audit(Proto, Profile, Dir, u64, u64),
     /// Seals a device's line in one direction, and checks a link in the other one.
     Duplex(Proto, Profile, Dir),
+    /// Prints the page of the program's words.
+    Help,
+    /// Prints the program's name and version.
+    Version,
 }
 
 /// The words name no command.
@@ -110,10 +115,11 @@ fn read_one(word: &str) -> Result<Command, Usage>
     ensures ok { IfOk result (λ command. IsCommand (word.now ∷ []) command) }
     ensures usage { OnErr result ((command : Command) → IsCommand (word.now ∷ []) command → ⊥) }
 {
-    if word == "vectors" {
-        Ok(Command::Vectors)
-    } else {
-        Err(Usage)
+    match word {
+        "vectors" => Ok(Command::Vectors),
+        "help" | "--help" | "-h" => Ok(Command::Help),
+        "version" | "--version" => Ok(Command::Version),
+        _ => Err(Usage),
     }
 }
 
@@ -170,7 +176,7 @@ fn read_wide(word: &str) -> Result<u64, Usage>
     }
 }
 
-// The same of a number of 32 bits.
+// The number of at most 32 bits that a word spells, in decimal digits without a leading zero.
 fn read_number(word: &str) -> Result<u32, Usage>
     ensures ok { IfOk result (λ n. word.now ≡ decimal n) }
     ensures small { IfOk result (λ n. n < 2 ^ 32) }
@@ -183,7 +189,8 @@ fn read_number(word: &str) -> Result<u32, Usage>
     Ok(n as u32)
 }
 
-// The same of the number of a frame, or of the floor 0.
+// The floor that a word spells, in decimal digits without a leading zero: 0, or the number of a
+// frame.
 fn read_floor(word: &str) -> Result<u64, Usage>
     ensures ok { IfOk result (λ n. word.now ≡ decimal n) }
     ensures within { IfOk result (λ n. n ≤ LIMIT) }
@@ -362,7 +369,7 @@ pub fn key_word(words: &[String]) -> Option<usize>
 {
     match read_words(words) {
         Ok(Command::Init(..) | Command::Read(_) | Command::Vectors) => None,
-        Ok(Command::Trial(..) | Command::Space(..)) => None,
+        Ok(Command::Trial(..) | Command::Space(..) | Command::Help | Command::Version) => None,
         Ok(Command::Seal(..) | Command::Check(..) | Command::Replay(..)) => Some(3),
         Ok(Command::Audit(..)) => Some(3),
         Ok(Command::Duplex(..)) => Some(3),
@@ -380,7 +387,7 @@ pub fn journal_word(words: &[String]) -> Option<usize>
     match read_words(words) {
         Ok(Command::Init(..)) => Some(3),
         Ok(Command::Seal(..) | Command::Check(..)) => Some(4),
-        Ok(Command::Read(_) | Command::Vectors) => None,
+        Ok(Command::Read(_) | Command::Vectors | Command::Help | Command::Version) => None,
         Ok(Command::Replay(..) | Command::Trial(..) | Command::Space(..)) => None,
         Ok(Command::Audit(..)) => None,
         Ok(Command::Duplex(..)) => None,
@@ -396,6 +403,7 @@ pub fn makes_journal(words: &[String]) -> bool
     match read_words(words) {
         Ok(Command::Init(..)) => true,
         Ok(Command::Read(_) | Command::Vectors | Command::Trial(..) | Command::Space(..)) => false,
+        Ok(Command::Help | Command::Version) => false,
         Ok(Command::Seal(..) | Command::Check(..) | Command::Replay(..)) => false,
         Ok(Command::Audit(..)) => false,
         Ok(Command::Duplex(..)) => false,

@@ -5,6 +5,14 @@
 //! line: it is a second value of the walk over bursts. `specs/` has the definitions over whole
 //! lists of ticks, and what a receiver holds between two ticks; `proofs/` has worked lines, that a
 //! verdict needs no tick before its time, and what one more tick adds for the machine.
+//!
+//! What a receiver says of a burst:
+//!
+//!     match note {
+//!         CheckNote::Passed { number, start, len } => log_passed(number, start, len),
+//!         CheckNote::Refused { start, why } => log_refused(start, why),
+//!         CheckNote::Dropped { start, why } => log_dropped(start, why),
+//!     }
 #![tactic(auto)]
 
 mod note;

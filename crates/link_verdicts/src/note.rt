@@ -1,3 +1,5 @@
+//! The notes of a receiver: what became of a burst of the link, and why.
+
 /// Why a burst of the link is refused: its bytes leave, and its ending is spoiled.
 #[derive(Clone, Copy, Debug, PartialEq, Eq)]
 pub enum RefusedWhy {

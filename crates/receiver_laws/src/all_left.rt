@@ -1,3 +1,4 @@
+//! Laws of what a receiver holds back: all of it leaves in time, and a device reads it.
 ghost use Rattle.std.specs.Prelude.{◌+◌, ◌≤◌, ℕ, List};
 ghost use Rattle.yasir_ticks.specs.Ticks.{AreTicks};
 ghost use Rattle.yasir_ticks.specs.declared.TheConstants.{T3_5_TICKS};

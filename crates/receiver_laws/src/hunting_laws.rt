@@ -1,3 +1,4 @@
+//! Laws for every device that hunts for frames behind the receiver.
 ghost use Rattle.std.specs.Prelude.{ℕ, ◌≤◌, List};
 ghost use Rattle.yasir_ticks.specs.declared.tick.Tick.{Tick};
 ghost use Rattle.device_model.specs.Frames.{FrameRead};

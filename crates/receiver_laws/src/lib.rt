@@ -4,6 +4,11 @@
 //!
 //! Each law is the contract of a function that does nothing. `specs/` has the statements, over
 //! whole lines, and `proofs/` has how they follow from the walk over the bursts of the link.
+//!
+//! A function whose proof needs a law calls the law's function. The call does nothing when it runs,
+//! and the clause is a fact of the proof from then on:
+//!
+//!     untouched_link_delivers_all::<Rtu>();
 #![tactic(auto)]
 
 mod all_left;

@@ -1,3 +1,4 @@
+//! The law that both profiles meet what the other laws ask of a profile.
 ghost use Rattle.std.specs.Prelude.{ℕ};
 ghost use Rattle.link_format.specs.Setup.{Setup};
 ghost use Rattle.link_format.specs.Y18.{y18};

@@ -1,3 +1,4 @@
+//! The law that a link works again by itself once it is left alone.
 ghost use Rattle.std.specs.Prelude.{◌≤◌, ◌-◌, ℕ, List};
 ghost use Rattle.yasir_ticks.specs.Ticks.{AreTicks};
 ghost use Rattle.yasir_ticks.specs.declared.tick.Tick.{Tick};

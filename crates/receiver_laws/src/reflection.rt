@@ -1,3 +1,4 @@
+//! The law that a link which is sent back the way it came passes nothing.
 ghost use Rattle.std.specs.Prelude.{◌≡◌, ◌≢◌, ℕ, List, [], All};
 ghost use Rattle.yasir_ticks.specs.declared.tick.Tick.{Tick};
 ghost use Rattle.hmac_tag.specs.Tag.{tag_text};

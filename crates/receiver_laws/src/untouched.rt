@@ -1,3 +1,4 @@
+//! The law that an untouched link delivers all of a device's line.
 ghost use Rattle.std.specs.Prelude.{◌≤◌, ℕ, List};
 ghost use Rattle.yasir_ticks.specs.declared.tick.Tick.{Tick};
 ghost use Rattle.link_format.specs.Profile.{Profile, HasTags};

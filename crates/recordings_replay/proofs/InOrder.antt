@@ -1,8 +1,9 @@
 -- Four texts that are added one after the other, and a text that was printed.
-use Rattle.std.proofs.Common.{◌≡◌, ◌⊎◌, ℕ, List, [], ◌++◌, Option, inl, inr, subst, sym, append-nil}
+use Rattle.std.proofs.Common.{◌≡◌, ◌⊎◌, ℕ, List, ◌++◌, Option}
 use Rattle.std.specs.Io.KnownBytes.{append_known}
 use Rattle.replay_status.specs.declared.status.Status.{Status}
 use Rattle.replay_status.specs.declared.status.Status.TheVariants.{Done, WriteFault}
+use Rattle.replay_status.proofs.Printed.{prints_whole}
 use Rattle.recordings_replay.specs.Printing.{OnTheWay, AddsText, BreaksOff, PrintsText}
 use Rattle.recordings_replay.proofs.Pushing.{adds-then, breaks-then, breaks-before}
 
@@ -42,12 +43,4 @@ module _ (w0 w1 w2 w3 : OnTheWay) (a b c d : List ℕ) where
 pub prints-by : (text : List ℕ) (before now : Option (List ℕ)) (status : Status)
     → (status ≡ Done) ⊎ (status ≡ WriteFault) → now ≡ append_known before text
     → PrintsText text before now status
-prints-by text before now status (inl done) is =
-    subst (PrintsText text before now) (sym done) is
-prints-by text before now status (inr fault) is =
-    subst (PrintsText text before now) (sym fault) (record {
-      front = text;
-      rest = [];
-      got = is;
-      all = sym (append-nil text);
-    })
+prints-by = prints_whole

@@ -1,6 +1,5 @@
 -- Text that is added to one on its way to a sink.
-use Rattle.std.specs.Prelude.{◌≡◌, ℕ, cond, List, [], ◌++◌, Option, codes}
-use Rattle.std.specs.Io.KnownBytes.{append_known}
+use Rattle.std.specs.Prelude.{ℕ, cond, List, [], ◌++◌, Option, codes}
 use Rattle.yasir_io.specs.Output.{Buffered, GotPrefix}
 use Rattle.link_format.specs.NumberedFrame.{NumberedFrame, AreNumberedFrom}
 use Rattle.receiver_laws.specs.Accounted.{is_among}
@@ -9,8 +8,7 @@ use Rattle.replay_lists.specs.FrameList.{Holds, IsWhole}
 use Rattle.replay_lists.specs.ReplayLists.{kept_reads}
 use Rattle.replay_lists.specs.declared.frame_box.Numbered.{Numbered}
 use Rattle.replay_lists.specs.declared.frame_list.FrameList.{FrameList}
-use Rattle.replay_status.specs.declared.status.Status.{Status}
-use Rattle.replay_status.specs.declared.status.Status.TheVariants.{Done, WriteFault}
+pub use Rattle.replay_status.specs.PrintsText.{PrintsText}
 use Rattle.recordings_replay.specs.Listing.{Listing, numbered_line}
 
 -- what a sink holds, and what waits to be written to it
@@ -50,9 +48,3 @@ pub record AreWhole (sealed passed : FrameList Numbered) (read : FrameList ℕ) 
   pub sealed_ones : IsWhole sealed
   pub passed_ones : IsWhole passed
   pub read_ones : IsWhole read
-
--- What each status says of a sink that a text is written to.
-abbrev pub PrintsText : List ℕ → Option (List ℕ) → Option (List ℕ) → Status → Type 0
-PrintsText text before now Done = now ≡ append_known before text
-PrintsText text before now WriteFault = GotPrefix before now text
-PrintsText text before now status = ⊥

@@ -1,3 +1,4 @@
+//! The command `replay`: both boxes and a device over two recordings.
 ghost use Rattle.std.specs.Prelude.{◌≡◌, List};
 ghost use Rattle.yasir_ticks.specs.declared.tick.Tick.{Tick};
 ghost use Rattle.link_format.specs.NumberedFrame.{AreNumberedFrom};
@@ -71,7 +72,7 @@ fn replay_keyed<
 /// each frame that was sealed, then for each that has passed, that was read, and that has passed
 /// and was never sealed with its number. Before that it gets nothing. The disk isn't touched.
 ///
-/// The frames are kept in memory: where there is none, the answer is `Status::NoMemory`.
+/// The frames are kept in memory: where there is none, it returns `Status::NoMemory`.
 pub fn replay_recordings<
     S: FrameBox,
     C: FrameBox,

@@ -1,3 +1,4 @@
+//! The four groups of lines that `replay` prints, added to a text on its way.
 ghost use Rattle.std.specs.Prelude.{◌≡◌, ◌≤◌, ℕ, List, length, OnOk, OnErr};
 ghost use Rattle.std.specs.Prelude.{codes};
 ghost use Rattle.yasir_io.specs.Causes.{HasCause};

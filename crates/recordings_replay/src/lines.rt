@@ -1,3 +1,4 @@
+//! The text of the line of a numbered frame.
 ghost use Rattle.std.specs.Prelude.{◌≡◌, ◌≤◌, [], length};
 ghost use Rattle.recordings_replay.specs.Listing.{numbered_line};
 
@@ -6,7 +7,7 @@ use replay_status::{Line, push_decimal};
 use yasir_ticks::push_digits;
 
 /// Writes `NAME N at S HEX` into an empty line: the bytes of a frame, its number, and the tick of
-/// its first byte. The line is the caller's, since one that is answered is copied.
+/// its first byte. The line is the caller's, since one that is returned is copied.
 pub(crate) fn write_numbered_line(line: &mut Line, name: &[u8], head: Numbered, bytes: &[u8])
     requires empty { line.old.items ≡ [] }
     requires name { length name.now ≤ 6 }

@@ -1,3 +1,4 @@
+//! The whole text of `replay`, printed once the input has ended well.
 ghost use Rattle.std.specs.Prelude.{◌≡◌, ◌⊎◌, OnOk, OnErr};
 ghost use Rattle.yasir_io.specs.Causes.{HasCause};
 ghost use Rattle.yasir_io.specs.TextBuffer.{waiting_bytes};

@@ -5,6 +5,7 @@ pub mod Listing
 pub mod HeardRuns
 pub mod Runs
 pub mod Listed
+pub mod Comparing
 pub mod TakenLines
 pub mod InPlace
 pub mod Parted

@@ -1,8 +1,8 @@
 -- The parts of some items, with the ticks of a run more.
 use Rattle.std.proofs.Common.{◌≡◌, ◌∙◌, ◌≤◌, ℕ, zero, suc, List, [], ◌∷◌, ◌++◌, map, take, refl, ap, sym}
-use Rattle.std.proofs.Common.{arith}
+use Rattle.std.proofs.Common.{append-nil, arith}
 use Rattle.std.proofs.lemmas.List.{take-map}
-use Rattle.yasir_ticks.specs.Ticks.{Item, marks_in}
+use Rattle.yasir_ticks.specs.Ticks.{Item, marks_in, silent}
 use Rattle.yasir_ticks.specs.Ticks.Item.{tick, mark}
 use Rattle.yasir_ticks.specs.TickRun.{run_ticks, run_items}
 use Rattle.yasir_ticks.specs.declared.tick.Tick.{Tick}
@@ -11,7 +11,8 @@ use Rattle.yasir_ticks.proofs.TickRuns.{items_of_ticks}
 use Rattle.tick_lists.specs.Parts.{part}
 use Rattle.tick_lists.specs.Places.{place_after}
 use Rattle.tick_lists.specs.declared.tick_lists.Place.TheVariants as place
-use Rattle.tick_lists.proofs.Parting.{place-none}
+use Rattle.tick_lists.proofs.Parting.{marks-mark, part-mark, place-none}
+use Rattle.replay_lists.specs.SessionLists.{link_of, rest_after}
 
 part-all : (ticks : List Tick) → part 0 (map tick ticks) ≡ ticks
 part-all [] = refl
@@ -41,6 +42,13 @@ run-there (suc n) (tick u ∷ items) ticks differ = run-there (suc n) items tick
 run-there zero (mark ∷ items) ticks differ = refl
 run-there (suc n) (mark ∷ items) ticks differ =
     run-there n items ticks (λ same. differ (ap suc same))
+
+-- a part that hasn't begun
+pub part-empty : (n : ℕ) (items : List Item) → suc (marks_in items) ≤ n → part n items ≡ []
+part-empty zero items few = absurd (omega (arith, few))
+part-empty (suc n) [] few = refl
+part-empty (suc n) (tick u ∷ items) few = part-empty (suc n) items few
+part-empty (suc n) (mark ∷ items) few = part-empty n items (omega (arith, few))
 
 no-mark : (ticks : List Tick) → marks_in (map tick ticks) ≡ 0
 no-mark [] = refl
@@ -96,3 +104,45 @@ marks-many zero is = cc
 marks-many (suc zero) is = cc
 marks-many (suc (suc zero)) is = cc
 marks-many (suc (suc (suc k))) is = omega arith
+
+-- ---- the link, and its silence
+
+rest-same : (rest m : ℕ) → (m ≡ 1 → ⊥) → rest_after rest (suc m) ≡ rest_after rest m
+rest-same rest zero differ = refl
+rest-same rest (suc zero) differ = absurd (differ refl)
+rest-same rest (suc (suc m)) differ = refl
+
+module _ (rest : ℕ) (items : List Item) where
+  link-open : marks_in items ≡ 1 → link_of rest items ≡ part 1 items
+  link-open one = ap (λ l. part 1 items ++ l) (ap (rest_after rest) one) ∙ append-nil (part 1 items)
+
+  pub link-mark : (marks_in items ≡ 1 → ⊥) → link_of rest (items ++ mark ∷ []) ≡ link_of rest items
+  link-mark differ =
+      ap (λ l. l ++ rest_after rest (marks_in (items ++ mark ∷ []))) (part-mark 1 items)
+      ∙ ap (λ l. part 1 items ++ l)
+      (ap (rest_after rest) (marks-mark items) ∙ rest-same rest (marks_in items) differ)
+
+  pub link-ends : marks_in items ≡ 1
+      → link_of rest (items ++ mark ∷ []) ≡ link_of rest items ++ silent rest
+  link-ends one =
+      ap (λ l. l ++ rest_after rest (marks_in (items ++ mark ∷ []))) (part-mark 1 items)
+      ∙ ap (λ l. part 1 items ++ l)
+      (ap (rest_after rest) (marks-mark items ∙ ap suc one))
+      ∙ ap (λ l. l ++ silent rest) (sym (link-open one))
+
+  module _ (run : TickRun) (k : ℕ) where
+    abbrev now : List Item
+    now = items ++ take k (run_items run)
+
+    pub link-there : (marks_in items ≡ 1 → ⊥) → link_of rest now ≡ link_of rest items
+    link-there differ =
+        ap (λ l. l ++ rest_after rest (marks_in now)) (front-there items run k 1 differ)
+        ∙ ap (λ m. part 1 items ++ rest_after rest m) (front-marks items run k)
+
+    pub link-here : marks_in items ≡ 1
+        → link_of rest now ≡ link_of rest items ++ take k (run_ticks run)
+    link-here one =
+        ap (λ l. part 1 now ++ l) (ap (rest_after rest) (front-marks items run k ∙ one))
+        ∙ append-nil (part 1 now)
+        ∙ front-here items run k 1 one
+        ∙ ap (λ l. l ++ take k (run_ticks run)) (sym (link-open one))

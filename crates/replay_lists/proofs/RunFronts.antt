@@ -4,11 +4,8 @@ use Rattle.std.proofs.Common.{arith}
 use Rattle.std.proofs.lemmas.List.{length-take-le}
 use Rattle.yasir_ticks.specs.declared.tick.Tick.{Tick}
 use Rattle.link_format.specs.Setup.{Setup}
-use Rattle.device_model.specs.declared.device.Device.{Ghosts as Device}
 use Rattle.replay_lists.specs.FrameBox.{AnswersFrameRun}
-use Rattle.replay_lists.specs.FrameList.{list_len}
-use Rattle.replay_lists.specs.Lines.{GoesOn, TakesOn, HearsOn}
-use Rattle.replay_lists.specs.ReplayLists.{Listens}
+use Rattle.replay_lists.specs.Lines.{GoesOn, TakesOn}
 use Rattle.replay_lists.specs.declared.frame_box.FrameBox.{Ghosts as FrameBox}
 use Rattle.replay_lists.specs.declared.frame_box.Numbered.{Numbered}
 use Rattle.replay_lists.specs.declared.frame_list.FrameList.{FrameList}
@@ -33,27 +30,13 @@ passes-on box old new list ticks answer n within counts stands answers =
     }
 
 -- none was taken, and then one alone
-pub one-on : {O S K : Type 0} (taken : S → ℕ)
-    (keeps : O → S → FrameList K → List Tick → Type 0) (a b c : S) (x y z : FrameList K)
-    (ticks rest : List Tick) (t : Tick) (n : ℕ) → n ≤ 0 → ticks ≡ t ∷ rest
-    → GoesOn taken keeps a b x y (take n ticks) → GoesOn taken keeps b c y z (t ∷ [])
-    → GoesOn taken keeps a c x z (take 1 ticks)
-one-on taken keeps a b c x y z ticks rest t n few is none then =
+pub one-on : {O S L : Type 0} (taken : S → ℕ) (size : L → ℕ)
+    (keeps : O → S → L → List Tick → Type 0) (a b c : S) (x y z : L) (ticks rest : List Tick) (t : Tick) (n : ℕ) → n ≤ 0 → ticks ≡ t ∷ rest
+    → GoesOn taken size keeps a b x y (take n ticks) → GoesOn taken size keeps b c y z (t ∷ [])
+    → GoesOn taken size keeps a c x z (take 1 ticks)
+one-on taken size keeps a b c x y z ticks rest t n few is none then =
     let zero_is : n ≡ 0 = omega (arith, few) in
-    let first : GoesOn taken keeps a b x y [] =
-    subst (λ k. GoesOn taken keeps a b x y (take k ticks)) zero_is none in
-    subst (GoesOn taken keeps a c x z) (sym (ap (λ l. take 1 l) is))
-    (goes-then taken keeps a b c x y z [] (t ∷ []) first then)
-
--- a device has heard some ticks, up to one in which it reads a frame
-pub hears-on : {V : Type 0} (device : Device V) (old new : V) (before after : FrameList ℕ)
-    (ticks : List Tick) (n : ℕ) → length ticks ≡ n → device.taken new ≡ device.taken old + n
-    → list_len after ≤ list_len before + n
-    → ((line : List Tick) → Listens device old before line
-    → Listens device new after (line ++ ticks))
-    → HearsOn device old new before after ticks
-hears-on device old new before after ticks n long counts few ok = record {
-  counted = omega (arith, counts, long);
-  few = omega (arith, few, long);
-  kept = λ origin line listens. ok line listens;
-}
+    let first : GoesOn taken size keeps a b x y [] =
+    subst (λ k. GoesOn taken size keeps a b x y (take k ticks)) zero_is none in
+    subst (GoesOn taken size keeps a c x z) (sym (ap (λ l. take 1 l) is))
+    (goes-then taken size keeps a b c x y z [] (t ∷ []) first then)

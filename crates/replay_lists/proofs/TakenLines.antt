@@ -9,26 +9,31 @@ use Rattle.yasir_ticks.specs.declared.tick.Tick.TheVariants.{Silent}
 use Rattle.replay_lists.specs.FrameBox.{kept_frames}
 use Rattle.replay_lists.specs.FrameList.{Holds, list_len}
 use Rattle.link_format.specs.Setup.{Setup}
+use Rattle.link_format.specs.NumberedFrame.{NumberedFrame}
+use Rattle.device_model.specs.Frames.{FrameRead}
 use Rattle.device_model.specs.declared.device.Device.{Ghosts as Device}
+use Rattle.replay_lists.specs.Comparison.{Compares, Found, expected_reads}
 use Rattle.replay_lists.specs.Lines.{GoesOn, TakesOn, HearsOn}
-use Rattle.replay_lists.specs.ReplayLists.{KeepsFrames, StepsInto, Listens, kept_reads}
+use Rattle.replay_lists.specs.ReplayLists.{KeepsFrames, StepsInto}
+use Rattle.replay_lists.specs.declared.comparison.Comparison.{Comparison}
 use Rattle.replay_lists.specs.declared.frame_box.FrameBox.{Ghosts as FrameBox}
 use Rattle.replay_lists.specs.declared.frame_box.Numbered.{Numbered}
 use Rattle.replay_lists.specs.declared.frame_list.FrameList.{FrameList}
 use Rattle.replay_lists.proofs.HeardRuns.{silent_on}
 
-module _ {O S K : Type 0} (taken : S → ℕ) (keeps : O → S → FrameList K → List Tick → Type 0) where
-  abbrev On : S → S → FrameList K → FrameList K → List Tick → Type 0
-  On = GoesOn taken keeps
+module _ {O S L : Type 0} (taken : S → ℕ) (size : L → ℕ)
+    (keeps : O → S → L → List Tick → Type 0) where
+  abbrev On : S → S → L → L → List Tick → Type 0
+  On = GoesOn taken size keeps
 
-  pub goes-nowhere : (value : S) (list : FrameList K) → On value value list list []
+  pub goes-nowhere : (value : S) (list : L) → On value value list list []
   goes-nowhere value list = record {
     counted = omega arith;
     few = omega arith;
     kept = λ origin line keep. subst (keeps origin value list) (sym (append-nil line)) keep;
   }
 
-  module _ (a b c : S) (x y z : FrameList K) where
+  module _ (a b c : S) (x y z : L) where
     pub goes-then : (first second : List Tick) → On a b x y first → On b c y z second
         → On a c x z (first ++ second)
     goes-then first second on then =
@@ -54,7 +59,7 @@ module _ {O S K : Type 0} (taken : S → ℕ) (keeps : O → S → FrameList K �
     goes-silent n on then =
         subst (On a c x z) (silent_on [] n 1) (goes-then (silent n) (Silent ∷ []) on then)
 
--- ---- a step of a box, and one of a device
+-- ---- a step of a box, and some ticks at a device
 
 pub box-tick : {B : Type 0} (box : FrameBox B) (old new : B) (before after : FrameList Numbered)
     (t tick : Tick) → box.taken new ≡ box.taken old + 1 → list_len after ≤ list_len before + 1
@@ -67,16 +72,30 @@ box-tick box old new before after t tick taken few ok = record {
   kept = λ setup line keep. (ok setup line keep).keeps;
 }
 
-pub device-tick : {V : Type 0} (device : Device V) (old new : V) (before after : FrameList ℕ)
-    (t : Tick) → device.taken new ≡ device.taken old + 1 → list_len after ≤ list_len before + 1
-    → ((line : List Tick) → Listens device old before line
-    → Listens device new after (line ++ t ∷ []))
-    → HearsOn device old new before after (t ∷ [])
-device-tick device old new before after t taken few ok = record {
-  counted = taken;
-  few = few;
-  kept = λ origin line keep. ok line keep;
-}
+pub hears-lent : {V : Type 0} (device : Device V) (late : ℕ) (passed : FrameList Numbered)
+    (old new : V) (before after : Comparison) (more : List Tick) (frames : List FrameRead)
+    → device.taken new ≡ device.taken old + length more
+    → after.read ≤ before.read + length more
+    → ((line : List Tick) → device.stands old line → device.stands new (line ++ more))
+    → ((line : List Tick) → device.stands old line
+    → device.reads (line ++ more) ≡ device.reads line ++ frames)
+    → ((passed_ones : List NumberedFrame) (reads : List FrameRead)
+    → Holds passed (kept_frames passed_ones)
+    → Found before (expected_reads late passed_ones) reads
+    → Found after (expected_reads late passed_ones) (reads ++ frames))
+    → HearsOn device late passed old new before after more
+hears-lent device late passed old new before after more frames counts few stands answer found =
+    record {
+      counted = counts;
+      few = few;
+      kept = λ passed_ones line compares holds.
+          let heard = compares holds in record {
+            hears = stands line heard.hears;
+            found = subst (Found after (expected_reads late passed_ones))
+                (sym (answer line heard.hears))
+                (found passed_ones (device.reads line) holds heard.found);
+          };
+    }
 
 -- ---- before the first tick
 
@@ -88,10 +107,10 @@ keeps-none box value list setup stands nothing holds = record {
   holds = subst (λ l. Holds list (kept_frames l)) (sym nothing) holds;
 }
 
-pub listens-none : {V : Type 0} (device : Device V) (value : V) (list : FrameList ℕ)
-    → device.stands value [] → device.reads [] ≡ [] → Holds list []
-    → Listens device value list []
-listens-none device value list stands nothing holds = record {
+pub compares-none : {V : Type 0} (device : Device V) (value : V) (comparison : Comparison)
+    (expected : List FrameRead) → device.stands value [] → device.reads [] ≡ []
+    → Found comparison expected [] → Compares device value comparison expected []
+compares-none device value comparison expected stands nothing found = record {
   hears = stands;
-  holds = subst (λ l. Holds list (kept_reads l)) (sym nothing) holds;
+  found = subst (Found comparison expected) (sym nothing) found;
 }

@@ -2,6 +2,7 @@ pub mod FrameList
 pub mod FrameBox
 pub mod Recordings
 pub mod ReplayLists
+pub mod Comparison
 pub mod Lines
 pub mod Places
 pub mod Listed

@@ -1,41 +1,45 @@
--- What is listed of three recordings of a session in an input.
-use Rattle.std.specs.Prelude.{◌≡◌, ℕ, ◌+◌, ◌≤◌, List, [], ◌++◌, Option}
+-- What is listed of three recordings of a session.
+use Rattle.std.specs.Prelude.{◌≡◌, ℕ, ◌+◌, ◌<◌, ◌≤◌, ◌^◌, List, [], ◌++◌, Option}
 use Rattle.yasir_ticks.specs.Ticks.{Item, silent}
+use Rattle.yasir_ticks.specs.declared.tick.Tick.{Tick}
 use Rattle.device_model.specs.declared.device.Device.{Ghosts as Device}
-use Rattle.tick_drive.specs.Input.{Takes, IsWhole, max_ticks}
+use Rattle.tick_drive.specs.Input.{Takes, IsWhole}
 use Rattle.tick_drive.specs.declared.end.End.{End}
 use Rattle.tick_drive.specs.declared.end.End.TheVariants.{Whole}
 use Rattle.tick_lists.specs.Parts.{part}
 use Rattle.tick_lists.specs.declared.tick_lists.Place.TheVariants.{First}
-use Rattle.replay_lists.specs.SessionLists.{HasSession, IsOpen, Setups, session_taken}
+use Rattle.replay_lists.specs.SessionLists.{HasSession, IsOpen, Setups, all_rests, boxes_taken}
+use Rattle.replay_lists.specs.SessionLists.{session_taken}
 use Rattle.replay_lists.specs.declared.frame_box.FrameBox.{Ghosts as FrameBox}
 use Rattle.replay_lists.specs.declared.session_lists.SessionLists.{SessionLists}
-use Rattle.replay_lists.specs.declared.session_lists.Rests.{Rests}
-
--- how many silent ticks there are behind all three
-abbrev pub all_rests : Rests → ℕ
-all_rests rests = rests.sent + rests.link + rests.received
 
 module _ {S C V : Type 0} (s : FrameBox S) (c : FrameBox C) (v : Device V) where
   -- Lists that have taken no item, set up somehow.
   pub record MayListSession (lists : SessionLists S C V) : Type 0 where
-    pub none : session_taken s c v lists ≡ 0
+    pub none : boxes_taken s c v lists ≡ 0
     pub able : IsOpen s c v lists
     pub first : lists.place ≡ First
+    pub short : all_rests lists.timing ≤ 1000
+    pub nothing : v.reads [] ≡ []
     pub setups : Setups
     pub has : HasSession s c v lists setups [] [] []
 
+  -- The lists are those of these recordings, each with its silence behind it.
+  pub record ListsLines (old new : SessionLists S C V) (device link received : List Tick) :
+      Type 0 where
+    pub has : (setups : Setups) → HasSession s c v old setups [] [] []
+        → HasSession s c v new setups (device ++ silent setups.timing.sent_rest)
+        (link ++ silent setups.timing.link_rest) (received ++ silent setups.timing.received_rest)
+    pub able : IsOpen s c v new
+    pub few : session_taken s c v new < 2 ^ 32
+
   -- The input is a whole text with two marks. The lists are those of the three recordings that
-  -- these part, each with its silence behind it.
-  pub record ListsThree (rests : Rests) (old new : SessionLists S C V)
-      (before now : Option (List ℕ)) : Type 0 where
+  -- these part.
+  pub record ListsThree (old new : SessionLists S C V) (before now : Option (List ℕ)) :
+      Type 0 where
     pub items : List Item
     pub takes : IsWhole 2 0 before now items
-    pub has : (setups : Setups) → HasSession s c v old setups [] [] []
-        → HasSession s c v new setups (part 0 takes.told ++ silent rests.sent)
-        (part 1 takes.told ++ silent rests.link) (part 2 takes.told ++ silent rests.received)
-    pub able : IsOpen s c v new
-    pub few : session_taken s c v new ≤ max_ticks + all_rests rests
+    pub lists : ListsLines old new (part 0 takes.told) (part 1 takes.told) (part 2 takes.told)
 
   -- What was taken of the input as the listing ended so; where it didn't end well the lists are of
   -- no use.
@@ -43,7 +47,7 @@ module _ {S C V : Type 0} (s : FrameBox S) (c : FrameBox C) (v : Device V) where
     pub items : List Item
     pub takes : Takes 2 0 before now items end
 
-  abbrev pub ListsSession : Rests → SessionLists S C V → SessionLists S C V → Option (List ℕ)
+  abbrev pub ListsSession : SessionLists S C V → SessionLists S C V → Option (List ℕ)
       → Option (List ℕ) → End → Type 0
-  ListsSession rests old new before now Whole = ListsThree rests old new before now
-  ListsSession rests old new before now end = EndsThree before now end
+  ListsSession old new before now Whole = ListsThree old new before now
+  ListsSession old new before now end = EndsThree before now end

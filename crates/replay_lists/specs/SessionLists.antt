@@ -1,52 +1,102 @@
--- What is kept of three recordings of a session.
-use Rattle.std.specs.Prelude.{◌≡◌, ℕ, ◌+◌, ◌≤◌, List, ⊤}
-use Rattle.yasir_ticks.specs.Ticks.{Item, marks_in}
+-- What is kept of three recordings of a session, and what is found of the third.
+use Rattle.std.specs.Prelude.{◌≡◌, ℕ, zero, suc, ◌+◌, ◌≤◌, List, [], ◌++◌, ⊤}
+use Rattle.yasir_ticks.specs.Ticks.{Item, marks_in, silent}
 use Rattle.yasir_ticks.specs.declared.tick.Tick.{Tick}
 use Rattle.link_format.specs.Setup.{Setup}
+use Rattle.device_model.specs.Frames.{FrameRead}
 use Rattle.device_model.specs.declared.device.Device.{Ghosts as Device}
 use Rattle.tick_drive.specs.Consumers.{Consuming}
 use Rattle.tick_drive.specs.declared.consumer.Stop.TheVariants.{NoMemory}
 use Rattle.tick_lists.specs.Parts.{part}
 use Rattle.tick_lists.specs.Places.{place_after}
+use Rattle.tick_lists.specs.declared.tick_lists.Place.{Place}
+use Rattle.tick_lists.specs.declared.tick_lists.Place.TheVariants as place
+use Rattle.replay_lists.specs.Comparison.{Compares, expected_reads}
 use Rattle.replay_lists.specs.FrameList.{list_len}
-use Rattle.replay_lists.specs.ReplayLists.{KeepsFrames, Listens}
+use Rattle.replay_lists.specs.ReplayLists.{KeepsFrames}
 use Rattle.replay_lists.specs.declared.frame_box.FrameBox.{Ghosts as FrameBox}
 use Rattle.replay_lists.specs.declared.session_lists.SessionLists.{SessionLists}
+use Rattle.replay_lists.specs.declared.session_lists.Timing.{Timing}
 
--- how the two boxes of a session are set up
+-- how the two boxes of a session are set up, and the ticks that are waited for
 pub record Setups : Type 0 where
   pub sent : Setup
   pub got : Setup
+  pub timing : Timing
+
+-- how many silent ticks there are behind all three
+abbrev pub all_rests : Timing → ℕ
+all_rests timing = timing.sent_rest + timing.link_rest + timing.received_rest
+
+-- The link is ended by the second mark, and its silence stands behind it from there on.
+abbrev pub rest_after : ℕ → ℕ → List Tick
+rest_after rest zero = []
+rest_after rest (suc zero) = []
+rest_after rest (suc (suc more)) = silent rest
+
+-- what the receiver has taken of these items
+abbrev pub link_of : ℕ → List Item → List Tick
+link_of rest items = part 1 items ++ rest_after rest (marks_in items)
+
+-- how many ticks of the link's silence are still to come
+abbrev pub rest_left : ℕ → Place → ℕ
+rest_left rest place.First = rest
+rest_left rest place.Second = rest
+rest_left rest place.Third = 0
+rest_left rest place.None = 0
 
 module _ {S C V : Type 0} (s : FrameBox S) (c : FrameBox C) (v : Device V) where
-  -- The lists hold what is sealed of this line of a device, what passes of this link, and what is
-  -- read of this line.
+  -- the frames that are to be read where this link has passed
+  abbrev pub expected_of : Setups → List Tick → List FrameRead
+  expected_of setups link =
+      expected_reads setups.timing.late ((c.numbering setups.got).frames link)
+
+  -- The lists hold what is sealed of this line of a device, and what passes of this link; and what
+  -- is read of this line was compared with what has passed.
   pub record HasSession (lists : SessionLists S C V) (setups : Setups)
       (device link received : List Tick) : Type 0 where
     pub seals : KeepsFrames s lists.sealer lists.sealed setups.sent device
     pub passes : KeepsFrames c lists.checker lists.passed setups.got link
-    pub reads : Listens v lists.device lists.read received
+    pub reads : Compares v lists.device lists.read (expected_of setups link) received
+    pub timing_is : lists.timing ≡ setups.timing
 
   -- The boxes and the device have taken these items, each its part. Behind a third mark the device
   -- hears what is no part of the three.
   pub record TakesParts (lists : SessionLists S C V) (setups : Setups) (items : List Item) :
       Type 0 where
     pub seals : KeepsFrames s lists.sealer lists.sealed setups.sent (part 0 items)
-    pub passes : KeepsFrames c lists.checker lists.passed setups.got (part 1 items)
-    pub reads : marks_in items ≤ 2 → Listens v lists.device lists.read (part 2 items)
+    pub passes : KeepsFrames c lists.checker lists.passed setups.got
+        (link_of setups.timing.link_rest items)
+    pub reads : marks_in items ≤ 2
+        → Compares v lists.device lists.read
+        (expected_of setups (link_of setups.timing.link_rest items)) (part 2 items)
+    pub nothing : v.reads [] ≡ []
     pub place_is : lists.place ≡ place_after (marks_in items)
+    pub timing_is : lists.timing ≡ setups.timing
 
   -- how many ticks were taken of all recordings
-  abbrev pub session_taken : SessionLists S C V → ℕ
-  session_taken lists = s.taken lists.sealer + c.taken lists.checker + v.taken lists.device
+  abbrev pub boxes_taken : SessionLists S C V → ℕ
+  boxes_taken lists = s.taken lists.sealer + c.taken lists.checker + v.taken lists.device
 
-  -- Both boxes may take a tick, and each list has a frame a tick at most.
+  -- and with them the link's silence, which may be to come
+  abbrev pub session_taken : SessionLists S C V → ℕ
+  session_taken lists = boxes_taken lists + rest_left lists.timing.link_rest lists.place
+
+  -- The receiver has taken some link, and the list holds the frames that passed.
+  pub record HoldsPassed (lists : SessionLists S C V) : Type 0 where
+    pub setup : Setup
+    pub link : List Tick
+    pub passes : KeepsFrames c lists.checker lists.passed setup link
+
+  -- Both boxes may take a tick, each list has a frame a tick at most, and no more frames were read
+  -- than ticks heard.
   pub record IsOpen (lists : SessionLists S C V) : Type 0 where
     pub sealer : s.able lists.sealer
     pub checker : c.able lists.checker
     pub few_sealed : list_len lists.sealed ≤ s.taken lists.sealer
     pub few_passed : list_len lists.passed ≤ c.taken lists.checker
-    pub few_read : list_len lists.read ≤ v.taken lists.device
+    pub few_read : lists.read.read ≤ v.taken lists.device
+    pub holds : HoldsPassed lists
 
   -- What is said of such a consumer: it stops only where there is no memory, and writes nothing.
   abbrev pub parting : Consuming (SessionLists S C V)

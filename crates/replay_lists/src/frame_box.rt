@@ -1,3 +1,4 @@
+//! What a recording asks of a box: the frames that it seals or passes, with their bytes.
 ghost use Rattle.std.specs.Prelude.{◌≡◌, ℕ, ◌+◌, ◌<◌, ◌≤◌, List, [], ◌∷◌, ◌++◌, length};
 ghost use Rattle.std.specs.Prelude.{map, take};
 ghost use Rattle.yasir_ticks.specs.Ticks.{silent};

@@ -1,3 +1,4 @@
+//! Frames kept in memory, all their bytes in one buffer.
 ghost use Rattle.std.specs.Prelude.{◌≡◌, ◌+◌, ◌<◌, ◌≤◌, ◌-◌, take, drop, List, [], ◌∷◌, ◌++◌};
 ghost use Rattle.std.specs.Prelude.{length, OnOk, slice_index_or};
 ghost use Rattle.replay_lists.specs.FrameList.{Kept, Holds, IsWhole, list_len, longest_frame};

@@ -2,14 +2,16 @@
 ghost use Rattle.std.specs.Prelude.{◌+◌, ◌<◌, ◌≤◌, [], ◌∷◌, length, take, IfOk, OnOk};
 ghost use Rattle.yasir_ticks.specs.TickRun.{run_ticks};
 ghost use Rattle.yasir_ticks.specs.declared.TheConstants.{MAX_TICKS};
+ghost use Rattle.replay_lists.specs.FrameList.{IsWhole};
 ghost use Rattle.replay_lists.specs.Lines.{TakesOn, HearsOn};
 
+use crate::comparison::{Comparison, Passed};
 use crate::frame_box::{FrameBox, Numbered};
 use crate::frame_list::FrameList;
-use crate::hearing::{hear_some, wait_some};
+use crate::lines::take_lent;
 use crate::replay_lists::{pass_run, step_into};
 use burst_walk::RunBytes;
-use device_model::Device;
+use device_model::{LendingDevice, hear_run_on};
 use yasir_io::NoMemory;
 use yasir_ticks::{Tick, TickRun};
 
@@ -61,28 +63,24 @@ pub(crate) fn take_front<B: FrameBox>(
 }
 
 /// A device hears the first ticks of this run, up to the first one in which it reads a frame, which
-/// is kept. Answers how many.
+/// is compared. Answers how many.
 #[inline(always)]
-pub(crate) fn hear_front<V: Device>(
+pub(crate) fn hear_front<V: LendingDevice>(
     device: &mut V,
-    frames: &mut FrameList<u64>,
+    read: &mut Comparison,
+    passed: Passed<'_>,
     run: TickRun<'_>,
-) -> Result<usize, NoMemory>
+) -> usize
     requires some { 0 < length (run_ticks run) }
     requires room { V.taken device.old + length (run_ticks run) ≤ MAX_TICKS }
-    ensures some { IfOk result (λ n. 0 < n) }
-    ensures within { IfOk result (λ n. n ≤ length (run_ticks run.entry)) }
-    ensures hears { IfOk result (λ n. HearsOn V.Device device.old device.new frames.old
-        frames.new (take n (run_ticks run.entry))) }
+    requires few { read.old.read ≤ V.taken device.old }
+    requires whole { IsWhole passed.frames.now }
+    ensures some { 0 < result }
+    ensures within { result ≤ length (run_ticks run.entry) }
+    ensures hears { HearsOn V.Device passed.entry.late passed.entry.frames.now device.old
+        device.new read.old read.new (take result (run_ticks run.entry)) }
 {
-    match run {
-        TickRun::Bytes(bytes) => match hear_some(device, frames, bytes) {
-            Ok(count) => Ok(count),
-            Err(NoMemory) => Err(NoMemory),
-        },
-        TickRun::Silence(ticks) => match wait_some(device, frames, ticks as usize) {
-            Ok(count) => Ok(count),
-            Err(NoMemory) => Err(NoMemory),
-        },
-    }
+    let met = hear_run_on(device, run);
+    take_lent(device, met.start, read, passed);
+    met.taken
 }

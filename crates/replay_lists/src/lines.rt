@@ -1,26 +1,25 @@
-//! What a box or a device makes of a line in memory.
-ghost use Rattle.std.specs.Prelude.{◌≡◌, ◌+◌, ◌<◌, ◌≤◌, ◌++◌, length, take, IfOk, OnOk};
+//! A box takes ticks one by one, and its frames are kept; a device hears them, and what it reads is
+//! compared with what has passed.
+ghost use Rattle.std.specs.Prelude.{◌≡◌, ◌+◌, ◌<◌, ◌≤◌, ◌++◌, [], ◌∷◌, List, length, take, OnOk};
 ghost use Rattle.yasir_ticks.specs.Ticks.{silent};
 ghost use Rattle.yasir_ticks.specs.declared.TheConstants.{MAX_TICKS};
-ghost use Rattle.link_format.specs.Setup.{setup_of};
-ghost use Rattle.sequence_journal.specs.declared.numbers.TheConstants.{LIMIT};
+ghost use Rattle.device_model.specs.Frames.{FrameRead, frames_lent};
+ghost use Rattle.link_format.specs.NumberedFrame.{NumberedFrame};
+ghost use Rattle.replay_lists.specs.Comparison.{Found, expected_reads};
 ghost use Rattle.replay_lists.specs.FrameBox.{kept_frames};
-ghost use Rattle.replay_lists.specs.FrameList.{Holds, list_len};
+ghost use Rattle.replay_lists.specs.FrameList.{Holds, IsWhole};
 ghost use Rattle.replay_lists.specs.Lines.{TakesOn, HearsOn};
-ghost use Rattle.replay_lists.specs.ReplayLists.{kept_reads};
 
+use crate::comparison::{Comparison, Passed, Read};
 use crate::frame_box::{FrameBox, Numbered};
 use crate::frame_list::FrameList;
-use crate::hearing::hear_silence;
-use crate::replay_lists::{hear_into, step_into};
-use device_model::Device;
-use hmac_tag::Dir;
-use std::alloc::Global;
+use crate::replay_lists::step_into;
+use device_model::LendingDevice;
 use yasir_io::NoMemory;
 use yasir_ticks::Tick;
 
 // A box takes these ticks, and its frames are kept.
-fn take_line<B: FrameBox>(
+pub(crate) fn take_line<B: FrameBox>(
     line_box: &mut B,
     frames: &mut FrameList<Numbered>,
     line: &[Tick],
@@ -59,70 +58,82 @@ pub(crate) fn take_silence<B: FrameBox>(
     Ok(())
 }
 
-// A device hears these ticks, and what it reads is kept.
-fn hear_line<V: Device>(
-    device: &mut V,
-    frames: &mut FrameList<u64>,
-    line: &[Tick],
-) -> Result<(), NoMemory>
-    requires { V.taken device.old + length line.now ≤ MAX_TICKS }
-    ensures { OnOk result (HearsOn V.Device device.old device.new frames.old frames.new line.now) }
+// Compares the frame that a device lends, if it has read one.
+#[inline]
+pub(crate) fn take_lent<V: LendingDevice>(
+    device: &V,
+    start: Option<u64>,
+    read: &mut Comparison,
+    passed: Passed<'_>,
+)
+    requires room { read.old.read < MAX_TICKS }
+    requires whole { IsWhole passed.frames.now }
+    ensures few { read.new.read ≤ read.old.read + 1 }
+    ensures found { (passed_ones : List NumberedFrame) (reads : List FrameRead)
+        → Holds passed.entry.frames.now (kept_frames passed_ones)
+        → Found read.old (expected_reads passed.entry.late passed_ones) reads
+        → Found read.new (expected_reads passed.entry.late passed_ones)
+        (reads ++ frames_lent start (V.lent device.now)) }
 {
-    for index in 0..line.len() {
-        if let Err(NoMemory) = hear_into(device, frames, line[index]) {
-            return Err(NoMemory);
+    match start {
+        None => {}
+        Some(start) => {
+            let bytes = device.frame_bytes();
+            read.take(passed, Read { start, bytes });
         }
     }
-    Ok(())
 }
 
-/// Lists the frames that a box, begun with this key, direction and floor, numbers of a line with so
-/// many silent ticks behind it: one a tick at most.
-pub fn list_frames<B: FrameBox>(
-    alloc: Global,
-    key: &[u8],
-    dir: Dir,
-    floor: u64,
-    line: &[Tick],
-    rest: u32,
-) -> Result<FrameList<Numbered>, NoMemory>
-    requires widths { B.widths_fit }
-    requires within { floor ≤ LIMIT }
-    requires room { length line.now + rest ≤ MAX_TICKS }
-    ensures holds { IfOk result (λ list. Holds list (kept_frames
-        ((B.numbering (setup_of key.now dir floor)).frames (line.now ++ silent rest)))) }
-    ensures few { IfOk result (λ list. list_len list ≤ length line.now + rest) }
+// A device hears one tick.
+#[inline]
+fn hear_tick<V: LendingDevice>(
+    device: &mut V,
+    read: &mut Comparison,
+    passed: Passed<'_>,
+    tick: Tick,
+)
+    requires room { V.taken device.old < MAX_TICKS }
+    requires few { read.old.read ≤ V.taken device.old }
+    requires whole { IsWhole passed.frames.now }
+    ensures { HearsOn V.Device passed.entry.late passed.entry.frames.now device.old device.new
+        read.old read.new (tick ∷ []) }
 {
-    let mut line_box = B::new(key, dir, floor);
-    let mut frames = FrameList::new(alloc);
-    let Ok(()) = take_line(&mut line_box, &mut frames, line) else {
-        return Err(NoMemory);
-    };
-    let Ok(()) = take_silence(&mut line_box, &mut frames, rest) else {
-        return Err(NoMemory);
-    };
-    Ok(frames)
+    let start = device.step_on(tick);
+    take_lent(device, start, read, passed);
 }
 
-/// Lists the frames that a device reads of a line with so many silent ticks behind it, each with
-/// the tick of its first byte: one a tick at most.
-pub fn list_reads<V: Device + Drop>(
-    alloc: Global,
+/// A device hears these ticks.
+pub(crate) fn hear_line<V: LendingDevice>(
+    device: &mut V,
+    read: &mut Comparison,
+    passed: Passed<'_>,
     line: &[Tick],
-    rest: u32,
-) -> Result<FrameList<u64>, NoMemory>
-    requires { length line.now + rest ≤ MAX_TICKS }
-    ensures holds { IfOk result (λ list. Holds list (kept_reads
-        (V.reads (line.now ++ silent rest)))) }
-    ensures few { IfOk result (λ list. list_len list ≤ length line.now + rest) }
+)
+    requires room { V.taken device.old + length line.now ≤ MAX_TICKS }
+    requires few { read.old.read ≤ V.taken device.old }
+    requires whole { IsWhole passed.frames.now }
+    ensures { HearsOn V.Device passed.entry.late passed.entry.frames.now device.old device.new
+        read.old read.new line.now }
 {
-    let mut device = V::fresh();
-    let mut frames = FrameList::new(alloc);
-    let Ok(()) = hear_line(&mut device, &mut frames, line) else {
-        return Err(NoMemory);
-    };
-    let Ok(()) = hear_silence(&mut device, &mut frames, rest as usize) else {
-        return Err(NoMemory);
-    };
-    Ok(frames)
+    for index in 0..line.len() {
+        hear_tick(device, read, passed, line[index]);
+    }
+}
+
+/// A device hears so many silent ticks.
+pub(crate) fn hear_rest<V: LendingDevice>(
+    device: &mut V,
+    read: &mut Comparison,
+    passed: Passed<'_>,
+    ticks: u32,
+)
+    requires room { V.taken device.old + ticks ≤ MAX_TICKS }
+    requires few { read.old.read ≤ V.taken device.old }
+    requires whole { IsWhole passed.frames.now }
+    ensures { HearsOn V.Device passed.entry.late passed.entry.frames.now device.old device.new
+        read.old read.new (silent ticks) }
+{
+    for _ in 0..ticks {
+        hear_tick(device, read, passed, Tick::Silent);
+    }
 }

@@ -1,3 +1,4 @@
+//! The frames of two recordings in one input, with silence behind each.
 ghost use Rattle.std.specs.Prelude.{◌≡◌, List, []};
 ghost use Rattle.yasir_io.specs.Flushed.{NoneFlushed};
 ghost use Rattle.tick_drive.specs.Input.{IsReadCause, is_read_fault};

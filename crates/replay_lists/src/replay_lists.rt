@@ -1,3 +1,4 @@
+//! The consumer that takes two recordings, and keeps the frames that are sealed, passed and read.
 ghost use Rattle.std.specs.Prelude.{◌≡◌, ℕ, ◌+◌, ◌<◌, ◌≤◌, List, [], ◌∷◌, ◌++◌, IfOk, OnOk, false};
 ghost use Rattle.std.specs.Prelude.{length, take};
 ghost use Rattle.yasir_ticks.specs.declared.tick.Tick.{Tick};

@@ -1,49 +1,66 @@
-ghost use Rattle.std.specs.Prelude.{◌≡◌, ◌+◌, ◌<◌, ◌≤◌, List, [], ◌++◌, OnOk, IfOk, length};
+//! Three recordings of a session: what is sealed and passed of the first two, and how the third
+//! compares with what has passed.
+ghost use Rattle.std.specs.Prelude.{◌≡◌, ℕ, ◌+◌, ◌<◌, ◌≤◌, List, [], ◌∷◌, ◌++◌, Ok, OnOk, IfOk};
+ghost use Rattle.std.specs.Prelude.{length};
 ghost use Rattle.yasir_ticks.specs.Ticks.{silent};
 ghost use Rattle.yasir_ticks.specs.TickRun.{run_ticks, run_items};
 ghost use Rattle.yasir_ticks.specs.declared.tick.Tick.{Tick};
 ghost use Rattle.yasir_ticks.specs.declared.TheConstants.{MAX_TICKS};
 ghost use Rattle.link_format.specs.Setup.{setup_of};
 ghost use Rattle.sequence_journal.specs.declared.numbers.TheConstants.{LIMIT};
-ghost use Rattle.tick_drive.specs.Consumers.{GivesFirst};
+ghost use Rattle.yasir_ticks.specs.Ticks.Item.{mark};
+ghost use Rattle.tick_drive.specs.Consumers.{Gives, GivesFirst};
+ghost use Rattle.tick_lists.specs.declared.tick_lists.Place.TheVariants.{First, Second};
+ghost use Rattle.replay_lists.specs.Comparison.{Found};
 ghost use Rattle.replay_lists.specs.FrameBox.{kept_frames};
 ghost use Rattle.replay_lists.specs.FrameList.{Holds, list_len};
-ghost use Rattle.replay_lists.specs.ReplayLists.{kept_reads};
 ghost use Rattle.replay_lists.specs.SessionLists.{Setups, HasSession, IsOpen, parting};
-ghost use Rattle.replay_lists.specs.SessionLists.{session_taken};
-ghost use Rattle.replay_lists.specs.SessionListed.{MayListSession, all_rests};
+ghost use Rattle.replay_lists.specs.SessionLists.{session_taken, all_rests, expected_of};
+ghost use Rattle.replay_lists.specs.SessionListed.{MayListSession};
 
+use crate::comparison::{Comparison, Passed};
 use crate::frame_box::{FrameBox, Numbered};
 use crate::frame_list::FrameList;
 use crate::fronts::{hear_front, take_front};
-use crate::hearing::hear_silence;
-use crate::lines::take_silence;
-use device_model::Device;
+use crate::lines::{hear_line, hear_rest, take_line, take_silence};
+use device_model::LendingDevice;
 use hmac_tag::Dir;
 use std::alloc::Global;
 use tick_drive::{Consumer, Stop};
 use tick_lists::Place;
 use yasir_io::NoMemory;
-use yasir_ticks::TickRun;
+use yasir_ticks::{Tick, TickRun};
 
 #[cfg(test)]
 mod turn_tests;
 
-/// How many silent ticks stand behind each of three recordings.
+/// The last numbers that the boxes of a session had used before it.
 #[derive(Clone, Copy, Debug, PartialEq, Eq)]
-pub struct Rests {
+pub struct Floors {
+    /// That the transmitter had used.
+    pub sent: u64,
+    /// That the receiver had passed.
+    pub got: u64,
+}
+
+/// How late a receiver is, and how many silent ticks stand behind each of three recordings.
+#[derive(Clone, Copy, Debug, PartialEq, Eq)]
+pub struct Timing {
+    /// How many ticks later a frame is read than it passed.
+    pub late: u64,
     /// Behind the line of the device that sends.
-    pub sent: u32,
+    pub sent_rest: u32,
     /// Behind the link.
-    pub link: u32,
+    pub link_rest: u32,
     /// Behind the line of the device that receives.
-    pub received: u32,
+    pub received_rest: u32,
 }
 
 /// Takes three recordings of a session that two marks part: the line of the device that sends,
 /// which a transmitter `S` takes, the link, which a receiver `C` takes, and the line of the device
-/// that receives, which a device `V` hears. It keeps the frames that are sealed, passed and read,
-/// and no tick, and writes nothing.
+/// that receives, which a device `V` hears. It keeps the frames that are sealed and passed. A frame
+/// that is read is compared with the one that has passed in its place, and let go. No tick is kept,
+/// and nothing is written.
 #[derive(Drop)]
 pub struct SessionLists<S, C, V> {
     sealer: S,
@@ -51,38 +68,42 @@ pub struct SessionLists<S, C, V> {
     device: V,
     sealed: FrameList<Numbered>,
     passed: FrameList<Numbered>,
-    read: FrameList<u64>,
+    read: Comparison,
     place: Place,
+    timing: Timing,
 }
 
-impl<S: FrameBox, C: FrameBox, V: Device + Drop> SessionLists<S, C, V> {
+impl<S: FrameBox, C: FrameBox, V: LendingDevice + Drop> SessionLists<S, C, V> {
     /// Lists of no frame, and boxes that have taken no tick, for a key of any length, a direction,
     /// and the floors of transmitter and receiver.
     pub fn new(
         alloc: Global,
         key: &[u8],
         dir: Dir,
-        sent_floor: u64,
-        got_floor: u64,
+        floors: Floors,
+        timing: Timing,
     ) -> SessionLists<S, C, V>
         requires sealer { S.widths_fit }
         requires checker { C.widths_fit }
-        requires sent { sent_floor ≤ LIMIT }
-        requires got { got_floor ≤ LIMIT }
+        requires sent { floors.sent ≤ LIMIT }
+        requires got { floors.got ≤ LIMIT }
+        requires short { all_rests timing ≤ 1000 }
         ensures has { HasSession S.FrameBox C.FrameBox V.Device result (record {
-          sent = setup_of key.now dir sent_floor;
-          got = setup_of key.now dir got_floor;
+          sent = setup_of key.now dir floors.sent;
+          got = setup_of key.now dir floors.got;
+          timing = timing;
         }) [] [] [] }
         ensures may_list { MayListSession S.FrameBox C.FrameBox V.Device result }
     {
         SessionLists {
-            sealer: S::new(key, dir, sent_floor),
-            checker: C::new(key, dir, got_floor),
+            sealer: S::new(key, dir, floors.sent),
+            checker: C::new(key, dir, floors.got),
             device: V::fresh(),
             sealed: FrameList::new(alloc),
             passed: FrameList::new(alloc),
-            read: FrameList::new(alloc),
+            read: Comparison::new(),
             place: Place::First,
+            timing,
         }
     }
 
@@ -106,10 +127,11 @@ impl<S: FrameBox, C: FrameBox, V: Device + Drop> SessionLists<S, C, V> {
                 Err(NoMemory) => Err(NoMemory),
             },
             Place::Third | Place::None => {
-                match hear_front(&mut self.device, &mut self.read, run) {
-                    Ok(count) => Ok(count),
-                    Err(NoMemory) => Err(NoMemory),
-                }
+                let passed = Passed {
+                    late: self.timing.late,
+                    frames: &self.passed,
+                };
+                Ok(hear_front(&mut self.device, &mut self.read, passed, run))
             }
         }
     }
@@ -136,44 +158,107 @@ impl<S: FrameBox, C: FrameBox, V: Device + Drop> SessionLists<S, C, V> {
         &self.passed
     }
 
-    /// The frames that were read, each with the tick of its first byte.
-    pub fn read(&self) -> &FrameList<u64>
+    /// What was found of the frames that were read.
+    pub fn read(&self) -> Comparison
         ensures few { IsOpen S.FrameBox C.FrameBox V.Device self.now
-            → list_len result.now ≤ session_taken S.FrameBox C.FrameBox V.Device self.now }
-        ensures frames { (setups : Setups) (device link received : List Tick)
+            → result.read ≤ session_taken S.FrameBox C.FrameBox V.Device self.now }
+        ensures found { (setups : Setups) (device link received : List Tick)
             → HasSession S.FrameBox C.FrameBox V.Device self.now setups device link received
-            → Holds result.now (kept_reads (V.reads received)) }
+            → Found result (expected_of S.FrameBox C.FrameBox V.Device setups link)
+            (V.reads received) }
     {
-        &self.read
+        self.read
     }
 
-    /// Takes silent ticks behind each recording.
-    pub fn rest(&mut self, rests: Rests) -> Result<(), NoMemory>
+    /// Takes three recordings from memory, and the link's silence.
+    pub(crate) fn take_lines(
+        &mut self,
+        device: &[Tick],
+        link: &[Tick],
+        received: &[Tick],
+    ) -> Result<(), NoMemory>
         requires room { session_taken S.FrameBox C.FrameBox V.Device self.old
-            + all_rests rests ≤ MAX_TICKS }
+            + length device.now + length link.now + length received.now ≤ MAX_TICKS }
+        requires first { self.old.place ≡ First }
+        requires able { IsOpen S.FrameBox C.FrameBox V.Device self.old }
+        requires nothing { V.reads [] ≡ [] }
+        ensures has { OnOk result ((setups : Setups)
+            → HasSession S.FrameBox C.FrameBox V.Device self.old setups [] [] []
+            → HasSession S.FrameBox C.FrameBox V.Device self.new setups device.now
+            (link.now ++ silent setups.timing.link_rest) received.now) }
+        ensures able { OnOk result (IsOpen S.FrameBox C.FrameBox V.Device self.new) }
+        ensures taken { OnOk result (session_taken S.FrameBox C.FrameBox V.Device self.new
+            ≡ session_taken S.FrameBox C.FrameBox V.Device self.old
+            + length device.now + length link.now + length received.now) }
+        ensures timing { OnOk result (self.new.timing ≡ self.old.timing) }
+    {
+        let Ok(()) = take_line(&mut self.sealer, &mut self.sealed, device) else {
+            return Err(NoMemory);
+        };
+        let Ok(()) = take_line(&mut self.checker, &mut self.passed, link) else {
+            return Err(NoMemory);
+        };
+        let Ok(()) = take_silence(&mut self.checker, &mut self.passed, self.timing.link_rest) else {
+            return Err(NoMemory);
+        };
+        self.place = Place::Third;
+        let passed = Passed {
+            late: self.timing.late,
+            frames: &self.passed,
+        };
+        hear_line(&mut self.device, &mut self.read, passed, received);
+        Ok(())
+    }
+
+    /// Takes the silent ticks behind the two lines of devices. Those behind the link were taken
+    /// before the last line began.
+    pub(crate) fn rest(&mut self) -> Result<(), NoMemory>
+        requires room { session_taken S.FrameBox C.FrameBox V.Device self.old
+            + all_rests self.old.timing ≤ MAX_TICKS }
         requires able { IsOpen S.FrameBox C.FrameBox V.Device self.old }
         ensures rests { OnOk result ((setups : Setups) (a b c : List Tick)
             → HasSession S.FrameBox C.FrameBox V.Device self.old setups a b c
-            → HasSession S.FrameBox C.FrameBox V.Device self.new setups (a ++ silent rests.sent)
-            (b ++ silent rests.link) (c ++ silent rests.received)) }
+            → HasSession S.FrameBox C.FrameBox V.Device self.new setups
+            (a ++ silent setups.timing.sent_rest) b (c ++ silent setups.timing.received_rest)) }
         ensures able { OnOk result (IsOpen S.FrameBox C.FrameBox V.Device self.new) }
         ensures taken { OnOk result (session_taken S.FrameBox C.FrameBox V.Device self.new
-            ≡ session_taken S.FrameBox C.FrameBox V.Device self.old + all_rests rests) }
+            ≤ session_taken S.FrameBox C.FrameBox V.Device self.old + all_rests self.old.timing) }
     {
-        let Ok(()) = take_silence(&mut self.sealer, &mut self.sealed, rests.sent) else {
+        let timing = self.timing;
+        let Ok(()) = take_silence(&mut self.sealer, &mut self.sealed, timing.sent_rest) else {
             return Err(NoMemory);
         };
-        let Ok(()) = take_silence(&mut self.checker, &mut self.passed, rests.link) else {
+        let passed = Passed {
+            late: timing.late,
+            frames: &self.passed,
+        };
+        hear_rest(
+            &mut self.device,
+            &mut self.read,
+            passed,
+            timing.received_rest,
+        );
+        Ok(())
+    }
+
+    // The link has ended: takes the silence behind it, so that all its frames have passed.
+    fn end_link(&mut self) -> Result<(), NoMemory>
+        requires room { session_taken S.FrameBox C.FrameBox V.Device self.old ≤ MAX_TICKS }
+        requires second { self.old.place ≡ Second }
+        requires able { IsOpen S.FrameBox C.FrameBox V.Device self.old }
+        ensures { OnOk result (Gives (parting S.FrameBox C.FrameBox V.Device) self.old self.new
+            (mark ∷ []) (Ok tt)) }
+    {
+        let rest = self.timing.link_rest;
+        let Ok(()) = take_silence(&mut self.checker, &mut self.passed, rest) else {
             return Err(NoMemory);
         };
-        match hear_silence(&mut self.device, &mut self.read, rests.received as usize) {
-            Ok(()) => Ok(()),
-            Err(NoMemory) => Err(NoMemory),
-        }
+        self.place = Place::Third;
+        Ok(())
     }
 }
 
-impl<S: FrameBox, C: FrameBox, V: Device + Drop> Consumer for SessionLists<S, C, V> {
+impl<S: FrameBox, C: FrameBox, V: LendingDevice + Drop> Consumer for SessionLists<S, C, V> {
     ghost meaning = { parting S.FrameBox C.FrameBox V.Device };
 
     #[inline(always)]
@@ -185,6 +270,12 @@ impl<S: FrameBox, C: FrameBox, V: Device + Drop> Consumer for SessionLists<S, C,
     }
 
     fn take_mark(&mut self) -> Result<(), Stop> {
+        if let Place::Second = self.place {
+            return match self.end_link() {
+                Ok(()) => Ok(()),
+                Err(NoMemory) => Err(Stop::NoMemory),
+            };
+        }
         self.place = self.place.behind();
         Ok(())
     }

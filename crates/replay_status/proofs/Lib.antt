@@ -2,3 +2,4 @@ pub mod Logging
 pub mod EndCauses
 pub mod FlushLaws
 pub mod Readable
+pub mod Printed

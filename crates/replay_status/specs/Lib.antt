@@ -6,3 +6,4 @@ pub mod Outside
 pub mod Ends
 pub mod StreamCauses
 pub mod Readable
+pub mod PrintsText

@@ -1,11 +1,13 @@
+//! How a command ends: by a text that is written and two flushes, or by the end of its input.
 ghost use Rattle.std.specs.Prelude.{◌≡◌, ◌⊎◌};
 ghost use Rattle.replay_status.specs.Causes.{SinkCause};
 ghost use Rattle.replay_status.specs.Endings.{status_of};
 ghost use Rattle.replay_status.specs.Flushes.{FlushesAtEnd};
+ghost use Rattle.replay_status.specs.PrintsText.{PrintsText};
 
 use crate::Status;
 use tick_drive::{End, Stop};
-use yasir_io::{Failed, Sink};
+use yasir_io::{Failed, Sink, write_all};
 
 /// Flushes both sinks, on the way to `Done`.
 pub fn flush_both<O: Sink, L: Sink>(out: &mut O, log: &mut L) -> Status
@@ -23,6 +25,24 @@ pub fn flush_both<O: Sink, L: Sink>(out: &mut O, log: &mut L) -> Status
         return Status::WriteFault;
     }
     Status::Done
+}
+
+/// Writes a text to the output, and flushes both sinks after it. Returns `Done`; or `WriteFault`
+/// where the write or a flush failed, and then the output has got a front of the text, or all of
+/// it. Nothing is written to the log.
+pub fn print_text<O: Sink, L: Sink>(text: &[u8], out: &mut O, log: &mut L) -> Status
+    ensures status { (result ≡ Status.Done) ⊎ (result ≡ Status.WriteFault) }
+    ensures out { PrintsText text.now (O.held out.old) (O.held out.new) result }
+    ensures log { L.held log.new ≡ L.held log.old }
+    ensures sinks { SinkCause (O.faults out.old) (O.faults out.new) (L.faults log.old)
+        (L.faults log.new) result }
+    ensures flushes { FlushesAtEnd O.Sink L.Sink out.old out.new log.old log.new result }
+{
+    match write_all(out, text) {
+        Ok(()) => {}
+        Err(Failed) => return Status::WriteFault,
+    }
+    flush_both(out, log)
 }
 
 /// The status of a run that ended so, and whose last lines were written.

@@ -1,3 +1,4 @@
+//! The fault line of each status, and its way to the log.
 ghost use Rattle.std.specs.Prelude.{◌≡◌, ◌≤◌, [], ◌∷◌, ◌++◌, length, codes};
 ghost use Rattle.replay_status.specs.Statuses.{fault_line, fault_word, unit_word};
 ghost use Rattle.replay_status.specs.Causes.{LogsFault};

@@ -1,5 +1,11 @@
 //! How a run of the program ends: its status, the exit status and the fault line of each, and the
 //! text that all commands print.
+//!
+//! A command that prints one line, and the end of its run:
+//!
+//!     let status = print_text(b"link_replay 0.7.0\n", &mut out, &mut log);
+//!     write_fault(&mut log, &status);
+//!     ExitCode::from(status.code())
 #![tactic(auto)]
 
 mod ending;
@@ -8,7 +14,7 @@ mod fault_log;
 mod status;
 mod text;
 
-pub use ending::{flush_both, status_of};
+pub use ending::{flush_both, print_text, status_of};
 pub use ends::Ends;
 pub use fault_log::write_fault;
 pub use status::Status;

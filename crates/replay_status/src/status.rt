@@ -1,3 +1,4 @@
+//! How a run of the program ended, and its exit status.
 ghost use Rattle.std.specs.Prelude.{◌≡◌};
 
 use tick_drive::TooMuch;
@@ -7,7 +8,7 @@ use yasir_ticks::BadTicks;
 /// How a run of the program ended.
 #[derive(Clone, Copy, Debug, PartialEq, Eq)]
 pub enum Status {
-    /// The answer is written, all of it.
+    /// The output is written, all of it.
     Done,
     /// The words name no command.
     Usage,

@@ -1,3 +1,4 @@
+//! A line that a command prints, and decimal numbers in it.
 ghost use Rattle.std.specs.Prelude.{◌≡◌, ◌≤◌, ◌+◌, ◌++◌, length, decimal};
 
 use arrayvec::ArrayVec;

@@ -1,3 +1,4 @@
+//! Bounds on the size of both boxes: neither keeps a frame.
 use check_receiver::Checker;
 use delay_ring::DelayRing;
 use dnp_link_frame::Dnp;

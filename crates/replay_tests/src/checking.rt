@@ -1,3 +1,4 @@
+//! Tests of the receiver over links of Modbus RTU, with an attacker and with faults outside.
 use crate::outside::{Failing, STEADY};
 use crate::over_boxes::{
     AT_0, AT_1, AT_2, AT_LIMIT, BoxKind, DiskFault, FRESH, Held, KEY, NO_NUMBER, NOTHING, Reading,
@@ -223,7 +224,7 @@ const ALTERED: [Row; 8] = [
         slots_now: (AT_3, AT_2),
         ..EXCHANGE
     },
-    // The same with a right CRC.
+    // A changed frame with the right CRC.
     Row {
         text: b"+01030000000b040d\n-3\n+0001014c5b8d33c6d29a347013b0\n-40\n+010300000001840a\n\
             -3\n+0002ee5b1d1d6fc159af2411aeb5\n-40\n+1103006b00037687\n-3\n\

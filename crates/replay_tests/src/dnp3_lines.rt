@@ -1,3 +1,4 @@
+//! Tests of both boxes and the device over lines of DNP3.
 use crate::outside::STEADY;
 use crate::over_boxes::{AT_0, AT_1, AT_2, BoxKind, FRESH, KEY, Row, compare_all, has_passed};
 use device_model::DnpDevice;
@@ -164,7 +165,7 @@ const CHECKS: [Row; 10] = [
         log: b"dropped at 0 head\n",
         ..REFUSED
     },
-    // The same with a silent tick behind each byte: the first byte would leave in the very step in
+    // The bad header with a silent tick behind each byte: the first byte would leave in the very step in
     // which the tenth comes.
     Row {
         text: b"+05\n-1\n+64\n-1\n+05\n-1\n+c0\n-1\n+01\n-1\n+00\n-1\n+00\n-1\n+04\n-1\n+e9\n-1\n\

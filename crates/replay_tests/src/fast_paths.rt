@@ -2,7 +2,8 @@
 //! writes. No clause says that a run is taken at once, nor how much a call reads or writes.
 ghost use Rattle.std.specs.Prelude.{◌≡◌, ℕ, ◌+◌, ◌<◌, ◌≤◌, length, IfOk, OnOk, None, Some};
 ghost use Rattle.yasir_io.specs.Steady.{steady_slots};
-ghost use Rattle.sequence_journal.specs.Journal.{Fits};
+ghost use Rattle.link_box.specs.Links.{AreLinks};
+ghost use Rattle.link_box.specs.Stepping.{ServesLink};
 ghost use Rattle.yasir_ticks.specs.declared.TheConstants.{MAX_TICKS};
 
 use crate::over_boxes::KEY;
@@ -13,11 +14,12 @@ use burst_walk::RunBytes;
 use check_receiver::Checker;
 use dnp_link_frame::Dnp;
 use hmac_tag::{Dir, HmacSha1, HmacSha256};
+use link_box::LinkBox;
 use replay_lists::FrameBox;
 use replay_status::{Ends, Status};
 use rtu_frame::Rtu;
 use seal_transmitter::Sealer;
-use sequence_journal::{Journal, LinkId, slot_of};
+use sequence_journal::{Journal, slot_of};
 use session_audit::ShownFrames;
 use std::alloc::Global;
 use std::process::Abort;
@@ -31,7 +33,7 @@ trait Turning: Drop {
 
     ghost able: { Self → Type 0 };
 
-    /// Takes the first of these bytes, one at least, and answers how many.
+    /// Takes the first of these bytes, one at least, and returns how many.
     fn turn_bytes(&mut self, bytes: &[u8]) -> Result<usize, Fail>
         requires able { able self.old }
         requires some { 0 < length bytes.now }
@@ -41,7 +43,7 @@ trait Turning: Drop {
         ensures within { IfOk result (λ count. count ≤ length bytes.now) }
         ensures taken { IfOk result (λ count. taken self.new ≡ taken self.old + count) };
 
-    /// The same of so many silent ticks.
+    /// Takes the first of these silent ticks, one at least, and returns how many.
     fn turn_silence(&mut self, ticks: u32) -> Result<u32, Fail>
         requires able { able self.old }
         requires some { 0 < ticks }
@@ -63,12 +65,13 @@ struct Journaled<B> {
 impl<B: LineBox> Journaled<B> {
     // A box that has taken no tick, over a journal at 0.
     fn new() -> Result<Journaled<B>, Fail>
-        requires { B.widths_fit }
+        requires widths { B.widths_fit }
+        requires links { AreLinks B.link_in }
         ensures taken { IfOk result (λ value. B.taken value.line_box ≡ 0) }
-        ensures fits { IfOk result
-            (λ value. Fits value.journal (Some (steady_slots value.disk))) }
+        ensures able { IfOk result (λ value. ServesLink (B.link_of value.line_box) value.journal
+            (Some (steady_slots value.disk))) }
     {
-        let served = LinkId::of_no_file();
+        let served = B::link(Dir::Ab);
         let mut disk = SteadySlots::new(slot_of(0, &served), [0; 24]);
         let journal = Journal::load(&mut disk, &served)?;
         Ok(Journaled {
@@ -82,7 +85,8 @@ impl<B: LineBox> Journaled<B> {
 impl<B: LineBox> Turning for Journaled<B> {
     ghost taken = { λ value. B.taken value.line_box };
 
-    ghost able = { λ value. Fits value.journal (Some (steady_slots value.disk)) };
+    ghost able = { λ value. ServesLink (B.link_of value.line_box) value.journal
+        (Some (steady_slots value.disk)) };
 
     fn turn_bytes(&mut self, bytes: &[u8]) -> Result<usize, Fail> {
         let run = TickRun::Bytes(bytes);
@@ -471,7 +475,7 @@ fn text_goes_out_by_full_buffers(rt: HostRuntime) -> Result<(), Fail> {
     let mut input = SteadySource::new(text.as_slice());
     let mut out = NO_WRITES;
     let mut log = NO_WRITES;
-    let served = LinkId::of_no_file();
+    let served = Sealer::<Rtu, HmacSha1, 2>::link(Dir::Ab);
     let mut disk = SteadySlots::new(slot_of(0, &served), [0; 24]);
     let ends = Ends {
         key: &mut key,

@@ -1,5 +1,9 @@
 //! Tests of the libraries under the program: recorded lines as a device reads them, as the
 //! transmitter seals them, and as the receiver checks them.
+//!
+//! Its calls are used by its own tests alone:
+//!
+//!     has_read::<RtuDevice>(&rt, alloc, &line, &frames)?;
 #![tactic(auto)]
 
 #[cfg(test)]

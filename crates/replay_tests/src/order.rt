@@ -1,3 +1,4 @@
+//! A test that notes reach the log before their ticks reach the output.
 use crate::outside::{Failing, STEADY};
 use crate::over_boxes::{BoxKind, FRESH, KEY, replay};
 use hmac_tag::Dir;

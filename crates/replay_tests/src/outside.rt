@@ -1,3 +1,4 @@
+//! Which calls fail in a test, and how many bytes a call moves.
 use yasir_io::Plan;
 
 /// What fails outside: the call of the key, the input, the output, the log and the disk, counted

@@ -1,4 +1,6 @@
+//! Runs of `seal` and `check` over ends in memory, for the tests of this crate.
 ghost use Rattle.std.specs.Prelude.{◌≡◌};
+ghost use Rattle.link_box.specs.Links.{AreLinks};
 ghost use Rattle.sequence_journal.specs.Links.{IsLink};
 
 use crate::outside::{Failing, STEADY, plan};
@@ -129,7 +131,6 @@ pub struct Row {
 fn replay_by<B: LineBox>(
     alloc: Global,
     rest: u32,
-    link: &LinkId,
     dir: Dir,
     key: &[u8],
     disk: MemSlots,
@@ -137,8 +138,9 @@ fn replay_by<B: LineBox>(
     failing: &Failing,
 ) -> Result<Ran, Fail>
     requires widths { B.widths_fit }
-    requires link { IsLink link.now }
+    requires links { AreLinks B.link_in }
 {
+    let link = B::link(dir);
     let mut disk = disk;
     let mut key = MemSource::new(key, 512, plan(failing.key));
     let mut input = MemSource::new(text, 512, plan(failing.input));
@@ -152,7 +154,7 @@ fn replay_by<B: LineBox>(
         disk: &mut disk,
     };
     let status = replay_box::<B, MemSource, MemSource, MemSink, MemSink, MemSlots>(
-        link, dir, rest, ends,
+        &link, dir, rest, ends,
     );
     write_fault(&mut log, &status);
     Ok(Ran {
@@ -178,7 +180,7 @@ pub fn replay(
     replay_on(alloc, kind, dir, key, disk, text, failing)
 }
 
-/// The same over this disk.
+/// Runs a box of the program over this disk, with this key and this input.
 pub fn replay_on(
     alloc: Global,
     kind: BoxKind,
@@ -188,39 +190,30 @@ pub fn replay_on(
     text: &[u8],
     failing: &Failing,
 ) -> Result<Ran, Fail> {
-    let link = link_of(kind, dir);
     match kind {
         BoxKind::SealRtu => {
-            replay_by::<Sealer<Rtu, HmacSha1, 2>>(alloc, 24, &link, dir, key, disk, text, failing)
+            replay_by::<Sealer<Rtu, HmacSha1, 2>>(alloc, 24, dir, key, disk, text, failing)
         }
         BoxKind::SealDnp => {
-            replay_by::<Sealer<Dnp, HmacSha1, 2>>(alloc, 24, &link, dir, key, disk, text, failing)
+            replay_by::<Sealer<Dnp, HmacSha1, 2>>(alloc, 24, dir, key, disk, text, failing)
         }
         BoxKind::SealRtu24 => {
-            replay_by::<Sealer<Rtu, HmacSha256, 4>>(alloc, 30, &link, dir, key, disk, text, failing)
+            replay_by::<Sealer<Rtu, HmacSha256, 4>>(alloc, 30, dir, key, disk, text, failing)
         }
         BoxKind::SealDnp24 => {
-            replay_by::<Sealer<Dnp, HmacSha256, 4>>(alloc, 30, &link, dir, key, disk, text, failing)
+            replay_by::<Sealer<Dnp, HmacSha256, 4>>(alloc, 30, dir, key, disk, text, failing)
         }
         BoxKind::CheckRtu => {
-            replay_by::<Checker<Rtu, HmacSha1, 2, 18>>(
-                alloc, 320, &link, dir, key, disk, text, failing,
-            )
+            replay_by::<Checker<Rtu, HmacSha1, 2, 18>>(alloc, 320, dir, key, disk, text, failing)
         }
         BoxKind::CheckDnp => {
-            replay_by::<Checker<Dnp, HmacSha1, 2, 18>>(
-                alloc, 320, &link, dir, key, disk, text, failing,
-            )
+            replay_by::<Checker<Dnp, HmacSha1, 2, 18>>(alloc, 320, dir, key, disk, text, failing)
         }
         BoxKind::CheckRtu24 => {
-            replay_by::<Checker<Rtu, HmacSha256, 4, 24>>(
-                alloc, 320, &link, dir, key, disk, text, failing,
-            )
+            replay_by::<Checker<Rtu, HmacSha256, 4, 24>>(alloc, 320, dir, key, disk, text, failing)
         }
         BoxKind::CheckDnp24 => {
-            replay_by::<Checker<Dnp, HmacSha256, 4, 24>>(
-                alloc, 320, &link, dir, key, disk, text, failing,
-            )
+            replay_by::<Checker<Dnp, HmacSha256, 4, 24>>(alloc, 320, dir, key, disk, text, failing)
         }
     }
 }

@@ -1,3 +1,4 @@
+//! Tests of a Modbus RTU device over recorded lines, and the calls that read a line in a test.
 use crate::outside::{BYTE_BY_BYTE, Failing, STEADY, plan};
 use crate::over_boxes::holds;
 use device_model::{LendingDevice, RtuDevice};

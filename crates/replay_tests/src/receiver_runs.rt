@@ -1,8 +1,9 @@
 //! Runs of ticks are answered as their single ticks are, whatever their lengths and wherever a link
 //! is cut into them.
 ghost use Rattle.std.specs.Prelude.{◌≡◌, ◌+◌, ◌<◌, ◌≤◌, length, OnOk, IfOk};
-ghost use Rattle.sequence_journal.specs.Journal.{Fits};
-ghost use Rattle.check_receiver.specs.Stands.{ticks_taken};
+ghost use Rattle.link_box.specs.Links.{link_by};
+ghost use Rattle.sequence_journal.specs.Journal.{journal_link, Fits};
+ghost use Rattle.check_receiver.specs.Stands.{direction_of, ticks_taken};
 
 use crate::packets::{DNP_PACKET, KEY, RTU_PACKET, WIDE_RTU_PACKET};
 use crate::receiver_steps::{steps, tick_of};
@@ -10,8 +11,9 @@ use check_receiver::{BoxStep, CheckNote, Checker, RunBytes};
 use dnp_link_frame::Dnp;
 use hmac_tag::{Dir, HmacSha1, HmacSha256, Mac};
 use line_rules::LineRules;
+use link_box::LinkBox;
 use rtu_frame::Rtu;
-use sequence_journal::{Journal, LinkId, slot_of};
+use sequence_journal::{Journal, slot_of};
 use std::alloc::{AllocError, Global};
 use std::process::Abort;
 use std::test::Fail;
@@ -48,6 +50,7 @@ fn pass<R: LineRules, M: Mac, const B: usize, const D: usize>(
     requires room { ticks_taken checker.old + length part.now ≤ 1000 }
     ensures within { result ≤ length part.now }
     ensures taken { ticks_taken checker.new ≡ ticks_taken checker.old + result }
+    ensures direction { direction_of checker.new ≡ direction_of checker.old }
 {
     match part.first() {
         Some(b'.') => checker.pass_silence(part.len() as u32, left) as usize,
@@ -85,11 +88,15 @@ fn take<R: LineRules, M: Mac, S: SlotDisk, const B: usize, const D: usize>(
 ) -> Result<usize, Fail>
     requires room { ticks_taken checker.old + length part.now ≤ 1000 }
     requires some { 0 < length part.now }
+    requires of_link { journal_link journal.old
+        ≡ link_by R.LineRules M.Mac B (direction_of checker.old) }
     requires fits { Fits journal.old (S.told disk.old) }
     ensures some { IfOk result (λ count. 0 < count) }
     ensures within { IfOk result (λ count. count ≤ length part.now) }
     ensures taken { IfOk result (λ count. ticks_taken checker.new
         ≡ ticks_taken checker.old + count) }
+    ensures of_link { OnOk result (journal_link journal.new
+        ≡ link_by R.LineRules M.Mac B (direction_of checker.new)) }
     ensures fits { OnOk result (Fits journal.new (S.told disk.new)) }
 {
     let mut left = RunBytes::new();
@@ -117,6 +124,8 @@ fn follow<R: LineRules, M: Mac, S: SlotDisk, const B: usize, const D: usize>(
     most: usize,
 ) -> Result<usize, Fail>
     requires begun { ticks_taken checker.old ≡ 0 }
+    requires of_link { journal_link journal.old
+        ≡ link_by R.LineRules M.Mac B (direction_of checker.old) }
     requires fits { Fits journal.old (S.told disk.old) }
     requires short { length link.now < 1000 }
 {
@@ -151,12 +160,12 @@ fn packet_of(receiver: Receiver) -> &'static [u8] {
     }
 }
 
-// What each of them answers to the ticks of a link, and whether its runs come to the same.
+// What each of them returns for the ticks of a link, and whether its runs come to the same.
 fn rtu_steps(alloc: Global, link: &[u8]) -> Result<Vec<BoxStep<CheckNote>>, Fail>
     requires short { length link.now < 1000 }
 {
     let mut checker: RtuChecker = Checker::new(&KEY.to_be_bytes(), Dir::Ab);
-    let served = LinkId::of_no_file();
+    let served = RtuChecker::link(Dir::Ab);
     let mut disk = SteadySlots::new(slot_of(0, &served), [0; 24]);
     let mut journal = Journal::load(&mut disk, &served)?;
     steps(alloc, &mut checker, &mut journal, &mut disk, link)
@@ -172,7 +181,7 @@ fn follow_rtu(
     requires short { length link.now < 1000 }
 {
     let mut checker: RtuChecker = Checker::new(&KEY.to_be_bytes(), Dir::Ab);
-    let served = LinkId::of_no_file();
+    let served = RtuChecker::link(Dir::Ab);
     let mut disk = SteadySlots::new(slot_of(0, &served), [0; 24]);
     let mut journal = Journal::load(&mut disk, &served)?;
     follow(
@@ -191,7 +200,7 @@ fn dnp_steps(alloc: Global, link: &[u8]) -> Result<Vec<BoxStep<CheckNote>>, Fail
     requires short { length link.now < 1000 }
 {
     let mut checker: DnpChecker = Checker::new(&KEY.to_be_bytes(), Dir::Ab);
-    let served = LinkId::of_no_file();
+    let served = DnpChecker::link(Dir::Ab);
     let mut disk = SteadySlots::new(slot_of(0, &served), [0; 24]);
     let mut journal = Journal::load(&mut disk, &served)?;
     steps(alloc, &mut checker, &mut journal, &mut disk, link)
@@ -207,7 +216,7 @@ fn follow_dnp(
     requires short { length link.now < 1000 }
 {
     let mut checker: DnpChecker = Checker::new(&KEY.to_be_bytes(), Dir::Ab);
-    let served = LinkId::of_no_file();
+    let served = DnpChecker::link(Dir::Ab);
     let mut disk = SteadySlots::new(slot_of(0, &served), [0; 24]);
     let mut journal = Journal::load(&mut disk, &served)?;
     follow(
@@ -226,7 +235,7 @@ fn wide_rtu_steps(alloc: Global, link: &[u8]) -> Result<Vec<BoxStep<CheckNote>>,
     requires short { length link.now < 1000 }
 {
     let mut checker: WideRtuChecker = Checker::new(&KEY.to_be_bytes(), Dir::Ab);
-    let served = LinkId::of_no_file();
+    let served = WideRtuChecker::link(Dir::Ab);
     let mut disk = SteadySlots::new(slot_of(0, &served), [0; 24]);
     let mut journal = Journal::load(&mut disk, &served)?;
     steps(alloc, &mut checker, &mut journal, &mut disk, link)
@@ -242,7 +251,7 @@ fn follow_wide_rtu(
     requires short { length link.now < 1000 }
 {
     let mut checker: WideRtuChecker = Checker::new(&KEY.to_be_bytes(), Dir::Ab);
-    let served = LinkId::of_no_file();
+    let served = WideRtuChecker::link(Dir::Ab);
     let mut disk = SteadySlots::new(slot_of(0, &served), [0; 24]);
     let mut journal = Journal::load(&mut disk, &served)?;
     follow(

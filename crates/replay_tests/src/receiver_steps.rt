@@ -1,13 +1,15 @@
-//! What the receiver answers to each tick of some links.
+//! What the receiver returns for each tick of some links.
 ghost use Rattle.std.specs.Prelude.{◌≡◌, ◌<◌, length};
-ghost use Rattle.sequence_journal.specs.Journal.{Fits};
-ghost use Rattle.check_receiver.specs.Stands.{ticks_taken};
+ghost use Rattle.link_box.specs.Links.{link_by};
+ghost use Rattle.sequence_journal.specs.Journal.{journal_link, Fits};
+ghost use Rattle.check_receiver.specs.Stands.{direction_of, ticks_taken};
 
 use check_receiver::{BoxStep, CheckNote, Checker, DroppedWhy, RefusedWhy};
 use hmac_tag::{Dir, HmacSha1, Mac};
 use line_rules::LineRules;
+use link_box::LinkBox;
 use rtu_frame::Rtu;
-use sequence_journal::{Journal, LinkId, slot_of};
+use sequence_journal::{Journal, slot_of};
 use std::alloc::Global;
 use std::process::Abort;
 use std::test::Fail;
@@ -22,7 +24,7 @@ pub fn tick_of(letter: u8) -> Tick {
     }
 }
 
-// What the receiver answers to each tick.
+// What the receiver returns for each tick.
 pub fn steps<R: LineRules, M: Mac, S: SlotDisk, const B: usize, const D: usize>(
     alloc: Global,
     checker: &mut Checker<R, M, B, D>,
@@ -31,6 +33,8 @@ pub fn steps<R: LineRules, M: Mac, S: SlotDisk, const B: usize, const D: usize>(
     link: &[u8],
 ) -> Result<Vec<BoxStep<CheckNote>>, Fail>
     requires begun { ticks_taken checker.old ≡ 0 }
+    requires of_link { journal_link journal.old
+        ≡ link_by R.LineRules M.Mac B (direction_of checker.old) }
     requires fits { Fits journal.old (S.told disk.old) }
     requires short { length link.now < 1000 }
 {
@@ -53,7 +57,7 @@ fn compare(
 {
     let key: [u8; 16] = 0x000102030405060708090a0b0c0d0e0f_u128.to_be_bytes();
     let mut checker: Checker<Rtu, HmacSha1, 2, 18> = Checker::new(&key, Dir::Ab);
-    let served = LinkId::of_no_file();
+    let served = Checker::<Rtu, HmacSha1, 2, 18>::link(Dir::Ab);
     let mut disk = SteadySlots::new(slot_of(0, &served), [0; 24]);
     let mut journal = Journal::load(&mut disk, &served)?;
     let steps = steps(alloc, &mut checker, &mut journal, &mut disk, link)?;

@@ -1,3 +1,4 @@
+//! Tests of the transmitter over lines of Modbus RTU, with faults outside.
 use crate::outside::{Failing, STEADY};
 use crate::over_boxes::{
     AT_0, AT_1, AT_2, AT_LIMIT, BoxKind, DiskFault, FRESH, Held, KEY, NO_NUMBER, NOTHING, Row,

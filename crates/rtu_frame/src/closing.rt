@@ -1,3 +1,4 @@
+//! How a Modbus RTU frame is made: its CRC is appended.
 ghost use Rattle.std.specs.Prelude.{◌≡◌, ◌<◌, ◌++◌, ◌↔◌, length, IsErr, OnOk, OnErr};
 ghost use Rattle.line_rules.specs.Bytes.{low_first};
 ghost use Rattle.rtu_frame.specs.Crc.{crc_rtu};

@@ -1,3 +1,4 @@
+//! The CRC of Modbus RTU.
 ghost use Rattle.std.specs.Prelude.{◌≡◌};
 ghost use Rattle.rtu_frame.specs.Crc.{crc_rtu};
 

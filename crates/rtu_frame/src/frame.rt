@@ -1,3 +1,4 @@
+//! Which bytes are a Modbus RTU frame.
 ghost use Rattle.std.specs.Prelude.{◌↔◌, IsTrue};
 ghost use Rattle.rtu_frame.specs.Frame.{IsFrame, HasRightEnding};
 

@@ -1,4 +1,12 @@
 //! Frames of Modbus RTU and their check.
+//!
+//! A request is closed by its CRC, and is a frame then:
+//!
+//!     let mut request = RtuBytes::new();
+//!     request.try_extend_from_slice(&[0x01, 0x03, 0x00, 0x00, 0x00, 0x0a])?;
+//!     close(&mut request)?;
+//!     assert_eq!(rt; request.as_slice(), b"\x01\x03\x00\x00\x00\x0a\xc5\xcd");
+//!     assert!(rt; is_frame(request.as_slice()));
 #![tactic(auto)]
 
 mod closing;

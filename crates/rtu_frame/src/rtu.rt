@@ -1,3 +1,4 @@
+//! The rules of Modbus RTU, over the bytes of a burst so far.
 use crate::crc::FIRST_REGISTER;
 use crate::table::{after_byte, after_bytes};
 use line_rules::{Head, LineRules};

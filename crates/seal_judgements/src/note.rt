@@ -1,3 +1,5 @@
+//! The notes of a transmitter: what became of a burst of the device, and why.
+
 /// Why a burst of the device isn't sealed.
 #[derive(Clone, Copy, Debug, PartialEq, Eq)]
 pub enum UnsealedWhy {

@@ -3,3 +3,4 @@ pub mod Stands
 pub mod Boxed
 pub mod Between
 pub mod Runs
+pub mod Resting

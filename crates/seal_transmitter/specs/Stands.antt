@@ -81,3 +81,7 @@ module _ {R M : Type 0} (proto : LineRules R) (code : Mac M) where
 -- how many ticks it has taken
 abbrev pub ticks_taken : {R M : Type 0} {B : ℕ} → Sealer R M B → ℕ
 ticks_taken value = ticks_cut value.cut
+
+-- the number of its direction
+abbrev pub direction_of : {R M : Type 0} {B : ℕ} → Sealer R M B → ℕ
+direction_of value = direction_number value.direction

@@ -2,14 +2,16 @@
 ghost use Rattle.std.specs.Prelude.{◌≡◌};
 ghost use Rattle.link_format.specs.Profile.{IsWordLen};
 ghost use Rattle.seal_transmitter.specs.Boxed.{seal_walking};
-ghost use Rattle.seal_transmitter.specs.Stands.{StandsAt, ticks_taken};
+ghost use Rattle.seal_transmitter.specs.Stands.{StandsAt, direction_of, ticks_taken};
+ghost use Rattle.hmac_tag.specs.Tag.{direction_number};
+ghost use Rattle.link_box.specs.Links.{link_by};
 
 use crate::{SealNote, Sealer};
 use burst_walk::{BoxStep, RunBytes};
 use hmac_tag::{Dir, Mac};
 use line_rules::LineRules;
 use link_box::LinkBox;
-use sequence_journal::{Journal, JournalFault};
+use sequence_journal::{Journal, JournalFault, LinkId};
 use yasir_io::SlotDisk;
 use yasir_ticks::{Tick, TickRun};
 
@@ -23,6 +25,18 @@ impl<R: LineRules, M: Mac, const B: usize> LinkBox for Sealer<R, M, B> {
     ghost walking = { seal_walking R.LineRules M.Mac B };
 
     ghost widths_fit = { IsWordLen B };
+
+    ghost link_of = { λ value. link_by R.LineRules M.Mac B (direction_of value) };
+
+    ghost link_in = { λ dir. link_by R.LineRules M.Mac B (direction_number dir) };
+
+    fn link(dir: Dir) -> LinkId {
+        LinkId {
+            label: R::LABEL,
+            dir: dir.number(),
+            profile: (4 + B + M::TAG) as u8,
+        }
+    }
 
     fn new(key: &[u8], dir: Dir) -> Self {
         Sealer::new(key, dir)

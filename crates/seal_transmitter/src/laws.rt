@@ -1,3 +1,4 @@
+//! Laws of the transmitter: it is causal, and its steps are steps of an uptime.
 ghost use Rattle.std.specs.Prelude.{◌≡◌, ℕ, List, ◌++◌, Result};
 ghost use Rattle.yasir_ticks.specs.declared.tick.Tick.{Tick};
 ghost use Rattle.burst_walk.specs.Longer.{Begins, Extends};

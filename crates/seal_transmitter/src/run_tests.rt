@@ -1,12 +1,14 @@
 //! Runs of ticks come to what their single ticks come to.
 ghost use Rattle.std.specs.Prelude.{◌≡◌, ◌+◌, ◌≤◌, OnOk};
-ghost use Rattle.sequence_journal.specs.Journal.{Fits};
-ghost use Rattle.seal_transmitter.specs.Stands.{ticks_taken};
+ghost use Rattle.link_box.specs.Links.{link_by};
+ghost use Rattle.sequence_journal.specs.Journal.{journal_link, Fits};
+ghost use Rattle.seal_transmitter.specs.Stands.{direction_of, ticks_taken};
 
 use super::*;
-use hmac_tag::HmacSha1;
-use line_rules::FourBytes;
-use sequence_journal::{Journal, LinkId, slot_of};
+use hmac_tag::{HmacSha1, Mac};
+use line_rules::{FourBytes, LineRules};
+use link_box::LinkBox;
+use sequence_journal::{Journal, slot_of};
 use std::alloc::{AllocError, Global};
 use std::test::Fail;
 use yasir_io::{SlotDisk, SteadySlots};
@@ -36,8 +38,8 @@ fn add_answered(link: &mut Vec<Tick>, count: usize, left: &[u8]) -> Result<(), A
 }
 
 // Takes the same tick so many times, a step each.
-fn step_times<D: SlotDisk>(
-    sealer: &mut FourSealer,
+fn step_times<R: LineRules, M: Mac, D: SlotDisk>(
+    sealer: &mut Sealer<R, M, 2>,
     journal: &mut Journal,
     disk: &mut D,
     tick: Tick,
@@ -45,8 +47,12 @@ fn step_times<D: SlotDisk>(
     link: &mut Vec<Tick>,
 ) -> Result<(), Fail>
     requires room { ticks_taken sealer.old + times ≤ 1000 }
+    requires of_link { journal_link journal.old
+        ≡ link_by R.LineRules M.Mac 2 (direction_of sealer.old) }
     requires fits { Fits journal.old (D.told disk.old) }
     ensures taken { OnOk result (ticks_taken sealer.new ≡ ticks_taken sealer.old + times) }
+    ensures of_link { OnOk result (journal_link journal.new
+        ≡ link_by R.LineRules M.Mac 2 (direction_of sealer.new)) }
     ensures fits { OnOk result (Fits journal.new (D.told disk.new)) }
 {
     for taken in 0..times {
@@ -57,8 +63,8 @@ fn step_times<D: SlotDisk>(
 }
 
 // Takes so many silent ticks: as runs if asked, and those that no run takes by steps.
-fn wait<D: SlotDisk>(
-    sealer: &mut FourSealer,
+fn wait<R: LineRules, M: Mac, D: SlotDisk>(
+    sealer: &mut Sealer<R, M, 2>,
     journal: &mut Journal,
     disk: &mut D,
     by_runs: bool,
@@ -66,8 +72,12 @@ fn wait<D: SlotDisk>(
     link: &mut Vec<Tick>,
 ) -> Result<(), Fail>
     requires room { ticks_taken sealer.old + ticks ≤ 1000 }
+    requires of_link { journal_link journal.old
+        ≡ link_by R.LineRules M.Mac 2 (direction_of sealer.old) }
     requires fits { Fits journal.old (D.told disk.old) }
     ensures taken { OnOk result (ticks_taken sealer.new ≡ ticks_taken sealer.old + ticks) }
+    ensures of_link { OnOk result (journal_link journal.new
+        ≡ link_by R.LineRules M.Mac 2 (direction_of sealer.new)) }
     ensures fits { OnOk result (Fits journal.new (D.told disk.new)) }
 {
     if !by_runs {
@@ -83,8 +93,8 @@ fn wait<D: SlotDisk>(
 }
 
 // The same of so many bytes.
-fn hear<D: SlotDisk>(
-    sealer: &mut FourSealer,
+fn hear<R: LineRules, M: Mac, D: SlotDisk>(
+    sealer: &mut Sealer<R, M, 2>,
     journal: &mut Journal,
     disk: &mut D,
     by_runs: bool,
@@ -93,8 +103,12 @@ fn hear<D: SlotDisk>(
 ) -> Result<(), Fail>
     requires few { count ≤ 8 }
     requires room { ticks_taken sealer.old + count ≤ 1000 }
+    requires of_link { journal_link journal.old
+        ≡ link_by R.LineRules M.Mac 2 (direction_of sealer.old) }
     requires fits { Fits journal.old (D.told disk.old) }
     ensures taken { OnOk result (ticks_taken sealer.new ≡ ticks_taken sealer.old + count) }
+    ensures of_link { OnOk result (journal_link journal.new
+        ≡ link_by R.LineRules M.Mac 2 (direction_of sealer.new)) }
     ensures fits { OnOk result (Fits journal.new (D.told disk.new)) }
 {
     if !by_runs {
@@ -123,7 +137,7 @@ fn link_of(
     requires bytes { bytes.0 + bytes.1 ≤ 8 }
 {
     let mut sealer: FourSealer = Sealer::new(b"a key of sixteen", Dir::Ab);
-    let served = LinkId::of_no_file();
+    let served = FourSealer::link(Dir::Ab);
     let mut disk = SteadySlots::new(slot_of(7, &served), [0; 24]);
     let mut journal = Journal::load(&mut disk, &served)?;
     let mut link = Vec::new(alloc);

@@ -1,3 +1,4 @@
+//! The transmitter: its step for a tick, and its calls for runs of ticks.
 ghost use Rattle.std.specs.Prelude.{◌≡◌, length};
 
 use crate::silence::wait_open;
@@ -10,6 +11,8 @@ use link_format::Trailer;
 use sequence_journal::{Journal, JournalFault, LIMIT};
 use yasir_io::SlotDisk;
 use yasir_ticks::{LineBytes, MAX_TICKS, T3_5_TICKS, Tick};
+
+mod resting;
 
 /// The transmitter, by the rules `R` of a protocol, with words of `B` bytes and tags by `M`. It
 /// forwards the live bytes of a device's bursts, each in its own tick, and sends a trailer after
@@ -54,10 +57,13 @@ impl<R: LineRules, M: Mac, const B: usize> Sealer<R, M, B> {
     ghost use Rattle.link_format.specs.Setup.{Setup, setup_of};
     ghost use Rattle.link_format.specs.Trailers.{bytes_left, first_of};
     ghost use Rattle.sequence_journal.specs.declared.numbers.TheConstants.{LIMIT};
-    ghost use Rattle.sequence_journal.specs.Journal.{journal_floor, Fits};
+    ghost use Rattle.sequence_journal.specs.Journal.{journal_link, journal_floor, Fits};
+    ghost use Rattle.hmac_tag.specs.Tag.{direction_number};
+    ghost use Rattle.link_box.specs.Links.{link_by};
     ghost use Rattle.seal_judgements.specs.Sealing.Judgement.{sealed_with, unsealed};
     ghost use Rattle.seal_transmitter.specs.Answers.{SealsWith, KeepsJournal};
     ghost use Rattle.seal_transmitter.specs.Stands.{StandsAt, StandsFor, HasTaken, ticks_taken};
+    ghost use Rattle.seal_transmitter.specs.Stands.{direction_of};
     ghost use Rattle.seal_transmitter.specs.Runs.{HasTakenRun};
     ghost use Rattle.seal_transmitter.specs.Between.{IsBetween, Judges, judgement_of, noteless};
     ghost use Rattle.seal_transmitter.specs.Between.{IsSealedNote, IsUnsealedNote};
@@ -66,6 +72,7 @@ impl<R: LineRules, M: Mac, const B: usize> Sealer<R, M, B> {
     pub fn new(key: &[u8], dir: Dir) -> Sealer<R, M, B>
         requires word { IsWordLen B }
         ensures taken { ticks_taken result ≡ 0 }
+        ensures direction { direction_of result ≡ direction_number dir }
         ensures stands { (floor : ℕ) → StandsAt R.LineRules M.Mac result floor
             (setup_of key.now dir floor) [] }
     {
@@ -79,8 +86,9 @@ impl<R: LineRules, M: Mac, const B: usize> Sealer<R, M, B> {
     }
 
     /// Takes the next tick of the device, and answers the tick of the link at the same place, with
-    /// the note that falls into this step. The journal is that of the steps before, and the disk is
-    /// the journal's. Fewer than `MAX_TICKS` ticks were taken before.
+    /// the note that falls into this step. The journal is that of the steps before and serves the
+    /// transmitter's own link, and the disk is the journal's. Fewer than `MAX_TICKS` ticks were taken
+    /// before.
     ///
     /// It fails where the number of a frame isn't committed. The frame isn't sealed then, and no
     /// step follows.
@@ -92,6 +100,8 @@ impl<R: LineRules, M: Mac, const B: usize> Sealer<R, M, B> {
         disk: &mut D,
     ) -> Result<BoxStep<SealNote>, JournalFault>
         requires room { ticks_taken self.old < MAX_TICKS }
+        requires of_link { journal_link journal.old
+            ≡ link_by R.LineRules M.Mac B (direction_of self.old) }
         requires fits { Fits journal.old (D.told disk.old) }
 
         ensures taken { OnOk result (ticks_taken self.new ≡ ticks_taken self.old + 1) }
@@ -105,6 +115,7 @@ impl<R: LineRules, M: Mac, const B: usize> Sealer<R, M, B> {
             → SealsWith (profile_of R.LineRules M.Mac B LIMIT setup) R.rules setup.floor line t
             (journal_floor journal.old + 1)) }
         ensures journal { KeepsJournal D.SlotDisk journal.old journal.new disk.old disk.new result }
+        ensures direction { direction_of self.new ≡ direction_of self.old }
     {
         match self.cut.step(t) {
             Cut::Start(byte) => Ok(self.begin(byte)),
@@ -124,6 +135,7 @@ impl<R: LineRules, M: Mac, const B: usize> Sealer<R, M, B> {
             → StandsAt R.LineRules M.Mac self.old last setup line
             → HasTakenRun R.LineRules M.Mac self.new last setup line
             (map Byte (take result bytes.now)) (map Byte (take result bytes.now)) }
+        ensures direction { direction_of self.new ≡ direction_of self.old }
     {
         if self.cut.quiet() < T3_5_TICKS {
             return 0;
@@ -151,6 +163,7 @@ impl<R: LineRules, M: Mac, const B: usize> Sealer<R, M, B> {
             → StandsAt R.LineRules M.Mac self.old last setup line
             → HasTakenRun R.LineRules M.Mac self.new last setup line
             (map Byte (take result bytes.now)) (map Byte (take result bytes.now)) }
+        ensures direction { direction_of self.new ≡ direction_of self.old }
     {
         if self.is_early() {
             return 0;
@@ -175,6 +188,7 @@ impl<R: LineRules, M: Mac, const B: usize> Sealer<R, M, B> {
             → StandsAt R.LineRules M.Mac self.old last setup line
             → HasTakenRun R.LineRules M.Mac self.new last setup line
             (map Byte (take result bytes.now)) (map Byte (take result bytes.now)) }
+        ensures direction { direction_of self.new ≡ direction_of self.old }
     {
         let begun = self.begin_some(bytes);
         let more = self.go_on_some(&bytes[begun..]);
@@ -193,6 +207,7 @@ impl<R: LineRules, M: Mac, const B: usize> Sealer<R, M, B> {
             → StandsAt R.LineRules M.Mac self.old last setup line
             → HasTakenRun R.LineRules M.Mac self.new last setup line
             (map Byte (take result bytes.now)) (silent result) }
+        ensures direction { direction_of self.new ≡ direction_of self.old }
     {
         if self.trailer.left().len() > 0 {
             return 0;
@@ -215,6 +230,7 @@ impl<R: LineRules, M: Mac, const B: usize> Sealer<R, M, B> {
             → StandsAt R.LineRules M.Mac self.old last setup line
             → HasTakenRun R.LineRules M.Mac self.new last setup line
             (map Byte (take result bytes.now)) (silent result) }
+        ensures direction { direction_of self.new ≡ direction_of self.old }
     {
         if self.trailer.left().len() > 0 {
             return 0;
@@ -234,6 +250,7 @@ impl<R: LineRules, M: Mac, const B: usize> Sealer<R, M, B> {
             → StandsAt R.LineRules M.Mac self.old last setup line
             → HasTakenRun R.LineRules M.Mac self.new last setup line
             (map Byte (take (length result.items) bytes.now)) (map Byte result.items) }
+        ensures direction { direction_of self.new ≡ direction_of self.old }
     {
         if !self.is_early() {
             return LineBytes::new();
@@ -255,6 +272,7 @@ impl<R: LineRules, M: Mac, const B: usize> Sealer<R, M, B> {
             → StandsAt R.LineRules M.Mac self.old last setup line
             → HasTakenRun R.LineRules M.Mac self.new last setup line
             (silent result) (silent result) }
+        ensures direction { direction_of self.new ≡ direction_of self.old }
     {
         if self.trailer.left().len() > 0 {
             return 0;
@@ -274,6 +292,7 @@ impl<R: LineRules, M: Mac, const B: usize> Sealer<R, M, B> {
             → StandsAt R.LineRules M.Mac self.old last setup line
             → HasTakenRun R.LineRules M.Mac self.new last setup line
             (silent (length result.items)) (map Byte result.items) }
+        ensures direction { direction_of self.new ≡ direction_of self.old }
     {
         let most = ticks.min(self.trailer.left().len() as u32);
         let count = wait_open(&mut self.cut, most);
@@ -290,6 +309,7 @@ impl<R: LineRules, M: Mac, const B: usize> Sealer<R, M, B> {
             → StandsAt R.LineRules M.Mac self.old last setup line
             → HasTakenRun R.LineRules M.Mac self.new last setup line
             (map Byte (take result bytes.now)) (silent result) }
+        ensures direction { direction_of self.new ≡ direction_of self.old }
     {
         let held = self.hold(bytes);
         if held > 0 {
@@ -311,6 +331,7 @@ impl<R: LineRules, M: Mac, const B: usize> Sealer<R, M, B> {
             → StandsAt R.LineRules M.Mac self.old last setup line
             → HasTakenRun R.LineRules M.Mac self.new last setup line
             (map Byte (take result bytes.now)) (answered result left.new.items) }
+        ensures direction { direction_of self.new ≡ direction_of self.old }
     {
         let held = self.hold_some(bytes);
         if held > 0 {
@@ -330,6 +351,7 @@ impl<R: LineRules, M: Mac, const B: usize> Sealer<R, M, B> {
             → StandsAt R.LineRules M.Mac self.old last setup line
             → HasTakenRun R.LineRules M.Mac self.new last setup line
             (silent result) (answered result left.new.items) }
+        ensures direction { direction_of self.new ≡ direction_of self.old }
     {
         if self.trailer.left().len() == 0 {
             left.clear();
@@ -369,6 +391,7 @@ impl<R: LineRules, M: Mac, const B: usize> Sealer<R, M, B> {
             → IsPassing cut
             → IsBetween R.LineRules M.Mac self.old last setup line t cut
             → HasTaken R.LineRules M.Mac self.new last setup line t result }
+        ensures direction { direction_of self.new ≡ direction_of self.old }
     {
         self.send()
     }
@@ -381,6 +404,7 @@ impl<R: LineRules, M: Mac, const B: usize> Sealer<R, M, B> {
         ensures step { (last : ℕ) (setup : Setup) (line : List Tick) (t : Tick)
             → IsBetween R.LineRules M.Mac self.old last setup line t (Start byte)
             → HasTaken R.LineRules M.Mac self.new last setup line t result }
+        ensures direction { direction_of self.new ≡ direction_of self.old }
     {
         if self.is_early() {
             return self.send();
@@ -401,6 +425,7 @@ impl<R: LineRules, M: Mac, const B: usize> Sealer<R, M, B> {
         ensures step { (last : ℕ) (setup : Setup) (line : List Tick) (t : Tick)
             → IsBetween R.LineRules M.Mac self.old last setup line t (Live byte)
             → HasTaken R.LineRules M.Mac self.new last setup line t result }
+        ensures direction { direction_of self.new ≡ direction_of self.old }
     {
         if self.is_early() {
             return self.send();
@@ -456,6 +481,7 @@ impl<R: LineRules, M: Mac, const B: usize> Sealer<R, M, B> {
             → SealsWith (profile_of R.LineRules M.Mac B LIMIT setup) R.rules setup.floor line Silent
             (journal_floor journal.old + 1)) }
         ensures journal { KeepsJournal D.SlotDisk journal.old journal.new disk.old disk.new result }
+        ensures direction { direction_of self.new ≡ direction_of self.old }
     {
         match self.unsealed_why(journal) {
             Some(why) => Ok(self.leave(why)),
@@ -477,6 +503,7 @@ impl<R: LineRules, M: Mac, const B: usize> Sealer<R, M, B> {
             → IsBetween R.LineRules M.Mac self.old last setup line Silent Closed
             → Judges R.LineRules M.Mac self.old last setup (line ++ Silent ∷ []) (unsealed why)
             → HasTaken R.LineRules M.Mac self.new last setup line Silent result }
+        ensures direction { direction_of self.new ≡ direction_of self.old }
     {
         BoxStep {
             tick: self.trailer.next_tick(),
@@ -497,6 +524,7 @@ impl<R: LineRules, M: Mac, const B: usize> Sealer<R, M, B> {
             → Judges R.LineRules M.Mac self.old last setup (line ++ Silent ∷ [])
             (sealed_with number)
             → HasTaken R.LineRules M.Mac self.new number setup line Silent result }
+        ensures direction { direction_of self.new ≡ direction_of self.old }
     {
         self.mac.update(&number.to_be_bytes());
         let tag = self.mac.finish();

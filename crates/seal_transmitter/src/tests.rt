@@ -1,11 +1,14 @@
+//! Tests of the transmitter's steps, and a bound on its size.
 ghost use Rattle.std.specs.Prelude.{◌≡◌, ◌<◌, length};
-ghost use Rattle.sequence_journal.specs.Journal.{Fits};
-ghost use Rattle.seal_transmitter.specs.Stands.{ticks_taken};
+ghost use Rattle.link_box.specs.Links.{link_by};
+ghost use Rattle.sequence_journal.specs.Journal.{journal_link, Fits};
+ghost use Rattle.seal_transmitter.specs.Stands.{direction_of, ticks_taken};
 
 use super::*;
-use hmac_tag::{HmacSha1, Mac};
+use hmac_tag::{HmacSha1, HmacSha256, Mac};
 use line_rules::{FourBytes, LineRules};
-use sequence_journal::{Journal, LinkId, slot_of};
+use link_box::LinkBox;
+use sequence_journal::{Journal, slot_of};
 use std::alloc::Global;
 use std::test::Fail;
 use yasir_io::{SlotDisk, SteadySlots};
@@ -28,6 +31,8 @@ fn steps<R: LineRules, M: Mac, D: SlotDisk, const B: usize>(
     line: &[u8],
 ) -> Result<Vec<BoxStep<SealNote>>, Fail>
     requires begun { ticks_taken sealer.old ≡ 0 }
+    requires of_link { journal_link journal.old
+        ≡ link_by R.LineRules M.Mac B (direction_of sealer.old) }
     requires fits { Fits journal.old (D.told disk.old) }
     requires short { length line.now < 1000 }
 {
@@ -43,7 +48,7 @@ const KEY: u128 = 0x000102030405060708090a0b0c0d0e0f;
 #[test]
 fn a_frame_is_sealed_and_another_burst_is_not(rt: HostRuntime) -> Result<(), Fail> {
     let mut sealer: Sealer<FourBytes, HmacSha1, 2> = Sealer::new(&KEY.to_be_bytes(), Dir::Ab);
-    let served = LinkId::of_no_file();
+    let served = Sealer::<FourBytes, HmacSha1, 2>::link(Dir::Ab);
     let mut disk = SteadySlots::new(slot_of(0x10202, &served), [0; 24]);
     let mut journal = Journal::load(&mut disk, &served)?;
     let line: &[u8] = b"\x01\x02\x03\x00.....................\x05\x06....";
@@ -83,16 +88,17 @@ fn a_frame_is_sealed_and_another_burst_is_not(rt: HostRuntime) -> Result<(), Fai
 
 #[test]
 fn a_word_may_have_four_bytes(rt: HostRuntime) -> Result<(), Fail> {
-    let mut sealer: Sealer<FourBytes, HmacSha1, 4> = Sealer::new(&KEY.to_be_bytes(), Dir::Ab);
-    let served = LinkId::of_no_file();
+    let mut sealer: Sealer<FourBytes, HmacSha256, 4> = Sealer::new(&KEY.to_be_bytes(), Dir::Ab);
+    let served = Sealer::<FourBytes, HmacSha256, 4>::link(Dir::Ab);
     let mut disk = SteadySlots::new(slot_of(0x10202, &served), [0; 24]);
     let mut journal = Journal::load(&mut disk, &served)?;
-    let line: &[u8] = b"\x01\x02\x03\x00......................\x05\x06\x07\x00....";
+    let line: &[u8] = b"\x01\x02\x03\x00..........................\x05\x06\x07\x00....";
     let steps = steps(rt.alloc(), &mut sealer, &mut journal, &mut disk, line)?;
 
-    // The tag is the same, and the burst behind it starts a tick too early.
-    let link: &[u8] = b"\x01\x02\x03\x00...\x00\x01\x02\x03\xbb\x3b\x20\xfe\x5a\x05\xb7\x81\xaa\x48\
-            \x00\x13...........";
+    // The tag is by openssl, as above but with -sha256 and cut -c1-32, and the burst behind it starts
+    // a tick too early.
+    let link: &[u8] = b"\x01\x02\x03\x00...\x00\x01\x02\x03\xb2\xf8\x4e\x1e\xe1\xc0\xa0\x34\x62\xd9\
+            \x26\x6f\xd7\xde\x14\x05...........";
     assert_eq!(rt; steps.len(), link.len());
     for (step, letter) in steps.iter().zip(link) {
         assert_eq!(rt; step.tick, tick_of(*letter));

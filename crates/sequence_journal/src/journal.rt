@@ -1,3 +1,4 @@
+//! The journal: how it is made, loaded and committed, at any moment of a crash.
 ghost use Rattle.std.specs.Prelude.{◌≤◌};
 ghost use Rattle.sequence_journal.specs.declared.numbers.TheConstants.{LIMIT};
 ghost use Rattle.sequence_journal.specs.Links.{IsLink};

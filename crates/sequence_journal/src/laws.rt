@@ -1,3 +1,4 @@
+//! Laws of the journal over any number of uptimes: numbers rise, and none comes twice.
 ghost use Rattle.std.specs.Prelude.{◌≡◌, ℕ, [], List, Option, Some, length};
 ghost use Rattle.yasir_io.specs.declared.disk.Slot.{Slot};
 ghost use Rattle.yasir_io.specs.declared.disk.TheConstants.{SLOT_LEN};
@@ -17,15 +18,15 @@ ghost use Rattle.sequence_journal.specs.Uptimes.{Step, answered, IsStep, EndsIns
 use yasir_io::SlotDisk;
 
 /// Over uptimes on one disk and for one link, whatever moments they ended at, also while they were
-/// being loaded, the numbers that they answered rise: none comes twice.
+/// being loaded, the numbers that they returned rise: none comes twice.
 pub fn numbers_rise()
     ensures { (link : LinkId) (begins : Slots) (floor : ℕ) (uptimes : List Uptime)
         → HasNoFloorBelow link floor begins
         → AreUptimes link begins uptimes → RiseFrom floor (all_numbers uptimes) }
 {}
 
-/// An uptime may end at any moment: inside a step, a commit included, for the numbers answered by
-/// then, also while nothing goes on, as a step that answers none, and while its journal is loaded.
+/// An uptime may end at any moment: inside a step, a commit included, for the numbers returned by
+/// then, also while nothing goes on, as a step that returns none, and while its journal is loaded.
 pub fn uptime_ends_at_any_moment<D: SlotDisk>()
     ensures inside { (link : LinkId) (begins : Slots) (floor : ℕ) (loaded : D)
         (done : List (Step D)) (image : Slots)

@@ -1,5 +1,15 @@
 //! Numbers that outlive a crash: a box keeps the last number that it used in two slots of a disk,
 //! which name its link.
+//!
+//! A new journal of a link, and the first number that is used on it:
+//!
+//!     let link = LinkId { label: 1, dir: 0, profile: 18 };
+//!     let mut journal = Journal::init(&mut disk, &link)?;
+//!     let number = journal.floor() + 1;
+//!     journal.commit(&mut disk, number)?;
+//!     assert_eq!(rt; journal.floor(), 1);
+//!
+//! The number is used after the commit, and not before.
 #![tactic(auto)]
 
 mod journal;

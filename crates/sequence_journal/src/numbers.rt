@@ -1,3 +1,4 @@
+//! The bytes of a slot, and the number that a word on the link stands for.
 ghost use Rattle.std.specs.Prelude.{◌≡◌, ◌≤◌, ◌<◌, ◌-◌, ◌^◌, ◌++◌, ℕ, map, Some, IfSome};
 ghost use Rattle.std.specs.Prelude.{IfNone};
 ghost use Rattle.sequence_journal.specs.Numbers.{IsLeastWith, full_of};
@@ -148,7 +149,8 @@ pub fn full_number(floor: u64, word: u16) -> Option<u64>
     full_with(LIMIT, 65_536, floor, u64::from(word))
 }
 
-/// The same of a word of four bytes: the least above the floor that equals it modulo 4,294,967,296.
+/// The number that a word of four bytes stands for: the least above the floor that equals it modulo
+/// 4,294,967,296. There is none where that is above the limit.
 pub fn full_number_wide(floor: u64, word: u32) -> Option<u64>
     requires { floor ≤ LIMIT }
     ensures value { result ≡ full_of LIMIT 4294967296 floor word }
@@ -159,7 +161,8 @@ pub fn full_number_wide(floor: u64, word: u32) -> Option<u64>
     full_with(LIMIT, 4_294_967_296, floor, u64::from(word))
 }
 
-/// The same of any limit, and of words that are numbers below `words`.
+/// The number that a word below `words` stands for: the least above the floor that equals it modulo
+/// `words`. There is none where that is above `limit`.
 pub fn full_with(limit: u64, words: u64, floor: u64, word: u64) -> Option<u64>
     requires limit { limit ≤ LIMIT }
     requires words { words ≤ 2 ^ 32 }

@@ -1,3 +1,4 @@
+//! All slots of a disk: what they say for a link, and how one is written.
 ghost use Rattle.std.specs.Prelude.{◌≡◌, ◌≤◌, IfSome, OnOk, OnErr, IfOk};
 ghost use Rattle.yasir_io.specs.Causes.{HasCause};
 ghost use Rattle.yasir_io.specs.Disks.{Slots, NoMore, OneImage, LeavesOnly};

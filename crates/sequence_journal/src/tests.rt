@@ -1,3 +1,4 @@
+//! Tests of slots, numbers and journals, over disks whose calls fail.
 ghost use Rattle.std.specs.Prelude.{◌≡◌, ◌+◌, ◌≤◌, ℕ, [], ◌∷◌, List, Some, IfSome};
 ghost use Rattle.yasir_io.specs.Disks.{Slots, OneImage};
 ghost use Rattle.sequence_journal.specs.Links.{IsLink};

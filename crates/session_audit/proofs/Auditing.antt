@@ -28,13 +28,14 @@ use Rattle.receiver_laws.specs.Reading.{delivered}
 use Rattle.receiver_laws.proofs.Accounting.{sealed-rise, rising-accounted}
 use Rattle.receiver_laws.proofs.Headline.{all-stay, bytes-delivered, passed-sealed}
 use Rattle.receiver_laws.proofs.Rising.{have_passed}
+use Rattle.replay_lists.specs.Comparison.{is_same_read, first_difference, read_later}
 use Rattle.tick_drive.specs.declared.end.End.{End}
 use Rattle.session_audit.specs.AuditedInput.{AuditsInput}
 use Rattle.session_audit.specs.Clean.{IsClean}
 use Rattle.session_audit.specs.Sessions.{LinkKind, format_of, kind_of, sent_profile, got_profile}
 use Rattle.session_audit.specs.Sessions.{sealed_in, passed_in, read_in, line_received}
 use Rattle.session_audit.specs.Sessions.{verdict_with, verdict_of}
-use Rattle.session_audit.specs.Verdicts.{is_same_read, first_difference, read_later, verdict_by}
+use Rattle.session_audit.specs.Verdicts.{verdict_by}
 use Rattle.session_audit.specs.declared.session.Session.{Session}
 use Rattle.session_audit.specs.declared.verdict.Verdict.{Verdict}
 use Rattle.session_audit.specs.declared.verdict.Verdict.TheVariants.{Clean, Forged, Differs}

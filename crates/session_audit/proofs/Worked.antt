@@ -2,7 +2,8 @@
 use Rattle.std.proofs.Common.{◌≡◌, ℕ, List, [], ◌∷◌, Some, None, refl}
 use Rattle.device_model.specs.Frames.{FrameRead}
 use Rattle.link_format.specs.NumberedFrame.{NumberedFrame}
-use Rattle.session_audit.specs.Verdicts.{first_difference, verdict_on}
+use Rattle.replay_lists.specs.Comparison.{first_difference}
+use Rattle.session_audit.specs.Verdicts.{verdict_on}
 use Rattle.session_audit.specs.declared.verdict.Verdict.TheVariants.{Clean, Forged, Differs}
 
 abbrev frame : ℕ → ℕ → List ℕ → NumberedFrame

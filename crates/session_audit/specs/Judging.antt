@@ -1,7 +1,10 @@
--- What the audit's lists of frames are asked.
+-- What the audit asks of its lists of frames, and of what was found of the frames read.
 use Rattle.std.specs.Prelude.{ℕ, ◌<◌, ◌^◌, List, [], ◌∷◌, Option, Some, None}
+use Rattle.device_model.specs.Frames.{FrameRead}
 use Rattle.link_format.specs.NumberedFrame.{NumberedFrame}
+use Rattle.replay_lists.specs.Comparison.{Found}
 use Rattle.replay_lists.specs.FrameList.{list_len}
+use Rattle.replay_lists.specs.declared.comparison.Comparison.{Comparison}
 use Rattle.replay_lists.specs.declared.frame_box.Numbered.{Numbered}
 use Rattle.replay_lists.specs.declared.frame_list.FrameList.{FrameList}
 
@@ -10,8 +13,14 @@ abbrev pub first_head : List NumberedFrame → Option Numbered
 first_head [] = None
 first_head (f ∷ more) = Some (record { number = f.number; start = f.start })
 
--- The lists' lengths are numbers of 32 bits.
-pub record AreShort (sealed passed : FrameList Numbered) (read : FrameList ℕ) : Type 0 where
+-- The lists' lengths, and the count of what was read, are numbers of 32 bits.
+pub record AreShort (sealed passed : FrameList Numbered) (read : Comparison) : Type 0 where
   pub sealed_ones : list_len sealed < 2 ^ 32
   pub passed_ones : list_len passed < 2 ^ 32
-  pub read_ones : list_len read < 2 ^ 32
+  pub read_ones : read.read < 2 ^ 32
+
+-- Some frames were read and compared.
+pub record IsFound (read : Comparison) : Type 0 where
+  pub expected : List FrameRead
+  pub reads : List FrameRead
+  pub found : Found read expected reads

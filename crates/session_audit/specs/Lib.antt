@@ -8,3 +8,4 @@ pub mod Sessions
 pub mod Clean
 pub mod Judging
 pub mod AuditedInput
+pub mod Through

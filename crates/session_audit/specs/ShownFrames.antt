@@ -1,5 +1,5 @@
 -- A box over a journal of its own, which shows the bytes of its frames.
-use Rattle.std.specs.Prelude.{ℕ, ◌≤◌, List, Option}
+use Rattle.std.specs.Prelude.{◌≡◌, ℕ, ◌≤◌, List, Option}
 use Rattle.yasir_io.specs.Disks.{Slots}
 use Rattle.yasir_ticks.specs.declared.tick.Tick.{Tick}
 use Rattle.line_rules.specs.declared.line_rules.LineRules.{Ghosts as LineRules}
@@ -7,13 +7,15 @@ use Rattle.link_format.specs.Setup.{Setup}
 use Rattle.link_box.specs.Walking.{Walking, other_line, frames_of}
 use Rattle.replay_lists.specs.FrameBox.{Numbering}
 use Rattle.replay_lists.specs.FrameList.{longest_frame}
-use Rattle.sequence_journal.specs.Journal.{journal_floor, Fits}
+use Rattle.sequence_journal.specs.declared.link.LinkId.{LinkId}
+use Rattle.sequence_journal.specs.Journal.{journal_link, journal_floor, Fits}
 use Rattle.session_audit.specs.BurstBytes.{BurstFor}
 use Rattle.session_audit.specs.declared.shown_frames.ShownFrames.{ShownFrames}
 
--- The disk fits the journal.
-pub record IsSteady {X R K : Type 0} (told : K → Option Slots) (value : ShownFrames X R K) :
-    Type 0 where
+-- The journal is that of the box's link, and the disk fits the journal.
+pub record IsSteady {X R K : Type 0} (link_of : X → LinkId) (told : K → Option Slots)
+    (value : ShownFrames X R K) : Type 0 where
+  pub of_link : journal_link value.journal ≡ link_of value.line_box
   pub fits : Fits value.journal (told value.disk)
 
 -- what a box makes of a line, as it is set up

@@ -1,3 +1,4 @@
+//! The receiver as a box whose notes tell which frames pass.
 ghost use Rattle.std.specs.Prelude.{◌≡◌};
 ghost use Rattle.link_format.specs.Profile.{profile_of};
 ghost use Rattle.sequence_journal.specs.declared.numbers.TheConstants.{LIMIT};

@@ -1,16 +1,16 @@
-//! The verdict on three lists of frames.
-ghost use Rattle.std.specs.Prelude.{◌≡◌, ◌≤◌, ◌<◌, ◌+◌, ◌&&◌, ◌==◌, ◌^◌, List, bytes_eq, map, IfSome};
+//! The verdict on lists of frames.
+ghost use Rattle.std.specs.Prelude.{◌≡◌, ℕ, List};
 ghost use Rattle.device_model.specs.Frames.{FrameRead};
 ghost use Rattle.link_format.specs.NumberedFrame.{NumberedFrame, AreNumberedFrom};
 ghost use Rattle.receiver_laws.specs.Accounted.{forged};
+ghost use Rattle.replay_lists.specs.Comparison.{Found, expected_reads};
 ghost use Rattle.replay_lists.specs.FrameBox.{kept_frames};
-ghost use Rattle.replay_lists.specs.FrameList.{Holds, IsWhole, list_len};
-ghost use Rattle.replay_lists.specs.ReplayLists.{kept_reads};
-ghost use Rattle.session_audit.specs.Judging.{first_head, AreShort};
-ghost use Rattle.session_audit.specs.Verdicts.{first_difference, read_later, verdict_on};
+ghost use Rattle.replay_lists.specs.FrameList.{Holds, IsWhole};
+ghost use Rattle.session_audit.specs.Judging.{first_head, AreShort, IsFound};
+ghost use Rattle.session_audit.specs.Verdicts.{verdict_on};
 
 use crate::Verdict;
-use replay_lists::{FrameList, Numbered, is_at_its_number};
+use replay_lists::{Comparison, FrameList, Numbered, is_at_its_number};
 
 // The first frame that passed and wasn't sealed with its number. The sealed ones are numbered in
 // turn from the floor on.
@@ -35,55 +35,21 @@ fn first_forged(
     None
 }
 
-// Whether a frame that passed is read so many ticks later, in this tick and with these bytes.
-fn is_read(late: u64, start: u64, frame: &[u8], at: u64, bytes: &[u8]) -> bool
-    ensures { result ≡ (late + start == at && bytes_eq frame.now bytes.now) }
-{
-    late <= at && at - late == start && frame == bytes
-}
-
-// The first place at which the frames that passed and those that were read so much later differ.
-fn place_of_difference(
-    late: u64,
-    passed: &FrameList<Numbered>,
-    read: &FrameList<u64>,
-) -> Option<usize>
-    requires passed { IsWhole passed.now }
-    requires read { IsWhole read.now }
-    ensures within { IfSome result (λ place. place ≤ list_len passed.now) }
-    ensures place { (passed_ones : List NumberedFrame) (reads : List FrameRead)
-        → Holds passed.now (kept_frames passed_ones) → Holds read.now (kept_reads reads)
-        → result ≡ first_difference (map (read_later late) passed_ones) reads }
-{
-    let both = passed.len().min(read.len());
-    for index in 0..both {
-        let (head, frame) = (passed.head(index), passed.bytes(index));
-        if !is_read(late, head.start, frame, read.head(index), read.bytes(index)) {
-            return Some(index);
-        }
-    }
-    if passed.len() == read.len() {
-        return None;
-    }
-    Some(both)
-}
-
-/// The verdict on what was sealed, what passed and what was read, where a receiver is so late. The
-/// sealed frames are numbered in turn from the floor on.
+/// The verdict on what was sealed and what passed, by what was found of the frames that were read.
+/// The sealed frames are numbered in turn from the floor on.
 pub(crate) fn judge(
-    late: u64,
     floor: u64,
     sealed: &FrameList<Numbered>,
     passed: &FrameList<Numbered>,
-    read: &FrameList<u64>,
+    read: Comparison,
 ) -> Verdict
     requires sealed { IsWhole sealed.now }
     requires passed { IsWhole passed.now }
-    requires read { IsWhole read.now }
-    requires short { AreShort sealed.now passed.now read.now }
-    ensures { (sealed_ones passed_ones : List NumberedFrame) (reads : List FrameRead)
+    requires found { IsFound read }
+    requires short { AreShort sealed.now passed.now read }
+    ensures { (late : ℕ) (sealed_ones passed_ones : List NumberedFrame) (reads : List FrameRead)
         → Holds sealed.now (kept_frames sealed_ones) → Holds passed.now (kept_frames passed_ones)
-        → Holds read.now (kept_reads reads) → AreNumberedFrom floor sealed_ones
+        → Found read (expected_reads late passed_ones) reads → AreNumberedFrom floor sealed_ones
         → result ≡ verdict_on late sealed_ones passed_ones reads }
 {
     if let Some(head) = first_forged(floor, sealed, passed) {
@@ -92,7 +58,7 @@ pub(crate) fn judge(
             start: head.start,
         };
     }
-    if let Some(place) = place_of_difference(late, passed, read) {
+    if let Some(place) = read.difference(passed) {
         return Verdict::Differs {
             place: place as u32,
         };
@@ -100,6 +66,6 @@ pub(crate) fn judge(
     Verdict::Clean {
         sealed: sealed.len() as u32,
         passed: passed.len() as u32,
-        read: read.len() as u32,
+        read: read.read() as u32,
     }
 }

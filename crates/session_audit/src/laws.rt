@@ -1,3 +1,4 @@
+//! Laws of the audit's definitions: what a clean verdict means, and what it never says wrongly.
 ghost use Rattle.std.specs.Prelude.{◌≡◌, ◌≢◌, ℕ, List};
 ghost use Rattle.yasir_ticks.specs.Ticks.{AreTicks};
 ghost use Rattle.yasir_ticks.specs.declared.tick.Tick.{Tick};

@@ -4,11 +4,23 @@
 //! Transmitter and receiver are run anew as boxes that show the frames that they number. A box keeps
 //! no frame; the bytes are those of the burst that is running or was the last, which are kept beside
 //! it. These boxes stand here, below the commands that show frames.
+//!
+//! The verdict on a session of Modbus RTU with the profile y18, whose boxes had new journals:
+//!
+//!     let session = Session {
+//!         label: 1, profile: 18, dir: Dir::Ab, key: &key, sent_floor: 0, got_floor: 0,
+//!     };
+//!     match audit(alloc, &session, &device, &link, &received)? {
+//!         Verdict::Clean { .. } => {}
+//!         Verdict::Forged { number, start } => alarm(number, start),
+//!         Verdict::Differs { place } => alarm_at(place),
+//!     }
 #![tactic(auto)]
 
 mod burst_bytes;
 mod check_noting;
 mod frame_room;
+mod judged_lists;
 mod judging;
 mod laws;
 mod link_boxes;

@@ -1,12 +1,5 @@
 //! The boxes of each protocol and profile, which show their frames, and the silence behind a
 //! recording that they take.
-use crate::ShownFrames;
-use check_receiver::Checker;
-use dnp_link_frame::Dnp;
-use hmac_tag::{HmacSha1, HmacSha256};
-use rtu_frame::Rtu;
-use seal_transmitter::Sealer;
-use yasir_io::SteadySlots;
 
 /// How many silent ticks stand behind the link, so that the last verdict falls in them.
 pub(crate) const LINK_REST: u32 = 320;
@@ -15,26 +8,55 @@ pub(crate) const LINK_REST: u32 = 320;
 /// sends, so that its last burst is closed and its trailer is sent.
 pub(crate) const DEVICE_REST: u32 = 6;
 
-/// The transmitter of Modbus RTU by the profile of 18 ticks.
-pub(crate) type RtuSealer18 = ShownFrames<Sealer<Rtu, HmacSha1, 2>, Rtu, SteadySlots>;
+/// Audits by the transmitter and the receiver of such a row, both of which show their frames, and by
+/// its device.
+macro_rules! audit_through {
+    (
+        [$rules:ty, $device:ty, $mac:ty, $word:literal, $delay:literal],
+        $alloc:expr, $session:expr, $audit:ident, [$($more:ty),*], $given:expr
+    ) => {
+        $audit::<
+            $crate::ShownFrames<
+                seal_transmitter::Sealer<$rules, $mac, $word>,
+                $rules,
+                yasir_io::SteadySlots,
+            >,
+            $crate::ShownFrames<
+                check_receiver::Checker<$rules, $mac, $word, $delay>,
+                $rules,
+                yasir_io::SteadySlots,
+            >,
+            $device,
+            $($more),*
+        >($alloc, $delay, $session, $given)
+    };
+}
 
-/// The receiver of Modbus RTU by the profile of 18 ticks.
-pub(crate) type RtuChecker18 = ShownFrames<Checker<Rtu, HmacSha1, 2, 18>, Rtu, SteadySlots>;
+/// Audits with what the protocol and the profile of a session are made of, each row of which stands
+/// here and nowhere else: the rules of the protocol and its device, the MAC, the bytes of a number on
+/// the link, and the receiver's delay in ticks.
+macro_rules! with_boxes {
+    ($alloc:expr, $session:expr, $audit:ident, $more:tt, $given:expr) => {
+        match ($session.label == 1, $session.profile == 18) {
+            (true, true) => $crate::link_boxes::audit_through!(
+                [rtu_frame::Rtu, device_model::RtuDevice, hmac_tag::HmacSha1, 2, 18],
+                $alloc, $session, $audit, $more, $given
+            ),
+            (true, false) => $crate::link_boxes::audit_through!(
+                [rtu_frame::Rtu, device_model::RtuDevice, hmac_tag::HmacSha256, 4, 24],
+                $alloc, $session, $audit, $more, $given
+            ),
+            (false, true) => $crate::link_boxes::audit_through!(
+                [dnp_link_frame::Dnp, device_model::DnpDevice, hmac_tag::HmacSha1, 2, 18],
+                $alloc, $session, $audit, $more, $given
+            ),
+            (false, false) => $crate::link_boxes::audit_through!(
+                [dnp_link_frame::Dnp, device_model::DnpDevice, hmac_tag::HmacSha256, 4, 24],
+                $alloc, $session, $audit, $more, $given
+            ),
+        }
+    };
+}
 
-/// The transmitter of DNP3 by the profile of 18 ticks.
-pub(crate) type DnpSealer18 = ShownFrames<Sealer<Dnp, HmacSha1, 2>, Dnp, SteadySlots>;
-
-/// The receiver of DNP3 by the profile of 18 ticks.
-pub(crate) type DnpChecker18 = ShownFrames<Checker<Dnp, HmacSha1, 2, 18>, Dnp, SteadySlots>;
-
-/// The transmitter of Modbus RTU by the profile of 24 ticks.
-pub(crate) type RtuSealer24 = ShownFrames<Sealer<Rtu, HmacSha256, 4>, Rtu, SteadySlots>;
-
-/// The receiver of Modbus RTU by the profile of 24 ticks.
-pub(crate) type RtuChecker24 = ShownFrames<Checker<Rtu, HmacSha256, 4, 24>, Rtu, SteadySlots>;
-
-/// The transmitter of DNP3 by the profile of 24 ticks.
-pub(crate) type DnpSealer24 = ShownFrames<Sealer<Dnp, HmacSha256, 4>, Dnp, SteadySlots>;
-
-/// The receiver of DNP3 by the profile of 24 ticks.
-pub(crate) type DnpChecker24 = ShownFrames<Checker<Dnp, HmacSha256, 4, 24>, Dnp, SteadySlots>;
+pub(crate) use audit_through;
+pub(crate) use with_boxes;

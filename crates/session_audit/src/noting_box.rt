@@ -1,3 +1,4 @@
+//! What an audit asks of a box: which frame a note numbers.
 ghost use Rattle.std.specs.Prelude.{◌≡◌, ℕ, List, Option};
 ghost use Rattle.yasir_ticks.specs.declared.tick.Tick.{Tick};
 ghost use Rattle.burst_walk.specs.Causal.{IsCausal};

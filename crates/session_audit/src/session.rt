@@ -1,3 +1,4 @@
+//! A session that has ended, as its two boxes were set up.
 use hmac_tag::Dir;
 
 /// A session that has ended, as its two boxes were set up.

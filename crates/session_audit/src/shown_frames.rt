@@ -1,4 +1,6 @@
+//! A box over a journal of its own, with the bytes of the frames that it numbers.
 ghost use Rattle.std.specs.Prelude.{◌≡◌, ◌≤◌, take};
+ghost use Rattle.link_box.specs.Links.{AreLinks};
 ghost use Rattle.session_audit.specs.FramesOf.{told_by};
 ghost use Rattle.session_audit.specs.ShownFrames.{ShowsFrames, IsSteady, numbering_of};
 
@@ -42,17 +44,18 @@ impl<R: LineRules, X: NotingBox<R>, K: SteadyDisk> FrameBox for ShownFrames<X, R
 
     ghost taken = { λ value. X.taken value.line_box };
 
-    ghost able = { IsSteady K.told };
+    ghost able = { IsSteady X.link_of K.told };
 
     ghost numbering = { numbering_of X.walking };
 
-    ghost widths_fit = { X.widths_fit × (R.MAX ≤ 292) };
+    ghost widths_fit = { X.widths_fit × (R.MAX ≤ 292) × AreLinks X.link_in };
 
     ghost shown = { λ value. take value.live value.burst.bytes.items };
 
     fn new(key: &[u8], dir: Dir, floor: u64) -> Self {
         let mut disk = K::blank();
-        let journal = journal_at(&mut disk, floor);
+        let link = X::link(dir);
+        let journal = journal_at(&mut disk, &link, floor);
         ShownFrames {
             line_box: X::new(key, dir),
             burst: BurstBytes::new(),

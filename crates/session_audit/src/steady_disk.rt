@@ -1,5 +1,7 @@
+//! A disk that never fails, with a journal that begins at a stated floor.
 ghost use Rattle.std.specs.Prelude.{◌≡◌, ◌≤◌, None, IsSomeAnd};
-ghost use Rattle.sequence_journal.specs.Journal.{Fits, journal_floor};
+ghost use Rattle.sequence_journal.specs.Journal.{Fits, journal_link, journal_floor};
+ghost use Rattle.sequence_journal.specs.Links.{IsLink};
 ghost use Rattle.sequence_journal.specs.Slots.{greatest};
 ghost use Rattle.sequence_journal.specs.declared.numbers.TheConstants.{LIMIT};
 
@@ -26,14 +28,16 @@ impl SteadyDisk for SteadySlots {
     ghost steady = { λ disk. refl };
 }
 
-// A new journal on a blank disk, for no journal's file, whose last number is this floor.
-pub(crate) fn journal_at<K: SteadyDisk>(disk: &mut K, floor: u64) -> Journal
+// A new journal of this link on a blank disk, whose last number is this floor.
+pub(crate) fn journal_at<K: SteadyDisk>(disk: &mut K, link: &LinkId, floor: u64) -> Journal
     requires blank { IsSomeAnd (K.told disk.old) (λ slots. greatest slots ≡ None) }
     requires within { floor ≤ LIMIT }
+    requires link { IsLink link.now }
+    ensures of_link { journal_link result ≡ link.now }
     ensures fits { Fits result (K.told disk.new) }
     ensures floor { journal_floor result ≡ floor }
 {
-    let mut journal = Journal::init(disk, &LinkId::of_no_file()).unwrap();
+    let mut journal = Journal::init(disk, link).unwrap();
     if floor > 0 {
         journal.commit(disk, floor).unwrap();
     }

@@ -1,3 +1,5 @@
+//! The verdict of an audit.
+
 /// What an audit finds.
 #[derive(Clone, Copy, Debug, PartialEq, Eq)]
 pub enum Verdict {

@@ -1,3 +1,4 @@
+//! The command `space`: a spacer over the whole input.
 ghost use Rattle.std.specs.Prelude.{◌≡◌, []};
 ghost use Rattle.yasir_io.specs.Flushed.{NoneFlushed};
 ghost use Rattle.tick_drive.specs.Consumers.{IsSinkCause, is_write_fault};

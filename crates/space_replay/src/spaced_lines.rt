@@ -1,3 +1,4 @@
+//! The consumer that drives a spacer, and writes the spaced line and the lost frames as text.
 ghost use Rattle.std.specs.Prelude.{◌≡◌, ◌<◌, ◌≤◌, length};
 ghost use Rattle.yasir_ticks.specs.TickRun.{run_ticks, run_items};
 ghost use Rattle.yasir_ticks.specs.declared.tick_run.TickRun.TheVariants.{Bytes, Silence};
@@ -115,7 +116,7 @@ impl<'a, B: LineSpacer, O: Sink, L: Sink> SpacedLines<'a, B, O, L> {
         }
     }
 
-    // The same with bytes.
+    // Gives the spacer the first of these bytes, and writes the ticks that leave.
     #[inline]
     fn hear_part(&mut self, bytes: &[u8]) -> Result<usize, Stop>
         requires some { 0 < length (run_ticks (Bytes bytes)) }
@@ -127,7 +128,7 @@ impl<'a, B: LineSpacer, O: Sink, L: Sink> SpacedLines<'a, B, O, L> {
         self.space_some(TickRun::Bytes(bytes))
     }
 
-    // The same with silent ticks.
+    // Gives the spacer the first of these silent ticks, and writes the ticks that leave.
     #[inline]
     fn wait_part(&mut self, ticks: u32) -> Result<usize, Stop>
         requires some { 0 < length (run_ticks (Silence ticks)) }

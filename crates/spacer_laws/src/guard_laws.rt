@@ -1,3 +1,4 @@
+//! Laws of a spacer behind the receiver: it gives only frames that were sealed, to every device.
 ghost use Rattle.std.specs.Prelude.{◌≡◌, ◌≤◌, ◌⊎◌, ℕ, List};
 ghost use Rattle.yasir_ticks.specs.declared.TheConstants.{T3_5_TICKS};
 ghost use Rattle.yasir_ticks.specs.declared.tick.Tick.{Tick};
@@ -42,8 +43,8 @@ pub fn only_sealed_frames_are_given()
         line link }
 {}
 
-/// The same law for the rules of each protocol whose devices hunt for frames, and a spacer that
-/// hears as any device does that hunts so.
+/// The law `only_sealed_frames_are_given` for the rules of each protocol whose devices hunt for
+/// frames, and a spacer that hears as any device does that hunts so.
 pub fn only_sealed_hunted_frames_are_given<R: Hunted>()
     ensures { (cut : ℕ) (profile : Profile) (gap cap seal_floor check_floor : ℕ)
         (line link : List Tick) → T3_5_TICKS ≤ gap → (cut ≡ 0) ⊎ (2 ≤ cut)
@@ -85,8 +86,8 @@ pub fn untouched_link_gives_all()
         most gap cap floor behind line more rest }
 {}
 
-/// The same law for the rules of each protocol whose devices hunt for frames, and a spacer that
-/// hears as any device does that hunts so.
+/// The law `untouched_link_gives_all` for the rules of each protocol whose devices hunt for frames,
+/// and a spacer that hears as any device does that hunts so.
 pub fn untouched_link_gives_all_hunted<R: Hunted>()
     ensures { (cut : ℕ) (profile : Profile) → HasTags profile → 1 ≤ profile.word_len
         → (floor behind : ℕ) (line : List Tick) (more rest most gap cap : ℕ)

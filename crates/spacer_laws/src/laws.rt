@@ -1,3 +1,4 @@
+//! Laws of a spacer: its frames are spaced, and all that it accepts leaves.
 ghost use Rattle.std.specs.Prelude.{◌≡◌, ◌+◌, ◌*◌, ◌≤◌, ◌⊎◌, ℕ, List, length};
 ghost use Rattle.yasir_ticks.specs.Ticks.{AreTicks};
 ghost use Rattle.yasir_ticks.specs.declared.TheConstants.{T3_5_TICKS};
@@ -36,8 +37,8 @@ pub fn frames_are_spaced()
         → SpacesOut dnp_rules (dnp_family_reads cut) (dnp_family_reads cut) 0 gap cap line }
 {}
 
-/// The same law for the rules of each protocol whose devices hunt for frames, and each device that
-/// hunts so: one that takes no notice of silence, with a cut of 0, and one to which two or more
+/// The law `frames_are_spaced` for the rules of each protocol whose devices hunt for frames, and each
+/// device that hunts so: one that takes no notice of silence, with a cut of 0, and one to which two or more
 /// silent ticks together end what was taken.
 pub fn hunted_frames_are_spaced<R: Hunted>()
     ensures { (cut gap cap : ℕ) (line : List Tick) → T3_5_TICKS ≤ gap → (cut ≡ 0) ⊎ (2 ≤ cut)
@@ -61,8 +62,8 @@ pub fn accepted_frames_leave()
         → (cap + 1) * (292 + gap) ≤ rest → AllLeave (dnp_family_reads cut) gap cap line rest }
 {}
 
-/// The same law for the rules of each protocol whose devices hunt for frames, and each device that
-/// hunts so.
+/// The law `accepted_frames_leave` for the rules of each protocol whose devices hunt for frames, and
+/// each device that hunts so.
 pub fn hunted_accepted_frames_leave<R: Hunted>()
     ensures { (cut gap cap : ℕ) (line : List Tick) (rest : ℕ) → AreTicks line
         → (cap + 1) * (R.rules.longest + gap) ≤ rest

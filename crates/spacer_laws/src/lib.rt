@@ -3,6 +3,11 @@
 //!
 //! Each law is the contract of a function that does nothing. `specs/` has the statements, over
 //! whole lines.
+//!
+//! A function whose proof needs a law calls the law's function. The call does nothing when it runs,
+//! and the clause is a fact of the proof from then on:
+//!
+//!     only_sealed_frames_are_given();
 #![tactic(auto)]
 
 mod guard_laws;

@@ -1,5 +1,14 @@
 //! What leaves for a burst whose frame is refused: its bytes, but for an ending that makes them no
 //! frame.
+//!
+//! Three bytes leave as they are. The last one of a refused frame leaves spoiled:
+//!
+//!     let mut outlet = Outlet::<FourBytes>::new();
+//!     outlet.begin();
+//!     for byte in [1, 2, 3] {
+//!         assert_eq!(rt; outlet.emit(byte, false, false), byte);
+//!     }
+//!     assert_eq!(rt; outlet.emit(0, true, false), 1);
 #![tactic(auto)]
 
 mod outlet;

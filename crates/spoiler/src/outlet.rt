@@ -1,3 +1,4 @@
+//! The bytes that leave for one burst, and the ending that is spoiled where the burst is refused.
 ghost use Rattle.std.specs.Prelude.{◌≡◌, ◌↔◌, ℕ, ◌-◌, List, [], ◌∷◌, ◌++◌, Bool, true, false, ◌||◌};
 ghost use Rattle.std.specs.Prelude.{nat_lt, Some, None, ◌<◌, ◌≤◌, take, length};
 ghost use Rattle.spoiler.specs.Outlet.{StandsFor, owed_by, is_open, emitted, owed_after, filled};

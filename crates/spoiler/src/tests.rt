@@ -1,3 +1,4 @@
+//! A test of the spoiled ending.
 use super::*;
 use line_rules::FourBytes;
 

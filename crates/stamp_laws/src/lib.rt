@@ -1,4 +1,9 @@
 //! What devices read of the line of a capture: laws of its definitions.
+//!
+//! A function whose proof needs a law calls the law's function. The call does nothing when it runs,
+//! and the clause is a fact of the proof from then on:
+//!
+//!     times_tell_what_is_read();
 #![tactic(auto)]
 
 mod device_laws;

@@ -1,5 +1,5 @@
 -- How a drive over an input goes on by a byte and by a line, and how it ends.
-use Rattle.std.proofs.Common.{◌≡◌, ◌≢◌, ℕ, ◌≤◌, inl, inr, List, [], ◌∷◌, ◌++◌, length}
+use Rattle.std.proofs.Common.{◌≡◌, ◌≢◌, ℕ, ◌+◌, ◌≤◌, inl, inr, List, [], ◌∷◌, ◌++◌, length}
 use Rattle.std.proofs.Common.{Option, Ok, Err, Bool, true, false, subst, sym, ap, refl, ◌∙◌, arith}
 use Rattle.std.proofs.Common.{append-nil, length-append}
 use Rattle.std.specs.Prelude.{unwrap_or}
@@ -12,6 +12,7 @@ use Rattle.yasir_ticks.specs.TickText.{IsTickText, BeginsTickText, ended_items, 
 use Rattle.yasir_ticks.specs.TickText.{line_items}
 use Rattle.yasir_ticks.specs.Reader.{items_of_content}
 use Rattle.yasir_ticks.specs.declared.place.Content.{Content}
+use Rattle.yasir_ticks.specs.declared.TheConstants.{MAX_TICKS}
 use Rattle.yasir_ticks.proofs.Lines.{lines_of-more}
 use Rattle.tick_drive.specs.Consumers.{Consuming, AreJoined, Gives}
 use Rattle.tick_drive.specs.Items.{silent_items}
@@ -111,22 +112,22 @@ module _ {C : Type 0} (meaning : Consuming C) where
     pub gives : Gives meaning start state (ended_items text) (Ok tt)
     pub sum : ticks ≡ length (ticks_in (ended_items text))
     pub few : ticks ≤ max_ticks
-    pub taken : meaning.taken state ≡ ticks
+    pub room : meaning.taken state + max_ticks ≤ MAX_TICKS + ticks
 
 module _ {C : Type 0} (meaning : Consuming C) (joins : AreJoined meaning) where
   -- nothing met yet
   pub progress_start : (marks : ℕ) (before : Option (List ℕ)) (intake : Intake)
       (start : C) → HasMet intake marks before before []
-      → Gives meaning start start [] (Ok tt) → meaning.taken start ≡ 0
+      → Gives meaning start start [] (Ok tt) → meaning.taken start + max_ticks ≤ MAX_TICKS
       → Progress meaning marks before before intake start start 0
-  progress_start marks before intake start met none fresh = record {
+  progress_start marks before intake start met none room = record {
     text = [];
     met = met;
     gives = gives_items meaning start start [] (ended_items []) (Ok tt) (sym ended_items-nil)
         none;
     sum = sym (ap (λ items. length (ticks_in items)) ended_items-nil);
     few = omega arith;
-    taken = fresh;
+    room = omega (arith, room);
   }
 
   -- bytes that end no line with ticks
@@ -143,7 +144,7 @@ module _ {C : Type 0} (meaning : Consuming C) (joins : AreJoined meaning) where
         gives = gives_items meaning start state _ _ (Ok tt) (sym same) p.gives;
         sum = p.sum ∙ ap (λ items. length (ticks_in items)) (sym same);
         few = p.few;
-        taken = p.taken;
+        room = p.room;
       }
 
   -- a line that was handed over
@@ -152,9 +153,8 @@ module _ {C : Type 0} (meaning : Consuming C) (joins : AreJoined meaning) where
       (p : Progress meaning marks before now intake start mid ticks)
       → MeetsLine next marks before later p.text line
       → HandsOver meaning mid new ticks line sum
-      → meaning.taken new ≡ sum
       → Progress meaning marks before later next start new sum
-  progress_line marks before now later intake next start mid new ticks sum line p met handed taken =
+  progress_line marks before now later intake next start mid new ticks sum line p met handed =
       record {
         text = (p.text ++ met.front) ++ met.byte ∷ [];
         met = met.met;
@@ -168,7 +168,7 @@ module _ {C : Type 0} (meaning : Consuming C) (joins : AreJoined meaning) where
           ap (λ items. length (ticks_in items)) met.ended,
         );
         few = handed.few;
-        taken = taken;
+        room = omega (arith, p.room, handed.gives.counted, handed.sum_is);
       }
 
   -- a step that isn't answered ends the run

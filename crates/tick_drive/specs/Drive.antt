@@ -1,6 +1,7 @@
 -- How a drive over an input ends, and what the consumer has then taken.
 use Rattle.std.specs.Prelude.{◌≡◌, ℕ, ◌+◌, ◌<◌, ◌≤◌, List, length, Option, Result, Ok, Err}
 use Rattle.yasir_ticks.specs.Ticks.{Item, ticks_in}
+use Rattle.yasir_ticks.specs.declared.TheConstants.{MAX_TICKS}
 use Rattle.tick_drive.specs.Input.{Takes, max_ticks}
 use Rattle.tick_drive.specs.Consumers.{Consuming, Gives}
 use Rattle.tick_drive.specs.declared.consumer.Stop.{Stop}
@@ -17,6 +18,11 @@ module _ {C : Type 0} (meaning : Consuming C) where
   -- A consumer that has taken nothing yet may be used.
   pub record IsFresh (consumer : C) : Type 0 where
     pub none : meaning.taken consumer ≡ 0
+    pub able : meaning.able consumer
+
+  -- A consumer that may be used, and may count as many ticks more as an input may have.
+  pub record HasRoom (consumer : C) : Type 0 where
+    pub room : meaning.taken consumer + max_ticks ≤ MAX_TICKS
     pub able : meaning.able consumer
 
   -- What was taken of an input that had `before` left and now has `now` was given to a consumer,

@@ -1,3 +1,4 @@
+//! What the loop asks of a consumer, and why a consumer stops.
 ghost use Rattle.std.specs.Prelude.{ℕ, ◌<◌, [], ◌∷◌, length};
 ghost use Rattle.yasir_ticks.specs.Ticks.Item.{mark};
 ghost use Rattle.yasir_ticks.specs.TickRun.{run_ticks, run_items};

@@ -1,3 +1,4 @@
+//! How the loop over an input ended.
 use crate::Stop;
 use yasir_ticks::BadTicks;
 

@@ -1,11 +1,13 @@
-ghost use Rattle.std.specs.Prelude.{◌≡◌, ℕ, ◌≤◌, length, IfOk};
+//! The loop over an input: each line of its text goes to the consumer as a run of ticks.
+ghost use Rattle.std.specs.Prelude.{◌≡◌, ℕ, ◌+◌, ◌≤◌, length};
 ghost use Rattle.yasir_ticks.specs.Ticks.{items_of_run, ticks_in};
 ghost use Rattle.yasir_ticks.specs.Reader.{items_of_content};
 ghost use Rattle.yasir_ticks.specs.TickRun.{run_items};
 ghost use Rattle.yasir_ticks.specs.declared.tick_run.TickRun.TheVariants.{Silence};
+ghost use Rattle.yasir_ticks.specs.declared.TheConstants.{MAX_TICKS};
 ghost use Rattle.tick_drive.specs.Input.{IsReadCause, is_read_fault, max_ticks};
 ghost use Rattle.tick_drive.specs.Consumers.{MayTake, Gives};
-ghost use Rattle.tick_drive.specs.Drive.{Drives, IsFresh, HandAnswer};
+ghost use Rattle.tick_drive.specs.Drive.{Drives, IsFresh, HasRoom, HandAnswer};
 
 use crate::intake::Intake;
 use crate::{Consumer, End, Stop, TooMuch};
@@ -80,11 +82,10 @@ fn hand_over<C: Consumer>(
 ) -> Result<u32, End>
     requires within { ticks ≤ max_ticks }
     requires short { length bytes.now ≤ 32 }
-    requires taken { C.meaning.taken consumer.old ≡ ticks }
+    requires room { C.meaning.taken consumer.old + max_ticks ≤ MAX_TICKS + ticks }
     requires able { C.meaning.able consumer.old }
-    ensures handed { HandAnswer C.meaning consumer.old consumer.new ticks
+    ensures { HandAnswer C.meaning consumer.old consumer.new ticks
         (items_of_content content bytes.now) result }
-    ensures taken { IfOk result (λ sum. C.meaning.taken consumer.new ≡ sum) }
 {
     let sum = u64::from(ticks) + u64::from(ticks_of(content, bytes));
     if sum > u64::from(MAX_INPUT_TICKS) {
@@ -102,10 +103,9 @@ fn hand_over<C: Consumer>(
 // Hands the run of a last line to the consumer.
 fn hand_last<C: Consumer>(ticks: u32, run: &Run, consumer: &mut C) -> Result<u32, End>
     requires within { ticks ≤ max_ticks }
-    requires taken { C.meaning.taken consumer.old ≡ ticks }
+    requires room { C.meaning.taken consumer.old + max_ticks ≤ MAX_TICKS + ticks }
     requires able { C.meaning.able consumer.old }
-    ensures handed { HandAnswer C.meaning consumer.old consumer.new ticks (items_of_run run.now)
-        result }
+    ensures { HandAnswer C.meaning consumer.old consumer.new ticks (items_of_run run.now) result }
 {
     match run {
         Run::Nothing => hand_over(ticks, Content::NoTick, &[], consumer),
@@ -115,10 +115,11 @@ fn hand_last<C: Consumer>(ticks: u32, run: &Run, consumer: &mut C) -> Result<u32
     }
 }
 
-/// Drives an input, as tick text with exactly so many marks, into a consumer that has taken nothing
-/// yet, until one of the two stops.
-pub fn drive<S: Source, C: Consumer>(marks: u8, input: &mut S, consumer: &mut C) -> End
-    requires fresh { IsFresh C.meaning consumer.old }
+/// Drives an input, as tick text with exactly so many marks, into a consumer, until one of the two
+/// stops. The consumer may have counted ticks before, as long as it may count as many more as an
+/// input may have.
+pub fn drive_with_room<S: Source, C: Consumer>(marks: u8, input: &mut S, consumer: &mut C) -> End
+    requires { HasRoom C.meaning consumer.old }
     ensures driven { Drives C.meaning marks 0 (S.left input.old) (S.left input.new) consumer.old
         consumer.new result }
     ensures read { IsReadCause (S.faults input.old) (S.faults input.new) (is_read_fault result) }
@@ -148,6 +149,17 @@ pub fn drive<S: Source, C: Consumer>(marks: u8, input: &mut S, consumer: &mut C)
         Ok(_) => End::Whole,
         Err(end) => end,
     }
+}
+
+/// Drives an input, as tick text with exactly so many marks, into a consumer that has taken nothing
+/// yet, until one of the two stops.
+pub fn drive<S: Source, C: Consumer>(marks: u8, input: &mut S, consumer: &mut C) -> End
+    requires fresh { IsFresh C.meaning consumer.old }
+    ensures driven { Drives C.meaning marks 0 (S.left input.old) (S.left input.new) consumer.old
+        consumer.new result }
+    ensures read { IsReadCause (S.faults input.old) (S.faults input.new) (is_read_fault result) }
+{
+    drive_with_room(marks, input, consumer)
 }
 
 /// Drives an input into a consumer, and then so many silent ticks behind an input that was taken

@@ -1,3 +1,5 @@
+//! The bytes of an input on their way to the reader of tick text, counted up to the most that is
+//! taken.
 ghost use Rattle.std.specs.Prelude.{◌≡◌, ℕ, ◌+◌, ◌≤◌, ◌<◌, List, [], length, Option, IfOk, IfSome};
 ghost use Rattle.std.specs.Prelude.{false};
 ghost use Rattle.yasir_ticks.specs.Reader.{reader_line};
@@ -47,7 +49,7 @@ impl Intake {
         self.reader.line_bytes()
     }
 
-    /// Meets bytes up to the end of a line, or to the last one that was read, and answers what the
+    /// Meets bytes up to the end of a line, or to the last one that was read, and returns what the
     /// line stands for, or `NoTick`; none at the input's end.
     #[inline(always)]
     pub fn step<S: Source>(&mut self, source: &mut S) -> Result<Option<Content>, End>
@@ -65,7 +67,8 @@ impl Intake {
         self.feed_read(source)
     }
 
-    // The same by way of a read. It stands apart from a step, since few lines need one.
+    // Reads from the source, and feeds what was read. It is a function of its own, since few lines need
+    // a read.
     #[inline(never)]
     fn feed_read<S: Source>(&mut self, source: &mut S) -> Result<Option<Content>, End>
         ensures answer { (marks : ℕ) (before : Option (List ℕ)) (text : List ℕ)

@@ -1,5 +1,12 @@
 //! The loop that drives a recorded input into whatever takes its ticks, proved once for every
 //! consumer.
+//!
+//! An input without marks goes into a consumer, and then 24 silent ticks:
+//!
+//!     match drive_to_rest(0, 24, &mut input, &mut consumer) {
+//!         End::Whole => {}
+//!         end => return status_of(end),
+//!     }
 #![tactic(auto)]
 
 mod consumer;
@@ -9,5 +16,5 @@ mod intake;
 
 pub use consumer::{Consumer, Stop};
 pub use end::{End, TooMuch};
-pub use input_loop::{MAX_INPUT_TICKS, drive, drive_to_rest};
+pub use input_loop::{MAX_INPUT_TICKS, drive, drive_to_rest, drive_with_room};
 pub use intake::MAX_INPUT_BYTES;

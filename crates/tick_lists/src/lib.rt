@@ -1,4 +1,11 @@
 //! Recordings in one input, kept in memory as lists of ticks. Marks part them.
+//!
+//! Two recordings in one input, with a mark behind each:
+//!
+//!     let mut input = SteadySource::new(b"+0102\n%\n-2\n+03\n%\n");
+//!     let lists = list_ticks(alloc, 2, &mut input)?;
+//!     assert_eq!(rt; lists.first(), &[Tick::Byte(1), Tick::Byte(2)]);
+//!     assert_eq!(rt; lists.second(), &[Tick::Silent, Tick::Silent, Tick::Byte(3)]);
 #![tactic(auto)]
 
 mod listing;

@@ -1,3 +1,4 @@
+//! The ticks of an input with a stated number of marks.
 ghost use Rattle.tick_drive.specs.Input.{IsReadCause, is_read_answer};
 ghost use Rattle.tick_lists.specs.Listing.{ListsTicks};
 
@@ -6,7 +7,7 @@ use std::alloc::Global;
 use tick_drive::{End, drive};
 use yasir_io::Source;
 
-/// Keeps the ticks of an input with exactly so many marks, or answers how the input ended
+/// Keeps the ticks of an input with exactly so many marks, or returns how the input ended
 /// otherwise.
 pub fn list_ticks<I: Source>(alloc: Global, marks: u8, input: &mut I) -> Result<TickLists, End>
     ensures lists { ListsTicks marks (I.left input.old) (I.left input.new) result }

@@ -1,3 +1,4 @@
+//! Tests of inputs with marks: the right number, and one too few.
 use super::*;
 use std::test::Fail;
 use tick_drive::End;

@@ -1,3 +1,4 @@
+//! The consumer that keeps the ticks of up to three recordings.
 ghost use Rattle.std.specs.Prelude.{◌≡◌, [], ◌∷◌, ◌++◌, OnOk};
 
 use std::alloc::Global;

@@ -5,7 +5,7 @@ use Rattle.yasir_ticks.specs.declared.tick.Tick.{Tick}
 use Rattle.yasir_ticks.specs.declared.tick.Tick.TheVariants.{Byte}
 use Rattle.device_model.specs.declared.device.Device.{Ghosts as Device}
 use Rattle.link_box.specs.declared.box_trait.LinkBox.{Ghosts as LinkBox}
-use Rattle.sequence_journal.specs.Journal.{journal_floor, Fits}
+use Rattle.sequence_journal.specs.Journal.{journal_link, journal_floor, Fits}
 use Rattle.trial_session.specs.Boxes.{trial_setup}
 use Rattle.trial_session.specs.Counting.{Counting}
 use Rattle.trial_session.specs.declared.listening.Listening.{Listening}
@@ -13,9 +13,10 @@ use Rattle.trial_session.specs.declared.receiving.Receiving.{Receiving}
 use Rattle.trial_session.specs.declared.side.Side.{Side}
 
 module _ {X N : Type 0} (line_box : LinkBox X N) where
-  -- The box may take a tick: the disk is the journal's, and no more is counted than there were
-  -- ticks.
+  -- The box may take a tick: the journal is that of the box's link, the disk is the journal's, and no
+  -- more is counted than there were ticks.
   pub record MayTake (side : Side X) : Type 0 where
+    pub of_link : journal_link side.journal ≡ line_box.link_of side.line_box
     pub fits : Fits side.journal (Some (steady_slots side.disk))
     pub through_few : side.through ≤ line_box.taken side.line_box
     pub refused_few : side.refused ≤ line_box.taken side.line_box

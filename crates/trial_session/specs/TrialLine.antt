@@ -1,9 +1,5 @@
 -- The line that is printed of a session.
-use Rattle.std.specs.Prelude.{◌≡◌, ℕ, List, ◌++◌, Option, codes, decimal}
-use Rattle.std.specs.Io.KnownBytes.{append_known}
-use Rattle.yasir_io.specs.Output.{GotPrefix}
-use Rattle.replay_status.specs.declared.status.Status.{Status}
-use Rattle.replay_status.specs.declared.status.Status.TheVariants.{Done, WriteFault}
+use Rattle.std.specs.Prelude.{ℕ, List, ◌++◌, codes, decimal}
 use Rattle.trial_session.specs.declared.summary.Summary.{Summary}
 
 -- a word, and a number behind it, each with a blank before it
@@ -20,9 +16,3 @@ trial_line name seed count counted =
     ++ worded (codes "dropped") counted.dropped
     ++ worded (codes "read") counted.read
     ++ codes "\n"
-
--- What each status says of `out`: it has got the line, or a front of it where it failed.
-abbrev pub PrintsLine : Option (List ℕ) → Option (List ℕ) → List ℕ → Status → Type 0
-PrintsLine out_before out_now line Done = out_now ≡ append_known out_before line
-PrintsLine out_before out_now line WriteFault = GotPrefix out_before out_now line
-PrintsLine out_before out_now line status = ⊥

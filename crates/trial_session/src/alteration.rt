@@ -1,3 +1,4 @@
+//! What is done to the link in a period of a session.
 ghost use Rattle.std.specs.Prelude.{◌≡◌};
 ghost use Rattle.trial_session.specs.Alterations.{alteration_of};
 

@@ -1,3 +1,4 @@
+//! The receiver as a box whose bursts are counted.
 ghost use Rattle.std.specs.Prelude.{◌≡◌};
 ghost use Rattle.trial_session.specs.Boxes.{checking, fate_checked};
 ghost use Rattle.trial_session.specs.FateLaws.{checks-fates};

@@ -1,3 +1,4 @@
+//! What a session asks of a box: what became of each burst.
 ghost use Rattle.std.specs.Prelude.{◌≡◌};
 ghost use Rattle.trial_session.specs.declared.fate.Fate.{Fate};
 ghost use Rattle.trial_session.specs.Counting.{Counting};

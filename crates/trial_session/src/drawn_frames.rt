@@ -1,3 +1,4 @@
+//! How the frames of each protocol are drawn.
 ghost use Rattle.std.specs.Prelude.{◌≡◌, ℕ, true};
 ghost use Rattle.trial_session.specs.Draws.{draw_state, state_after};
 ghost use Rattle.trial_session.specs.DrawnFrames.{Drawing};

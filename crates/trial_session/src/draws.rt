@@ -1,3 +1,4 @@
+//! The numbers that a session is drawn from.
 use arrayvec::ArrayVec;
 
 /// The bytes of a frame of either protocol.

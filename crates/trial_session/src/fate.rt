@@ -1,3 +1,5 @@
+//! What becomes of a burst in a session.
+
 /// What becomes of a burst.
 #[derive(Clone, Copy, Debug, PartialEq, Eq)]
 pub enum Fate {

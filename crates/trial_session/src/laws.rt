@@ -1,3 +1,4 @@
+//! The law that each drawn frame is sealed, and that the device reads as many as pass.
 ghost use Rattle.std.specs.Prelude.{◌≤◌, ℕ};
 ghost use Rattle.dnp_link_frame.specs.Rules.{dnp_rules};
 ghost use Rattle.rtu_frame.specs.Rules.{rtu_rules};

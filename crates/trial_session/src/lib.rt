@@ -1,6 +1,13 @@
 //! A session that is made from a number: frames that are drawn go through the transmitter, over a
 //! link that is altered period by period, through the receiver and to a device, and all that comes
 //! of them is counted. No memory is taken.
+//!
+//! A session of 100 frames from the seed 7, over both boxes of Modbus RTU and the device:
+//!
+//!     type Transmitter = Sealer<Rtu, HmacSha1, 2>;
+//!     type Receiver = Checker<Rtu, HmacSha1, 2, 18>;
+//!     let counted = try_session::<Rtu, Transmitter, Receiver, RtuDevice>(7, 100, 17);
+//!     assert_eq!(rt; (counted.sealed, counted.passed, counted.read), (100, 64, 64));
 #![tactic(auto)]
 
 mod alteration;

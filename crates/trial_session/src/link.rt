@@ -1,3 +1,4 @@
+//! The ticks of a period on the link, and how they are altered.
 ghost use Rattle.std.specs.Prelude.{◌≡◌, ◌<◌, ◌≤◌, ◌++◌, length, take};
 ghost use Rattle.trial_session.specs.Alterations.{altered};
 

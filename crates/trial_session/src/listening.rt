@@ -1,3 +1,4 @@
+//! A device in a session, and how many frames it has read.
 ghost use Rattle.std.specs.Prelude.{◌≡◌, ◌≤◌, length};
 ghost use Rattle.device_model.specs.Frames.{frames_of};
 

@@ -1,3 +1,4 @@
+//! The marks of a period's places: bytes or silence.
 ghost use Rattle.std.specs.Prelude.{◌≡◌, ℕ, ◌+◌, ◌<◌, ◌≤◌, ◌++◌, length, take, drop};
 ghost use Rattle.std.specs.Prelude.{slice_index_or};
 

@@ -1,3 +1,4 @@
+//! The receiver and the device behind it, over the link of a session.
 use crate::counting_box::CountingBox;
 use crate::link::Link;
 use crate::listening::{Listening, Waiting};
@@ -35,10 +36,12 @@ impl<C: CountingBox, V: Device + Drop> Receiving<C, V> {
     ghost use Rattle.trial_session.specs.Links.{link_sent};
     ghost use Rattle.trial_session.specs.Sides.{MayReceive, HasReceived};
     ghost use Rattle.trial_session.specs.Sides.{MayGoOnReceiving, IsReceiving};
+    ghost use Rattle.link_box.specs.Links.{AreLinks};
 
     /// Neither has taken a tick.
     pub fn new() -> Receiving<C, V>
-        requires { C.widths_fit }
+        requires widths { C.widths_fit }
+        requires links { AreLinks C.link_in }
         ensures able { MayReceive C.LinkBox V.Device result }
         ensures level { C.taken result.checking.line_box ≡ 0 }
         ensures received { HasReceived C.LinkBox C.counting V.Device result [] }

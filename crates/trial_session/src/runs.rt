@@ -1,3 +1,4 @@
+//! The answer to a run of one tick.
 ghost use Rattle.std.specs.Prelude.{◌≡◌, [], ◌∷◌};
 ghost use Rattle.burst_walk.specs.Answered.{answered};
 

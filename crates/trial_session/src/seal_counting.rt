@@ -1,3 +1,4 @@
+//! The transmitter as a box whose bursts are counted.
 ghost use Rattle.std.specs.Prelude.{◌≡◌};
 ghost use Rattle.trial_session.specs.Boxes.{sealing, fate_sealed};
 ghost use Rattle.trial_session.specs.FateLaws.{seals-fates};

@@ -1,3 +1,4 @@
+//! A box of a session over a journal in memory, and the counts of its bursts.
 use crate::counting_box::CountingBox;
 use crate::fate::Fate;
 use crate::link::Link;
@@ -5,7 +6,7 @@ use crate::runs::put_tick;
 use burst_walk::RunBytes;
 use hmac_tag::Dir;
 use link_box::take_alike;
-use sequence_journal::{Journal, LinkId};
+use sequence_journal::Journal;
 use yasir_io::SteadySlots;
 use yasir_ticks::{MAX_TICKS, Tick, TickRun};
 
@@ -39,17 +40,20 @@ impl<X: CountingBox> Side<X> {
     ghost use Rattle.trial_session.specs.Counting.{CountsNothing};
     ghost use Rattle.trial_session.specs.Sides.{MayTake, HasTaken, HasSent, HasPassed};
     ghost use Rattle.burst_walk.specs.Answered.{answered};
+    ghost use Rattle.link_box.specs.Links.{AreLinks};
 
     /// A new box over a new journal.
     pub fn new() -> Side<X>
-        requires { X.widths_fit }
+        requires widths { X.widths_fit }
+        requires links { AreLinks X.link_in }
         ensures able { MayTake X.LinkBox result }
         ensures level { X.taken result.line_box ≡ 0 }
         ensures taken { HasTaken X.LinkBox X.counting result [] }
         ensures nothing { CountsNothing X.counting }
     {
         let mut disk = SteadySlots::new([0; 24], [0; 24]);
-        let journal = Journal::init(&mut disk, &LinkId::of_no_file()).unwrap();
+        let link = X::link(Dir::Ab);
+        let journal = Journal::init(&mut disk, &link).unwrap();
         Side {
             line_box: X::new(&[0; 16], Dir::Ab),
             journal,
@@ -112,7 +116,7 @@ impl<X: CountingBox> Side<X> {
         }
     }
 
-    // Takes the next tick, and answers that of the other line.
+    // Takes the next tick, and returns that of the other line.
     #[inline]
     fn step(&mut self, t: Tick) -> Tick
         requires able { MayTake X.LinkBox self.old }
@@ -130,7 +134,7 @@ impl<X: CountingBox> Side<X> {
         step.tick
     }
 
-    /// Takes the first of these ticks, one at least, and answers how many. `left` gets the bytes of
+    /// Takes the first of these ticks, one at least, and returns how many. `left` gets the bytes of
     /// the other line, one for each, or none where that is silent.
     pub fn send(&mut self, run: TickRun<'_>, left: &mut RunBytes) -> usize
         requires some { 0 < length (run_ticks run) }

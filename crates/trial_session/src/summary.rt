@@ -1,3 +1,5 @@
+//! What is counted of a session.
+
 /// What is counted of a session.
 #[derive(Clone, Copy, Debug, PartialEq, Eq)]
 pub struct Summary {

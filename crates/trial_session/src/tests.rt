@@ -1,3 +1,4 @@
+//! Tests of sessions: the counts are those of a model in Python.
 use super::*;
 use check_receiver::Checker;
 use device_model::{DnpDevice, RtuDevice};

@@ -13,7 +13,7 @@ use hmac_tag::{Dir, HmacSha1};
 use link_box::LinkBox;
 use rtu_frame::Rtu;
 use seal_transmitter::Sealer;
-use sequence_journal::{Journal, JournalFault};
+use sequence_journal::{Journal, JournalFault, LinkId};
 use yasir_io::SlotDisk;
 use yasir_ticks::{Tick, TickRun};
 
@@ -42,6 +42,14 @@ impl<X: LinkBox> LinkBox for Counted<X> {
     ghost walking = { X.walking };
 
     ghost widths_fit = { X.widths_fit };
+
+    ghost link_of = { λ value. X.link_of value.inner };
+
+    ghost link_in = { X.link_in };
+
+    fn link(dir: Dir) -> LinkId {
+        X::link(dir)
+    }
 
     fn new(key: &[u8], dir: Dir) -> Self {
         Counted {

@@ -1,3 +1,4 @@
+//! A known answer: a kind, a key, a text, and what is wanted.
 ghost use Rattle.std.specs.Prelude.{◌≡◌, ◌≤◌, length, option_map};
 ghost use Rattle.arrayvec.specs.ArrayVec.{array_vec_len};
 ghost use Rattle.vectors.specs.Cases.{truth, user_of};

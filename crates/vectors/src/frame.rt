@@ -1,3 +1,4 @@
+//! Whether bytes are a frame, as a known answer asks it.
 ghost use Rattle.std.specs.Prelude.{◌≡◌};
 ghost use Rattle.line_rules.specs.Rules.{is_frame_of};
 

@@ -1,5 +1,8 @@
 //! Tables of known answers: what the definitions of this repository give, beside the numbers of the
 //! public standards.
+//!
+//!     let (rows, answer) = crc_table();
+//!     assert_eq!(rt; (rows, answer), (4, Ok(())));
 #![tactic(auto)]
 
 mod case;

@@ -1,3 +1,4 @@
+//! The tables of known answers, and the first row of each that isn't right.
 ghost use Rattle.std.specs.Prelude.{◌≡◌, ◌<◌, ◌^◌, length, not, position, IfSome};
 ghost use Rattle.vectors.specs.Cases.{is_right, answer, IsAnswer};
 ghost use Rattle.vectors.specs.Tables.{crc_cases, hmac_cases, frames_cases, user_cases};

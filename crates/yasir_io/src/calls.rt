@@ -1,3 +1,4 @@
+//! The calls on an object in memory, of which a test lets some fail.
 ghost use Rattle.std.specs.Prelude.{◌≡◌, ◌+◌, ◌-◌, ◌^◌, ◌↔◌, min, IsErr, IsTrue};
 ghost use Rattle.yasir_io.specs.Causes.{HasCause};
 ghost use Rattle.yasir_io.specs.Calls.{IsPlanned};

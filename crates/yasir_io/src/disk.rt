@@ -1,3 +1,4 @@
+//! A disk of two slots: what a journal asks of it, and what a crash may leave.
 ghost use Rattle.std.specs.Prelude.{◌≡◌, ℕ, ◌≤◌, Option, Some, option_map, OnOk, IfOk, OnErr};
 ghost use Rattle.std.specs.Prelude.{IfSome};
 ghost use Rattle.yasir_io.specs.Causes.{HasCause};

@@ -1,3 +1,4 @@
+//! The count of failed calls on an object.
 ghost use Rattle.std.specs.Prelude.{◌≡◌, ◌≤◌};
 ghost use Rattle.yasir_io.specs.Causes.{Rose};
 

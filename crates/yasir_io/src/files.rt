@@ -246,7 +246,7 @@ fn move_to<F: Seek>(file: &mut F, place: u64) -> io::Result<()>
     Ok(())
 }
 
-// Reads until the buffer is full or the end is met, and answers how many bytes were read.
+// Reads until the buffer is full or the end is met, and returns how many bytes were read.
 fn read_up_to<F: Read>(file: &mut F, buf: &mut [u8]) -> io::Result<usize>
     ensures within { IfOk result (λ n. n ≤ length buf.new) }
     ensures taken { IfOk result (λ n.

@@ -1,3 +1,4 @@
+//! The count of flushes of a sink, and whether bytes came after the last one.
 ghost use Rattle.std.specs.Prelude.{◌≡◌, ◌<◌, true, false};
 ghost use Rattle.yasir_io.specs.Flushing.{one_more};
 

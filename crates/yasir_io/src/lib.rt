@@ -1,5 +1,14 @@
 //! Where bytes come from and go to, and a disk of two slots beside two old ones that are only read:
 //! each tells its own faults.
+//!
+//! A sink in memory for tests, whose second call fails:
+//!
+//!     let mut plan = Plan::new();
+//!     let _ = plan.try_push(2);
+//!     let mut sink = MemSink::with_room(alloc, 100, 512, plan)?;
+//!     assert!(rt; write_all(&mut sink, b"read at 0\n").is_ok());
+//!     assert!(rt; sink.flush().is_err());
+//!     assert_eq!(rt; sink.held(), b"read at 0\n");
 #![tactic(auto)]
 
 mod calls;

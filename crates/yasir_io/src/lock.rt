@@ -1,3 +1,4 @@
+//! The lock that a run takes on its journal's file.
 ghost use Rattle.std.specs.Prelude.{⊤, OnOk};
 
 use std::fs::File;

@@ -1,3 +1,4 @@
+//! A sink in memory that fails at chosen calls, for tests.
 ghost use Rattle.std.specs.Prelude.{◌≤◌, vec_len, vec_capacity};
 
 use crate::calls::{Calls, NoMemory, Plan};

@@ -1,3 +1,4 @@
+//! A disk in memory that fails at chosen calls, and tells what a crash may have left.
 ghost use Rattle.std.specs.Prelude.{◌≡◌, ◌≤◌, length, vec_len, vec_capacity};
 ghost use Rattle.yasir_io.specs.declared.disk.TheConstants.{SLOT_LEN};
 

@@ -1,3 +1,4 @@
+//! A source in memory that fails at chosen calls, for tests.
 ghost use Rattle.std.specs.Prelude.{◌≤◌};
 
 use crate::calls::{Calls, Plan};

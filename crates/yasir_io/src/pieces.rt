@@ -1,3 +1,4 @@
+//! The bytes of a source, read in large pieces and handed on one by one.
 ghost use Rattle.std.specs.Prelude.{◌≤◌};
 ghost use Rattle.yasir_io.specs.declared.pieces.TheConstants.{PIECE_LEN};
 
@@ -39,7 +40,7 @@ impl Pieces {
         }
     }
 
-    /// The next byte. None comes once nothing is kept and a read has answered 0, and from then on
+    /// The next byte. None comes once nothing is kept and a read has returned 0, and from then on
     /// always.
     #[inline]
     pub fn next<S: Source>(&mut self, source: &mut S) -> Result<Option<u8>, Failed>
@@ -49,7 +50,7 @@ impl Pieces {
         ensures err { OnErr result (to_come self.new (S.left source.new)
             ≡ to_come self.old (S.left source.old)) }
 
-        // A byte that is kept is answered without a read.
+        // A byte that is kept is returned without a read.
         ensures kept { (b : ℕ) (rest : List ℕ) → kept_bytes self.old ≡ b ∷ rest
             → (result ≡ Ok (Some b)) × (kept_bytes self.new ≡ rest) × (source.new ≡ source.old) }
 
@@ -123,7 +124,7 @@ impl Pieces {
     }
 
     /// Reads where nothing is kept. Answers whether a byte is kept then; none is once a read has
-    /// answered 0, and from then on always.
+    /// returned 0, and from then on always.
     pub fn fill<S: Source>(&mut self, source: &mut S) -> Result<bool, Failed>
         // No byte is lost.
         ensures same { to_come self.new (S.left source.new) ≡ to_come self.old (S.left source.old) }

@@ -1,3 +1,4 @@
+//! Where bytes go to, and how a whole piece is written.
 ghost use Rattle.std.specs.Prelude.{◌≡◌, ℕ, ◌≤◌, ◌<◌, Option, List, take, length, IfOk, OnOk};
 ghost use Rattle.std.specs.Prelude.{OnErr, Bool, true};
 ghost use Rattle.std.specs.Io.KnownBytes.{append_known};
@@ -21,7 +22,7 @@ pub trait Sink {
     /// Whether bytes were written since a flush has ended well.
     ghost unflushed: { Self → Bool };
 
-    /// Appends the first bytes of the piece, and answers how many: at least one, unless the piece
+    /// Appends the first bytes of the piece, and returns how many: at least one, unless the piece
     /// is empty.
     fn write(&mut self, piece: &[u8]) -> Result<usize, Failed>
         ensures within { IfOk result (λ n. n ≤ length piece.now) }

@@ -1,3 +1,4 @@
+//! Where bytes come from.
 ghost use Rattle.std.specs.Prelude.{◌≡◌, ℕ, ◌≤◌, ◌<◌, Option, List, take, length, IfOk, OnErr};
 ghost use Rattle.std.specs.Io.KnownBytes.{prepend_known, IsAtEnd};
 ghost use Rattle.yasir_io.specs.Causes.{HasCause};
@@ -12,7 +13,7 @@ pub trait Source {
     /// How often a read has failed.
     ghost faults: { Self → ℕ };
 
-    /// Moves the first bytes that are left into the front of `buf`, and answers how many, which is
+    /// Moves the first bytes that are left into the front of `buf`, and returns how many, which is
     /// at most its length; 0 only at the end, or where `buf` has no room.
     fn read(&mut self, buf: &mut [u8]) -> Result<usize, Failed>
         ensures within { IfOk result (λ n. n ≤ length buf.new) }

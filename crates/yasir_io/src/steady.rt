@@ -1,3 +1,4 @@
+//! A source and a disk in memory that never fail.
 ghost use Rattle.std.specs.Prelude.{◌≡◌, Some};
 ghost use Rattle.yasir_io.specs.Disks.{slot_in};
 ghost use Rattle.yasir_io.specs.Steady.{steady_bytes, steady_slots, blank_old};

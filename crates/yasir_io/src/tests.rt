@@ -1,3 +1,4 @@
+//! Tests of sources, sinks, buffers and disks, in memory and in files, with calls that fail.
 ghost use Rattle.std.specs.Io.{ReadsAtMost, WritesAtMost};
 ghost use Rattle.std.specs.Prelude.{◌≡◌, take, IfOk};
 
@@ -56,7 +57,7 @@ fn a_sink_takes_what_it_has_room_for(rt: HostRuntime) -> Result<(), Fail> {
     Ok(())
 }
 
-// Takes bytes until the end is answered twice, and counts the failed calls.
+// Takes bytes until the end is returned twice, and counts the failed calls.
 fn drained<S: Source>(pieces: &mut Pieces, source: &mut S, out: &mut Vec<u8>) -> Result<u32, Fail> {
     let mut failed = 0u32;
     for _ in 0..40 {

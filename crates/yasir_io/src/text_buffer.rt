@@ -1,3 +1,4 @@
+//! A text on its way to a sink, which waits so that short pieces cost no call.
 use crate::text_room::TextRoom;
 use crate::{Failed, Sink, write_all};
 
@@ -28,7 +29,7 @@ impl TextBuffer {
         }
     }
 
-    /// Adds a piece where the room left takes it, and answers whether it did; where it did not,
+    /// Adds a piece where the room left takes it, and returns whether it did; where it did not,
     /// nothing changes. No sink is called.
     #[inline]
     pub fn extend(&mut self, piece: &[u8]) -> bool

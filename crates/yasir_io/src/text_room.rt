@@ -40,7 +40,7 @@ impl<const CAP: usize> TextRoom<CAP> {
         &self.bytes[..self.len]
     }
 
-    /// Appends a piece where it fits, and answers whether it does; where it does not, nothing
+    /// Appends a piece where it fits, and returns whether it does; where it does not, nothing
     /// changes.
     #[inline]
     pub(crate) fn extend(&mut self, piece: &[u8]) -> bool

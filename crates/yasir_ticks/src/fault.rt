@@ -1,3 +1,5 @@
+//! Why a tick text is refused, and in which line.
+
 /// Why a tick text is refused.
 #[derive(Clone, Copy, Debug, PartialEq, Eq)]
 pub enum TickFault {

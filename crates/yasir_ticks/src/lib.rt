@@ -1,4 +1,14 @@
 //! Ticks of a serial line, and tick text: the recorded line that a program reads.
+//!
+//! A text is read byte by byte. The line that ends is returned as a run of ticks:
+//!
+//!     let mut reader = TickReader::new(0);
+//!     for byte in b"+0103\n" {
+//!         match reader.feed(*byte)? {
+//!             Run::Bytes(bytes) => assert_eq!(rt; bytes.as_slice(), &[1, 3]),
+//!             _ => {}
+//!         }
+//!     }
 #![tactic(auto)]
 
 mod fault;

@@ -1,3 +1,4 @@
+//! Where the reader of tick text is in a line, and what the line so far stands for.
 ghost use Rattle.std.specs.Prelude.{◌≡◌, [], true};
 
 use crate::{LineBytes, Run, TickFault};

@@ -1,3 +1,4 @@
+//! The reader of tick text, byte by byte.
 ghost use Rattle.std.specs.Prelude.{◌≡◌, ℕ, ◌+◌, ◌-◌, ◌*◌, ◌<◌, ◌≤◌, ◌^◌, ◌==◌, ◌++◌, ◌∷◌, []};
 ghost use Rattle.std.specs.Prelude.{List, true, length, IsTrue, MatchResult, Some, if◌then◌else◌};
 ghost use Rattle.hex.specs.Hex.{hex_digit_value, is_hex_digit};
@@ -17,7 +18,7 @@ const MAX_SILENCE: u64 = 1_000_000;
 /// What a byte of a line comes to: the content of the line that it ends, or why it is refused.
 pub(crate) type Advance = Result<Option<Content>, TickFault>;
 
-/// A reader of tick text, byte by byte. Each line that ends is answered as a run.
+/// A reader of tick text, byte by byte. Each line that ends is returned as a run.
 #[derive(Drop)]
 pub struct TickReader {
     pub(crate) line: u32,
@@ -308,8 +309,8 @@ impl TickReader {
         }
     }
 
-    /// Takes the next byte of the text, and answers the run of the line that this byte ends, or
-    /// `Nothing`. A refused byte is answered for good.
+    /// Takes the next byte of the text, and returns the run of the line that this byte ends, or
+    /// `Nothing`. A refused byte is returned for good.
     #[inline]
     pub fn feed(&mut self, b: u8) -> Result<Run, BadTicks>
         requires { reader_line self.old < 2 ^ 32 - 1 }
@@ -338,7 +339,7 @@ impl TickReader {
         self.step(b)
     }
 
-    /// Takes the end of the text, and answers the run of a last line without LF, or `Nothing`.
+    /// Takes the end of the text, and returns the run of a last line without LF, or `Nothing`.
     pub fn finish(mut self) -> Result<Run, BadTicks>
         ensures right { (marks : ℕ) (text : List ℕ) → StandsFor self marks text
             → IfOk result (λ run. IsTickText marks text (ended_items text ++ items_of_run run)) }

@@ -1,3 +1,4 @@
+//! What one line of a tick text stands for.
 use arrayvec::ArrayVec;
 
 /// The bytes of one line of tick text.

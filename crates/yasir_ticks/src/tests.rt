@@ -1,3 +1,4 @@
+//! Tests of tick text: right texts, refused texts, marks, and runs.
 use crate::{BadTicks, Content, Run, Tick, TickFault, TickReader, TickRun};
 use std::alloc::Global;
 use std::process::Abort;
@@ -125,7 +126,7 @@ impl Seen {
     }
 }
 
-/// The refusal of a reader after this byte, which two more calls answer again.
+/// The refusal of a reader after this byte, which two more calls return again.
 fn refused_for_good(rt: &impl Abort, mut reader: TickReader, bad: BadTicks) -> BadTicks {
     assert_eq!(rt; reader.line(), bad.line);
     assert!(rt; reader.line() < 9);

@@ -1,6 +1,7 @@
 //! How often the loops over a text call a box: a run is handed over whole, so that each line of the
 //! text costs a few calls. No clause says so.
 ghost use Rattle.std.specs.Prelude.{◌≡◌};
+ghost use Rattle.link_box.specs.Links.{AreLinks};
 
 use super::BoxLines;
 use crate::driven_box::DrivenBox;
@@ -52,6 +53,14 @@ impl<X: LinkBox> LinkBox for Counted<X> {
 
     ghost widths_fit = { X.widths_fit };
 
+    ghost link_of = { λ value. X.link_of value.inner };
+
+    ghost link_in = { X.link_in };
+
+    fn link(dir: Dir) -> LinkId {
+        X::link(dir)
+    }
+
     fn new(key: &[u8], dir: Dir) -> Self {
         Counted {
             inner: X::new(key, dir),
@@ -101,9 +110,10 @@ const TEXT: &[u8] = b"+000102030405060708090a0b0c0d0e0f101112131415161718191a1b1
 
 // The calls of a box as the text is driven into it.
 fn calls_of<X: LineBox>(alloc: Global) -> Result<Calls, Fail>
-    requires { X.widths_fit }
+    requires widths { X.widths_fit }
+    requires links { AreLinks X.link_in }
 {
-    let served = LinkId::of_no_file();
+    let served = X::link(Dir::Ab);
     let mut disk = SteadySlots::new(slot_of(0, &served), [0; 24]);
     let journal = Journal::load(&mut disk, &served)?;
     let mut lines: BoxLines<Counted<X>> = BoxLines::new(&[0; 16], Dir::Ab, journal);

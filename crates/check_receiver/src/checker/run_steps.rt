@@ -26,7 +26,7 @@ impl<R: LineRules, M: Mac, const B: usize, const D: usize> Checker<R, M, B, D> {
     ghost use Rattle.yasir_ticks.specs.Ticks.{silent};
     ghost use Rattle.spoiler.specs.Outlet.{owed_by};
     ghost use Rattle.burst_walk.specs.Answered.{answered};
-    ghost use Rattle.check_receiver.specs.Stands.{StandsAt};
+    ghost use Rattle.check_receiver.specs.Stands.{StandsAt, direction_of};
     ghost use Rattle.check_receiver.specs.Runs.{HasTakenRun};
 
     // Live bytes of the burst whose verdict is open.
@@ -40,6 +40,7 @@ impl<R: LineRules, M: Mac, const B: usize, const D: usize> Checker<R, M, B, D> {
             → StandsAt R.LineRules M.Mac self.old last setup line
             → HasTakenRun R.LineRules M.Mac self.new last setup line
             (map Byte (take result bytes.now)) (answered result left.new.items) }
+        ensures direction { direction_of self.new ≡ direction_of self.old }
     {
         if !self.has_good_head() {
             return 0;
@@ -62,6 +63,7 @@ impl<R: LineRules, M: Mac, const B: usize, const D: usize> Checker<R, M, B, D> {
             (map Byte (take result bytes.now)) (answered result left.new.items) }
         ensures silent { slice_index_or (ring_ticks self.old.ring) 0 Silent ≡ Silent
             → left.new.items ≡ [] }
+        ensures direction { direction_of self.new ≡ direction_of self.old }
     {
         let count = alike_along(&self.ring, bytes);
         let part = &bytes[..count];
@@ -89,6 +91,7 @@ impl<R: LineRules, M: Mac, const B: usize, const D: usize> Checker<R, M, B, D> {
             → StandsAt R.LineRules M.Mac self.old last setup line
             → HasTakenRun R.LineRules M.Mac self.new last setup line
             (map Byte (take result bytes.now)) (answered result left.new.items) }
+        ensures direction { direction_of self.new ≡ direction_of self.old }
     {
         let until = usize::from(self.until);
         // the next byte is the trailer's last one
@@ -121,6 +124,7 @@ impl<R: LineRules, M: Mac, const B: usize, const D: usize> Checker<R, M, B, D> {
             → StandsAt R.LineRules M.Mac self.old last setup line
             → HasTakenRun R.LineRules M.Mac self.new last setup line
             (silent result) (answered result left.new.items) }
+        ensures direction { direction_of self.new ≡ direction_of self.old }
     {
         if !self.has_good_head() {
             return 0;
@@ -151,6 +155,7 @@ impl<R: LineRules, M: Mac, const B: usize, const D: usize> Checker<R, M, B, D> {
             → StandsAt R.LineRules M.Mac self.old last setup line
             → HasTakenRun R.LineRules M.Mac self.new last setup line
             (map Byte (take result bytes.now)) (answered result left.new.items) }
+        ensures direction { direction_of self.new ≡ direction_of self.old }
     {
         let most = bytes.len().min(usize::from(self.until) - 1).min(D);
         let count = self.ring.front_alike(most);
@@ -175,6 +180,7 @@ impl<R: LineRules, M: Mac, const B: usize, const D: usize> Checker<R, M, B, D> {
             → StandsAt R.LineRules M.Mac self.old last setup line
             → HasTakenRun R.LineRules M.Mac self.new last setup line
             (map Byte (take result bytes.now)) (answered result left.new.items) }
+        ensures direction { direction_of self.new ≡ direction_of self.old }
     {
         let passed = cut_some(&mut self.cut, bytes);
         if passed > 0 {
@@ -210,6 +216,7 @@ impl<R: LineRules, M: Mac, const B: usize, const D: usize> Checker<R, M, B, D> {
             × (self.new.waits ≡ true)
             × (slice_index_or (ring_ticks self.new.ring) 0 Silent ≡ Silent)
             × (live_bytes_so_far R.rules (line ++ Byte first ∷ []) ≡ first ∷ []) }
+        ensures direction { direction_of self.new ≡ direction_of self.old }
     {
         let _ = self.cut.step(Tick::Byte(first));
         let _ = self.begin(first);
@@ -228,6 +235,7 @@ impl<R: LineRules, M: Mac, const B: usize, const D: usize> Checker<R, M, B, D> {
             → StandsAt R.LineRules M.Mac self.old last setup line
             → HasTakenRun R.LineRules M.Mac self.new last setup line
             (silent result) (answered result left.new.items) }
+        ensures direction { direction_of self.new ≡ direction_of self.old }
     {
         let still = usize::from(self.until) - 1;
         if still == 0 {

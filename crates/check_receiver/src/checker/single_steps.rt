@@ -25,7 +25,7 @@ impl<R: LineRules, M: Mac, const B: usize, const D: usize> Checker<R, M, B, D> {
     ghost use Rattle.sequence_journal.specs.Commits.{HasFailed};
     ghost use Rattle.sequence_journal.specs.Journal.{journal_floor, Fits};
     ghost use Rattle.check_receiver.specs.Checkings.{PassesWith, KeepsJournal};
-    ghost use Rattle.check_receiver.specs.Stands.{HasTaken};
+    ghost use Rattle.check_receiver.specs.Stands.{HasTaken, direction_of};
     ghost use Rattle.line_rules.specs.Rules.{head_of};
     ghost use Rattle.line_rules.specs.declared.head.Head.TheVariants.{Bad};
     ghost use Rattle.std.specs.Prelude.{slice_index_or};
@@ -48,6 +48,7 @@ impl<R: LineRules, M: Mac, const B: usize, const D: usize> Checker<R, M, B, D> {
             → (head_of R.rules (byte ∷ []) ≡ Bad → ⊥)
             → (result.note ≡ None) × (result.tick ≡ Silent) × (self.new.waits ≡ true)
             × (slice_index_or (ring_ticks self.new.ring) 0 Silent ≡ Silent) }
+        ensures direction { direction_of self.new ≡ direction_of self.old }
     {
         if self.cut.start() < self.earliest_start {
             return self.drop_busy();
@@ -72,6 +73,7 @@ impl<R: LineRules, M: Mac, const B: usize, const D: usize> Checker<R, M, B, D> {
         ensures step { (last : ℕ) (setup : Setup) (line : List Tick) (t : Tick)
             → IsBetween R.LineRules M.Mac self.old last setup line t (Live byte)
             → HasTaken R.LineRules M.Mac self.new last setup line t result }
+        ensures direction { direction_of self.new ≡ direction_of self.old }
     {
         if !self.waits {
             return self.pass_by(None);
@@ -108,6 +110,7 @@ impl<R: LineRules, M: Mac, const B: usize, const D: usize> Checker<R, M, B, D> {
             → IsSilence cut
             → IsBetween R.LineRules M.Mac self.old last setup line Silent cut
             → HasTaken R.LineRules M.Mac self.new last setup line Silent result }
+        ensures direction { direction_of self.new ≡ direction_of self.old }
     {
         if !self.waits {
             return self.pass_by(None);
@@ -132,6 +135,7 @@ impl<R: LineRules, M: Mac, const B: usize, const D: usize> Checker<R, M, B, D> {
             → IsSilence cut → self.old.waits ≡ true → self.old.until + 2 ≡ D
             → IsBetween R.LineRules M.Mac self.old last setup line Silent cut
             → HasTaken R.LineRules M.Mac self.new last setup line Silent result }
+        ensures direction { direction_of self.new ≡ direction_of self.old }
     {
         match self.head() {
             Head::Short => self.drop_headless(),
@@ -162,6 +166,7 @@ impl<R: LineRules, M: Mac, const B: usize, const D: usize> Checker<R, M, B, D> {
             → PassesWith (profile_of R.LineRules M.Mac B LIMIT setup) R.rules setup.floor line t
             number)) }
         ensures journal { KeepsJournal S.SlotDisk journal.old journal.new disk.old disk.new result }
+        ensures direction { direction_of self.new ≡ direction_of self.old }
     {
         if !self.waits {
             return Ok(self.pass_by(None));

@@ -25,7 +25,7 @@ impl<R: LineRules, M: Mac, const B: usize, const D: usize> Checker<R, M, B, D> {
     ghost use Rattle.link_verdicts.specs.declared.note.CheckNote.TheVariants.{Passed, Refused};
     ghost use Rattle.link_verdicts.specs.declared.note.CheckNote.TheVariants.{Dropped};
     ghost use Rattle.check_receiver.specs.Checkings.{PassesWith, KeepsJournal};
-    ghost use Rattle.check_receiver.specs.Stands.{HasTaken};
+    ghost use Rattle.check_receiver.specs.Stands.{HasTaken, direction_of};
     ghost use Rattle.yasir_ticks.specs.Bursts.{Burst};
     ghost use Rattle.line_rules.specs.Rules.{left_of};
     ghost use Rattle.frame_ending.specs.SoFar.{last_burst, start_so_far};
@@ -61,6 +61,7 @@ impl<R: LineRules, M: Mac, const B: usize, const D: usize> Checker<R, M, B, D> {
             → PassesWith (profile_of R.LineRules M.Mac B LIMIT setup) R.rules setup.floor line t
             number)) }
         ensures journal { KeepsJournal S.SlotDisk journal.old journal.new disk.old disk.new result }
+        ensures direction { direction_of self.new ≡ direction_of self.old }
     {
         let number = match self.verdict(journal) {
             Ok(number) => number,

@@ -1,3 +1,4 @@
+//! The command `audit`: judge a session by three recordings of it.
 ghost use Rattle.std.specs.Prelude.{◌≡◌, ◌⊎◌, ◌≤◌, List, [], Some};
 ghost use Rattle.yasir_ticks.specs.declared.tick.Tick.{Tick};
 ghost use Rattle.sequence_journal.specs.declared.numbers.TheConstants.{LIMIT};

@@ -1,3 +1,4 @@
+//! The command `init`: make a new journal.
 ghost use Rattle.std.specs.Prelude.{Some};
 ghost use Rattle.yasir_io.specs.declared.disk.Slot.TheVariants.{A};
 ghost use Rattle.yasir_io.specs.Disks.{LeavesOnly};

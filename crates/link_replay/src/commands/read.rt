@@ -1,3 +1,4 @@
+//! The command `read`: print the frames that a device reads of a recorded line.
 ghost use Rattle.std.specs.Prelude.{Some};
 ghost use Rattle.replay_status.specs.Ends.{outside_before, outside_after};
 ghost use Rattle.link_replay.specs.declared.words.Command.TheVariants.{Read};

@@ -1,3 +1,4 @@
+//! The command `seal`: run the transmitter over the recorded line of a device.
 ghost use Rattle.std.specs.Prelude.{Some};
 ghost use Rattle.replay_status.specs.Ends.{outside_before, outside_after};
 ghost use Rattle.box_command.specs.ReplaysBox.{KeepsFloorThroughout};

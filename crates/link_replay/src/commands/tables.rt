@@ -1,12 +1,13 @@
+//! The command `vectors`: check the tables of known answers.
 ghost use Rattle.std.specs.Prelude.{◌≡◌, ◌+◌, ◌≤◌, ◌++◌, length, codes, Some};
 ghost use Rattle.replay_status.specs.Ends.{outside_before, outside_after};
 ghost use Rattle.link_replay.specs.declared.words.Command.TheVariants.{Vectors};
 ghost use Rattle.link_replay.specs.Commands.{HasCauses};
 ghost use Rattle.link_replay.specs.VectorsCommand.{table_line, table_lines, Tabulates};
 
-use replay_status::{Ends, Line, Status, flush_both, push_decimal};
+use replay_status::{Ends, Line, Status, print_text, push_decimal};
 use vectors::{Miss, crc_table, frames_table, hmac_table, user_table};
-use yasir_io::{Failed, Sink, SlotDisk, Source, write_all};
+use yasir_io::{Sink, SlotDisk, Source};
 
 // Appends the line of a table: its name, how many rows it has, and what it was answered.
 fn push_table(line: &mut Line, name: &[u8], rows: u32, answer: Result<(), Miss>)
@@ -56,9 +57,5 @@ pub fn print_tables<K: Source, S: Source, O: Sink, L: Sink, D: SlotDisk>(
         (outside_before ends.entry) (outside_after ends.exit) result }
 {
     let Ends { out, log, .. } = ends;
-    match write_all(out, table_lines().as_slice()) {
-        Ok(()) => {}
-        Err(Failed) => return Status::WriteFault,
-    }
-    flush_both(out, log)
+    print_text(table_lines().as_slice(), out, log)
 }

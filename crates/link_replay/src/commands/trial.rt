@@ -1,3 +1,4 @@
+//! The command `trial`: run a session that is made from a number.
 ghost use Rattle.std.specs.Prelude.{◌≡◌, ◌≤◌, length, Some};
 ghost use Rattle.replay_status.specs.Ends.{outside_before, outside_after};
 ghost use Rattle.trial_session.specs.TrialLine.{trial_line};
@@ -9,10 +10,10 @@ ghost use Rattle.link_replay.specs.Words.{link_word};
 use crate::link::with_link;
 use crate::{Profile, Proto};
 use check_receiver::Checker;
-use replay_status::{Ends, Line, Status, flush_both};
+use replay_status::{Ends, Line, Status, print_text};
 use seal_transmitter::Sealer;
 use trial_session::session_line;
-use yasir_io::{Failed, Sink, SlotDisk, Source, write_all};
+use yasir_io::{Sink, SlotDisk, Source};
 
 // The line of a session by both boxes.
 macro_rules! session_by {
@@ -65,9 +66,5 @@ pub fn try_link<K: Source, S: Source, O: Sink, L: Sink, D: SlotDisk>(
 {
     let Ends { out, log, .. } = ends;
     let line = line_of_session(proto, profile, seed, count);
-    match write_all(out, line.as_slice()) {
-        Ok(()) => {}
-        Err(Failed) => return Status::WriteFault,
-    }
-    flush_both(out, log)
+    print_text(line.as_slice(), out, log)
 }

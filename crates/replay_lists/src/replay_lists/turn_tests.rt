@@ -6,7 +6,7 @@ use super::ReplayLists;
 use crate::frame_box::{FrameBox, FrameStep};
 use crate::recordings::list_recordings;
 use burst_walk::RunBytes;
-use device_model::{Device, FrameAt, Heard};
+use device_model::{Device, FrameAt, Heard, LendingDevice, Met};
 use hmac_tag::Dir;
 use std::alloc::Global;
 use std::test::Fail;
@@ -130,6 +130,38 @@ impl Device for Deaf {
         Heard {
             taken: ticks,
             frame: None,
+        }
+    }
+}
+
+impl LendingDevice for Deaf {
+    ghost lent = { λ value. [] };
+
+    fn frame_bytes(&self) -> &[u8] {
+        &[]
+    }
+
+    fn step_on(&mut self, _t: Tick) -> Option<u64> {
+        self.calls.step = self.calls.step.saturating_add(1);
+        self.taken += 1;
+        None
+    }
+
+    fn hear_on(&mut self, bytes: &[u8]) -> Met {
+        self.calls.bytes = self.calls.bytes.saturating_add(1);
+        self.taken += bytes.len() as u64;
+        Met {
+            taken: bytes.len(),
+            start: None,
+        }
+    }
+
+    fn wait_on(&mut self, ticks: usize) -> Met {
+        self.calls.silence = self.calls.silence.saturating_add(1);
+        self.taken += ticks as u64;
+        Met {
+            taken: ticks,
+            start: None,
         }
     }
 }

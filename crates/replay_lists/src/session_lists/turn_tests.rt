@@ -1,6 +1,6 @@
 //! How often the loop over three recordings calls the boxes and the device: each run is handed over
 //! whole. No clause says so.
-use super::{Rests, SessionLists};
+use super::{Floors, SessionLists, Timing};
 use crate::replay_lists::turn_tests::{Calls, Deaf, Wire};
 use crate::sessions::list_session;
 use hmac_tag::Dir;
@@ -21,10 +21,13 @@ const TEXT: &[u8] = b"+000102030405060708090a0b0c0d0e0f101112131415161718191a1b1
       +41\n\
       -1000000\n";
 
-const RESTS: Rests = Rests {
-    sent: 24,
-    link: 320,
-    received: 4,
+const FLOORS: Floors = Floors { sent: 0, got: 0 };
+
+const TIMING: Timing = Timing {
+    late: 18,
+    sent_rest: 24,
+    link_rest: 320,
+    received_rest: 4,
 };
 
 // The lists of wires and of a device that reads nothing, behind all three recordings.
@@ -33,35 +36,35 @@ fn listed(alloc: Global) -> Result<SessionLists<Wire, Wire, Deaf>, Fail> {
         alloc,
         &[0; 16],
         Dir::Ab,
-        0,
-        0,
+        FLOORS,
+        TIMING,
     );
     let mut input = SteadySource::new(TEXT);
-    match list_session(RESTS, &mut lists, &mut input) {
+    match list_session(&mut lists, &mut input) {
         End::Whole => Ok(lists),
         _ => Err(Fail::from("the text isn't whole")),
     }
 }
 
 // Each line of a recording goes to its box, or to the device, at once. The silence behind a
-// recording goes tick by tick to a box, and at once to the device.
+// recording goes tick by tick.
 #[test]
 fn a_line_of_three_costs_one_call(rt: HostRuntime) -> Result<(), Fail> {
     let lists = listed(rt.alloc())?;
     let sealer = Calls {
         bytes: 1,
         silence: 1,
-        step: RESTS.sent,
+        step: TIMING.sent_rest,
     };
     let checker = Calls {
         bytes: 1,
         silence: 1,
-        step: RESTS.link,
+        step: TIMING.link_rest,
     };
     let device = Calls {
         bytes: 2,
-        silence: 2,
-        step: 0,
+        silence: 1,
+        step: TIMING.received_rest,
     };
     assert_eq!(rt; lists.sealer.calls, sealer);
     assert_eq!(rt; lists.checker.calls, checker);

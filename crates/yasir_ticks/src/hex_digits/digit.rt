@@ -1,3 +1,4 @@
+//! The value of a hex digit, by a table.
 ghost use Rattle.std.specs.Prelude.{◌≡◌};
 ghost use Rattle.hex.specs.Hex.{hex_digit_value};
 

@@ -10,7 +10,7 @@ use Rattle.replay_lists.proofs.lines.take_line.Goals as goal
 pub loop-index-init : goal.loop-index-init
 loop-index-init g c = record {
   able = c.requires.able;
-  takes = goes-nowhere _ _ c.args.line_box.now c.args.frames.now;
+  takes = goes-nowhere _ _ _ c.args.line_box.now c.args.frames.now;
 }
 
 pub step_into-requires-clause-room : goal.step_into-requires-clause-room
@@ -21,7 +21,7 @@ step_into-requires-clause-room g c =
 pub loop-index-preserved : goal.loop-index-preserved
 loop-index-preserved g c = record {
   able = c.step_into.ensures.able;
-  takes = goes-tick _ _ c.args.line_box.now c.loop-index.line_box c.step_into.new.line_box
+  takes = goes-tick _ _ _ c.args.line_box.now c.loop-index.line_box c.step_into.new.line_box
       c.args.frames.now c.loop-index.frames c.step_into.new.frames c.args.line.now
       c.loop-index.index Silent c.loop-index-test.true c.loop-index.invariant.takes
       (box-tick g.B.FrameBox _ _ _ _ _ _ c.step_into.ensures.taken c.in_default.ensures.few

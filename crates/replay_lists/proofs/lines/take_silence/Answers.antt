@@ -9,7 +9,7 @@ use Rattle.replay_lists.proofs.lines.take_silence.Goals as goal
 pub loop-init : goal.loop-init
 loop-init g c = record {
   able = c.requires.able;
-  takes = goes-nowhere _ _ c.args.line_box.now c.args.frames.now;
+  takes = goes-nowhere _ _ _ c.args.line_box.now c.args.frames.now;
 }
 
 pub step_into-requires-clause-room : goal.step_into-requires-clause-room
@@ -23,7 +23,7 @@ step_into-requires-clause-room g c = omega (
 pub loop-preserved : goal.loop-preserved
 loop-preserved g c = record {
   able = c.step_into.ensures.able;
-  takes = goes-silent _ _ c.args.line_box.now c.loop.line_box c.step_into.new.line_box
+  takes = goes-silent _ _ _ c.args.line_box.now c.loop.line_box c.step_into.new.line_box
       c.args.frames.now c.loop.frames c.step_into.new.frames c.loop.counter
       c.loop.invariant.takes
       (box-tick g.B.FrameBox _ _ _ _ _ _ c.step_into.ensures.taken c.in_default.ensures.few

@@ -1,8 +1,10 @@
 use Rattle.std.proofs.Common.{◌≡◌}
-use Rattle.sequence_journal.specs.Journal.{Fits}
-use Rattle.check_receiver.specs.Stands.{ticks_taken}
+use Rattle.link_box.specs.Links.{link_by}
+use Rattle.sequence_journal.specs.Journal.{journal_link, Fits}
+use Rattle.check_receiver.specs.Stands.{direction_of, ticks_taken}
 use Rattle.replay_tests.proofs.receiver_steps.steps.Given as goal
 
 abbrev pub invariant-loop-letter : goal.invariant-loop-letter
 invariant-loop-letter g l = (ticks_taken l.checker ≡ l.letter-index)
+    × (journal_link l.journal ≡ link_by g.R.LineRules g.M.Mac g.B (direction_of l.checker))
     × Fits l.journal (g.S.SlotDisk.told l.disk)

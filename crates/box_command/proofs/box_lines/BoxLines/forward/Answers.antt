@@ -16,7 +16,7 @@ returns-then-count-eq0 g c =
     g.met.B.LineBox.causal g.met.D.SlotDisk.only_now
     (state_of c.args.self.now c.args.out.now c.args.log.now c.args.disk.now)
     c.forward-count.new.self c.args.run c.forward-count.result _ refl c.forward-count.ensures.within
-    c.forward-count.ensures.taken c.requires.able c.if-count-eq0.true _ c.forward-count.ensures.run
+    c.forward-count.ensures.taken c.requires.able c.forward-count.ensures.link c.if-count-eq0.true _ c.forward-count.ensures.run
 
 pub returns-in-Ok : goal.returns-in-Ok
 returns-in-Ok g c =
@@ -24,7 +24,7 @@ returns-in-Ok g c =
     g.met.B.LineBox.causal g.met.D.SlotDisk.only_now
     (state_of c.args.self.now c.args.out.now c.args.log.now c.args.disk.now)
     c.forward-count.new.self c.args.run c.forward-count.result _ refl c.forward-count.ensures.within
-    c.forward-count.ensures.taken c.requires.able
+    c.forward-count.ensures.taken c.requires.able c.forward-count.ensures.link
     c.push_run.new.texts c.push_run.new.out c.push_run.new.log
     (take c.forward-count.result (run_ticks c.args.run)) c.forward-count.ensures.run
     (pushed_as g.O.Sink g.L.Sink _ _ _ _ _ c.front-front.ensures c.in-Ok.ensures)
@@ -35,7 +35,7 @@ returns-in-Err g c =
     g.met.B.LineBox.causal g.met.D.SlotDisk.only_now
     (state_of c.args.self.now c.args.out.now c.args.log.now c.args.disk.now)
     c.forward-count.new.self c.args.run c.forward-count.result _ refl c.forward-count.ensures.within
-    c.forward-count.ensures.taken c.requires.able
+    c.forward-count.ensures.taken c.requires.able c.forward-count.ensures.link
     c.push_run.new.texts c.push_run.new.out c.push_run.new.log
     (take c.forward-count.result (run_ticks c.args.run)) c.forward-count.ensures.run
     c.in-Err.field-0 (omega (arith, c.if-count-eq0.false))

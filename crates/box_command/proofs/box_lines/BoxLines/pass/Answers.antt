@@ -26,7 +26,7 @@ returns-then-count-eq0 g c =
     (state_of c.args.self.now c.args.out.now c.args.log.now c.args.disk.now)
     c.pass-count.new.self c.args.run c.pass-count.result
     (take c.pass-count.result (run_ticks c.front-front.result)) first.1 first.0
-    c.pass-count.ensures.taken c.requires.able c.if-count-eq0.true _ c.pass-count.ensures.run
+    c.pass-count.ensures.taken c.requires.able c.pass-count.ensures.link c.if-count-eq0.true _ c.pass-count.ensures.run
 
 pub returns-in-Ok : goal.returns-in-Ok
 returns-in-Ok g c =
@@ -39,7 +39,7 @@ returns-in-Ok g c =
     (state_of c.args.self.now c.args.out.now c.args.log.now c.args.disk.now)
     c.pass-count.new.self c.args.run c.pass-count.result
     (take c.pass-count.result (run_ticks c.front-front.result)) first.1 first.0
-    c.pass-count.ensures.taken c.requires.able
+    c.pass-count.ensures.taken c.requires.able c.pass-count.ensures.link
     c.push_run.new.texts c.push_run.new.out c.push_run.new.log
     (answered c.pass-count.result c.pass-count.new.left.items) c.pass-count.ensures.run
     (pushed_as g.O.Sink g.L.Sink _ _ _ _ _ same c.in-Ok.ensures)
@@ -55,7 +55,7 @@ returns-in-Err g c =
     (state_of c.args.self.now c.args.out.now c.args.log.now c.args.disk.now)
     c.pass-count.new.self c.args.run c.pass-count.result
     (take c.pass-count.result (run_ticks c.front-front.result)) first.1 first.0
-    c.pass-count.ensures.taken c.requires.able
+    c.pass-count.ensures.taken c.requires.able c.pass-count.ensures.link
     c.push_run.new.texts c.push_run.new.out c.push_run.new.log
     (answered c.pass-count.result c.pass-count.new.left.items) c.pass-count.ensures.run
     c.in-Err.field-0 (omega (arith, c.if-count-eq0.false))

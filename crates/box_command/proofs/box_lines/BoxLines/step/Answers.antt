@@ -16,7 +16,7 @@ returns-in-Ok-push_step g c =
     c.step.new.self c.step.new.journal c.step.new.disk c.args.tick c.in-Ok.step
     c.in-Ok.ensures.journal c.in-Ok.ensures.taken c.in-Ok.ensures.steps
     c.push_step.new.texts c.push_step.new.out c.push_step.new.log
-    c.in-Ok-push_step.ensures
+    c.requires.able.of_link c.step.ensures.link c.in-Ok-push_step.ensures
 
 pub returns-in-Err-push_step : goal.returns-in-Err-push_step
 returns-in-Err-push_step g c =

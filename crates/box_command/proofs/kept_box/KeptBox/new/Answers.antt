@@ -1,14 +1,20 @@
 use Rattle.std.proofs.Common.{◌≡◌, ◌∙◌, ap, subst, sym, refl, []}
 use Rattle.link_format.specs.Setup.{setup_of}
+use Rattle.sequence_journal.specs.Links.{IsLink}
 use Rattle.sequence_journal.specs.Slots.{greatest}
 use Rattle.sequence_journal.specs.Journal.{journal_floor}
 use Rattle.sequence_journal.proofs.LoadLemmas.{blank_holds_none}
+use Rattle.link_box.proofs.KnownLinks.{known}
 use Rattle.replay_lists.specs.FrameList.{Holds}
 use Rattle.box_command.proofs.Kept.{keeps-none}
 use Rattle.box_command.proofs.kept_box.KeptBox.new.Goals as goal
 
-pub new_journal-journal-requires : goal.new_journal-journal-requires
-new_journal-journal-requires g c = ap greatest c.new-disk.ensures ∙ blank_holds_none
+pub new_journal-journal-requires-clause-link : goal.new_journal-journal-requires-clause-link
+new_journal-journal-requires-clause-link g c = subst IsLink (sym c.link-link.ensures)
+    (known g.B.LinkBox.link_in c.requires.links c.args.dir)
+
+pub new_journal-journal-requires-clause-none : goal.new_journal-journal-requires-clause-none
+new_journal-journal-requires-clause-none g c = ap greatest c.new-disk.ensures ∙ blank_holds_none
 
 pub returns-clause-keeps : goal.returns-clause-keeps
 returns-clause-keeps g c = keeps-none g.B.LinkBox g.B.LineBox.line_of _

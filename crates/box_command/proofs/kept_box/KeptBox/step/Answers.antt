@@ -1,4 +1,4 @@
-use Rattle.std.proofs.Common.{◌∙◌, ◌+◌, ap, refl}
+use Rattle.std.proofs.Common.{◌∙◌, ◌+◌, ap, refl, sym}
 use Rattle.box_command.proofs.Kept.{keeps-step}
 use Rattle.box_command.proofs.kept_box.KeptBox.step.Goals as goal
 
@@ -6,6 +6,7 @@ pub returns : goal.returns
 returns g c = record {
   counted = refl;
   steady = record {
+    of_link = c.step.ensures.journal.link ∙ (c.requires.steady.of_link ∙ sym c.step.ensures.link);
     fits = rw c.unwrap-step.ensures at c.step.ensures.journal.fits;
     level = (rw c.unwrap-step.ensures at c.step.ensures.taken)
         ∙ ap (λ n. n + 1) c.requires.steady.level;

@@ -1,4 +1,4 @@
-use Rattle.std.proofs.Common.{◌≡◌, ◌∙◌, ◌+◌, length, take, ap, refl, subst, arith}
+use Rattle.std.proofs.Common.{◌≡◌, ◌∙◌, ◌+◌, length, take, ap, refl, subst, sym, arith}
 use Rattle.std.proofs.lemmas.List.{length-take-le}
 use Rattle.yasir_ticks.specs.TickRun.{run_ticks}
 use Rattle.burst_walk.specs.Answered.{answered}
@@ -22,6 +22,7 @@ returns g c =
       goes = record {
         counted = counts;
         steady = record {
+          of_link = c.requires.steady.of_link ∙ sym c.take_alike-count.ensures.link;
           fits = c.requires.steady.fits;
           level = c.take_alike-count.ensures.taken ∙ ap (λ k. k + n) c.requires.steady.level;
           whole = c.requires.steady.whole;

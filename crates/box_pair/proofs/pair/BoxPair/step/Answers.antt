@@ -7,6 +7,7 @@ returns-in-Err-step-clause-steps g c = record {
     note = c.in-Ok.step.note;
     taken = record {
       counted = c.in-Ok.ensures.taken;
+      link = c.step.ensures.link;
       steps = c.in-Ok.ensures.steps;
       journal = c.in-Ok.ensures.journal;
     };

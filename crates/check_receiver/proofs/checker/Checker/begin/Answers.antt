@@ -5,7 +5,7 @@ use Rattle.frame_ending.specs.declared.cut.Cut.TheVariants.{Start}
 use Rattle.frame_ending.proofs.Running.{start-tick}
 use Rattle.link_verdicts.specs.declared.note.CheckNote.{CheckNote}
 use Rattle.check_receiver.specs.Between.{IsNoPass, IsBetween}
-use Rattle.check_receiver.specs.Stands.{HasTaken}
+use Rattle.check_receiver.specs.Stands.{HasTaken, direction_of}
 use Rattle.line_rules.specs.Rules.{head_of}
 use Rattle.check_receiver.proofs.Starting.{start-is, start-busy, start-bad, start-open, start-coded}
 use Rattle.check_receiver.proofs.Starting.{start-live, start-quiet, start-still}
@@ -53,6 +53,7 @@ returns-in-Bad-clause-step g c = λ last setup line t between.
 pub returns-in-Short : goal.returns-in-Short
 returns-in-Short g c = record {
   cut = ap (λ v. v.cut) c.enter.ensures.turned.rest;
+  direction = ap direction_of c.enter.ensures.turned.rest;
   note =
       let P : Option CheckNote → Type 0 = λ n. IsNoPass n in
       subst P (sym c.enter.ensures.note) tt;

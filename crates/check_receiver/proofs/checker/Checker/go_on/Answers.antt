@@ -2,7 +2,7 @@ use Rattle.std.proofs.Common.{◌≡◌, ◌∙◌, ⊎_elim, ap, sym, subst, in
 use Rattle.std.proofs.Common.{ℕ, List, length}
 use Rattle.link_verdicts.specs.declared.note.CheckNote.{CheckNote}
 use Rattle.check_receiver.specs.Between.{IsNoPass, IsBetween}
-use Rattle.check_receiver.specs.Stands.{HasTaken}
+use Rattle.check_receiver.specs.Stands.{HasTaken, direction_of}
 use Rattle.check_receiver.proofs.Machine.{waiting-some}
 use Rattle.yasir_ticks.specs.declared.tick.Tick.TheVariants.{Byte}
 use Rattle.yasir_ticks.specs.declared.tick.Tick.{Tick}
@@ -26,6 +26,7 @@ returns-then-not-self-clause-step g c = λ last setup line t between.
 pub returns-in-Short : goal.returns-in-Short
 returns-in-Short g c = record {
   cut = ap (λ v. v.cut) c.enter.ensures.turned.rest;
+  direction = ap direction_of c.enter.ensures.turned.rest;
   note =
       let P : Option CheckNote → Type 0 = λ n. IsNoPass n in
       subst P (sym c.enter.ensures.note) tt;

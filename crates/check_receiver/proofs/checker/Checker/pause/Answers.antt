@@ -7,6 +7,7 @@ use Rattle.frame_ending.specs.LiveBytes.{live_bytes, live_end}
 use Rattle.frame_ending.specs.SoFar.{live_bytes_in}
 use Rattle.link_verdicts.specs.declared.note.CheckNote.{CheckNote}
 use Rattle.check_receiver.specs.Between.{IsNoPass}
+use Rattle.check_receiver.specs.Stands.{direction_of}
 use Rattle.check_receiver.proofs.Machine.{waiting-some}
 use Rattle.check_receiver.proofs.Heads.{head-is-short, head-isn't-short}
 use Rattle.check_receiver.proofs.Silences.{open-silent, waits-long, waits-last}
@@ -34,6 +35,7 @@ returns-in-Short-clause-step g c = λ last setup line cut silence waits until be
 pub returns-in-Bad : goal.returns-in-Bad
 returns-in-Bad g c = record {
   cut = ap (λ v. v.cut) c.pass_by.ensures.turned.rest;
+  direction = ap direction_of c.pass_by.ensures.turned.rest;
   note =
       let P : Option CheckNote → Type 0 = λ n. IsNoPass n in
       subst P (sym c.pass_by.ensures.note) tt;

@@ -16,12 +16,15 @@ returns-in-Ok-take_front g c = second-goes g.S.FrameBox g.C.FrameBox g.V.Device 
     c.take_front-in-Second.new.frames c.in-Second.is c.take_front-in-Second.ensures.able
     c.in-Ok-take_front.ensures.takes
 
-pub returns-in-Ok-hear_front : goal.returns-in-Ok-hear_front
-returns-in-Ok-hear_front g c = third-goes g.S.FrameBox g.C.FrameBox g.V.Device c.args.self.now
-    c.requires.able c.args.run c.in-Ok-hear_front.count c.in-Ok-hear_front.ensures.some
-    c.in-Ok-hear_front.ensures.within c.hear_front.new.device c.hear_front.new.frames
+pub hear_front-requires-clause-whole : goal.hear_front-requires-clause-whole
+hear_front-requires-clause-whole g c = c.requires.able.holds.passes.holds.whole
+
+pub returns-in-Third : goal.returns-in-Third
+returns-in-Third g c = third-goes g.S.FrameBox g.C.FrameBox g.V.Device c.args.self.now
+    c.requires.able c.args.run c.hear_front.result c.hear_front.ensures.some
+    c.hear_front.ensures.within c.hear_front.new.device c.hear_front.new.read
     (λ m is. elim c.in-Third.is [
       | inl third ↦ omega (arith, marks-third m (sym third ∙ is))
       | inr many ↦ omega (arith, marks-many m (sym many ∙ is))
     ])
-    c.in-Ok-hear_front.ensures.hears
+    c.hear_front.ensures.hears

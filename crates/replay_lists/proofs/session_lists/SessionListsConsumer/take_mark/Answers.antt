@@ -1,19 +1,10 @@
 use Rattle.std.proofs.Common.{arith}
-use Rattle.replay_lists.proofs.SessionSteps.{parts-mark}
+use Rattle.replay_lists.proofs.SessionSteps.{gives-mark, gives-none}
 use Rattle.replay_lists.proofs.session_lists.SessionListsConsumer.take_mark.Goals as goal
 
+pub returns-in-Err : goal.returns-in-Err
+returns-in-Err g c = gives-none g.S.FrameBox g.C.FrameBox g.V.Device _ _ _ (omega arith)
+
 pub returns : goal.returns
-returns g c = record {
-  moved = λ setups items parts. parts-mark g.S.FrameBox g.C.FrameBox g.V.Device c.args.self.now
-      c.behind-self.result c.behind-self.ensures setups items parts;
-  stopped = tt;
-  counted = omega arith;
-  is_able = record {
-    sealer = c.requires.able.sealer;
-    checker = c.requires.able.checker;
-    few_sealed = c.requires.able.few_sealed;
-    few_passed = c.requires.able.few_passed;
-    few_read = c.requires.able.few_read;
-  };
-  went = tt;
-}
+returns g c = gives-mark g.S.FrameBox g.C.FrameBox g.V.Device c.args.self.now
+    c.behind-self.result c.requires.able c.in_default.not-Second c.behind-self.ensures

@@ -1,10 +1,14 @@
 use Rattle.std.proofs.Common.{◌∙◌, [], ap, replicate, subst, sym}
 use Rattle.sequence_journal.specs.Journal.{journal_floor}
+use Rattle.sequence_journal.specs.Links.{IsLink}
 use Rattle.sequence_journal.specs.Slots.{greatest}
 use Rattle.sequence_journal.proofs.LoadLemmas.{blank_holds_none}
 use Rattle.trial_session.proofs.Counting.{counts-nothing}
 use Rattle.trial_session.proofs.Starting.{is-made, floor-of}
 use Rattle.trial_session.proofs.side.Side.new.Goals as goal
+
+pub init-requires : goal.init-requires
+init-requires g c = subst IsLink (sym c.link-link.ensures) c.requires.links.ab
 
 pub unwrap-journal-requires : goal.unwrap-journal-requires
 unwrap-journal-requires g c =

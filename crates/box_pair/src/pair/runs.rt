@@ -1,0 +1,116 @@
+//! Runs of both directions at once.
+ghost use Rattle.std.specs.Prelude.{◌≡◌, ◌+◌, ◌<◌, ◌≤◌, ◌^◌, true, length, take};
+ghost use Rattle.yasir_ticks.specs.Ticks.{silent};
+ghost use Rattle.yasir_ticks.specs.TickRun.{run_ticks};
+ghost use Rattle.burst_walk.specs.Answered.{answered};
+ghost use Rattle.link_box.specs.Resting.{Rests};
+ghost use Rattle.box_pair.specs.Pairs.{HasPassed};
+
+use super::BoxPair;
+use burst_walk::RunBytes;
+use link_box::{LinkBox, RestingBox, take_alike};
+use yasir_ticks::{MAX_TICKS, TickRun};
+
+// Whether these are silent ticks.
+#[inline]
+fn is_silence(run: TickRun<'_>) -> bool
+    ensures few { result ≡ true → length (run_ticks run.entry) < 2 ^ 32 }
+    ensures silent { result ≡ true → run_ticks run.entry ≡ silent (length (run_ticks run.entry)) }
+{
+    match run {
+        TickRun::Silence(_) => true,
+        TickRun::Bytes(_) => false,
+    }
+}
+
+// Takes the first of these ticks with the one box, as far as it takes them at once, and as many
+// silent ticks with the other one, which is at rest. Returns how many. Puts what the one sends into
+// `left`, and nothing into `silence`.
+#[inline]
+fn pass_beside<A: LinkBox, B: RestingBox>(
+    line_box: &mut A,
+    run: TickRun<'_>,
+    left: &mut RunBytes,
+    resting: &mut B,
+    silence: &mut RunBytes,
+) -> usize
+    requires rests { Rests B.stands B.resting resting.old }
+    requires few { length (run_ticks run) < 2 ^ 32 }
+    requires room { A.taken line_box.old + length (run_ticks run) ≤ MAX_TICKS }
+    requires rest_room { B.taken resting.old + length (run_ticks run) ≤ MAX_TICKS }
+    ensures within { result ≤ length (run_ticks run.entry) }
+    ensures passed { HasPassed A.LinkBox line_box.old line_box.new
+        (take result (run_ticks run.entry)) (answered result left.new.items) }
+    ensures rested { HasPassed B.LinkBox resting.old resting.new (silent result)
+        (answered result silence.new.items) }
+{
+    let count = take_alike(line_box, run, left);
+    resting.rest_through(count as u32);
+    silence.clear();
+    count
+}
+
+impl<S: RestingBox, C: RestingBox> BoxPair<S, C> {
+    ghost use Rattle.std.specs.Prelude.{◌≡◌, ◌+◌, ◌≤◌, length, take};
+    ghost use Rattle.yasir_ticks.specs.TickRun.{run_ticks};
+    ghost use Rattle.burst_walk.specs.Answered.{answered};
+    ghost use Rattle.box_pair.specs.Pairs.{HasPassed};
+    ghost use Rattle.box_pair.specs.Pairs.{outgoing_direction, outgoing_box, incoming_box};
+
+    /// Takes the first ticks of the device and as many of the link at once, and returns how many: as
+    /// far as one of the two boxes is at rest over silence, and the other one sends all silence or
+    /// all bytes, without a note and without a number in either direction. Puts the bytes of the
+    /// link into `to_link` and those for the device into `to_device`, one for each tick, or none for
+    /// silence. With 0 nothing is taken, and the caller goes on by `step`. At most `MAX_TICKS` ticks
+    /// are taken then in each direction.
+    #[inline]
+    pub fn pass_both(
+        &mut self,
+        from_device: TickRun<'_>,
+        from_link: TickRun<'_>,
+        to_link: &mut RunBytes,
+        to_device: &mut RunBytes,
+    ) -> usize
+        requires outgoing_room { S.taken (outgoing_box self.old) + length (run_ticks from_device)
+            ≤ MAX_TICKS }
+        requires incoming_room { C.taken (incoming_box self.old) + length (run_ticks from_link)
+            ≤ MAX_TICKS }
+
+        ensures direction { outgoing_direction self.new ≡ outgoing_direction self.old }
+        ensures within_device { result ≤ length (run_ticks from_device.entry) }
+        ensures within_link { result ≤ length (run_ticks from_link.entry) }
+        ensures outgoing { HasPassed S.LinkBox (outgoing_box self.old) (outgoing_box self.new)
+            (take result (run_ticks from_device.entry)) (answered result to_link.new.items) }
+        ensures incoming { HasPassed C.LinkBox (incoming_box self.old) (incoming_box self.new)
+            (take result (run_ticks from_link.entry)) (answered result to_device.new.items) }
+    {
+        let most = from_device.len().min(from_link.len());
+        let device = from_device.front(most);
+        let link = from_link.front(most);
+        if is_silence(link) {
+            if self.receiver.is_resting() {
+                return pass_beside(
+                    &mut self.sender,
+                    device,
+                    to_link,
+                    &mut self.receiver,
+                    to_device,
+                );
+            }
+        }
+        if is_silence(device) {
+            if self.sender.is_resting() {
+                return pass_beside(
+                    &mut self.receiver,
+                    link,
+                    to_device,
+                    &mut self.sender,
+                    to_link,
+                );
+            }
+        }
+        to_link.clear();
+        to_device.clear();
+        0
+    }
+}

@@ -1,0 +1,28 @@
+//! The receiver at rest: no verdict is open, and nothing is left to leave.
+ghost use Rattle.std.specs.Prelude.{◌≡◌};
+ghost use Rattle.check_receiver.specs.Resting.{is_at_rest};
+
+use super::Checker;
+use hmac_tag::Mac;
+use line_rules::LineRules;
+use link_box::RestingBox;
+
+impl<R: LineRules, M: Mac, const B: usize, const D: usize> RestingBox for Checker<R, M, B, D> {
+    ghost resting = { λ value line. is_at_rest value };
+
+    #[inline]
+    fn is_resting(&self) -> bool {
+        if self.waits {
+            return false;
+        }
+        if self.outlet.owes() {
+            return false;
+        }
+        self.until == 0
+    }
+
+    #[inline]
+    fn rest_through(&mut self, ticks: u32) {
+        self.cut.wait_some(ticks);
+    }
+}

@@ -1,0 +1,23 @@
+-- The link of a box.
+use Rattle.std.specs.Prelude.{ℕ, ◌+◌}
+use Rattle.line_rules.specs.declared.line_rules.LineRules.{Ghosts as LineRules}
+use Rattle.hmac_tag.specs.declared.dir.Dir.{Dir}
+use Rattle.hmac_tag.specs.declared.dir.Dir.TheVariants.{Ab, Ba}
+use Rattle.hmac_tag.specs.declared.tag.Mac.{Ghosts as Mac}
+use Rattle.sequence_journal.specs.Links.{IsLink}
+use Rattle.sequence_journal.specs.declared.link.LinkId.{LinkId}
+
+-- The link of a box by the rules of a protocol and a code, with words of so many bytes, and of the
+-- direction with this number: as its journals name it, by the protocol's label, the direction, and
+-- the receiver's delay in ticks. That is four ticks longer than the trailer, the word and the tag.
+abbrev pub link_by : {R M : Type 0} → LineRules R → Mac M → ℕ → ℕ → LinkId
+link_by proto code word_len direction = record {
+  label = proto.rules.label;
+  dir = direction;
+  profile = 4 + word_len + code.TAG;
+}
+
+-- Journals can be made for the links of both directions.
+pub record AreLinks (link_in : Dir → LinkId) : Type 0 where
+  pub ab : IsLink (link_in Ab)
+  pub ba : IsLink (link_in Ba)

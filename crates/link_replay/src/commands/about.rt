@@ -1,0 +1,76 @@
+//! The commands `help` and `version`: each prints a text of the program.
+ghost use Rattle.std.specs.Prelude.{Some};
+ghost use Rattle.replay_status.specs.Ends.{outside_before, outside_after};
+ghost use Rattle.link_replay.specs.declared.words.Command.TheVariants.{Help, Version};
+ghost use Rattle.link_replay.specs.AboutCommands.{Helps, TellsVersion};
+ghost use Rattle.link_replay.specs.Commands.{HasCauses};
+
+use replay_status::{Ends, Status, print_text};
+use yasir_io::{Sink, SlotDisk, Source};
+
+/// The line that `version` prints: the name of the program and its version.
+pub const VERSION_LINE: [u8; 18] = *b"link_replay 0.7.0\n";
+
+/// The page that `help` prints.
+pub const HELP_PAGE: [u8; 1674] =
+    *b"link_replay runs the boxes that protect a serial line, over recorded lines.
+
+  read P                   print the frames that a device reads
+  init P DIR JOURNAL       make a new journal
+  seal P DIR KEY JOURNAL   the transmitter: turn a device's line into the link
+  check P DIR KEY JOURNAL  the receiver: turn the link into a device's line
+  space P                  a spacer: send on what is read, frame by frame
+  replay P DIR KEY         list what was sealed, passed, read and forged
+  audit P DIR KEY F G      judge a session by three recordings of it
+  duplex P DIR KEY         one box for both directions
+  trial P SEED COUNT       attack a session that is made from a number
+  vectors                  check the known answers of the standards
+  help                     print this page (also --help, -h)
+  version                  print the version (also --version)
+
+P        rtu or dnp3; with longer tags rtu24 or dnp24, but not for read
+DIR      ab or ba
+KEY      the path of a key: 32 to 128 hex digits
+JOURNAL  the path of a box's journal
+F, G     the last numbers of transmitter and receiver before the session
+SEED     0 to 4294967295
+COUNT    1 to 10000
+
+Recordings are read from standard input. Results go to standard output, notes
+and one fault line to standard error. The status is 0 only if all is done.
+
+  link_replay read rtu < line.ticks
+  link_replay init rtu ab sent.journal
+  link_replay seal rtu ab key.txt sent.journal < line.ticks > link.ticks
+  link_replay init rtu ab received.journal
+  link_replay check rtu ab key.txt received.journal < link.ticks
+  link_replay trial rtu 7 100
+
+docs/USAGE.md has the texts, the statuses, and more examples.
+";
+
+/// Prints the page of the program's words.
+pub fn print_help<K: Source, S: Source, O: Sink, L: Sink, D: SlotDisk>(
+    ends: Ends<K, S, O, L, D>,
+) -> Status
+    ensures helps { Helps O.Sink L.Sink (outside_before ends.entry) (outside_after ends.exit)
+        result }
+    ensures causes { HasCauses K.Source S.Source O.Sink L.Sink D.SlotDisk (Some Help)
+        (outside_before ends.entry) (outside_after ends.exit) result }
+{
+    let Ends { out, log, .. } = ends;
+    print_text(&HELP_PAGE, out, log)
+}
+
+/// Prints the program's name and version.
+pub fn print_version<K: Source, S: Source, O: Sink, L: Sink, D: SlotDisk>(
+    ends: Ends<K, S, O, L, D>,
+) -> Status
+    ensures tells { TellsVersion O.Sink L.Sink (outside_before ends.entry)
+        (outside_after ends.exit) result }
+    ensures causes { HasCauses K.Source S.Source O.Sink L.Sink D.SlotDisk (Some Version)
+        (outside_before ends.entry) (outside_after ends.exit) result }
+{
+    let Ends { out, log, .. } = ends;
+    print_text(&VERSION_LINE, out, log)
+}

@@ -1,0 +1,130 @@
+//! What a device reads, compared frame by frame with what has passed. No frame is kept.
+ghost use Rattle.std.specs.Prelude.{◌≡◌, ℕ, ◌+◌, ◌<◌, ◌≤◌, ◌++◌, ◌∷◌, [], ◌==◌, ◌&&◌, List, bytes_eq};
+ghost use Rattle.std.specs.Prelude.{drop, length, IfSome};
+ghost use Rattle.yasir_ticks.specs.declared.TheConstants.{MAX_TICKS};
+ghost use Rattle.device_model.specs.Frames.{FrameRead};
+ghost use Rattle.link_format.specs.NumberedFrame.{NumberedFrame};
+ghost use Rattle.replay_lists.specs.Comparison.{Found, expected_reads, first_difference, is_next};
+ghost use Rattle.replay_lists.specs.FrameBox.{kept_frames};
+ghost use Rattle.replay_lists.specs.FrameList.{Holds, IsWhole};
+
+use crate::frame_box::Numbered;
+use crate::frame_list::FrameList;
+
+/// The frames that have passed, and how many ticks later they are read.
+#[derive(Clone, Copy)]
+pub(crate) struct Passed<'a> {
+    pub(crate) late: u64,
+    pub(crate) frames: &'a FrameList<Numbered>,
+}
+
+// Whether a frame that passed is read so many ticks later, in this tick and with these bytes.
+fn is_read(late: u64, start: u64, frame: &[u8], at: u64, bytes: &[u8]) -> bool
+    ensures { result ≡ (late + start == at && bytes_eq frame.now bytes.now) }
+{
+    late <= at && at - late == start && frame == bytes
+}
+
+/// A frame that a device has read: the tick of its first byte, and its bytes.
+#[derive(Clone, Copy)]
+pub(crate) struct Read<'a> {
+    pub(crate) start: u64,
+    pub(crate) bytes: &'a [u8],
+}
+
+// Whether this frame is read so much later as the frame that has passed at a place, if there is one.
+fn is_next(passed: Passed<'_>, place: u64, read: Read<'_>) -> bool
+    requires { IsWhole passed.frames.now }
+    ensures { (passed_ones : List NumberedFrame)
+        → Holds passed.entry.frames.now (kept_frames passed_ones)
+        → result ≡ is_next (drop place (expected_reads passed.entry.late passed_ones))
+        (record { start = read.entry.start; frame = read.entry.bytes.now }) }
+{
+    let frames = passed.frames;
+    let index = place as usize;
+    if index >= frames.len() {
+        return false;
+    }
+    let start = frames.head(index).start;
+    is_read(
+        passed.late,
+        start,
+        frames.bytes(index),
+        read.start,
+        read.bytes,
+    )
+}
+
+/// The frames that a device has read so far, compared with those that have passed: how many there
+/// are, and the first place at which they aren't the same.
+#[derive(Clone, Copy, Debug, PartialEq, Eq)]
+pub struct Comparison {
+    read: u64,
+    unexpected: Option<u64>,
+}
+
+impl Comparison {
+    /// Of no frame.
+    pub(crate) fn new() -> Comparison
+        ensures none { result.read ≡ 0 }
+        ensures found { (expected : List FrameRead) → Found result expected [] }
+    {
+        Comparison {
+            read: 0,
+            unexpected: None,
+        }
+    }
+
+    /// Takes the next frame that was read.
+    #[inline]
+    pub(crate) fn take(&mut self, passed: Passed<'_>, read: Read<'_>)
+        requires room { self.old.read < MAX_TICKS }
+        requires whole { IsWhole passed.frames.now }
+        ensures counted { self.new.read ≡ self.old.read + 1 }
+        ensures found { (passed_ones : List NumberedFrame) (reads : List FrameRead)
+            → Holds passed.entry.frames.now (kept_frames passed_ones)
+            → Found self.old (expected_reads passed.entry.late passed_ones) reads
+            → Found self.new (expected_reads passed.entry.late passed_ones)
+            (reads ++ record { start = read.entry.start; frame = read.entry.bytes.now } ∷ []) }
+    {
+        let place = self.read;
+        self.read += 1;
+        match self.unexpected {
+            None => {}
+            Some(_) => return,
+        }
+        if is_next(passed, place, read) {
+            return;
+        }
+        self.unexpected = Some(place);
+    }
+
+    /// How many frames were read.
+    pub fn read(&self) -> u64
+        ensures value { result ≡ self.now.read }
+        ensures count { (expected reads : List FrameRead) → Found self.now expected reads
+            → result ≡ length reads }
+    {
+        self.read
+    }
+
+    /// The first place, counted from 0, at which the frames that were read aren't those that passed,
+    /// or one of the two has ended.
+    pub fn difference(&self, passed: &FrameList<Numbered>) -> Option<u64>
+        ensures within { (expected reads : List FrameRead) → Found self.now expected reads
+            → IfSome result (λ place. place ≤ self.now.read) }
+        ensures place { (late : ℕ) (passed_ones : List NumberedFrame) (reads : List FrameRead)
+            → Holds passed.now (kept_frames passed_ones)
+            → Found self.now (expected_reads late passed_ones) reads
+            → result ≡ first_difference (expected_reads late passed_ones) reads }
+    {
+        match self.unexpected {
+            None => {}
+            Some(place) => return Some(place),
+        }
+        if self.read < passed.len() as u64 {
+            return Some(self.read);
+        }
+        None
+    }
+}

@@ -1,0 +1,8 @@
+use Rattle.std.proofs.Common.{sym, subst}
+use Rattle.sequence_journal.specs.Links.{IsLink}
+use Rattle.link_box.proofs.KnownLinks.{known}
+use Rattle.replay_tests.proofs.over_boxes.replay_by.Goals as goal
+
+pub replay_box-status-requires-clause-link : goal.replay_box-status-requires-clause-link
+replay_box-status-requires-clause-link g c = subst IsLink (sym c.link-link.ensures)
+    (known g.B.LinkBox.link_in c.requires.links c.args.dir)

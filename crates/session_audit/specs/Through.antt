@@ -1,0 +1,55 @@
+-- The verdict on three recordings by boxes and a device, and the lists that it comes of.
+use Rattle.std.specs.Prelude.{ℕ, ◌+◌, ◌<◌, ◌^◌, List, ◌++◌}
+use Rattle.yasir_ticks.specs.Ticks.{silent}
+use Rattle.yasir_ticks.specs.declared.TheConstants.{T3_5_TICKS}
+use Rattle.yasir_ticks.specs.declared.tick.Tick.{Tick}
+use Rattle.device_model.specs.declared.device.Device.{Ghosts as Device}
+use Rattle.replay_lists.specs.Listed.{link_rest}
+use Rattle.replay_lists.specs.SessionLists.{HasSession, IsOpen, Setups, session_taken}
+use Rattle.replay_lists.specs.declared.frame_box.FrameBox.{Ghosts as FrameBox}
+use Rattle.replay_lists.specs.declared.session_lists.SessionLists.{SessionLists}
+use Rattle.replay_lists.specs.declared.session_lists.Timing.{Timing}
+use Rattle.session_audit.specs.Sessions.{sent_setup, got_setup}
+use Rattle.session_audit.specs.Verdicts.{verdict_on}
+use Rattle.session_audit.specs.declared.session.Session.{Session}
+use Rattle.session_audit.specs.declared.verdict.Verdict.{Verdict}
+
+-- how much silence stands behind each recording, where a receiver is so late
+abbrev pub timing_of : ℕ → Timing
+timing_of late = record {
+  late = late;
+  sent_rest = late + 6;
+  link_rest = link_rest;
+  received_rest = T3_5_TICKS;
+}
+
+abbrev pub setups_of : ℕ → Session → Setups
+setups_of late session = record {
+  sent = sent_setup session;
+  got = got_setup session;
+  timing = timing_of late;
+}
+
+module _ {S C V : Type 0} (s : FrameBox S) (c : FrameBox C) (v : Device V)
+    (session : Session) where
+  abbrev pub verdict_through : ℕ → List Tick → List Tick → List Tick → Verdict
+  verdict_through late device link received = verdict_on late
+      ((s.numbering (sent_setup session)).frames (device ++ silent (late + 6)))
+      ((c.numbering (got_setup session)).frames (link ++ silent link_rest))
+      (v.reads (received ++ silent T3_5_TICKS))
+
+  -- The lists are those of these recordings of the session.
+  pub record HasTaken (late : ℕ) (lists : SessionLists S C V)
+      (device link received : List Tick) : Type 0 where
+    pub has : HasSession s c v lists (setups_of late session) (device ++ silent (late + 6))
+        (link ++ silent link_rest) (received ++ silent T3_5_TICKS)
+    pub able : IsOpen s c v lists
+    pub few : session_taken s c v lists < 2 ^ 32
+
+  -- They are those of some.
+  pub record HasTakenSome (lists : SessionLists S C V) : Type 0 where
+    pub late : ℕ
+    pub device : List Tick
+    pub link : List Tick
+    pub received : List Tick
+    pub taken : HasTaken late lists device link received

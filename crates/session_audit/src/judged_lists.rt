@@ -1,0 +1,71 @@
+//! The lists that an audit takes of a session, and the verdict on them.
+ghost use Rattle.std.specs.Prelude.{◌≡◌, ℕ, List, []};
+ghost use Rattle.yasir_ticks.specs.declared.tick.Tick.{Tick};
+ghost use Rattle.link_format.specs.NumberedFrame.{AreNumberedFrom};
+ghost use Rattle.link_format.specs.Setup.{Setup};
+ghost use Rattle.replay_lists.specs.SessionListed.{MayListSession};
+ghost use Rattle.replay_lists.specs.SessionLists.{HasSession};
+ghost use Rattle.session_audit.specs.Sessions.{IsSession};
+ghost use Rattle.session_audit.specs.Through.{timing_of, setups_of, HasTaken, HasTakenSome};
+ghost use Rattle.session_audit.specs.Through.{verdict_through};
+
+use crate::judging::judge;
+use crate::link_boxes::{DEVICE_REST, LINK_REST};
+use crate::{Session, Verdict};
+use device_model::LendingDevice;
+use replay_lists::{Floors, FrameBox, SessionLists, Timing};
+use std::alloc::Global;
+use yasir_ticks::T3_5_TICKS;
+
+// How much silence stands behind each recording, where a receiver is so late.
+fn timing_of(late: u8) -> Timing
+    ensures { result ≡ timing_of late }
+{
+    Timing {
+        late: u64::from(late),
+        sent_rest: u32::from(late) + DEVICE_REST,
+        link_rest: LINK_REST,
+        received_rest: u32::from(T3_5_TICKS),
+    }
+}
+
+/// Lists of no frame, for a session by a transmitter, a receiver that is so late, and a device.
+pub(crate) fn lists_for<S: FrameBox, C: FrameBox, V: LendingDevice + Drop>(
+    alloc: Global,
+    late: u8,
+    session: &Session<'_>,
+) -> SessionLists<S, C, V>
+    requires sealer { S.widths_fit }
+    requires checker { C.widths_fit }
+    requires session { IsSession session.now }
+    ensures has { HasSession S.FrameBox C.FrameBox V.Device result (setups_of late session.now)
+        [] [] [] }
+    ensures may_list { MayListSession S.FrameBox C.FrameBox V.Device result }
+{
+    let floors = Floors {
+        sent: session.sent_floor,
+        got: session.got_floor,
+    };
+    SessionLists::new(alloc, session.key, session.dir, floors, timing_of(late))
+}
+
+/// The verdict on what was listed of the session's recordings.
+pub(crate) fn judge_lists<S: FrameBox, C: FrameBox, V: LendingDevice + Drop>(
+    session: &Session<'_>,
+    lists: &SessionLists<S, C, V>,
+) -> Verdict
+    requires taken { HasTakenSome S.FrameBox C.FrameBox V.Device session.now lists.now }
+    requires in_turn { (setup : Setup) (line : List Tick)
+        → AreNumberedFrom setup.floor ((S.numbering setup).frames line) }
+    ensures { (late : ℕ) (device link received : List Tick)
+        → HasTaken S.FrameBox C.FrameBox V.Device session.now late lists.now device link received
+        → result
+        ≡ verdict_through S.FrameBox C.FrameBox V.Device session.now late device link received }
+{
+    judge(
+        session.sent_floor,
+        lists.sealed(),
+        lists.passed(),
+        lists.read(),
+    )
+}
