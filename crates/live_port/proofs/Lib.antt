@@ -1,0 +1,6 @@
+pub mod Texts
+pub mod Behind
+pub mod Reading
+pub mod Handing
+pub mod SentBytes
+pub mod StreamLemmas

@@ -1,0 +1,78 @@
+-- The history of an input and two outputs, and what was read, written and flushed by it.
+use Rattle.std.specs.Prelude.{◌≡◌, ◌≢◌, ℕ, List, [], ◌∷◌, ◌++◌, Bool, true, false, Option, Some}
+use Rattle.std.specs.Prelude.{None, Result, OnOk}
+use Rattle.std.specs.List.{flat_map}
+use Rattle.live_port.specs.declared.port.Output.{Output}
+use Rattle.live_port.specs.declared.port.Output.TheVariants.{Out, Log}
+
+-- A call of a port: a read gave these bytes, none at the end of the input, or failed; these bytes
+-- were written; a flush ended well, or failed.
+pub data Event : Type 0 where
+  reads : Option (List ℕ) → Event
+  writes : Output → List ℕ → Event
+  flushes : Output → Bool → Event
+
+-- the history as told, and then these calls
+abbrev pub told_then : Option (List Event) → List Event → Option (List Event)
+told_then None more = None
+told_then (Some events) more = Some (events ++ more)
+
+-- the bytes that a call read
+abbrev pub read_by : Event → List ℕ
+read_by (reads (Some bytes)) = bytes
+read_by (reads None) = []
+read_by (writes to bytes) = []
+read_by (flushes to well) = []
+
+-- all bytes that were read
+abbrev pub bytes_read : List Event → List ℕ
+bytes_read events = flat_map read_by events
+
+-- the bytes that a call wrote to an output
+abbrev pub written_by : Output → Event → List ℕ
+written_by to (reads got) = []
+written_by Out (writes Out bytes) = bytes
+written_by Out (writes Log bytes) = []
+written_by Log (writes Out bytes) = []
+written_by Log (writes Log bytes) = bytes
+written_by to (flushes other well) = []
+
+-- all bytes that were written to an output
+abbrev pub written : Output → List Event → List ℕ
+written to events = flat_map (written_by to) events
+
+-- whether an output is flushed behind a call, where it was, or was not, before
+abbrev pub flushed_by : Output → Bool → Event → Bool
+flushed_by to before (reads got) = before
+flushed_by Out before (writes Out bytes) = false
+flushed_by Out before (writes Log bytes) = before
+flushed_by Log before (writes Out bytes) = before
+flushed_by Log before (writes Log bytes) = false
+flushed_by to before (flushes other false) = before
+flushed_by Out before (flushes Out true) = true
+flushed_by Out before (flushes Log true) = before
+flushed_by Log before (flushes Out true) = before
+flushed_by Log before (flushes Log true) = true
+
+abbrev pub flushed_from : Output → Bool → List Event → Bool
+flushed_from to before [] = before
+flushed_from to before (event ∷ events) = flushed_from to (flushed_by to before event) events
+
+-- whether a flush of the output has ended well behind each write to it
+abbrev pub is_flushed : Output → List Event → Bool
+is_flushed to events = flushed_from to true events
+
+-- The bytes of a piece were written, or a front of them where the write failed.
+pub record WritesFront {T E : Type 0} (before now : Option (List Event)) (to : Output)
+    (piece : List ℕ) (result : Result T E) : Type 0 where
+  pub front : List ℕ
+  pub rest : List ℕ
+  pub is : piece ≡ front ++ rest
+  pub whole : OnOk result (rest ≡ [])
+  pub wrote : now ≡ told_then before (writes to front ∷ [])
+
+-- The counts of faults of all but this output are as they were.
+pub record KeepsFaults (reads_before reads_now : ℕ) (writes_before writes_now : Output → ℕ)
+    (to : Output) : Type 0 where
+  pub read_same : reads_now ≡ reads_before
+  pub others : (other : Output) → other ≢ to → writes_now other ≡ writes_before other

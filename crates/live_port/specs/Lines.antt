@@ -1,0 +1,73 @@
+-- What a reader of lines as they come has read.
+use Rattle.std.specs.Prelude.{◌≡◌, ℕ, ◌<◌, ◌≤◌, List, [], ◌++◌, length, take, true, Some, Result}
+use Rattle.std.specs.Prelude.{Ok, Err, slice_index}
+use Rattle.yasir_ticks.specs.Ticks.{Item, items_of_run, marks_in}
+use Rattle.yasir_ticks.specs.Reader.{StandsFor, items_of_content, lent_bytes}
+use Rattle.yasir_ticks.specs.TickText.{IsTickText, IsRefusedAfter, ended_items, all_items, lines_of}
+use Rattle.yasir_ticks.specs.TickText.{line_after, fault_after, fault_at_end}
+use Rattle.yasir_ticks.specs.declared.fault.BadTicks.{BadTicks}
+use Rattle.yasir_ticks.specs.declared.run.Run.{Run}
+use Rattle.tick_drive.specs.declared.end.End.{End}
+use Rattle.tick_drive.specs.declared.end.End.TheVariants.{Refused, TooLong}
+use Rattle.tick_drive.specs.declared.end.TooMuch.TheVariants.{Bytes}
+use Rattle.live_port.specs.Counted.{capped}
+use Rattle.live_port.specs.declared.lines.LineReader.{LineReader}
+use Rattle.live_port.specs.declared.lines.ReadBytes.{ReadBytes}
+
+-- Right lines without a mark, each ended by an LF.
+pub record AreWholeLines (text : List ℕ) : Type 0 where
+  pub closed : (lines_of text).last ≡ []
+  pub right : all_items (lines_of text).ended ≡ Some (ended_items text)
+  pub unmarked : marks_in (ended_items text) ≡ 0
+
+-- The reader has read this text, and no byte of it is refused: whole lines, and then what its own
+-- reader was fed.
+pub record HasRead (lines : LineReader) (text : List ℕ) : Type 0 where
+  pub whole : List ℕ
+  pub part : List ℕ
+  pub is : text ≡ whole ++ part
+  pub front : AreWholeLines whole
+  pub stands : StandsFor lines.reader 0 part
+  pub counted : lines.line ≡ capped (line_after whole)
+  pub ends : lines.ended ≡ true → (lines_of part).last ≡ []
+
+-- the bytes of the line that ended last, where it was one of bytes
+abbrev pub lent : LineReader → List ℕ
+lent lines = lent_bytes lines.reader
+
+-- So many bytes were read behind a text, and these are the items of the line that ended with them.
+pub record ReadsLine (lines : LineReader) (text bytes : List ℕ) (taken : ℕ) (items : List Item) :
+    Type 0 where
+  pub some : 0 < taken
+  pub within : taken ≤ length bytes
+  pub has_read : HasRead lines (text ++ take taken bytes)
+  pub ended : ended_items (text ++ take taken bytes) ≡ ended_items text ++ items
+
+-- A byte is refused behind a text, and no line with ticks ended before it.
+pub record RefusesByte (text bytes : List ℕ) (bad : BadTicks) : Type 0 where
+  pub taken : ℕ
+  pub within : taken < length bytes
+  pub refused : IsRefusedAfter 0 (text ++ take taken bytes) (slice_index bytes taken)
+  pub quiet : ended_items (text ++ take taken bytes) ≡ ended_items text
+  pub line : bad.line ≡ capped (line_after (text ++ take taken bytes))
+  pub why : bad.why ≡ fault_after (text ++ take taken bytes) (slice_index bytes taken)
+
+-- what the answer says where bytes were to be read behind a text
+abbrev pub FeedAnswer : LineReader → List ℕ → List ℕ → Result ReadBytes End → Type 0
+FeedAnswer lines text bytes (Ok found) =
+    ReadsLine lines text bytes found.taken (items_of_content found.content (lent lines))
+FeedAnswer lines text bytes (Err (Refused bad)) = RefusesByte text bytes bad
+FeedAnswer lines text bytes (Err (TooLong Bytes count)) = 2147483648 < count
+FeedAnswer lines text bytes (Err end) = ⊥
+
+-- The whole text is no right one.
+pub record RefusesText (text : List ℕ) (bad : BadTicks) : Type 0 where
+  pub refused : ¬ ((items : List Item) × IsTickText 0 text items)
+  pub line : bad.line ≡ capped (line_after text)
+  pub why : bad.why ≡ fault_at_end text
+
+-- what the answer says at the end of a text
+abbrev pub FinishAnswer : List ℕ → Result Run End → Type 0
+FinishAnswer text (Ok run) = IsTickText 0 text (ended_items text ++ items_of_run run)
+FinishAnswer text (Err (Refused bad)) = RefusesText text bad
+FinishAnswer text (Err end) = ⊥

@@ -1,0 +1,11 @@
+-- Tick text that is written as its ticks come.
+use Rattle.std.specs.Prelude.{◌≡◌, ℕ, List, ◌++◌}
+use Rattle.std.specs.List.{flat_map}
+use Rattle.yasir_ticks.specs.CanonicalText.{canonical_text}
+use Rattle.yasir_ticks.specs.declared.tick.Tick.{Tick}
+
+-- A text of these ticks: it is the canonical text of each of their pieces.
+pub record IsTextOf (text : List ℕ) (ticks : List Tick) : Type 0 where
+  pub pieces : List (List Tick)
+  pub ticks_are : ticks ≡ flat_map (λ piece. piece) pieces
+  pub text_is : text ≡ flat_map canonical_text pieces

@@ -1,0 +1,11 @@
+-- The faults of a source and two sinks as one port.
+use Rattle.std.specs.Prelude.{ℕ}
+use Rattle.yasir_io.specs.declared.sink.Sink.{Ghosts as Sink}
+use Rattle.live_port.specs.declared.port.Output.{Output}
+use Rattle.live_port.specs.declared.port.Output.TheVariants.{Out, Log}
+use Rattle.live_port.specs.declared.streams.Streams.{Streams}
+
+-- how often a write to an output, or a flush of it, has failed
+abbrev pub stream_faults : {S O L : Type 0} → Sink O → Sink L → Streams S O L → Output → ℕ
+stream_faults o l streams Out = o.faults streams.out.now
+stream_faults o l streams Log = l.faults streams.log.now

@@ -1,0 +1,19 @@
+//! The outside of a live line: an input and two outputs with one history, what is handed on to
+//! them, and a reader of the lines that come.
+#![tactic(auto)]
+
+mod lines;
+mod port;
+mod receiving;
+mod rooms;
+mod sending;
+mod streams;
+#[cfg(test)]
+mod tests;
+
+pub use lines::{LineReader, ReadBytes};
+pub use port::{Output, Port};
+pub use receiving::{handed_lines_are_in_order, read_on};
+pub use rooms::{AnswerText, text_of_answer, text_of_tick};
+pub use sending::hand_on;
+pub use streams::Streams;

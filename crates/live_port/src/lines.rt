@@ -1,0 +1,118 @@
+//! Lines of tick text as they come, without a limit of lines.
+ghost use Rattle.std.specs.Prelude.{◌≡◌, ℕ, ◌+◌, ◌-◌, ◌<◌, ◌≤◌, List, [], length, true, false};
+ghost use Rattle.yasir_ticks.specs.Reader.{reader_line};
+ghost use Rattle.live_port.specs.Counted.{capped};
+
+use tick_drive::{End, TooMuch};
+use yasir_ticks::{BadTicks, Content, FedLine, Run, TickReader};
+
+/// The most bytes that a line may have. No right line has as many.
+const MAX_LINE: u32 = 2_147_483_648;
+
+/// What of some bytes was read: so many first ones, up to the end of a line at most, and what the
+/// line stands for that ended with them.
+#[derive(Drop)]
+pub struct ReadBytes {
+    pub taken: usize,
+    pub content: Content,
+}
+
+/// A reader of tick text without marks, for a text of any length: each line is read anew, and lines
+/// are counted beside. The count stands still at its last value.
+#[derive(Drop)]
+pub struct LineReader {
+    reader: TickReader,
+    // how many bytes the reader was fed
+    since: u32,
+    // whether the last of them ended a line
+    ended: bool,
+    // the line, counted from 1, in which the reader began
+    line: u32,
+    ghost lines: { reader_line reader ≤ since + 1 },
+}
+
+// A refusal behind a line, with its line in the whole text.
+fn in_text(line: u32, bad: BadTicks) -> BadTicks
+    ensures line { result.line ≡ capped (line + (bad.line - 1)) }
+    ensures why { result.why ≡ bad.why }
+{
+    BadTicks {
+        line: line.saturating_add(bad.line.saturating_sub(1)),
+        why: bad.why,
+    }
+}
+
+impl LineReader {
+    ghost use Rattle.live_port.specs.Lines.{HasRead, FeedAnswer, FinishAnswer, lent};
+
+    /// A reader of a text of which nothing has come.
+    pub fn new() -> LineReader
+        ensures { HasRead result [] }
+    {
+        LineReader {
+            reader: TickReader::new(0),
+            since: 0,
+            ended: false,
+            line: 1,
+        }
+    }
+
+    /// The bytes of the line that ended last, where it was one of bytes.
+    #[inline]
+    pub fn line_bytes(&self) -> &[u8]
+        ensures bytes { result.now ≡ lent self.now }
+        ensures few { length result.now ≤ 32 }
+    {
+        self.reader.line_bytes()
+    }
+
+    // Begins anew behind a line that has ended.
+    fn renew(&mut self)
+        ensures { (text : List ℕ) → HasRead self.old text → HasRead self.new text }
+    {
+        if !self.ended {
+            return;
+        }
+        let more = self.reader.line().saturating_sub(1);
+        self.line = self.line.saturating_add(more);
+        self.reader = TickReader::new(0);
+        self.since = 0;
+        self.ended = false;
+    }
+
+    /// Reads bytes up to and with the end of the line, or all of them.
+    pub fn feed(&mut self, bytes: &[u8]) -> Result<ReadBytes, End>
+        requires some { 0 < length bytes.now }
+        requires few { length bytes.now ≤ 65536 }
+        ensures { (text : List ℕ) → HasRead self.old text
+            → FeedAnswer self.new text bytes.now result }
+    {
+        self.renew();
+        if self.since > MAX_LINE {
+            return Err(End::TooLong {
+                what: TooMuch::Bytes,
+                count: u64::from(self.since),
+            });
+        }
+        let FedLine { taken, line } = self.reader.feed_line(bytes);
+        self.since += taken as u32;
+        match line {
+            Ok(content) => {
+                self.ended = bytes[taken - 1] == b'\n';
+                Ok(ReadBytes { taken, content })
+            }
+            Err(bad) => Err(End::Refused(in_text(self.line, bad))),
+        }
+    }
+
+    /// Takes the end of the text, and returns the run of a last line without an LF.
+    pub fn finish(self) -> Result<Run, End>
+        ensures { (text : List ℕ) → HasRead self text → FinishAnswer text result }
+    {
+        let LineReader { reader, line, .. } = self;
+        match reader.finish() {
+            Ok(run) => Ok(run),
+            Err(bad) => Err(End::Refused(in_text(line, bad))),
+        }
+    }
+}

@@ -1,0 +1,61 @@
+//! The outside of a live line as one object: what is read, written and flushed has one history.
+ghost use Rattle.std.specs.Prelude.{◌≡◌, ◌≢◌, ℕ, ◌≤◌, [], ◌∷◌, take, length, Option, List};
+ghost use Rattle.std.specs.Prelude.{Some, None, true, false, IfOk, OnOk, OnErr};
+ghost use Rattle.yasir_io.specs.Causes.{HasCause};
+ghost use Rattle.live_port.specs.declared.port.Output.{Output};
+ghost use Rattle.live_port.specs.History.{Event, told_then, KeepsFaults};
+ghost use Rattle.live_port.specs.History.Event.{reads, writes, flushes};
+
+use yasir_io::Failed;
+
+/// Where the bytes of a live line go.
+#[derive(Clone, Copy, Debug, PartialEq, Eq)]
+pub enum Output {
+    /// The other line, as tick text.
+    Out,
+    /// The notes, a line of text each.
+    Log,
+}
+
+/// An input and two outputs, with one history of their calls.
+pub trait Port {
+    ghost use Rattle.live_port.specs.History.{WritesFront};
+
+    /// The calls so far, in order, where the port tells them.
+    ghost history: { Self → Option (List Event) };
+
+    /// How often a read has failed.
+    ghost read_faults: { Self → ℕ };
+
+    /// How often a write to an output, or a flush of it, has failed.
+    ghost write_faults: { Self → Output → ℕ };
+
+    /// Moves the next bytes of the input into the front of `buf`, and returns how many, which is at
+    /// most its length; 0 only at the end, or where `buf` has no room. It waits for the first of
+    /// them alone.
+    fn read(&mut self, buf: &mut [u8]) -> Result<usize, Failed>
+        ensures within { IfOk result (λ n. n ≤ length buf.new) }
+        ensures bytes { IfOk result (λ n. history self.new
+            ≡ told_then (history self.old) (reads (Some (take n buf.new)) ∷ [])) }
+        ensures err { OnErr result (history self.new
+            ≡ told_then (history self.old) (reads None ∷ [])) }
+        ensures cause { HasCause (read_faults self.old) (read_faults self.new) result }
+        ensures outputs { (to : Output) → write_faults self.new to ≡ write_faults self.old to };
+
+    /// Writes the whole piece to an output. After an error a front of it was written.
+    fn write(&mut self, to: Output, piece: &[u8]) -> Result<(), Failed>
+        ensures wrote { WritesFront (history self.old) (history self.new) to piece.now result }
+        ensures cause { HasCause (write_faults self.old to) (write_faults self.new to) result }
+        ensures beside { KeepsFaults (read_faults self.old) (read_faults self.new)
+            (write_faults self.old) (write_faults self.new) to };
+
+    /// Hands on what was written to an output.
+    fn flush(&mut self, to: Output) -> Result<(), Failed>
+        ensures ok { OnOk result (history self.new
+            ≡ told_then (history self.old) (flushes to true ∷ [])) }
+        ensures err { OnErr result (history self.new
+            ≡ told_then (history self.old) (flushes to false ∷ [])) }
+        ensures cause { HasCause (write_faults self.old to) (write_faults self.new to) result }
+        ensures beside { KeepsFaults (read_faults self.old) (read_faults self.new)
+            (write_faults self.old) (write_faults self.new) to };
+}

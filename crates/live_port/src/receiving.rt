@@ -1,0 +1,42 @@
+//! Reads of a live line: each comes once all that was decided is written and flushed.
+ghost use Rattle.std.specs.Prelude.{◌≡◌, ℕ, ◌≤◌, ◌++◌, List, length, take, Option, IfOk, OnErr};
+ghost use Rattle.yasir_io.specs.Causes.{HasCause};
+ghost use Rattle.yasir_ticks.specs.Ticks.{ticks_in};
+ghost use Rattle.yasir_ticks.specs.TickText.{ended_items};
+ghost use Rattle.yasir_ticks.specs.declared.tick.Tick.{Tick};
+ghost use Rattle.line_texts.specs.Sending.{LineAndNotes};
+ghost use Rattle.live_port.specs.History.{Event, told_then};
+ghost use Rattle.live_port.specs.Order.{Handed, IsInOrder};
+ghost use Rattle.live_port.specs.declared.port.Output.{Output};
+
+use crate::Port;
+use yasir_io::Failed;
+
+/// Reads the next bytes of a line into the front of `buf`, where what is made of all lines that have
+/// ended is written and flushed. Returns how many; 0 only at the end, or where `buf` has no room.
+pub fn read_on<P: Port>(port: &mut P, buf: &mut [u8]) -> Result<usize, Failed>
+    ensures within { IfOk result (λ n. n ≤ length buf.new) }
+    ensures bytes { IfOk result (λ n. (made : LineAndNotes) (start : Option (List Event))
+        (read : List ℕ) → Handed made start (P.history port.old) read (ticks_in (ended_items read))
+        → Handed made start (P.history port.new) (read ++ take n buf.new)
+        (ticks_in (ended_items read))) }
+    ensures err { OnErr result ((made : LineAndNotes) (start : Option (List Event))
+        (read : List ℕ) → Handed made start (P.history port.old) read (ticks_in (ended_items read))
+        → Handed made start (P.history port.new) read (ticks_in (ended_items read))) }
+    ensures cause { HasCause (P.read_faults port.old) (P.read_faults port.new) result }
+    ensures outputs { (to : Output) → P.write_faults port.new to ≡ P.write_faults port.old to }
+{
+    match port.read(buf) {
+        Ok(n) => Ok(n),
+        Err(Failed) => Err(Failed),
+    }
+}
+
+/// A law of histories: where what is made of a line is handed on, each call came where it may come.
+/// Before each read, all that was decided by what was read before was written and flushed; before
+/// each write of the other line's text, the notes of its ticks.
+pub fn handed_lines_are_in_order()
+    ensures { (made : LineAndNotes) (start now : Option (List Event)) (read : List ℕ)
+        (line : List Tick) → Handed made start now read line
+        → (events : List Event) × (now ≡ told_then start events) × IsInOrder made line events }
+{}

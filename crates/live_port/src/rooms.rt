@@ -1,0 +1,71 @@
+//! The text of what is answered to a run or to a tick.
+ghost use Rattle.std.specs.Prelude.{◌≡◌, ◌+◌, ◌<◌, ◌≤◌, ◌++◌, ◌∷◌, [], length};
+ghost use Rattle.yasir_ticks.specs.CanonicalText.{byte_line, silence_line};
+ghost use Rattle.burst_walk.specs.Answered.{answered};
+ghost use Rattle.live_port.specs.LiveText.{IsTextOf};
+
+use arrayvec::ArrayVec;
+use replay_status::push_decimal;
+use yasir_ticks::{Tick, push_digits};
+
+/// The text of one answer.
+pub type AnswerText = ArrayVec<u8, 256>;
+
+/// The most bytes that one line stands for.
+const MAX_BYTES: usize = 32;
+
+// Appends the line `+` of these bytes.
+fn push_bytes(text: &mut AnswerText, bytes: &[u8])
+    requires some { 0 < length bytes.now }
+    requires few { length bytes.now ≤ 32 }
+    requires room { length text.old.items + 66 ≤ 256 }
+    ensures line { text.new.items ≡ text.old.items ++ byte_line bytes.now }
+    ensures long { length text.new.items ≤ length text.old.items + 66 }
+{
+    text.push(b'+');
+    push_digits(text, bytes);
+    text.push(b'\n');
+}
+
+// Appends the line `-` of so many silent ticks.
+fn push_silence(text: &mut AnswerText, ticks: u32)
+    requires room { length text.old.items + 22 ≤ 256 }
+    ensures line { text.new.items ≡ text.old.items ++ silence_line ticks }
+    ensures long { length text.new.items ≤ length text.old.items + 22 }
+{
+    text.push(b'-');
+    push_decimal(text, u64::from(ticks));
+    text.push(b'\n');
+}
+
+/// The text of what is answered to a run: these bytes, or so many silent ticks where there is none.
+pub fn text_of_answer(count: u32, left: &[u8]) -> AnswerText
+    requires some { 0 < count }
+    requires short { count ≤ 1000000 }
+    requires few { length left.now ≤ 64 }
+    ensures { IsTextOf result.items (answered count left.now) }
+{
+    let mut text = AnswerText::new();
+    if left.is_empty() {
+        push_silence(&mut text, count);
+        return text;
+    }
+    if left.len() <= MAX_BYTES {
+        push_bytes(&mut text, left);
+        return text;
+    }
+    let (front, rest) = left.split_at(MAX_BYTES);
+    push_bytes(&mut text, front);
+    push_bytes(&mut text, rest);
+    text
+}
+
+/// The text of one tick.
+pub fn text_of_tick(tick: Tick) -> AnswerText
+    ensures { IsTextOf result.items (tick ∷ []) }
+{
+    match tick {
+        Tick::Silent => text_of_answer(1, &[]),
+        Tick::Byte(byte) => text_of_answer(1, &[byte]),
+    }
+}
