@@ -21,6 +21,7 @@ ROOT = os.path.dirname(os.path.dirname(os.path.abspath(__file__)))
 LOGS = os.path.join(ROOT, "out", "check")
 LEVELS = ("quick", "change", "release")
 MEMORY = "/dev/shm"
+CAPTURE = os.path.join(ROOT, "crates", "line_capture", "out", "line_capture")
 
 # A script, what it needs, and its words at each level; None where the level doesn't run it. PROGRAM, BEFORE and MEMORY stand for
 # paths.
@@ -47,6 +48,8 @@ CHECKS = [
     Check("killed_check", ("program", "memory"), None, ["40", "PROGRAM", "MEMORY"], ["400", "PROGRAM", "MEMORY"]),
     Check("refused_memory", ("program", "cc"), None, ["PROGRAM"], ["PROGRAM"]),
     Check("guard", ("program", "libmodbus"), None, ["PROGRAM"], ["PROGRAM", "2000", "2"]),
+    Check("captures", ("capture", "tshark"), None, [], []),
+    Check("dissector_check", ("program", "tshark"), None, ["PROGRAM"], ["PROGRAM"]),
     Check("timeline_check", ("chromium",), None, [], []),
     Check("tag_instructions", ("program", "valgrind"), None, None, ["PROGRAM"]),
     Check("measure", ("program", "before", "valgrind"), None, None, ["PROGRAM", "--instructions", "--beside", "BEFORE"]),
@@ -66,7 +69,9 @@ def lacking(need, program, before=None):
         return "no Chromium is on the path"
     if need == "libmodbus":
         return guard.lacking()
-    if need in ("cc", "valgrind") and shutil.which(need) is None:
+    if need == "capture" and not os.access(CAPTURE, os.X_OK):
+        return "there is no program %s; `rt run` in crates/line_capture proves and builds it" % os.path.relpath(CAPTURE)
+    if need in ("cc", "valgrind", "tshark") and shutil.which(need) is None:
         return "%s isn't on the path" % need
     return None
 

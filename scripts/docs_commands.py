@@ -3,8 +3,9 @@
 
     python3 scripts/docs_commands.py [PROGRAM]
 
-The commands of a page run in its order in one new folder, which has a copy of examples/ and the program at its usual place, so
-that a file which one of them leaves is there for the next. What stands on standard error may come before or behind standard
+The commands of a page run in its order in one new folder, which has a copy of examples/ and the programs at their usual places,
+so that a file which one of them leaves is there for the next. A page whose commands call `line_capture` is skipped, and said so,
+where that program isn't built. What stands on standard error may come before or behind standard
 output. It ends with 1 where a page shows something else, and where a page shows no command. It is no part of the gate.
 """
 import os, re, shutil, subprocess, sys, tempfile
@@ -14,7 +15,10 @@ from killed import slot_of
 ROOT = os.path.dirname(os.path.dirname(os.path.abspath(__file__)))
 
 # The pages, and the files that their commands find: a journal that stands at 41.
-PAGES = {"docs/USAGE.md": {}, "docs/SECURITY.md": {"journal": bytes(32) + slot_of(41)}}
+PAGES = {"docs/USAGE.md": {}, "docs/SECURITY.md": {"journal": bytes(32) + slot_of(41)}, "docs/LINE_CAPTURE.md": {}}
+
+# The other program, which some pages call.
+CAPTURE = os.path.join(ROOT, "crates", "line_capture", "out", "line_capture")
 
 
 def shown(text):
@@ -48,6 +52,9 @@ def differing(page, program):
         place = os.path.join(folder, "crates", "link_replay", "out")
         os.makedirs(place)
         os.symlink(program, os.path.join(place, "link_replay"))
+        if os.path.exists(CAPTURE):
+            os.makedirs(os.path.join(folder, "crates", "line_capture", "out"))
+            os.symlink(CAPTURE, os.path.join(folder, "crates", "line_capture", "out", "line_capture"))
         for name, content in PAGES[page].items():
             with open(os.path.join(folder, name), "wb") as file:
                 file.write(content)
@@ -63,6 +70,9 @@ def main():
     program = os.path.abspath(sys.argv[1] if len(sys.argv) > 1 else os.path.join(ROOT, "crates", "link_replay", "out", "link_replay"))
     faults = 0
     for page in PAGES:
+        if page == "docs/LINE_CAPTURE.md" and not os.path.exists(CAPTURE):
+            print("%s: skipped, since there is no %s" % (page, os.path.relpath(CAPTURE, ROOT)))
+            continue
         wrong, commands = differing(page, program)
         faults += len(wrong) + (not commands)
         print("\n".join(wrong + ["%s: %d commands, %d write something else" % (page, commands, len(wrong))]))

@@ -1,5 +1,5 @@
 -- Runs that the boxes of a pair take at once.
-use Rattle.std.proofs.Common.{◌≡◌, ◌∙◌, ℕ, ◌+◌, ◌≤◌, List, [], ◌∷◌, ◌++◌, length, take, sym, ap}
+use Rattle.std.proofs.Common.{◌≡◌, ◌∙◌, ℕ, ◌+◌, ◌≤◌, List, [], ◌∷◌, ◌++◌, length, take, refl, sym, ap}
 use Rattle.std.proofs.Common.{subst, arith}
 use Rattle.std.proofs.lemmas.List.{append-nil, length-replicate, length-take, length-take-le}
 use Rattle.std.proofs.lemmas.List.{take-replicate, take-take}
@@ -22,22 +22,24 @@ module _ {S A : Type 0} (boxed : LinkBox S A) (old new : S) where
 
   -- the first ones of some ticks
   pub passed-front : (n : ℕ) (ticks answer : List Tick) → n ≤ length ticks
-      → boxed.taken new ≡ boxed.taken old + n
+      → boxed.taken new ≡ boxed.taken old + n → boxed.link_of new ≡ boxed.link_of old
       → TakesRun boxed.walking boxed.stands old new (take n ticks) answer
       → HasPassed boxed old new (take n ticks) answer
-  passed-front n ticks answer within count takes = record {
+  passed-front n ticks answer within count link takes = record {
     counted = count ∙ ap (λ k. boxed.taken old + k) (sym (length-take-le n ticks within));
+    link = link;
     takes = takes;
   }
 
   -- so many silent ticks
   pub passed-silence : (n : ℕ) (lent : List ℕ) → lent ≡ []
-      → boxed.taken new ≡ boxed.taken old + n
+      → boxed.taken new ≡ boxed.taken old + n → boxed.link_of new ≡ boxed.link_of old
       → TakesRun boxed.walking boxed.stands old new (silent n) (silent n)
       → HasPassed boxed old new (silent n) (answered n lent)
-  passed-silence n lent none count takes =
+  passed-silence n lent none count link takes =
       subst (λ l. HasPassed boxed old new (silent n) (answered n l)) (sym none) (record {
         counted = count ∙ ap (λ k. boxed.taken old + k) (sym (length-replicate n Silent));
+        link = link;
         takes = takes;
       })
 
@@ -47,6 +49,7 @@ pub passed-none : {S A : Type 0} (boxed : LinkBox S A) (old : S) (lent : List �
 passed-none boxed old lent none =
     subst (λ l. HasPassed boxed old old [] (answered 0 l)) (sym none) (record {
       counted = omega arith;
+      link = refl;
       takes = λ last setup line stands. record {
         stands = subst (λ l. boxed.stands old last setup l) (sym (append-nil line)) stands;
         answers = run-none (boxed.walking.walker setup) boxed.walking.brief

@@ -49,6 +49,7 @@ ways_of pair sent sent_disk got got_disk = record {
 pub record HasPassed {S A : Type 0} (boxed : LinkBox S A) (old new : S) (run answer : List Tick) :
     Type 0 where
   pub counted : boxed.taken new ≡ boxed.taken old + length run
+  pub link : boxed.link_of new ≡ boxed.link_of old
   pub takes : TakesRun boxed.walking boxed.stands old new run answer
 
 module _ {S A X : Type 0} (boxed : LinkBox S A) (d : SlotDisk X) where

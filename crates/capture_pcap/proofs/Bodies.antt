@@ -1,9 +1,9 @@
 -- What a packet so far is at each place of its reader, and what a field or a byte makes of it.
-use Rattle.std.proofs.Common.{◌≡◌, ◌∙◌, ℕ, ◌+◌, ◌-◌, ◌<◌, ◌≤◌, ◌==◌, nat_lt, Bool, true, false}
+use Rattle.std.proofs.Common.{◌≡◌, ◌∙◌, ℕ, ◌+◌, ◌-◌, ◌<◌, nat_lt, Bool, true, false}
 use Rattle.std.proofs.Common.{List}
-use Rattle.std.proofs.Common.{[], ◌∷◌, ◌++◌, length, Option, Some, None, Result, Ok, Err, refl, ap}
+use Rattle.std.proofs.Common.{[], ◌∷◌, ◌++◌, length, Option, Some, None, Result, Ok, refl, ap}
 use Rattle.std.proofs.Common.{sym}
-use Rattle.std.proofs.Common.{subst, arith, append_assoc, append-nil, cond, lt-ltb, slice_index}
+use Rattle.std.proofs.Common.{arith, append_assoc, append-nil, lt-ltb, slice_index}
 use Rattle.std.proofs.Common.{option_map}
 use Rattle.std.specs.Option.{option_to_list}
 use Rattle.std.proofs.lemmas.Bool.{ltb-true, ltb-false, cond_both}
@@ -14,10 +14,10 @@ use Rattle.byte_walk.specs.Fields.{Spot, before_field, spot_step}
 use Rattle.byte_walk.proofs.WalkLaws.{walk-join}
 use Rattle.byte_walk.proofs.FieldLaws.{field_walk, single_walk}
 use Rattle.capture_pcap.specs.Record.{IsRecord, event_way, seen_byte, seen_bytes, seen_data}
-use Rattle.capture_pcap.specs.Record.{seen_event, seen_of}
-use Rattle.capture_pcap.specs.BodyStep.{takes_data, Next, data_of, body_event, body_field_at}
+use Rattle.capture_pcap.specs.Record.{seen_event}
+use Rattle.capture_pcap.specs.BodyStep.{takes_data, data_of, body_event, body_field_at}
 use Rattle.capture_pcap.specs.BodyStep.{body_byte_at, body_or}
-use Rattle.capture_pcap.specs.declared.seen.Seen.{Seen}
+use Rattle.line_stamps.specs.declared.seen.Seen.{Seen}
 use Rattle.capture_pcap.specs.declared.body.Body.{Body}
 use Rattle.capture_pcap.specs.declared.body.Body.TheVariants.{Seconds, Fraction, Event, Data}
 

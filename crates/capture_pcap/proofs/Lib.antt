@@ -1,6 +1,13 @@
+pub mod FieldFacts
 pub mod Bodies
+pub mod BlockPlaces
+pub mod BlockLive
 pub mod Stages
+pub mod Walked
 pub mod Spelled
+pub mod BlockSpelled
+pub mod Going
+pub mod BlockGoing
 pub mod GoingOn
 pub mod Reading
 pub mod Written

@@ -1,7 +1,7 @@
 -- The reader reads pcap files exactly.
-use Rattle.std.proofs.Common.{◌≡◌, ◌∙◌, ℕ, ◌+◌, ◌<◌, ◌≤◌, ◌==◌, ◌&&◌, Bool, true, false, List, []}
+use Rattle.std.proofs.Common.{◌≡◌, ◌∙◌, ℕ, ◌+◌, ◌==◌, Bool, true, false, List, []}
 use Rattle.std.proofs.Common.{◌∷◌, ◌++◌, length, Option, Some, None, Ok, Err, refl, ap, sym, subst}
-use Rattle.std.proofs.Common.{arith, append_assoc, append-nil, nat_lt, cond, ◌⊎◌, inl, inr, Result}
+use Rattle.std.proofs.Common.{arith, append_assoc, append-nil, nat_lt, ◌⊎◌, inl, inr, Result}
 use Rattle.std.specs.Option.{option_to_list}
 use Rattle.std.proofs.lemmas.Bool.{and_parts, eqb-true, ltb-false, cond-true, cond-false}
 use Rattle.std.proofs.lemmas.List.{length-append}
@@ -9,16 +9,24 @@ use Rattle.byte_walk.specs.Walks.{walk, ReadsFormat, Begins, BeginsNone}
 use Rattle.byte_walk.specs.Fields.{Spot, before_field, at_spot, RefusesField}
 use Rattle.byte_walk.proofs.WalkLaws.{walk-more, reads_begins, reads_none, reads_each, reads_open}
 use Rattle.byte_walk.proofs.FieldLaws.{ReachedSpot, reached_spot}
-use Rattle.capture_pcap.specs.Pcap.{IsPcap, ArePackets, IsCause}
+use Rattle.capture_pcap.specs.Pcap.{IsCapture, IsCause}
 use Rattle.capture_pcap.specs.PcapStep.{Stepped, takes_bytes, field_at, byte_at, step_at, may_end}
 use Rattle.capture_pcap.specs.PcapStep.{may_end_at}
-use Rattle.capture_pcap.specs.declared.seen.Seen.{Seen}
+use Rattle.line_stamps.specs.declared.seen.Seen.{Seen}
 use Rattle.capture_pcap.specs.declared.fault.PcapFault.{PcapFault}
 use Rattle.capture_pcap.specs.declared.stage.Stage.{Stage}
 use Rattle.capture_pcap.specs.declared.stage.Stage.TheVariants.{Magic}
-use Rattle.capture_pcap.proofs.Stages.{AtStage, Goes, field_goes, byte_goes}
+use Rattle.capture_pcap.proofs.Stages.{AtStage, Moves, field_goes, byte_goes, field_cause}
+use Rattle.capture_pcap.proofs.Stages.{byte_taken}
 use Rattle.capture_pcap.proofs.Stages.AtStage.{magic, free, link, seconds, fraction, captured}
-use Rattle.capture_pcap.proofs.Stages.AtStage.{original, packet}
+use Rattle.capture_pcap.proofs.Stages.AtStage.{original, packet, blocks}
+use Rattle.capture_pcap.specs.Blocks.{section_kind}
+use Rattle.capture_pcap.specs.Pcap.IsCapture.{pcap, pcapng}
+use Rattle.capture_pcap.specs.BlockStep.{may_end as may_end_block}
+use Rattle.capture_pcap.specs.declared.block.Block.{Block}
+use Rattle.capture_pcap.specs.declared.block.Block.TheVariants as b
+use Rattle.capture_pcap.proofs.BlockPlaces.{AtBlock}
+use Rattle.capture_pcap.proofs.BlockSpelled.{blocks_walk}
 use Rattle.capture_pcap.proofs.Spelled.{packets_walk}
 use Rattle.capture_pcap.proofs.GoingOn.{on_stage}
 
@@ -27,14 +35,14 @@ pub fields : (stage next : Stage) (front field : List ℕ) (items : List Seen) (
     → field_at stage field ≡ Ok (next, item)
     → AtStage next (front ++ field) (items ++ option_to_list item)
 fields stage next front field items item at h four e =
-    let Q : Stepped → Type 0 = λ s. Goes front field items s in
+    let Q : Stepped → Type 0 = λ s. Moves front field items s in
     subst Q e (field_goes stage front field items at h four)
 
 pub bytes : (stage next : Stage) (front : List ℕ) (items : List Seen) (b : ℕ) (item : Option Seen)
     → AtStage stage front items → takes_bytes stage ≡ true → byte_at stage b ≡ Ok (next, item)
     → AtStage next (front ++ b ∷ []) (items ++ option_to_list item)
 bytes stage next front items b item at h e =
-    let Q : Stepped → Type 0 = λ s. Goes front (b ∷ []) items s in
+    let Q : Stepped → Type 0 = λ s. Moves front (b ∷ []) items s in
     subst Q e (byte_goes stage front items b at h)
 
 -- what came before the field in which a reader stands
@@ -46,13 +54,35 @@ pub reached : (spot : Spot Stage) (file : List ℕ) (items : List Seen)
 reached spot file items e =
     reached_spot takes_bytes field_at byte_at Magic AtStage fields bytes magic spot file items e
 
+block_ends : (block : Block) (file : List ℕ) (items : List Seen) → AtBlock block file items
+    → may_end_block block ≡ true → IsCapture file items
+block_ends (b.Kind s) file items at m = pcapng file items (record { last = s; blocks = at })
+block_ends b.SectionSize file items at m = cc
+block_ends (b.SectionOrder big little) file items at m = cc
+block_ends (b.Size s kind) file items at m = cc
+block_ends (b.Link s size) file items at m = cc
+block_ends (b.Snap s size) file items at m = cc
+block_ends (b.Option s size left counts) file items at m = cc
+block_ends (b.Value s size left counts words) file items at m = cc
+block_ends (b.Resolution s size left) file items at m = cc
+block_ends (b.Interface s size) file items at m = cc
+block_ends (b.High s size) file items at m = cc
+block_ends (b.Low s size high) file items at m = cc
+block_ends (b.Captured s size start) file items at m = cc
+block_ends (b.Original s size start taken) file items at m = cc
+block_ends (b.Packet s size left body) file items at m = cc
+block_ends (b.Rest s size left) file items at m = cc
+block_ends (b.End s size) file items at m = cc
+
 -- where a file may end, it is one
 ends_so : (stage : Stage) (front : List ℕ) (items : List Seen) → AtStage stage front items
-    → may_end stage ≡ true → IsPcap front items
+    → may_end stage ≡ true → IsCapture front items
 ends_so stage front items magic m = cc
 ends_so stage front items (free clock before word words g long few) m = cc
 ends_so stage front items (link clock word words g long) m = cc
-ends_so stage front items (seconds clock _ _ p) m = record { clock = clock; packets = p }
+ends_so stage front items (seconds clock _ _ p) m =
+    pcap front items (record { clock = clock; packets = p })
+ends_so stage front items (blocks block bytes _ at live) m = block_ends block (section_kind ++ bytes) items at m
 ends_so stage front items (fraction clock packets first _ p long) m = cc
 ends_so stage front items (captured clock packets time start _ p t) m = cc
 ends_so stage front items (original clock packets time size start _ p t long most) m = cc
@@ -65,19 +95,25 @@ nothing_left (b ∷ partial) h = absurd (omega (arith, eqb-true (length (b ∷ p
 
 sound : (file : List ℕ) (spot : Spot Stage) (items : List Seen)
     → walk step_at (before_field Magic) file ≡ Ok (spot, items) → may_end_at spot ≡ true
-    → IsPcap file items
+    → IsCapture file items
 sound file spot items e m =
     let r = reached spot file items e in
     let parts = and_parts (may_end spot.stage) (length spot.partial == 0) m in
     let whole : file ≡ r.front = r.text_is
     ∙ ap (λ x. r.front ++ x) (nothing_left spot.partial parts.1) ∙ append-nil r.front in
-    let Q : List ℕ → Type 0 = λ x. IsPcap x items in
+    let Q : List ℕ → Type 0 = λ x. IsCapture x items in
     subst Q (sym whole) (ends_so spot.stage r.front items r.holds_there parts.0)
 
-pub reads_pcap : ReadsFormat step_at (before_field Magic) may_end_at IsPcap
+complete : (file : List ℕ) (items : List Seen) → IsCapture file items
+    → (spot : Spot Stage) × (walk step_at (before_field Magic) file ≡ Ok (spot, items))
+    × (may_end_at spot ≡ true)
+complete file items (pcap _ _ p) = (_, (packets_walk p.clock file items p.packets).is, refl)
+complete file items (pcapng _ _ p) = (_, (blocks_walk (Some p.last) file items p.blocks).is, refl)
+
+pub reads_pcap : ReadsFormat step_at (before_field Magic) may_end_at IsCapture
 reads_pcap = record {
   sound = sound;
-  complete = λ file items p. (_, (packets_walk p.clock file items p.packets).is, refl);
+  complete = complete;
 }
 
 -- ---- what a reader says of a file that it came to a spot over
@@ -94,16 +130,16 @@ module _ (spot : Spot Stage) (file : List ℕ) (items : List Seen)
   file_more b next item e =
       walk-more step_at (before_field Magic) spot next file items b item walks e
 
-  pub file_each : (more : List ℕ) (all : List Seen) → IsPcap (file ++ more) all
+  pub file_each : (more : List ℕ) (all : List Seen) → IsCapture (file ++ more) all
       → (others : List Seen) × (all ≡ items ++ others)
-  file_each = reads_each step_at (before_field Magic) may_end_at IsPcap reads_pcap file spot items
+  file_each = reads_each step_at (before_field Magic) may_end_at IsCapture reads_pcap file spot items
       walks
 
   pub front_begins : (front : List ℕ) (stage : Stage) → AtStage stage front items
       → walk step_at (before_field Magic) front ≡ Ok (before_field stage, items)
-      → Begins IsPcap front items
+      → Begins IsCapture front items
   front_begins front stage at came =
-      reads_begins step_at (before_field Magic) may_end_at IsPcap reads_pcap front
+      reads_begins step_at (before_field Magic) may_end_at IsCapture reads_pcap front
       (before_field stage) items came (on_stage stage front items at)
 
   bool_cases : (t : Bool) → (t ≡ true) ⊎ (t ≡ false)
@@ -118,36 +154,21 @@ module _ (spot : Spot Stage) (file : List ℕ) (items : List Seen)
       fault_of d (Ok next) = d
       fault_of d (Err f) = f
 
-  byte_fits : (stage : Stage) (front : List ℕ) (b : ℕ) (why : PcapFault)
-      → AtStage stage front items → takes_bytes stage ≡ true → byte_at stage b ≡ Err why
-      → IsCause front (b ∷ []) why
-  byte_fits stage front b why at h e =
-      let Q : Stepped → Type 0 = λ s. Goes front (b ∷ []) items s in
-      subst Q e (byte_goes stage front items b at h)
-
-  field_fits : (stage : Stage) (front field : List ℕ) (why : PcapFault)
-      → AtStage stage front items → takes_bytes stage ≡ false → length field ≡ 4
-      → field_at stage field ≡ Err why → IsCause front field why
-  field_fits stage front field why at h four e =
-      let Q : Stepped → Type 0 = λ s. Goes front field items s in
-      subst Q e (field_goes stage front field items at h four)
-
   cause_of : (b : ℕ) (why : PcapFault) (r : Reached spot file items) → step_at spot b ≡ Err why
       → IsCause r.front (spot.partial ++ b ∷ []) why
   cause_of b why r e = elim (bool_cases (takes_bytes spot.stage)) [
-    | inl t ↦
-        let Q : List ℕ → Type 0 = λ x. IsCause r.front (x ++ b ∷ []) why in
-        subst Q (sym (r.alone t)) (byte_fits spot.stage r.front b why r.holds_there t
+    | inl t ↦ absurd (byte_taken spot.stage b why t
         (err_of (byte_at spot.stage b) why (sym (cond-true _ _ _ t) ∙ e)))
     | inr t ↦ elim (bool_cases (nat_lt (length spot.partial) 3)) [
       | inl few ↦ absurd (never (sym (cond-true _ _ _ few) ∙ sym (cond-false _ _ _ t) ∙ e))
-      | inr many ↦ field_fits spot.stage r.front (spot.partial ++ b ∷ []) why r.holds_there t
+      | inr many ↦ field_cause spot.stage r.front (spot.partial ++ b ∷ []) items why r.holds_there t
           (omega (
             arith,
             length-append spot.partial (b ∷ []),
             r.short,
             ltb-false (length spot.partial) 3 many,
           ))
+          r.came
           (err_of (field_at spot.stage (spot.partial ++ b ∷ [])) why
           (sym (cond-false _ _ _ many) ∙ sym (cond-false _ _ _ t) ∙ e))
     ]
@@ -159,32 +180,32 @@ module _ (spot : Spot Stage) (file : List ℕ) (items : List Seen)
   -- a refusal, with the place and the cause of its field
   pub file_refused : (b offset : ℕ) (why : PcapFault) → step_at spot b ≡ Err why
       → offset + length spot.partial ≡ length file
-      → RefusesField IsPcap IsCause file items b offset why
+      → RefusesField IsCapture IsCause file items b offset why
   file_refused b offset why e place =
       let r = reached spot file items walks in
       let whole : file ++ b ∷ [] ≡ r.front ++ (spot.partial ++ b ∷ []) =
       ap (λ x. x ++ b ∷ []) r.text_is ∙ append_assoc r.front spot.partial (b ∷ []) in
-      let Q : List ℕ → Type 0 = λ x. BeginsNone IsPcap x in
+      let Q : List ℕ → Type 0 = λ x. BeginsNone IsCapture x in
       record {
         front = r.front;
         field = spot.partial ++ b ∷ [];
         is = whole;
         short = omega (arith, length-append spot.partial (b ∷ []), r.short);
         begins = front_begins r.front spot.stage r.holds_there r.came;
-        wrong = subst Q whole (reads_none step_at (before_field Magic) may_end_at IsPcap reads_pcap
+        wrong = subst Q whole (reads_none step_at (before_field Magic) may_end_at IsCapture reads_pcap
             file spot items b why walks e);
         place = omega (arith, place, ap length r.text_is, length-append r.front spot.partial);
         cause = cause_of b why r e;
       }
 
-  pub file_right : may_end_at spot ≡ true → IsPcap file items
+  pub file_right : may_end_at spot ≡ true → IsCapture file items
   file_right m = sound file spot items walks m
 
-  pub file_open : may_end_at spot ≡ false → (all : List Seen) → IsPcap file all → ⊥
-  file_open m = reads_open step_at (before_field Magic) may_end_at IsPcap reads_pcap file spot items
+  pub file_open : may_end_at spot ≡ false → (all : List Seen) → IsCapture file all → ⊥
+  file_open m = reads_open step_at (before_field Magic) may_end_at IsCapture reads_pcap file spot items
       walks m
 
-pub nothing_begins : Begins IsPcap [] []
+pub nothing_begins : Begins IsCapture [] []
 unfolding walk
 nothing_begins = front_begins (before_field Magic) [] [] refl [] Magic magic refl
 

@@ -1,25 +1,17 @@
 -- What a reader comes to over the parts of a right file.
-use Rattle.std.proofs.Common.{◌≡◌, ◌∙◌, ℕ, ◌+◌, ◌*◌, ◌-◌, ◌<◌, ◌≤◌, ◌==◌, nat_lt, Bool, true, false}
-use Rattle.std.proofs.Common.{List, [], ◌∷◌, ◌++◌, length, Option, Some, None, Result, Ok, Err}
+use Rattle.std.proofs.Common.{◌≡◌, ◌∙◌, ℕ, ◌+◌, ◌-◌, ◌<◌}
+use Rattle.std.proofs.Common.{List, [], ◌++◌, length, None, Ok}
 use Rattle.std.proofs.Common.{refl, ap}
-use Rattle.std.proofs.Common.{sym, subst, arith, append_assoc, append-nil, cond, lt-ltb, le-ltb}
-use Rattle.std.specs.Option.{option_to_list}
+use Rattle.std.proofs.Common.{sym, subst, arith, lt-ltb, le-ltb}
 use Rattle.std.proofs.lemmas.Bool.{eq-eqb}
-use Rattle.byte_walk.specs.Walks.{walk}
-use Rattle.byte_walk.specs.Fields.{Spot, before_field, spot_step}
-use Rattle.byte_walk.proofs.WalkLaws.{walk-join}
-use Rattle.byte_walk.proofs.FieldLaws.{field_walk, single_walk}
-use Rattle.capture_pcap.specs.Words.{number, nanoseconds}
+use Rattle.capture_pcap.specs.Words.{number}
 use Rattle.capture_pcap.specs.Record.{IsRecord}
 use Rattle.capture_pcap.specs.Pcap.{IsMagic, IsHeader, IsTime, AreLengths, IsPacket, ArePackets}
 use Rattle.capture_pcap.specs.Pcap.IsMagic.{big_micro, little_micro, big_nano, little_nano}
 use Rattle.capture_pcap.specs.Pcap.ArePackets.{none, more}
-use Rattle.capture_pcap.specs.BodyStep.{body_field_at, body_byte_at, body_or}
 use Rattle.capture_pcap.specs.PcapStep.{takes_bytes, field_at, byte_at, after_length}
 use Rattle.capture_pcap.specs.PcapStep.{after_captured}
-use Rattle.capture_pcap.specs.PcapStep.{step_at}
-use Rattle.capture_pcap.specs.declared.seen.Seen.{Seen}
-use Rattle.capture_pcap.specs.declared.body.Body.{Body}
+use Rattle.line_stamps.specs.declared.seen.Seen.{Seen}
 use Rattle.capture_pcap.specs.declared.body.Body.TheVariants.{Seconds as RtacSeconds}
 use Rattle.capture_pcap.specs.declared.words.Clock.{Clock}
 use Rattle.capture_pcap.specs.declared.stage.Stage.{Stage}
@@ -27,45 +19,7 @@ use Rattle.capture_pcap.specs.declared.stage.Stage.TheVariants.{Magic, Free, Lin
 use Rattle.capture_pcap.specs.declared.stage.Stage.TheVariants.{Fraction, Captured, Original}
 use Rattle.capture_pcap.specs.declared.stage.Stage.TheVariants.{Packet}
 use Rattle.capture_pcap.proofs.Bodies.{record_walk}
-
--- a reader that stands before a field comes over these bytes to where it stands before another
-pub record Walks (from : Stage) (bytes : List ℕ) (to : Stage) (items : List Seen) : Type 0 where
-  pub is : walk step_at (before_field from) bytes ≡ Ok (before_field to, items)
-
-pub one_field : (from to : Stage) (field : List ℕ) (item : Option Seen) → takes_bytes from ≡ false
-    → length field ≡ 4 → field_at from field ≡ Ok (to, item)
-    → Walks from field to (option_to_list item)
-one_field from to field item h four e =
-    record { is = field_walk takes_bytes field_at byte_at from to field item h four e }
-
-pub both : (from through to : Stage) (first second : List ℕ) (items others : List Seen)
-    → Walks from first through items → Walks through second to others
-    → Walks from (first ++ second) to (items ++ others)
-both from through to first second items others v w = record {
-  is = walk-join step_at (before_field from) (before_field through) (before_field to) first second
-      items others v.is w.is;
-}
-
--- four bytes from the front
-pub record Four (bytes : List ℕ) (n : ℕ) : Type 0 where
-  pub first : List ℕ
-  pub rest : List ℕ
-  pub is : bytes ≡ first ++ rest
-  pub first_long : length first ≡ 4
-  pub rest_long : length rest ≡ n
-
-four_of : (bytes : List ℕ) (n : ℕ) → length bytes ≡ 4 + n → Four bytes n
-four_of [] n h = absurd (omega arith)
-four_of (a ∷ []) n h = absurd (omega arith)
-four_of (a ∷ b ∷ []) n h = absurd (omega arith)
-four_of (a ∷ b ∷ c ∷ []) n h = absurd (omega arith)
-four_of (a ∷ b ∷ c ∷ d ∷ rest) n h = record {
-  first = a ∷ b ∷ c ∷ d ∷ [];
-  rest = rest;
-  is = refl;
-  first_long = refl;
-  rest_long = omega (arith, h);
-}
+use Rattle.capture_pcap.proofs.Walked.{Walks, one_field, both, four_of}
 
 -- ---- the header
 

@@ -1,24 +1,21 @@
 -- What a file so far is at each stage of its reader, and what a field or a byte makes of it.
-use Rattle.std.proofs.Common.{◌≡◌, ◌∙◌, ℕ, ◌+◌, ◌*◌, ◌-◌, ◌<◌, ◌≤◌, ◌==◌, ◌&&◌, nat_lt, nat_le}
-use Rattle.std.proofs.Common.{Bool}
+use Rattle.std.proofs.Common.{◌≡◌, ◌∙◌, ℕ, ◌+◌, ◌*◌, ◌-◌, ◌<◌, ◌≤◌, ◌==◌, nat_lt}
 use Rattle.std.proofs.Common.{true, false, List, [], ◌∷◌, ◌++◌, length, Option, Some, None, Result}
 use Rattle.std.proofs.Common.{Ok}
-use Rattle.std.proofs.Common.{Err, refl, ap, sym, subst, arith, append_assoc, append-nil, cond}
-use Rattle.std.proofs.Common.{lt-ltb, slice_index}
+use Rattle.std.proofs.Common.{Err, refl, ap, sym, subst, arith, append_assoc, append-nil}
 use Rattle.std.specs.Option.{option_to_list}
-use Rattle.std.proofs.lemmas.Bool.{ltb-true, ltb-false, cond_both, and_parts, eqb-true}
+use Rattle.std.proofs.lemmas.Bool.{ltb-true, ltb-false, cond_both, eqb-true}
 use Rattle.std.proofs.lemmas.List.{length-append}
-use Rattle.capture_pcap.specs.Words.{number, nanoseconds}
-use Rattle.capture_pcap.specs.Record.{IsRecord}
-use Rattle.capture_pcap.specs.Pcap.{IsMagic, IsHeader, IsTime, AreLengths, IsPacket, ArePackets}
+use Rattle.capture_pcap.specs.Words.{number, nanoseconds, is_field}
+use Rattle.capture_pcap.specs.Pcap.{IsMagic, IsTime, AreLengths, ArePackets}
 use Rattle.capture_pcap.specs.Pcap.{IsCause}
 use Rattle.capture_pcap.specs.Pcap.IsMagic.{big_micro, little_micro, big_nano, little_nano}
 use Rattle.capture_pcap.specs.Pcap.ArePackets.{none, more}
 use Rattle.capture_pcap.specs.Pcap.IsCause.{no_magic, other_link, short_packet, cut_packet}
-use Rattle.capture_pcap.specs.BodyStep.{takes_data, body_field_at, body_byte_at, body_or}
-use Rattle.capture_pcap.specs.PcapStep.{Stepped, takes_bytes, field_at, byte_at, is_field, free_at}
-use Rattle.capture_pcap.specs.PcapStep.{after_magic_at, after_link, after_captured, after_length}
-use Rattle.capture_pcap.specs.declared.seen.Seen.{Seen}
+use Rattle.capture_pcap.specs.BodyStep.{body_field_at, body_byte_at, body_or}
+use Rattle.capture_pcap.specs.PcapStep.{Stepped, takes_bytes, field_at, byte_at, free_at}
+use Rattle.capture_pcap.specs.PcapStep.{after_magic_at}
+use Rattle.line_stamps.specs.declared.seen.Seen.{Seen}
 use Rattle.capture_pcap.specs.declared.body.Body.{Body}
 use Rattle.capture_pcap.specs.declared.body.Body.TheVariants.{Seconds as RtacSeconds}
 use Rattle.capture_pcap.specs.declared.words.Clock.{Clock}
@@ -31,6 +28,22 @@ use Rattle.capture_pcap.specs.declared.stage.Stage.{Stage}
 use Rattle.capture_pcap.specs.declared.stage.Stage.TheVariants.{Magic, Free, Link, Seconds}
 use Rattle.capture_pcap.specs.declared.stage.Stage.TheVariants.{Fraction, Captured, Original}
 use Rattle.capture_pcap.specs.declared.stage.Stage.TheVariants.{Packet}
+use Rattle.capture_pcap.specs.Blocks.{section_kind}
+use Rattle.capture_pcap.specs.Blocks.AreBlocks.{nothing as no_block}
+use Rattle.capture_pcap.specs.Pcap.IsCause.{in_block}
+use Rattle.byte_walk.specs.Walks.{walk}
+use Rattle.byte_walk.specs.Fields.{before_field}
+use Rattle.capture_pcap.specs.PcapStep.{in_blocks, pcap_magic_at, step_at}
+use Rattle.capture_pcap.specs.BlockStep.{block_field_at, block_byte_at}
+use Rattle.capture_pcap.specs.BlockStep.{takes_bytes as block_takes_bytes}
+use Rattle.capture_pcap.specs.declared.block.Block.{Block}
+use Rattle.capture_pcap.specs.declared.block.Block.TheVariants.{SectionSize}
+use Rattle.capture_pcap.specs.declared.block.Block.TheVariants as b
+use Rattle.capture_pcap.specs.declared.stage.Stage.TheVariants.{Blocks}
+use Rattle.capture_pcap.proofs.BlockPlaces.{AtBlock, BlockGoes, section_as, block_field_goes}
+use Rattle.capture_pcap.proofs.BlockPlaces.{block_byte_goes}
+use Rattle.capture_pcap.proofs.BlockLive.{Live, LiveStep, live_field, live_byte}
+use Rattle.capture_pcap.proofs.FieldFacts.{field_is}
 use Rattle.capture_pcap.proofs.Bodies.{AtBody, BodyGoes, body_field_goes, body_byte_goes}
 use Rattle.capture_pcap.proofs.Bodies.AtBody.{seconds as rtac_seconds}
 
@@ -57,11 +70,29 @@ pub data AtStage : Stage → List ℕ → List Seen → Type 0 where
       (items these : List Seen) → ArePackets clock front items → IsTime clock time start
       → AreLengths clock lengths (12 + count) → AtBody start count body bytes these
       → AtStage (Packet clock body) ((front ++ (time ++ lengths)) ++ bytes) (items ++ these)
+  blocks : (block : Block) (bytes : List ℕ) (items : List Seen)
+      → AtBlock block (section_kind ++ bytes) items → Live block
+      → AtStage (Blocks block) (section_kind ++ bytes) items
 
 -- what a field makes of a file so far
 abbrev pub Goes : List ℕ → List ℕ → List Seen → Stepped → Type 0
 Goes front field items (Ok next) = AtStage next.0 (front ++ field) (items ++ option_to_list next.1)
 Goes front field items (Err why) = IsCause front field why
+
+-- what a field that is taken makes of a file so far
+abbrev pub Moves : List ℕ → List ℕ → List Seen → Stepped → Type 0
+Moves front field items (Ok next) = AtStage next.0 (front ++ field) (items ++ option_to_list next.1)
+Moves front field items (Err why) = Unit {0}
+
+moves_so : (front field : List ℕ) (items : List Seen) (r : Stepped) → Goes front field items r
+    → Moves front field items r
+moves_so front field items (Ok next) goes = goes
+moves_so front field items (Err why) goes = tt
+
+cause_in : (front field : List ℕ) (items : List Seen) (r : Stepped) (why : PcapFault)
+    → Goes front field items r → r ≡ Err why → IsCause front field why
+cause_in front field items r why goes e =
+    let Q : Stepped → Type 0 = λ s. Goes front field items s in subst Q e goes
 
 same_items : (stage : Stage) (front : List ℕ) (items : List Seen) → AtStage stage front items
     → AtStage stage front (items ++ [])
@@ -69,19 +100,6 @@ same_items stage front items at =
     let Q : List Seen → Type 0 = λ x. AtStage stage front x in subst Q (sym (append-nil items)) at
 
 -- ---- the magic number
-
-field_is : (a b c d : ℕ) (field : List ℕ) → length field ≡ 4 → is_field a b c d field ≡ true
-    → field ≡ a ∷ b ∷ c ∷ d ∷ []
-field_is a b c d [] four h = absurd (omega arith)
-field_is a b c d (e ∷ []) four h = absurd (omega arith)
-field_is a b c d (e ∷ f ∷ []) four h = absurd (omega arith)
-field_is a b c d (e ∷ f ∷ g ∷ []) four h = absurd (omega arith)
-field_is a b c d (e ∷ f ∷ g ∷ i ∷ []) four h =
-    let three = and_parts ((e == a) && (f == b) && (g == c)) (i == d) h in
-    let two = and_parts ((e == a) && (f == b)) (g == c) three.0 in
-    let one = and_parts (e == a) (f == b) two.0 in
-    rw (eqb-true e a one.0, eqb-true f b one.1, eqb-true g c two.1, eqb-true i d three.1) refl
-field_is a b c d (e ∷ f ∷ g ∷ i ∷ j ∷ field) four h = absurd (omega arith)
 
 magic_found : (clock : Clock) (word field : List ℕ) → field ≡ word → IsMagic clock word
     → AtStage (Free clock 0) ([] ++ field) []
@@ -97,8 +115,22 @@ no_magic_at field e f g h clock little_micro = cc
 no_magic_at field e f g h clock big_nano = cc
 no_magic_at field e f g h clock little_nano = cc
 
-magic_goes : (field : List ℕ) → length field ≡ 4 → Goes [] field [] (after_magic_at field)
-magic_goes field four =
+section_found : (field : List ℕ) → field ≡ section_kind
+    → AtStage (Blocks SectionSize) ([] ++ field) []
+section_found field e =
+    let Q : List ℕ → Type 0 = λ x. AtStage (Blocks SectionSize) x [] in
+    subst Q (sym e) (blocks SectionSize [] [] (section_as None [] [] no_block) tt)
+
+no_section : (field : List ℕ) → is_field 0x0A 0x0D 0x0D 0x0A field ≡ false → field ≡ section_kind
+    → ⊥
+no_section field d e =
+    let found : true ≡ is_field 0x0A 0x0D 0x0D 0x0A field =
+    sym (ap (is_field 0x0A 0x0D 0x0D 0x0A) e) in
+    let clash : true ≡ false = found ∙ d in cc
+
+pcap_goes : (field : List ℕ) → length field ≡ 4 → is_field 0x0A 0x0D 0x0D 0x0A field ≡ false
+    → Goes [] field [] (pcap_magic_at field)
+pcap_goes field four d =
     cond_both (is_field 0xA1 0xB2 0xC3 0xD4 field) (free_at Big Microseconds) _ (Goes [] field [])
     (λ e. magic_found _ _ field (field_is 0xA1 0xB2 0xC3 0xD4 field four e) big_micro)
     (λ e. cond_both (is_field 0xD4 0xC3 0xB2 0xA1 field) (free_at Little Microseconds) _
@@ -110,7 +142,14 @@ magic_goes field four =
     (λ g. cond_both (is_field 0x4D 0x3C 0xB2 0xA1 field) (free_at Little Nanoseconds)
     (Err NoMagic) (Goes [] field [])
     (λ h. magic_found _ _ field (field_is 0x4D 0x3C 0xB2 0xA1 field four h) little_nano)
-    (λ h. no_magic refl (no_magic_at field e f g h)))))
+    (λ h. no_magic refl (no_section field d) (no_magic_at field e f g h)))))
+
+magic_goes : (field : List ℕ) → length field ≡ 4 → Goes [] field [] (after_magic_at field)
+magic_goes field four =
+    cond_both (is_field 0x0A 0x0D 0x0D 0x0A field) (Ok (Blocks SectionSize, None)) _
+    (Goes [] field [])
+    (λ d. section_found field (field_is 0x0A 0x0D 0x0D 0x0A field four d))
+    (λ d. pcap_goes field four d)
 
 not_equal : (a b : ℕ) → (a == b) ≡ false → a ≡ b → ⊥
 not_equal a b e = grind arith
@@ -257,24 +296,40 @@ moved stage front bytes last items these others at =
     subst R (sym (append_assoc items these others))
     (subst Q (sym (append_assoc front bytes last)) at)
 
+-- a field or a byte of a pcapng file
+block_goes : (bytes field : List ℕ) (items : List Seen) (r : Result (Block × Option Seen) PcapFault)
+    → BlockGoes ((section_kind ++ bytes) ++ field) items r → LiveStep r
+    → Moves (section_kind ++ bytes) field items (in_blocks r)
+block_goes bytes field items (Ok next) goes live =
+    blocks next.0 (bytes ++ field) (items ++ option_to_list next.1) goes live
+block_goes bytes field items (Err why) goes live = tt
+
 pub field_goes : (stage : Stage) (front field : List ℕ) (items : List Seen)
     → AtStage stage front items → takes_bytes stage ≡ false → length field ≡ 4
-    → Goes front field items (field_at stage field)
+    → Moves front field items (field_at stage field)
 unfolding field_at
-field_goes stage front field items magic h four = magic_goes field four
+field_goes stage front field items magic h four =
+    moves_so [] field [] (after_magic_at field) (magic_goes field four)
 field_goes stage front field items (free clock before word words m long few) h four =
-    free_goes clock before word words field m long few four
+    moves_so (word ++ words) field [] (field_at (Free clock before) field)
+    (free_goes clock before word words field m long few four)
 field_goes stage front field items (link clock word words m long) h four =
-    link_goes clock word words field m long four
+    moves_so (word ++ words) field [] (field_at (Link clock) field)
+    (link_goes clock word words field m long four)
 field_goes stage front field items (seconds clock _ _ p) h four =
     same_items (Fraction clock (number clock.order field)) (front ++ field) items
     (fraction clock front field items p four)
 field_goes stage front field items (fraction clock packets first _ p long) h four =
-    fraction_goes clock packets first field items p long four
+    moves_so (packets ++ first) field items
+    (field_at (Fraction clock (number clock.order first)) field)
+    (fraction_goes clock packets first field items p long four)
 field_goes stage front field items (captured clock packets time start _ p t) h four =
-    captured_goes clock packets time field start items p t four
+    moves_so (packets ++ time) field items (field_at (Captured clock start) field)
+    (captured_goes clock packets time field start items p t four)
 field_goes stage front field items (original clock packets time size start _ p t long most) h four =
-    original_goes clock packets time size field start items p t long most four
+    moves_so ((packets ++ time) ++ size) field items
+    (field_at (Original clock start (number clock.order size)) field)
+    (original_goes clock packets time size field start items p t long most four)
 field_goes stage front field items
     (packet clock packets time lengths bytes start count body before these p t l at) h four =
     moved (body_or (Packet clock) (Seconds clock) (body_field_at body field).0)
@@ -283,10 +338,59 @@ field_goes stage front field items
     (packet_goes clock packets time lengths (bytes ++ field) start count before
     (these ++ option_to_list (body_field_at body field).1) (body_field_at body field).0 p t l
     (body_field_goes start count body bytes field these at h four))
+field_goes stage front field items (blocks block bytes _ at live) h four =
+    block_goes bytes field items (block_field_at block field)
+    (block_field_goes block (section_kind ++ bytes) field items at h four)
+    (live_field block field live h four)
+
+-- ---- why a field is refused
+
+refused_in_block : (r : Result (Block × Option Seen) PcapFault) (why : PcapFault)
+    → in_blocks r ≡ Err why → r ≡ Err why
+refused_in_block (Ok next) why e = cc
+refused_in_block (Err other) why e = ap (λ f. Err f) (ap (fault_of other) e)
+  where
+    fault_of : PcapFault → Stepped → PcapFault
+    fault_of d (Ok next) = d
+    fault_of d (Err f) = f
+
+pub field_cause : (stage : Stage) (front field : List ℕ) (items : List Seen) (why : PcapFault)
+    → AtStage stage front items → takes_bytes stage ≡ false → length field ≡ 4
+    → walk step_at (before_field Magic) front ≡ Ok (before_field stage, items)
+    → field_at stage field ≡ Err why → IsCause front field why
+unfolding field_at
+field_cause stage front field items why magic h four came e =
+    cause_in [] field [] (after_magic_at field) why (magic_goes field four) e
+field_cause stage front field items why (free clock before word words m long few) h four came e =
+    cause_in (word ++ words) field [] (field_at (Free clock before) field) why
+    (free_goes clock before word words field m long few four) e
+field_cause stage front field items why (link clock word words m long) h four came e =
+    cause_in (word ++ words) field [] (field_at (Link clock) field) why
+    (link_goes clock word words field m long four) e
+field_cause stage front field items why (seconds clock _ _ p) h four came e = cc
+field_cause stage front field items why (fraction clock packets first _ p long) h four came e =
+    cause_in (packets ++ first) field items
+    (field_at (Fraction clock (number clock.order first)) field) why
+    (fraction_goes clock packets first field items p long four) e
+field_cause stage front field items why (captured clock packets time start _ p t) h four came e =
+    cause_in (packets ++ time) field items (field_at (Captured clock start) field) why
+    (captured_goes clock packets time field start items p t four) e
+field_cause stage front field items why (original clock packets time size start _ p t long most) h
+    four came e =
+    cause_in ((packets ++ time) ++ size) field items
+    (field_at (Original clock start (number clock.order size)) field) why
+    (original_goes clock packets time size field start items p t long most four) e
+field_cause stage front field items why
+    (packet clock packets time lengths bytes start count body before these p t l at) h four came e =
+    cc
+field_cause stage front field items why (blocks block bytes _ at live) h four came e =
+    in_block block items why came h (refused_in_block (block_field_at block field) why e)
+
+-- ---- single bytes
 
 pub byte_goes : (stage : Stage) (front : List ℕ) (items : List Seen) (b : ℕ)
     → AtStage stage front items → takes_bytes stage ≡ true
-    → Goes front (b ∷ []) items (byte_at stage b)
+    → Moves front (b ∷ []) items (byte_at stage b)
 byte_goes stage front items b magic h = cc
 byte_goes stage front items b (free clock before word words m long few) h = cc
 byte_goes stage front items b (link clock word words m long) h = cc
@@ -302,3 +406,40 @@ byte_goes stage front items b
     (packet_goes clock packets time lengths (bytes ++ b ∷ []) start count before
     (these ++ option_to_list (body_byte_at body b).1) (body_byte_at body b).0 p t l
     (body_byte_goes start count body bytes these b at h))
+byte_goes stage front items b (blocks block bytes _ at live) h =
+    block_goes bytes (b ∷ []) items (block_byte_at block b)
+    (block_byte_goes block (section_kind ++ bytes) items b at h) (live_byte block b live h)
+
+-- no single byte is refused where one comes next
+block_byte_taken : (block : Block) (byte : ℕ) (why : PcapFault) → block_takes_bytes block ≡ true
+    → block_byte_at block byte ≡ Err why → ⊥
+block_byte_taken (b.Packet s size left body) byte why h e = cc
+block_byte_taken (b.Rest s size left) byte why h e = cc
+block_byte_taken b.SectionSize byte why h e = cc
+block_byte_taken (b.SectionOrder big_size little_size) byte why h e = cc
+block_byte_taken (b.Kind s) byte why h e = cc
+block_byte_taken (b.Size s kind) byte why h e = cc
+block_byte_taken (b.Link s size) byte why h e = cc
+block_byte_taken (b.Snap s size) byte why h e = cc
+block_byte_taken (b.Option s size left counts) byte why h e = cc
+block_byte_taken (b.Value s size left counts fields) byte why h e = cc
+block_byte_taken (b.Resolution s size left) byte why h e = cc
+block_byte_taken (b.Interface s size) byte why h e = cc
+block_byte_taken (b.High s size) byte why h e = cc
+block_byte_taken (b.Low s size high) byte why h e = cc
+block_byte_taken (b.Captured s size start) byte why h e = cc
+block_byte_taken (b.Original s size start taken) byte why h e = cc
+block_byte_taken (b.End s size) byte why h e = cc
+
+pub byte_taken : (stage : Stage) (byte : ℕ) (why : PcapFault) → takes_bytes stage ≡ true
+    → byte_at stage byte ≡ Err why → ⊥
+byte_taken (Packet clock body) byte why h e = cc
+byte_taken (Blocks block) byte why h e =
+    block_byte_taken block byte why h (refused_in_block (block_byte_at block byte) why e)
+byte_taken Magic byte why h e = cc
+byte_taken (Free clock before) byte why h e = cc
+byte_taken (Link clock) byte why h e = cc
+byte_taken (Seconds clock) byte why h e = cc
+byte_taken (Fraction clock first) byte why h e = cc
+byte_taken (Captured clock start) byte why h e = cc
+byte_taken (Original clock start taken) byte why h e = cc

@@ -1,15 +1,12 @@
 -- The header of a packet that is written, and data behind it, are a packet.
 use Rattle.std.proofs.Common.{◌≡◌, ◌∙◌, ℕ, ◌+◌, ◌*◌, ◌++◌, ◌∷◌, [], List, length, true, refl, ap}
 use Rattle.std.proofs.Common.{sym}
-use Rattle.std.proofs.Common.{arith, append_assoc, subst}
+use Rattle.std.proofs.Common.{arith, append_assoc}
 use Rattle.line_stamps.specs.declared.capture.Way.{Way}
 use Rattle.line_stamps.specs.declared.capture.Way.TheVariants.{A, B}
-use Rattle.capture_pcap.specs.Words.{number}
-use Rattle.capture_pcap.specs.Record.{seen_of, seen_bytes, IsRecord}
+use Rattle.capture_pcap.specs.Record.{seen_of, seen_bytes}
 use Rattle.capture_pcap.specs.Pcap.{IsPacket}
 use Rattle.capture_pcap.specs.Writing.{written_clock, data_event, AppendsNumber, AppendsFour}
-use Rattle.capture_pcap.specs.declared.words.Order.TheVariants.{Little}
-use Rattle.capture_pcap.specs.declared.seen.Seen.{Seen}
 
 data_seen : (start : ℕ) (way : Way) (payload : List ℕ)
     → seen_bytes start way true payload ≡ seen_of start (data_event way) payload

@@ -1,11 +1,11 @@
 -- What a field and a byte make of a packet that its reader has come into. It is a second view of
 -- the format of Record.antt, and is proved equal to it.
-use Rattle.std.specs.Prelude.{◌≡◌, ℕ, ◌-◌, nat_lt, Bool, true, false, if◌then◌else◌, List, [], ◌∷◌}
+use Rattle.std.specs.Prelude.{◌≡◌, ℕ, ◌-◌, nat_lt, Bool, true, false, if◌then◌else◌, List}
 use Rattle.std.specs.Prelude.{Option, Some, None, slice_index}
 use Rattle.std.specs.Prelude.{option_map}
 use Rattle.line_stamps.specs.declared.capture.Way.{Way}
 use Rattle.capture_pcap.specs.Record.{event_way, seen_event, seen_byte}
-use Rattle.capture_pcap.specs.declared.seen.Seen.{Seen}
+use Rattle.line_stamps.specs.declared.seen.Seen.{Seen}
 use Rattle.capture_pcap.specs.declared.body.Body.{Body}
 use Rattle.capture_pcap.specs.declared.body.Body.TheVariants.{Seconds, Fraction, Event, Data}
 

@@ -1,6 +1,8 @@
 pub mod Words
 pub mod Record
 pub mod BodyStep
+pub mod Blocks
+pub mod BlockStep
 pub mod Pcap
 pub mod PcapStep
 pub mod Reader

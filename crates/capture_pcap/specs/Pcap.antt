@@ -1,9 +1,16 @@
 -- A pcap file of link type 250, RTAC serial: a header of 24 bytes, and packets, each behind a
 -- header of 16 bytes (draft-ietf-opsawg-pcap).
-use Rattle.std.specs.Prelude.{◌≡◌, ℕ, ◌+◌, ◌*◌, ◌<◌, List, [], ◌∷◌, ◌++◌, length}
+use Rattle.std.specs.Prelude.{◌≡◌, ℕ, ◌+◌, ◌*◌, ◌<◌, List, [], ◌∷◌, ◌++◌, length, false, Ok, Err}
+use Rattle.byte_walk.specs.Walks.{walk}
+use Rattle.byte_walk.specs.Fields.{before_field}
 use Rattle.capture_pcap.specs.Words.{number, nanoseconds}
 use Rattle.capture_pcap.specs.Record.{IsRecord}
-use Rattle.capture_pcap.specs.declared.seen.Seen.{Seen}
+use Rattle.capture_pcap.specs.Blocks.{IsPcapng, section_kind}
+use Rattle.capture_pcap.specs.BlockStep.{block_field_at, takes_bytes as block_takes_bytes}
+use Rattle.capture_pcap.specs.PcapStep.{step_at}
+use Rattle.capture_pcap.specs.declared.block.Block.{Block}
+use Rattle.capture_pcap.specs.declared.stage.Stage.TheVariants.{Magic as FileBegin, Blocks}
+use Rattle.line_stamps.specs.declared.seen.Seen.{Seen}
 use Rattle.capture_pcap.specs.declared.fault.PcapFault.{PcapFault}
 use Rattle.capture_pcap.specs.declared.fault.PcapFault.TheVariants.{Magic, Link, Short, Cut}
 use Rattle.capture_pcap.specs.declared.words.Clock.{Clock}
@@ -77,9 +84,15 @@ pub record IsPcap (file : List ℕ) (items : List Seen) : Type 0 where
   pub clock : Clock
   pub packets : ArePackets clock file items
 
+-- A capture: a pcap or a pcapng file.
+pub data IsCapture : List ℕ → List Seen → Type 0 where
+  pcap : (file : List ℕ) (items : List Seen) → IsPcap file items → IsCapture file items
+  pcapng : (file : List ℕ) (items : List Seen) → IsPcapng file items → IsCapture file items
+
 -- Why a field is refused behind these bytes, which begin a file.
 pub data IsCause (front field : List ℕ) : PcapFault → Type 0 where
-  no_magic : front ≡ [] → ((clock : Clock) → IsMagic clock field → ⊥) → IsCause front field Magic
+  no_magic : front ≡ [] → (field ≡ section_kind → ⊥)
+      → ((clock : Clock) → IsMagic clock field → ⊥) → IsCause front field Magic
   other_link : (clock : Clock) (magic free : List ℕ) → front ≡ magic ++ free
       → IsMagic clock magic → length free ≡ 16 → (number clock.order field ≡ 250 → ⊥)
       → IsCause front field Link
@@ -90,3 +103,9 @@ pub data IsCause (front field : List ℕ) : PcapFault → Type 0 where
       → front ≡ (packets ++ time) ++ captured → ArePackets clock packets items
       → IsTime clock time start → length captured ≡ 4
       → (number clock.order field ≡ number clock.order captured → ⊥) → IsCause front field Cut
+  -- In a pcapng file: what stands before the field leads to this place in a block, and there the
+  -- field is refused for this cause.
+  in_block : (block : Block) (items : List Seen) (why : PcapFault)
+      → walk step_at (before_field FileBegin) front ≡ Ok (before_field (Blocks block), items)
+      → block_takes_bytes block ≡ false → block_field_at block field ≡ Err why
+      → IsCause front field why

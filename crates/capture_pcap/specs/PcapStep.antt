@@ -1,14 +1,13 @@
 -- What a field and a byte make of a pcap file. It is a second view of the format of Pcap.antt, and
 -- is proved equal to it.
 use Rattle.std.specs.Prelude.{◌≡◌, ℕ, ◌+◌, ◌*◌, ◌-◌, ◌==◌, ◌&&◌, nat_lt, nat_le, Bool, true, false}
-use Rattle.std.specs.Prelude.{if◌then◌else◌, List, [], ◌∷◌, Option, Some, None, Result, Ok, Err}
-use Rattle.std.specs.Prelude.{slice_index, length}
+use Rattle.std.specs.Prelude.{if◌then◌else◌, List, Option, None, Result, Ok, Err}
+use Rattle.std.specs.Prelude.{length}
 use Rattle.byte_walk.specs.Fields.{Spot, spot_step}
-use Rattle.capture_pcap.specs.Words.{number, nanoseconds}
+use Rattle.capture_pcap.specs.Words.{number, nanoseconds, is_field}
 use Rattle.capture_pcap.specs.BodyStep.{Next, body_field_at, body_byte_at, takes_data, has_more}
 use Rattle.capture_pcap.specs.BodyStep.{body_or}
-use Rattle.capture_pcap.specs.declared.seen.Seen.{Seen}
-use Rattle.capture_pcap.specs.declared.body.Body.{Body}
+use Rattle.line_stamps.specs.declared.seen.Seen.{Seen}
 use Rattle.capture_pcap.specs.declared.body.Body.TheVariants.{Seconds as RtacSeconds}
 use Rattle.capture_pcap.specs.declared.words.Clock.{Clock}
 use Rattle.capture_pcap.specs.declared.words.Order.{Order}
@@ -21,7 +20,12 @@ use Rattle.capture_pcap.specs.declared.fault.PcapFault.TheVariants.{Link as NoLi
 use Rattle.capture_pcap.specs.declared.stage.Stage.{Stage}
 use Rattle.capture_pcap.specs.declared.stage.Stage.TheVariants.{Magic, Free, Link, Seconds}
 use Rattle.capture_pcap.specs.declared.stage.Stage.TheVariants.{Fraction, Captured, Original}
-use Rattle.capture_pcap.specs.declared.stage.Stage.TheVariants.{Packet}
+use Rattle.capture_pcap.specs.declared.stage.Stage.TheVariants.{Packet, Blocks}
+use Rattle.capture_pcap.specs.declared.block.Block.{Block}
+use Rattle.capture_pcap.specs.declared.block.Block.TheVariants.{SectionSize}
+use Rattle.capture_pcap.specs.BlockStep.{takes_bytes as block_takes_bytes, block_field_at}
+use Rattle.capture_pcap.specs.BlockStep.{is_sound as is_sound_block, block_byte_at}
+use Rattle.capture_pcap.specs.BlockStep.{may_end as may_end_block}
 
 abbrev pub Stepped : Type 0
 Stepped = Result (Stage × Option Seen) PcapFault
@@ -36,6 +40,7 @@ takes_bytes (Fraction clock seconds) = false
 takes_bytes (Captured clock start) = false
 takes_bytes (Original clock start captured) = false
 takes_bytes (Packet clock body) = takes_data body
+takes_bytes (Blocks block) = block_takes_bytes block
 
 -- a packet has at least its RTAC header, and bytes left where data come next
 abbrev pub is_sound : Stage → Bool
@@ -47,30 +52,37 @@ is_sound (Fraction clock seconds) = true
 is_sound (Captured clock start) = true
 is_sound (Original clock start captured) = nat_le 12 captured
 is_sound (Packet clock body) = has_more body
+is_sound (Blocks block) = is_sound_block block
 
 abbrev pub IsSoundStep : Stepped → Type 0
 IsSoundStep (Ok next) = is_sound next.0 ≡ true
 IsSoundStep (Err why) = Unit {0}
 
--- whether a field of four bytes has these bytes
-abbrev pub is_field : ℕ → ℕ → ℕ → ℕ → List ℕ → Bool
-is_field a b c d field = (slice_index field 0 == a) && (slice_index field 1 == b)
-    && (slice_index field 2 == c) && (slice_index field 3 == d)
-
 abbrev pub free_at : Order → Resolution → Stepped
 free_at order resolution = Ok (Free (record { order = order; resolution = resolution }) 0, None)
 
-abbrev pub after_magic_at : List ℕ → Stepped
-after_magic_at field =
+abbrev pub pcap_magic_at : List ℕ → Stepped
+pcap_magic_at field =
     if is_field 0xA1 0xB2 0xC3 0xD4 field then free_at Big Microseconds
     else if is_field 0xD4 0xC3 0xB2 0xA1 field then free_at Little Microseconds
     else if is_field 0xA1 0xB2 0x3C 0x4D field then free_at Big Nanoseconds
     else if is_field 0x4D 0x3C 0xB2 0xA1 field then free_at Little Nanoseconds
     else Err NoMagic
 
+-- a pcapng file begins with the header of a section
+abbrev pub after_magic_at : List ℕ → Stepped
+after_magic_at field =
+    if is_field 0x0A 0x0D 0x0D 0x0A field then Ok (Blocks SectionSize, None)
+    else pcap_magic_at field
+
 -- after a field or a byte of a packet
 abbrev pub after_body : Clock → Next → Stepped
 after_body clock next = Ok (body_or (Packet clock) (Seconds clock) next.0, next.1)
+
+-- after a field or a byte of a pcapng file
+abbrev pub in_blocks : Result (Block × Option Seen) PcapFault → Stepped
+in_blocks (Ok next) = Ok (Blocks next.0, next.1)
+in_blocks (Err why) = Err why
 
 abbrev pub after_length : Clock → ℕ → ℕ → ℕ → Stepped
 after_length clock start captured original =
@@ -100,6 +112,7 @@ field_at (Captured clock start) field = after_captured clock start (number clock
 field_at (Original clock start captured) field =
     after_length clock start captured (number clock.order field)
 field_at (Packet clock body) field = after_body clock (body_field_at body field)
+field_at (Blocks block) field = in_blocks (block_field_at block field)
 
 abbrev pub byte_at : Stage → ℕ → Stepped
 byte_at Magic b = Err NoMagic
@@ -110,6 +123,7 @@ byte_at (Fraction clock seconds) b = Err NoMagic
 byte_at (Captured clock start) b = Err NoMagic
 byte_at (Original clock start captured) b = Err NoMagic
 byte_at (Packet clock body) b = after_body clock (body_byte_at body b)
+byte_at (Blocks block) b = in_blocks (block_byte_at block b)
 
 -- whether a file may end here
 abbrev pub may_end : Stage → Bool
@@ -121,6 +135,7 @@ may_end (Fraction clock seconds) = false
 may_end (Captured clock start) = false
 may_end (Original clock start captured) = false
 may_end (Packet clock body) = false
+may_end (Blocks block) = may_end_block block
 
 -- one byte of a file
 abbrev pub step_at : Spot Stage → ℕ → Result (Spot Stage × Option Seen) PcapFault

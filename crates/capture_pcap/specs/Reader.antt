@@ -1,12 +1,14 @@
 -- What a reader of a pcap file stands for.
-use Rattle.std.specs.Prelude.{◌≡◌, ℕ, ◌++◌, ◌∷◌, [], List, length, Option, Some, None, Result, Ok}
+use Rattle.std.specs.Prelude.{◌≡◌, ℕ, List, length, Option, Some, None, Result, Ok}
 use Rattle.std.specs.Prelude.{Err, ◌+◌}
 use Rattle.byte_walk.specs.Walks.{walk}
-use Rattle.byte_walk.specs.Fields.{Spot, before_field}
+use Rattle.byte_walk.specs.Fields.{Spot, before_field, RefusesField}
+use Rattle.capture_pcap.specs.Pcap.{IsCapture, IsCause}
 use Rattle.capture_pcap.specs.PcapStep.{step_at}
-use Rattle.capture_pcap.specs.declared.seen.Seen.{Seen}
+use Rattle.line_stamps.specs.declared.seen.Seen.{Seen}
 use Rattle.capture_pcap.specs.declared.fault.BadPcap.{BadPcap}
 use Rattle.capture_pcap.specs.declared.fault.PcapFault.{PcapFault}
+use Rattle.capture_pcap.specs.declared.fault.PcapFault.TheVariants.{End}
 use Rattle.capture_pcap.specs.declared.stage.Stage.{Stage}
 use Rattle.capture_pcap.specs.declared.stage.Stage.TheVariants.{Magic}
 use Rattle.capture_pcap.specs.declared.reader.PcapReader.{PcapReader}
@@ -26,6 +28,11 @@ pub record StandsFor (reader : PcapReader) (file : List ℕ) (items : List Seen)
 -- The reader has refused its file so, and answers so from then on.
 abbrev pub HasRefused : PcapReader → BadPcap → Type 0
 HasRefused reader bad = reader.refused ≡ Some bad
+
+-- The next byte, or the end of the file, is refused with this place and cause: a byte with its field.
+abbrev pub Refuses : List ℕ → List Seen → Option ℕ → BadPcap → Type 0
+Refuses file items (Some b) bad = RefusesField IsCapture IsCause file items b bad.offset bad.why
+Refuses file items None bad = (bad.offset ≡ length file) × (bad.why ≡ End)
 
 -- one byte at a reader
 abbrev pub Takes : PcapReader → ℕ → Result (Option Seen) PcapFault → PcapReader → Type 0

@@ -1,14 +1,12 @@
 -- A record of an RTAC serial capture, link type 250: a header of 12 bytes, and data. The header has
 -- seconds and microseconds, an event, the control lines and a footer of two bytes.
-use Rattle.std.specs.Prelude.{◌≡◌, ℕ, ◌+◌, ◌==◌, Bool, true, false, if◌then◌else◌, List, [], ◌∷◌}
-use Rattle.std.specs.Prelude.{◌++◌, length, map, Option, Some, None}
+use Rattle.std.specs.Prelude.{◌≡◌, ℕ, ◌==◌, Bool, true, false, if◌then◌else◌, List, [], ◌∷◌}
+use Rattle.std.specs.Prelude.{◌++◌, length, Option, Some, None}
 use Rattle.std.specs.Option.{option_to_list}
-use Rattle.line_stamps.specs.declared.capture.CaptureByte.{CaptureByte}
 use Rattle.line_stamps.specs.declared.capture.Way.{Way}
 use Rattle.line_stamps.specs.declared.capture.Way.TheVariants.{A, B}
-use Rattle.capture_pcap.specs.declared.seen.Seen.{Seen}
-use Rattle.capture_pcap.specs.declared.seen.Seen.TheVariants.{Byte, Event}
-use Rattle.capture_pcap.specs.declared.seen.LineEvent.{LineEvent}
+use Rattle.line_stamps.specs.declared.seen.Seen.{Seen}
+use Rattle.line_stamps.specs.declared.seen.Seen.TheVariants.{Byte, Event}
 
 -- The way of the data behind an event: behind DATA_TX_START, 1, the bytes sent, and behind
 -- DATA_RX_START, 2, the bytes received. No other event has bytes of the line.

@@ -1,5 +1,5 @@
 -- Numbers of four bytes, in the order of a file.
-use Rattle.std.specs.Prelude.{ℕ, List}
+use Rattle.std.specs.Prelude.{ℕ, List, Bool, ◌==◌, ◌&&◌, slice_index}
 use Rattle.byteorder.specs.Endian.{big_number, little_number}
 use Rattle.capture_pcap.specs.declared.words.Order.{Order}
 use Rattle.capture_pcap.specs.declared.words.Order.TheVariants.{Big, Little}
@@ -20,3 +20,8 @@ nanoseconds Nanoseconds = 1
 abbrev pub short_number : Order → List ℕ → ℕ
 short_number Big field = big_number 2 field
 short_number Little field = little_number 2 field
+
+-- whether a field of four bytes has these bytes
+abbrev pub is_field : ℕ → ℕ → ℕ → ℕ → List ℕ → Bool
+is_field a b c d field = (slice_index field 0 == a) && (slice_index field 1 == b)
+    && (slice_index field 2 == c) && (slice_index field 3 == d)

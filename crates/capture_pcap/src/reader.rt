@@ -1,16 +1,16 @@
-//! A reader of pcap files, byte by byte.
+//! A reader of captures, byte by byte.
 ghost use Rattle.std.specs.Prelude.{◌≡◌, ℕ, ◌+◌, ◌<◌, ◌≤◌, ◌++◌, ◌∷◌, [], List, true, length};
 ghost use Rattle.std.specs.Prelude.{Some, None, OnOk, IfOk, IfErr, Err, ◌==◌, false};
 ghost use Rattle.std.specs.Option.{option_to_list};
 ghost use Rattle.capture_pcap.specs.PcapStep.{is_sound, takes_bytes};
-ghost use Rattle.capture_pcap.specs.declared.TheConstants.{MAX_BYTES};
+ghost use Rattle.line_stamps.specs.declared.TheConstants.{MAX_BYTES};
 
 use crate::stage::Stage;
 use crate::{BadPcap, MAX_BYTES, PcapFault, Seen};
 use arrayvec::ArrayVec;
+use line_stamps::CaptureReader;
 
-/// A reader of a pcap file of link type 250, byte by byte, in constant memory. It gives each byte
-/// of
+/// A reader of a capture of link type 250, byte by byte, in constant memory. It gives each byte of
 /// the line as it comes, and each event with its record's header.
 #[derive(Drop)]
 pub struct PcapReader {
@@ -29,17 +29,17 @@ pub struct PcapReader {
 impl PcapReader {
     ghost use Rattle.byte_walk.specs.Walks.{Begins, BeginsNone};
     ghost use Rattle.byte_walk.specs.Fields.{RefusesField, before_field, Spot};
-    ghost use Rattle.capture_pcap.specs.Pcap.{IsPcap, IsCause};
+    ghost use Rattle.capture_pcap.specs.Pcap.{IsCapture, IsCause};
     ghost use Rattle.capture_pcap.specs.PcapStep.{step_at, may_end_at};
     ghost use Rattle.capture_pcap.specs.Reader.{StandsFor, HasRefused, bytes_taken, spot_of};
     ghost use Rattle.capture_pcap.specs.Reader.{Takes};
-    ghost use Rattle.capture_pcap.specs.declared.seen.Seen.{Seen};
+    ghost use Rattle.line_stamps.specs.declared.seen.Seen.{Seen};
     ghost use Rattle.capture_pcap.specs.declared.fault.BadPcap.{BadPcap};
 
     /// A reader before its file.
     pub fn new() -> PcapReader
         ensures stands { StandsFor result [] [] }
-        ensures begins { Begins IsPcap [] [] }
+        ensures begins { Begins IsCapture [] [] }
         ensures taken { bytes_taken result ≡ 0 }
     {
         PcapReader {
@@ -101,15 +101,15 @@ impl PcapReader {
         ensures stands { (file : List ℕ) (items : List Seen) → StandsFor self.old file items
             → IfOk result (λ seen. StandsFor self.new (file ++ b ∷ [])
             (items ++ option_to_list seen)) }
-        // Each pcap file that goes on so has these items first.
+        // Each capture that goes on so has these items first.
         ensures each { (file : List ℕ) (items : List Seen) → StandsFor self.old file items
             → IfOk result (λ seen. (more : List ℕ) (all : List Seen)
-            → IsPcap ((file ++ b ∷ []) ++ more) all
+            → IsCapture ((file ++ b ∷ []) ++ more) all
             → (others : List Seen) × (all ≡ (items ++ option_to_list seen) ++ others)) }
-        // It refuses the first field with which no pcap file begins, and no other. What stands
+        // It refuses the first field with which no capture begins, and no other. What stands
         // before that field begins one, with all that was returned.
         ensures refused { (file : List ℕ) (items : List Seen) → StandsFor self.old file items
-            → IfErr result (λ bad. RefusesField IsPcap IsCause file items b bad.offset bad.why) }
+            → IfErr result (λ bad. RefusesField IsCapture IsCause file items b bad.offset bad.why) }
         ensures taken { OnOk result (bytes_taken self.new ≡ bytes_taken self.old + 1) }
         ensures remembered { IfErr result (λ bad. HasRefused self.new bad) }
         ensures for_good { (bad : BadPcap) → HasRefused self.old bad
@@ -141,9 +141,9 @@ impl PcapReader {
     /// Takes the end of the file.
     pub fn finish(self) -> Result<(), BadPcap>
         ensures right { (file : List ℕ) (items : List Seen) → StandsFor self file items
-            → OnOk result (IsPcap file items) }
+            → OnOk result (IsCapture file items) }
         ensures refused { (file : List ℕ) (items : List Seen) → StandsFor self file items
-            → IfErr result (λ bad. ((all : List Seen) → IsPcap file all → ⊥)
+            → IfErr result (λ bad. ((all : List Seen) → IsCapture file all → ⊥)
             × (bad.offset ≡ length file) × (bad.why ≡ PcapFault.End)) }
         ensures again { (bad : BadPcap) → HasRefused self bad → result ≡ Err bad }
     {
@@ -157,5 +157,40 @@ impl PcapReader {
             offset: self.taken,
             why: PcapFault::End,
         })
+    }
+}
+
+impl CaptureReader for PcapReader {
+    ghost use Rattle.capture_pcap.specs.Pcap.{IsCapture};
+    ghost use Rattle.capture_pcap.specs.Reader.{StandsFor, Refuses, HasRefused};
+    ghost use Rattle.capture_pcap.specs.Reader.{bytes_taken as taken_by};
+
+    type Refusal = BadPcap;
+
+    ghost format = { IsCapture };
+
+    ghost stands = { StandsFor };
+
+    ghost refuses = { Refuses };
+
+    ghost has_refused = { HasRefused };
+
+    ghost bytes_taken = { taken_by };
+
+    fn start() -> PcapReader {
+        PcapReader::new()
+    }
+
+    fn taken(&self) -> u64 {
+        self.taken
+    }
+
+    #[inline]
+    fn feed(&mut self, b: u8) -> Result<Option<Seen>, BadPcap> {
+        PcapReader::feed(self, b)
+    }
+
+    fn finish(self) -> Result<(), BadPcap> {
+        PcapReader::finish(self)
     }
 }

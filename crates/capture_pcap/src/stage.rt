@@ -5,11 +5,13 @@ ghost use Rattle.std.specs.Prelude.{◌≡◌, ◌+◌, ◌<◌, ◌≤◌, ◌*
 ghost use Rattle.capture_pcap.specs.PcapStep.{field_at, byte_at, after_magic_at, takes_bytes};
 ghost use Rattle.capture_pcap.specs.PcapStep.{may_end};
 ghost use Rattle.capture_pcap.specs.PcapStep.{is_sound, IsSoundStep, after_body, after_length};
+ghost use Rattle.capture_pcap.specs.PcapStep.{in_blocks};
+ghost use Rattle.capture_pcap.specs.BlockStep.{IsSoundStep as IsSoundBlockStep};
 ghost use Rattle.capture_pcap.specs.BodyStep.{IsSoundNext};
 ghost use Rattle.capture_pcap.specs.Words.{nanoseconds};
 
 use crate::body::Next;
-use crate::{Body, Clock, Order, PcapFault, Resolution, Seen};
+use crate::{Block, Body, Clock, Order, PcapFault, Resolution, Seen, block};
 
 /// The link type of RTAC serial.
 const RTAC_SERIAL: u32 = 250;
@@ -37,6 +39,8 @@ pub enum Stage {
     Original(Clock, u64, u32),
     /// The packet itself.
     Packet(Clock, Body),
+    /// A part of a pcapng file.
+    Blocks(Block),
 }
 
 /// What a field or a byte comes to: what comes next and what was seen, or why it is refused.
@@ -55,6 +59,9 @@ fn after_magic(word: &[u8]) -> Step
     requires { length word.now ≡ 4 }
     ensures { result ≡ after_magic_at word.now }
 {
+    if let [0x0A, 0x0D, 0x0D, 0x0A] = word {
+        return Ok((Stage::Blocks(Block::SectionSize), None));
+    }
     let (order, resolution) = match word {
         [0xA1, 0xB2, 0xC3, 0xD4] => (Order::Big, Resolution::Microseconds),
         [0xD4, 0xC3, 0xB2, 0xA1] => (Order::Little, Resolution::Microseconds),
@@ -75,6 +82,19 @@ fn behind(clock: Clock, next: Next) -> Step
     match next.0 {
         Some(body) => Ok((Stage::Packet(clock, body), next.1)),
         None => Ok((Stage::Seconds(clock), next.1)),
+    }
+}
+
+/// What comes after a field or a byte of a pcapng file.
+#[inline]
+fn in_blocks(step: block::Step) -> Step
+    requires { IsSoundBlockStep step }
+    ensures step { result ≡ in_blocks step }
+    ensures sound { IsSoundStep result }
+{
+    match step {
+        Ok((block, seen)) => Ok((Stage::Blocks(block), seen)),
+        Err(why) => Err(why),
     }
 }
 
@@ -100,6 +120,7 @@ impl Stage {
     {
         match self {
             Stage::Packet(_, body) => body.is_data(),
+            Stage::Blocks(block) => block.is_data(),
             _ => false,
         }
     }
@@ -108,7 +129,7 @@ impl Stage {
     pub fn may_end(self) -> bool
         ensures { result ≡ may_end self }
     {
-        matches!(self, Stage::Seconds(_))
+        matches!(self, Stage::Seconds(_) | Stage::Blocks(Block::Kind(_)))
     }
 
     /// Takes a byte of data.
@@ -119,10 +140,11 @@ impl Stage {
         ensures step { result ≡ byte_at self b }
         ensures sound { IsSoundStep result }
     {
-        let Stage::Packet(clock, body) = self else {
-            unreachable!()
-        };
-        behind(clock, body.byte(b))
+        match self {
+            Stage::Packet(clock, body) => behind(clock, body.byte(b)),
+            Stage::Blocks(block) => in_blocks(block.byte(b)),
+            _ => unreachable!(),
+        }
     }
 
     /// Takes a field of four bytes.
@@ -165,6 +187,7 @@ impl Stage {
                 behind_length(clock, start, captured, clock.order.number(word))
             }
             Stage::Packet(clock, body) => behind(clock, body.field(word)),
+            Stage::Blocks(block) => in_blocks(block.field(word)),
         }
     }
 }

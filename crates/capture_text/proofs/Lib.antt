@@ -4,3 +4,4 @@ pub mod Reached
 pub mod Spelled
 pub mod Reading
 pub mod Written
+mod SeenTexts

@@ -1,8 +1,10 @@
 -- What a reader of a text capture stands for.
-use Rattle.std.specs.Prelude.{◌≡◌, ℕ, ◌+◌, List, length, Some, None, Ok}
+use Rattle.std.specs.Prelude.{◌≡◌, ℕ, ◌+◌, List, length, map, Option, Some, None, Ok}
 use Rattle.line_stamps.specs.declared.capture.CaptureByte.{CaptureByte}
 use Rattle.byte_walk.specs.Walks.{walk}
-use Rattle.capture_text.specs.CaptureText.{lines_ended}
+use Rattle.line_stamps.specs.declared.seen.Seen.{Seen}
+use Rattle.line_stamps.specs.declared.seen.Seen.TheVariants.{Byte}
+use Rattle.capture_text.specs.CaptureText.{lines_ended, IsTextCapture, IsCause}
 use Rattle.capture_text.specs.TextStep.{step_at}
 use Rattle.capture_text.specs.declared.fault.BadText.{BadText}
 use Rattle.capture_text.specs.declared.place.Place.TheVariants.{Start}
@@ -27,3 +29,20 @@ HasRefused reader bad = reader.refused ≡ Some bad
 pub record IsPlaceOf (bad : BadText) (text : List ℕ) : Type 0 where
   pub offset : bad.offset ≡ length text
   pub line : bad.line ≡ lines_ended text + 1
+
+-- A text capture, and what is seen in it: its bytes, and no events.
+pub record IsSeenText (text : List ℕ) (items : List Seen) : Type 0 where
+  pub bytes : List CaptureByte
+  pub right : IsTextCapture text bytes
+  pub items_are : items ≡ map Byte bytes
+
+-- The reader has taken this text, no byte of which it refused, and these are the items so far.
+pub record HasSeen (reader : TextReader) (text : List ℕ) (items : List Seen) : Type 0 where
+  pub bytes : List CaptureByte
+  pub stands : StandsFor reader text bytes
+  pub items_are : items ≡ map Byte bytes
+
+-- After this text a byte, or the end, is refused with this place and cause.
+pub record Refuses (text : List ℕ) (items : List Seen) (next : Option ℕ) (bad : BadText) : Type 0 where
+  pub place : IsPlaceOf bad text
+  pub cause : IsCause text next bad.why

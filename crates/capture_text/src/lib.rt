@@ -19,9 +19,8 @@ mod reader;
 mod tests;
 mod writer;
 
+pub use digits::{hex_value, is_digit};
 pub use fault::{BadText, TextFault};
+pub use line_stamps::MAX_BYTES;
 pub use reader::TextReader;
 pub use writer::{LineFront, line_front};
-
-/// How many bytes of a text a reader takes at most: 2^62.
-pub const MAX_BYTES: u64 = 4_611_686_018_427_387_904;

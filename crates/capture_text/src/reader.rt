@@ -1,13 +1,14 @@
 //! A reader of text captures, byte by byte.
 ghost use Rattle.std.specs.Prelude.{◌≡◌, ℕ, ◌+◌, ◌-◌, ◌<◌, ◌≤◌, ◌^◌, ◌++◌, ◌∷◌, [], List, true};
-ghost use Rattle.std.specs.Prelude.{length, Some, None, OnOk, IfOk, IfErr, Err};
+ghost use Rattle.std.specs.Prelude.{length, Some, None, OnOk, IfOk, IfErr, Err, option_map};
+ghost use Rattle.line_stamps.specs.declared.seen.Seen.TheVariants.{Byte as SeenByte};
 ghost use Rattle.std.specs.Option.{option_to_list};
 ghost use Rattle.capture_text.specs.TextStep.{is_sound};
-ghost use Rattle.capture_text.specs.declared.TheConstants.{MAX_BYTES};
+ghost use Rattle.line_stamps.specs.declared.TheConstants.{MAX_BYTES};
 
 use crate::place::{Place, end_fault, step};
 use crate::{BadText, MAX_BYTES, TextFault};
-use line_stamps::CaptureByte;
+use line_stamps::{CaptureByte, CaptureReader, Seen};
 
 /// A reader of a text capture, byte by byte, in constant memory. It gives each byte of the capture
 /// as soon as its second digit has come.
@@ -21,6 +22,17 @@ pub struct TextReader {
     ghost sound: { is_sound place ≡ true },
     ghost fewer: { ended ≤ taken },
     ghost bounded: { taken ≤ MAX_BYTES },
+}
+
+/// A byte of the capture as an item of it.
+#[inline]
+fn seen(byte: Option<CaptureByte>) -> Option<Seen>
+    ensures { result ≡ option_map SeenByte byte }
+{
+    match byte {
+        Some(byte) => Some(Seen::Byte(byte)),
+        None => None,
+    }
 }
 
 impl TextReader {
@@ -128,5 +140,42 @@ impl TextReader {
                 why,
             }),
         }
+    }
+}
+
+impl CaptureReader for TextReader {
+    ghost use Rattle.capture_text.specs.Reader.{IsSeenText, HasSeen, Refuses, HasRefused};
+    ghost use Rattle.capture_text.specs.Reader.{bytes_taken as taken_by};
+
+    type Refusal = BadText;
+
+    ghost format = { IsSeenText };
+
+    ghost stands = { HasSeen };
+
+    ghost refuses = { Refuses };
+
+    ghost has_refused = { HasRefused };
+
+    ghost bytes_taken = { taken_by };
+
+    fn start() -> TextReader {
+        TextReader::new()
+    }
+
+    fn taken(&self) -> u64 {
+        self.taken
+    }
+
+    #[inline]
+    fn feed(&mut self, b: u8) -> Result<Option<Seen>, BadText> {
+        match TextReader::feed(self, b) {
+            Ok(byte) => Ok(seen(byte)),
+            Err(bad) => Err(bad),
+        }
+    }
+
+    fn finish(self) -> Result<(), BadText> {
+        TextReader::finish(self)
     }
 }

@@ -1,14 +1,31 @@
 //! Both directions of a line in one box: the transmitter of the outgoing one and the receiver of
 //! the incoming one, under one key.
 //!
-//! The box of the end that sends in direction `ab`, for Modbus RTU with the profile y18:
+//! Both lines move at once, so each call takes the same number of ticks of both. `pass_both` takes
+//! runs without notes, as far as it can. Where it takes none, `step` takes one tick of each:
 //!
-//!     let mut duplex: Duplex<Rtu, HmacSha1, 2, 18> = Duplex::new(&key, Dir::Ab);
-//!     let step = duplex.step(
-//!         from_device, from_link, &mut sent, &mut sent_disk, &mut got, &mut got_disk,
-//!     )?;
-//!     send_to_link(step.link);
-//!     send_to_device(step.device);
+//!     let mut duplex: Duplex<Rtu, HmacSha1, 2, 18> = Duplex::new(key, Dir::Ab);
+//!     let (mut to_link, mut to_device) = (RunBytes::new(), RunBytes::new());
+//!     while !from_device.is_empty() && !from_link.is_empty() {
+//!         let taken = duplex.pass_both(from_device, from_link, &mut to_link, &mut to_device);
+//!         if taken > 0 {
+//!             // the bytes in `to_link`, one a tick, or silence for so many ticks where it has none
+//!             send_on_link(taken, to_link.as_slice());
+//!             send_to_device(taken, to_device.as_slice());
+//!             from_device = from_device.behind(taken);
+//!             from_link = from_link.behind(taken);
+//!             continue;
+//!         }
+//!         let (device_tick, link_tick) = (from_device.first(), from_link.first());
+//!         let step = duplex.step(
+//!             device_tick, link_tick, &mut sent, &mut sent_disk, &mut got, &mut got_disk,
+//!         )?;
+//!         // `step.sealed` and `step.checked` are the notes of this step
+//!         send_tick_on_link(step.link);
+//!         send_tick_to_device(step.device);
+//!         from_device = from_device.behind(1);
+//!         from_link = from_link.behind(1);
+//!     }
 #![tactic(auto)]
 
 pub use box_pair::DuplexFault;

@@ -12,17 +12,20 @@
 #![tactic(auto)]
 
 mod capture;
+mod capture_reader;
 mod giving;
 mod laws;
 mod placer;
 mod rate;
 mod rate_word;
 mod rounding;
+mod seen;
 #[cfg(test)]
 mod tests;
 mod timing;
 
 pub use capture::{CaptureByte, Way};
+pub use capture_reader::CaptureReader;
 pub use giving::tick_start;
 pub use laws::{
     bytes_stand_in_their_ticks, records_are_parted, same_bytes_in_the_same_order,
@@ -31,6 +34,7 @@ pub use laws::{
 pub use placer::{Placer, Unplaced};
 pub use rate::Rate;
 pub use rounding::{nearest, ticks_between};
+pub use seen::{LineEvent, Seen};
 pub use timing::{Spacing, Timing};
 
 /// Drift between ticks and times is taken up in silences of more ticks than these alone, and none
@@ -40,3 +44,6 @@ pub const DRIFT_SILENCE: u64 = 320;
 /// Each byte of a capture starts before this time behind the origin, in parts, and before this
 /// tick: 2^62. That is 11 hours at 115,200 baud, and at least 419,244,183 characters at each rate.
 pub const TIME_LIMIT: u64 = 4_611_686_018_427_387_904;
+
+/// How many bytes of a capture a reader takes at most: 2^62.
+pub const MAX_BYTES: u64 = 4_611_686_018_427_387_904;

@@ -26,6 +26,7 @@ pub trait RestingBox: LinkBox {
         requires rests { Rests Self.stands resting self.old }
         requires room { Self.taken self.old + ticks ≤ MAX_TICKS }
         ensures taken { Self.taken self.new ≡ Self.taken self.old + ticks }
+        ensures link { Self.link_of self.new ≡ Self.link_of self.old }
         ensures run { TakesRun Self.walking Self.stands self.old self.new (silent ticks)
             (silent ticks) };
 }

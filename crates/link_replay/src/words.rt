@@ -31,9 +31,9 @@ pub enum Proto {
 /// What follows a frame on a link.
 #[derive(Clone, Copy, Debug, PartialEq, Eq)]
 pub enum Profile {
-    /// Two bytes of the frame's number, and twelve of its code by HMAC-SHA-1.
+    /// Two bytes of the frame's number, and twelve of its tag, by HMAC-SHA-1.
     Y18,
-    /// Four bytes of the frame's number, and sixteen of its code by HMAC-SHA-256.
+    /// Four bytes of the frame's number, and sixteen of its tag, by HMAC-SHA-256.
     Y24,
 }
 

@@ -1,12 +1,11 @@
 //! Runs of ticks come to what their single ticks come to.
 ghost use Rattle.std.specs.Prelude.{◌≡◌, ◌+◌, ◌≤◌, OnOk};
-ghost use Rattle.link_box.specs.Links.{link_by};
 ghost use Rattle.sequence_journal.specs.Journal.{journal_link, Fits};
 ghost use Rattle.seal_transmitter.specs.Stands.{direction_of, ticks_taken};
 
 use super::*;
-use hmac_tag::{HmacSha1, Mac};
-use line_rules::{FourBytes, LineRules};
+use hmac_tag::HmacSha1;
+use line_rules::FourBytes;
 use link_box::LinkBox;
 use sequence_journal::{Journal, slot_of};
 use std::alloc::{AllocError, Global};
@@ -38,8 +37,8 @@ fn add_answered(link: &mut Vec<Tick>, count: usize, left: &[u8]) -> Result<(), A
 }
 
 // Takes the same tick so many times, a step each.
-fn step_times<R: LineRules, M: Mac, D: SlotDisk>(
-    sealer: &mut Sealer<R, M, 2>,
+fn step_times<D: SlotDisk>(
+    sealer: &mut FourSealer,
     journal: &mut Journal,
     disk: &mut D,
     tick: Tick,
@@ -47,12 +46,19 @@ fn step_times<R: LineRules, M: Mac, D: SlotDisk>(
     link: &mut Vec<Tick>,
 ) -> Result<(), Fail>
     requires room { ticks_taken sealer.old + times ≤ 1000 }
-    requires of_link { journal_link journal.old
-        ≡ link_by R.LineRules M.Mac 2 (direction_of sealer.old) }
+    requires of_link { journal_link journal.old ≡ (record {
+      label = 1;
+      dir = direction_of sealer.old;
+      profile = 18;
+    }) }
     requires fits { Fits journal.old (D.told disk.old) }
     ensures taken { OnOk result (ticks_taken sealer.new ≡ ticks_taken sealer.old + times) }
     ensures of_link { OnOk result (journal_link journal.new
-        ≡ link_by R.LineRules M.Mac 2 (direction_of sealer.new)) }
+        ≡ (record {
+          label = 1;
+          dir = direction_of sealer.new;
+          profile = 18;
+        })) }
     ensures fits { OnOk result (Fits journal.new (D.told disk.new)) }
 {
     for taken in 0..times {
@@ -63,8 +69,8 @@ fn step_times<R: LineRules, M: Mac, D: SlotDisk>(
 }
 
 // Takes so many silent ticks: as runs if asked, and those that no run takes by steps.
-fn wait<R: LineRules, M: Mac, D: SlotDisk>(
-    sealer: &mut Sealer<R, M, 2>,
+fn wait<D: SlotDisk>(
+    sealer: &mut FourSealer,
     journal: &mut Journal,
     disk: &mut D,
     by_runs: bool,
@@ -72,12 +78,19 @@ fn wait<R: LineRules, M: Mac, D: SlotDisk>(
     link: &mut Vec<Tick>,
 ) -> Result<(), Fail>
     requires room { ticks_taken sealer.old + ticks ≤ 1000 }
-    requires of_link { journal_link journal.old
-        ≡ link_by R.LineRules M.Mac 2 (direction_of sealer.old) }
+    requires of_link { journal_link journal.old ≡ (record {
+      label = 1;
+      dir = direction_of sealer.old;
+      profile = 18;
+    }) }
     requires fits { Fits journal.old (D.told disk.old) }
     ensures taken { OnOk result (ticks_taken sealer.new ≡ ticks_taken sealer.old + ticks) }
     ensures of_link { OnOk result (journal_link journal.new
-        ≡ link_by R.LineRules M.Mac 2 (direction_of sealer.new)) }
+        ≡ (record {
+          label = 1;
+          dir = direction_of sealer.new;
+          profile = 18;
+        })) }
     ensures fits { OnOk result (Fits journal.new (D.told disk.new)) }
 {
     if !by_runs {
@@ -93,8 +106,8 @@ fn wait<R: LineRules, M: Mac, D: SlotDisk>(
 }
 
 // The same of so many bytes.
-fn hear<R: LineRules, M: Mac, D: SlotDisk>(
-    sealer: &mut Sealer<R, M, 2>,
+fn hear<D: SlotDisk>(
+    sealer: &mut FourSealer,
     journal: &mut Journal,
     disk: &mut D,
     by_runs: bool,
@@ -103,12 +116,19 @@ fn hear<R: LineRules, M: Mac, D: SlotDisk>(
 ) -> Result<(), Fail>
     requires few { count ≤ 8 }
     requires room { ticks_taken sealer.old + count ≤ 1000 }
-    requires of_link { journal_link journal.old
-        ≡ link_by R.LineRules M.Mac 2 (direction_of sealer.old) }
+    requires of_link { journal_link journal.old ≡ (record {
+      label = 1;
+      dir = direction_of sealer.old;
+      profile = 18;
+    }) }
     requires fits { Fits journal.old (D.told disk.old) }
     ensures taken { OnOk result (ticks_taken sealer.new ≡ ticks_taken sealer.old + count) }
     ensures of_link { OnOk result (journal_link journal.new
-        ≡ link_by R.LineRules M.Mac 2 (direction_of sealer.new)) }
+        ≡ (record {
+          label = 1;
+          dir = direction_of sealer.new;
+          profile = 18;
+        })) }
     ensures fits { OnOk result (Fits journal.new (D.told disk.new)) }
 {
     if !by_runs {

@@ -1,5 +1,4 @@
-use Rattle.std.proofs.Common.{◌≡◌, ℕ, List, true, ◌+◌, ◌*◌, ◌/◌, ◌%◌, ap, sym, subst, arith, ◌++◌}
-use Rattle.std.proofs.Common.{◌∙◌}
+use Rattle.std.proofs.Common.{ℕ, List, true, sym, subst, arith, ◌++◌}
 use Rattle.capture_pcap.proofs.Written.{written_packet}
 use Rattle.capture_pcap.specs.Writing.{written_clock}
 use Rattle.capture_pcap.specs.Pcap.{IsPacket}

@@ -1,4 +1,4 @@
-use Rattle.std.proofs.Common.{[], ◌∷◌, refl, arith}
+use Rattle.std.proofs.Common.{[], ◌∷◌, refl}
 use Rattle.capture_pcap.specs.Pcap.IsMagic.{little_nano}
 use Rattle.capture_pcap.proofs.writer.written_header.Goals as goal
 

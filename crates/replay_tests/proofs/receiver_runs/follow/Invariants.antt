@@ -7,7 +7,7 @@ use Rattle.replay_tests.proofs.receiver_runs.follow.Given as goal
 abbrev pub invariant-loop-place : goal.invariant-loop-place
 invariant-loop-place g l = (l.place ≤ length l.link) × (l.turns ≤ l.place)
     × (ticks_taken l.checker ≡ l.place)
-    × (journal_link l.journal ≡ link_by g.R.LineRules g.M.Mac g.B (direction_of l.checker))
+    × (journal_link l.journal ≡ link_by g.R.LineRules g.M.Mac g.row.B (direction_of l.checker))
     × Fits l.journal (g.S.SlotDisk.told l.disk)
 
 abbrev pub decreases-loop-place : goal.decreases-loop-place

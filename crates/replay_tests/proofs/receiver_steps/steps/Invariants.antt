@@ -6,5 +6,5 @@ use Rattle.replay_tests.proofs.receiver_steps.steps.Given as goal
 
 abbrev pub invariant-loop-letter : goal.invariant-loop-letter
 invariant-loop-letter g l = (ticks_taken l.checker ≡ l.letter-index)
-    × (journal_link l.journal ≡ link_by g.R.LineRules g.M.Mac g.B (direction_of l.checker))
+    × (journal_link l.journal ≡ link_by g.R.LineRules g.M.Mac g.row.B (direction_of l.checker))
     × Fits l.journal (g.S.SlotDisk.told l.disk)

@@ -6,5 +6,5 @@ use Rattle.seal_transmitter.proofs.tests.steps.Given as goal
 
 abbrev pub invariant-loop-letter : goal.invariant-loop-letter
 invariant-loop-letter g l = (ticks_taken l.sealer ≡ l.letter-index)
-    × (journal_link l.journal ≡ link_by g.R.LineRules g.M.Mac g.B (direction_of l.sealer))
+    × (journal_link l.journal ≡ link_by g.R.LineRules g.M.Mac g.row.B (direction_of l.sealer))
     × Fits l.journal (g.D.SlotDisk.told l.disk)

@@ -1,7 +1,4 @@
-use Rattle.std.proofs.Common.{refl, [], ap}
-use Rattle.byte_walk.specs.Walks.{walk}
-use Rattle.byte_walk.specs.Fields.{before_field}
-use Rattle.capture_pcap.specs.declared.stage.Stage.TheVariants.{Magic}
+use Rattle.std.proofs.Common.{refl}
 use Rattle.capture_pcap.proofs.Reading.{nothing_begins, nothing_walks}
 use Rattle.capture_pcap.proofs.reader.PcapReader.new.Goals as goal
 

@@ -8,7 +8,9 @@ use Rattle.trial_session.proofs.Starting.{is-made, floor-of}
 use Rattle.trial_session.proofs.side.Side.new.Goals as goal
 
 pub init-requires : goal.init-requires
-init-requires g c = subst IsLink (sym c.link-link.ensures) c.requires.links.ab
+init-requires g c = record {
+  link = subst IsLink (sym c.link-link.ensures) c.requires.links.ab;
+}
 
 pub unwrap-journal-requires : goal.unwrap-journal-requires
 unwrap-journal-requires g c =

@@ -1,0 +1,43 @@
+-- A text capture as a list of items: its bytes, each as one.
+use Rattle.std.proofs.Common.{◌≡◌, ◌∙◌, ℕ, List, [], ◌∷◌, ◌++◌, map, Option, Some, None, refl, ap, sym}
+use Rattle.std.proofs.Common.{option_map}
+use Rattle.std.specs.Option.{option_to_list}
+use Rattle.line_stamps.specs.declared.capture.CaptureByte.{CaptureByte}
+use Rattle.line_stamps.specs.declared.seen.Seen.{Seen}
+use Rattle.line_stamps.specs.declared.seen.Seen.TheVariants.{Byte}
+use Rattle.byte_walk.specs.Walks.{Begins, BeginsNone}
+use Rattle.capture_text.specs.CaptureText.{IsTextCapture}
+use Rattle.capture_text.specs.Reader.{IsSeenText}
+
+pub seen-append : (first second : List CaptureByte) → map Byte (first ++ second)
+    ≡ map Byte first ++ map Byte second
+seen-append [] second = refl
+seen-append (byte ∷ first) second = ap (λ x. Byte byte ∷ x) (seen-append first second)
+
+pub seen-one : (byte : Option CaptureByte) → map Byte (option_to_list byte)
+    ≡ option_to_list (option_map Byte byte)
+seen-one (Some byte) = refl
+seen-one None = refl
+
+-- these bytes and one more, as items
+pub seen_more : (bytes : List CaptureByte) (byte : Option CaptureByte) (items : List Seen)
+    → items ≡ map Byte bytes
+    → items ++ option_to_list (option_map Byte byte) ≡ map Byte (bytes ++ option_to_list byte)
+seen_more bytes byte items e =
+    ap (λ x. x ++ option_to_list (option_map Byte byte)) e
+    ∙ ap (λ x. map Byte bytes ++ x) (sym (seen-one byte))
+    ∙ sym (seen-append bytes (option_to_list byte))
+
+-- each text that goes on so has these items first
+pub seen_each : (text : List ℕ) (bytes : List CaptureByte) (items : List Seen)
+    → Begins IsTextCapture text bytes → items ≡ map Byte bytes → (more : List ℕ) (all : List Seen)
+    → IsSeenText (text ++ more) all → (others : List Seen) × (all ≡ items ++ others)
+seen_each text bytes items begins e = λ more all whole.
+    let goes_on = begins.each more whole.bytes whole.right in (
+      map Byte goes_on.0,
+      whole.items_are ∙ ap (map Byte) goes_on.1 ∙ seen-append bytes goes_on.0
+          ∙ ap (λ x. x ++ map Byte goes_on.0) (sym e),
+    )
+
+pub seen_none : (text : List ℕ) → BeginsNone IsTextCapture text → BeginsNone IsSeenText text
+seen_none text none = λ more items whole. none more whole.bytes whole.right

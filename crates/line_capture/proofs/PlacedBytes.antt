@@ -1,0 +1,251 @@
+-- The bytes of a way, placed one after the other, and the ticks that go out with them.
+use Rattle.std.proofs.Common.{◌≡◌, ◌∙◌, ℕ, ◌+◌, ◌<◌, ◌≤◌, ◌^◌, Bool, true, false, cond, List, []}
+use Rattle.std.proofs.Common.{◌∷◌, ◌++◌, length, take, get_or, min, drop, ◌-◌, Option, Some, None, Result, Ok, Err, refl, sym}
+use Rattle.std.proofs.Common.{ap, subst, arith, append_assoc, append-nil, OnOk, OnErr, suc, inr, ◌⊎◌}
+use Rattle.std.proofs.lemmas.List.{take_more}
+use Rattle.yasir_io.specs.declared.Failed.{Failed}
+use Rattle.yasir_io.specs.declared.sink.Sink.{Ghosts as Sink}
+use Rattle.yasir_io.proofs.FlushLaws.{none_flushed, none_flushed_then}
+use Rattle.yasir_ticks.specs.declared.tick.Tick.{Tick}
+use Rattle.tick_drive.specs.Input.{max_ticks}
+use Rattle.line_texts.specs.Sending.{AnswersNoted, SinkTexts, SendsTexts, HasSentFronts, HaveCause}
+use Rattle.line_texts.specs.Texts.{Writing, writing, waiting_in, texts_held, Writes, Pushes}
+use Rattle.line_texts.proofs.Sending.{sends_more, sent_in_part}
+use Rattle.line_texts.proofs.PushedRuns.{pushed_then}
+use Rattle.line_stamps.specs.declared.capture.CaptureByte.{CaptureByte}
+use Rattle.line_stamps.specs.declared.placer.Placer.{Placer}
+use Rattle.line_stamps.specs.declared.placer.Unplaced.{Unplaced}
+use Rattle.line_stamps.specs.declared.placer.Unplaced.TheVariants.{Early, Late, Overlap}
+use Rattle.line_stamps.specs.declared.timing.Timing.{Timing}
+use Rattle.line_stamps.specs.Places.{Spot, spot_of, line_of, last_spot, last_spot_from}
+use Rattle.line_stamps.specs.Placing.{HasTaken, timing_of, answer_at, is_early, overlaps, is_late}
+use Rattle.line_stamps.specs.Placing.{NoneRefused, silence_before, overlap_count}
+use Rattle.line_capture.specs.Placed.{plain, IsFront, NextIs, StopsAt, PlacesByte, SendsFront, Sends}
+use Rattle.line_capture.specs.Placed.{PushesLine, PlacesOne, TakesOne, StopsBefore, PlacesAll}
+use Rattle.line_capture.specs.Placed.{PlacesPart, CountsNext, CountsOverlaps}
+use Rattle.line_capture.proofs.CollectedBytes.{item_parts}
+use Rattle.line_capture.specs.declared.placing.LineStop.{LineStop}
+use Rattle.line_capture.specs.declared.placing.LineStop.TheVariants.{AllPlaced, TooLong}
+use Rattle.line_capture.specs.declared.placing.LineStop.TheVariants as stops
+
+-- ---- one byte more
+
+answer_ok : (early late overlap : Bool) (n silence : ℕ)
+    → cond early (Err Early) (cond late (Err Late) (cond overlap (Err Overlap) (Ok n))) ≡ Ok silence
+    → (early ≡ false) × (overlap ≡ false)
+answer_ok true late overlap n silence is = cc
+answer_ok false true overlap n silence is = cc
+answer_ok false false true n silence is = cc
+answer_ok false false false n silence is = (refl, refl)
+
+none_more : (t : Timing) (last : Option Spot) (front : List CaptureByte) (c : CaptureByte)
+    → NoneRefused t last front → is_early t (last_spot_from t last front) c ≡ false
+    → overlaps t (last_spot_from t last front) c ≡ false → NoneRefused t last (front ++ c ∷ [])
+none_more t last [] c none early overlap = (early, overlap, tt)
+none_more t last (d ∷ front) c none early overlap =
+    (none.0, none.1, none_more t (Some (spot_of t last d)) front c none.2 early overlap)
+
+pub placed_more : (t : Timing) (front : List CaptureByte) (c : CaptureByte) (more : List Tick)
+    → NoneRefused t None front → PlacesByte t front c more → NoneRefused t None (front ++ c ∷ [])
+placed_more t front c more none places =
+    let both = answer_ok (is_early t (last_spot t front) c) (is_late (spot_of t (last_spot t front) c))
+    (overlaps t (last_spot t front) c) (silence_before (last_spot t front) (spot_of t (last_spot t front) c))
+    places.silence places.answer in
+    none_more t None front c none both.0 both.1
+
+-- ---- ticks that are added
+
+module _ {O L : Type 0} (o : Sink O) (l : Sink L) where
+  pub nothing_written : (at : Writing O L) → Writes o l at at (Ok tt)
+  nothing_written at = record {
+    cause = record {
+      out_never_falls = omega arith;
+      log_never_falls = omega arith;
+      failed = tt;
+      out_same = refl;
+      log_same = refl;
+    };
+    flushes = none_flushed o l at.out at.log;
+  }
+
+  pub written_then : (a b c : Writing O L) (result : Result (Unit {0}) Failed)
+      → Writes o l a b (Ok tt) → Writes o l b c result → Writes o l a c result
+  written_then a b c result first second = record {
+    cause = subst (λ n. HaveCause n (o.faults c.out) (l.faults a.log) (l.faults c.log) result)
+        first.cause.out_same
+        (subst (λ n. HaveCause (o.faults b.out) (o.faults c.out) n (l.faults c.log) result)
+        first.cause.log_same second.cause);
+    flushes = none_flushed_then o l a.out b.out c.out a.log b.log c.log first.flushes
+        second.flushes;
+  }
+
+  no_notes : (line run : List Tick) → AnswersNoted plain line run run []
+  no_notes line run = record { ticks_are = refl; note_is = refl }
+
+  run_goes : (old new : Writing O L) (run : List Tick) → Pushes o l old new run [] (Ok tt)
+      → (start : SinkTexts) (line : List Tick) → Sends o l start old line
+      → Sends o l start new (line ++ run)
+  run_goes old new run pushed start line sends =
+      sends_more plain line run run [] (no_notes line run) (waiting_in old.texts)
+      (waiting_in new.texts) start (texts_held o l old) (texts_held o l new) sends tt pushed.adds
+
+  run_stops : (old new : Writing O L) (run : List Tick) (e : Failed)
+      → Pushes o l old new run [] (Err e) → (start : SinkTexts) (line : List Tick)
+      → Sends o l start old line → HasSentFronts plain start (texts_held o l new) (line ++ run)
+  run_stops old new run e pushed start line sends =
+      sent_in_part plain line run run [] (no_notes line run) (waiting_in old.texts)
+      (waiting_in new.texts) start (texts_held o l old) (texts_held o l new) sends e pushed.adds
+
+  -- the first of two runs failed
+  pub first_fails : (old new : Writing O L) (first then : List Tick) (e : Failed)
+      → Pushes o l old new first [] (Err e) → PushesLine o l old new (first ++ then) (Err e)
+  first_fails old new first then e pushed = record {
+    goes = tt;
+    stops = λ start line sends. record {
+      ticks = line ++ first;
+      later = then;
+      is = sym (append_assoc line first then);
+      sent = run_stops old new first e pushed start line sends;
+    };
+    writes = pushed.writes;
+  }
+
+  -- the first of two runs went
+  pub both_go : (old mid new : Writing O L) (first then : List Tick)
+      (result : Result (Unit {0}) Failed) → Pushes o l old mid first [] (Ok tt)
+      → Pushes o l mid new then [] result → PushesLine o l old new (first ++ then) result
+  both_go old mid new first then (Ok x) went pushed =
+      let all = pushed_then o l old mid new first then (Ok x) went pushed in record {
+        goes = run_goes old new (first ++ then) all;
+        stops = tt;
+        writes = all.writes;
+      }
+  both_go old mid new first then (Err e) went pushed =
+      let all = pushed_then o l old mid new first then (Err e) went pushed in record {
+        goes = tt;
+        stops = λ start line sends. record {
+          ticks = line ++ (first ++ then);
+          later = [];
+          is = sym (append-nil _);
+          sent = run_stops old new (first ++ then) e all start line sends;
+        };
+        writes = all.writes;
+      }
+
+  -- ---- the bytes so far
+
+  -- So many bytes of a way were placed, and their ticks were added.
+  pub record SoFar (t : Timing) (placer : Placer) (front : List CaptureByte)
+      (old now : Writing O L) : Type 0 where
+    pub timing : timing_of placer ≡ t
+    pub taken : HasTaken placer front
+    pub placed : NoneRefused t None front
+    pub few : length (line_of t front) ≤ max_ticks
+    pub goes : (start : SinkTexts) → Sends o l start old [] → Sends o l start now (line_of t front)
+    pub writes : Writes o l old now (Ok tt)
+
+  pub none_so_far : (t : Timing) (placer : Placer) (at : Writing O L) → timing_of placer ≡ t
+      → HasTaken placer [] → SoFar t placer [] at at
+  none_so_far t placer at timing taken = record {
+    timing = timing;
+    taken = taken;
+    placed = tt;
+    few = omega arith;
+    goes = λ start sends. sends;
+    writes = nothing_written at;
+  }
+
+  module _ (t : Timing) (placer : Placer) (front : List CaptureByte) (c : CaptureByte)
+      (old now next : Writing O L) (so_far : SoFar t placer front old now) where
+    places_at : (result : Result (Unit {0}) Failed)
+        → (one : PlacesOne o l placer front c now next result) → PlacesByte t front c one.more
+    places_at result one = subst (λ u. PlacesByte u front c one.more) so_far.timing one.places
+
+    pub one_more : (placed : Placer) → TakesOne o l placer placed front c now next
+        → SoFar t placed (front ++ c ∷ []) old next
+    one_more placed one =
+        let at = places_at (Ok tt) one.one in record {
+          timing = one.timing ∙ so_far.timing;
+          taken = one.taken;
+          placed = placed_more t front c one.one.more so_far.placed at;
+          few = at.few;
+          goes = λ start sends. subst (Sends o l start next) (sym at.line)
+              (one.one.pushes.goes start (line_of t front) (so_far.goes start sends));
+          writes = written_then old now next (Ok tt) so_far.writes one.one.pushes.writes;
+        }
+
+    pub one_fails : (cs rest : List CaptureByte) (e : Failed) → cs ≡ (front ++ c ∷ []) ++ rest
+        → PlacesOne o l placer front c now next (Err e) → PlacesPart o l t cs old next e
+    one_fails cs rest e is one =
+        let at = places_at (Err e) one in record {
+          front = front ++ c ∷ [];
+          rest = rest;
+          is_front = record {
+            is = is;
+            placed = placed_more t front c one.more so_far.placed at;
+            few = at.few;
+          };
+          stops = λ start sends. subst (SendsFront start (texts_held o l next)) (sym at.line)
+              (one.pushes.stops start (line_of t front) (so_far.goes start sends));
+          writes = written_then old now next (Err e) so_far.writes one.pushes.writes;
+        }
+
+    pub one_stops : (cs rest : List CaptureByte) (stop : LineStop) (count : ℕ)
+        → cs ≡ front ++ c ∷ rest → count ≡ length front
+        → StopsBefore o l (timing_of placer) front c now next stop
+        → PlacesAll o l t cs old next (record { placed = count; stop = stop })
+    one_stops cs rest stop count is counted stopped = record {
+      front = front;
+      rest = c ∷ rest;
+      is_front = record { is = is; placed = so_far.placed; few = so_far.few };
+      stop = stops_on stop (subst (λ u. StopsAt u front (c ∷ []) stop) so_far.timing stopped.why);
+      placed = counted;
+      goes = λ start sends. subst (λ at. Sends o l start at (line_of t front)) (sym stopped.same)
+          (so_far.goes start sends);
+      writes = subst (λ at. Writes o l old at (Ok tt)) (sym stopped.same) so_far.writes;
+    }
+      where
+        stops_on : (stop : LineStop) → StopsAt t front (c ∷ []) stop
+            → StopsAt t front (c ∷ rest) stop
+        stops_on AllPlaced why = cc
+        stops_on (stops.Unplaced u) why = why
+        stops_on (TooLong n) why = why
+
+  pub next_so_far : (t : Timing) (placer : Placer) (cs : List CaptureByte) (i : ℕ) (d : CaptureByte)
+      (old now : Writing O L) → i < length cs
+      → SoFar t placer (take i cs ++ get_or cs i d ∷ []) old now
+      → SoFar t placer (take (i + 1) cs) old now
+  next_so_far t placer cs i d old now within so_far =
+      subst (λ front. SoFar t placer front old now) (sym (take_more cs i d within)) so_far
+
+  pub all_so_far : (t : Timing) (placer : Placer) (cs front : List CaptureByte)
+      (old now : Writing O L) (count : ℕ) → front ≡ cs → count ≡ length cs
+      → SoFar t placer front old now
+      → PlacesAll o l t cs old now (record { placed = count; stop = AllPlaced })
+  all_so_far t placer cs front old now count is counted so_far = record {
+    front = front;
+    rest = [];
+    is_front = record { is = sym is ∙ sym (append-nil front); placed = so_far.placed; few = so_far.few };
+    stop = refl;
+    placed = counted ∙ ap length (sym is);
+    goes = so_far.goes;
+    writes = so_far.writes;
+  }
+
+-- the first byte that is early or late ends the count
+pub counts_stop : (t : Timing) (cs : List CaptureByte) (i : ℕ) (d : CaptureByte)
+    (placer placed : Placer) (n : ℕ) → i < length cs → timing_of placer ≡ t
+    → HasTaken placer (take i cs) → CountsNext placer placed (take i cs) (get_or cs i d) false
+    → ((xs : List CaptureByte) → HasTaken placed xs
+    → n ≡ min (overlap_count (timing_of placed) xs) (2 ^ 64 - 1))
+    → CountsOverlaps t cs n
+counts_stop t cs i d placer placed n within timing taken both counted =
+    let all = counted (take i cs) (subst (λ p. HasTaken p (take i cs)) (sym both.0) taken) in record {
+      front = take i cs;
+      rest = get_or cs i d ∷ drop (suc i) cs;
+      is = item_parts cs i d within;
+      stop = inr (subst (λ u. (answer_at u (last_spot u (take i cs)) (get_or cs i d) ≡ Err Early)
+          ⊎ (answer_at u (last_spot u (take i cs)) (get_or cs i d) ≡ Err Late)) timing both.1);
+      count_is = subst (λ u. n ≡ min (overlap_count u (take i cs)) (2 ^ 64 - 1))
+          (ap timing_of both.0 ∙ timing) all;
+    }

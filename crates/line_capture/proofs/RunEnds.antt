@@ -1,0 +1,225 @@
+-- How runs of `take` end.
+use Rattle.std.proofs.Common.{◌≡◌, ◌∙◌, ℕ, ◌⊎◌, inl, inr, Bool, true, false, Option, Some, None, refl}
+use Rattle.std.proofs.Common.{sym, ap, subst, List, min, ◌+◌, ◌-◌, ◌^◌, ◌≤◌, [], arith}
+use Rattle.std.specs.Io.KnownBytes.{append_known}
+use Rattle.yasir_io.specs.Output.{GotPrefix}
+use Rattle.line_stamps.specs.declared.capture.Way.TheVariants as way
+use Rattle.replay_status.specs.declared.status.Status.{Status}
+use Rattle.replay_status.specs.declared.status.Status.TheVariants as statuses
+use Rattle.replay_status.specs.Causes.{SinkCause}
+use Rattle.replay_status.specs.Statuses.{fault_line as status_line}
+use Rattle.replay_status.proofs.Logging.{sinks_after}
+use Rattle.line_capture.specs.Formats.{Format}
+use Rattle.line_capture.specs.Outcomes.{status_in}
+use Rattle.line_capture.specs.Placed.{CountsOverlaps}
+use Rattle.line_capture.specs.Takes.{Held, held, stop_outcome, line_outcome, read_outcome, or_else}
+use Rattle.line_capture.specs.Takes.{outcome_of, WritesAll, WritesPart, WritesTaken, TakesFile}
+use Rattle.line_capture.specs.Takes.{TakesRead, TakesInput, Takes, HasNoMemory, is_write_fault}
+use Rattle.line_capture.specs.Captures.{Collects}
+use Rattle.line_capture.specs.Takes.{HasOutcome, timing_for, counts_line, WrittenLines, WrittenFront}
+use Rattle.line_capture.specs.Takes.{is_whole}
+use Rattle.line_stamps.specs.declared.capture.CaptureByte.{CaptureByte}
+use Rattle.line_stamps.specs.declared.timing.Timing.{Timing}
+use Rattle.line_capture.specs.Takes.WritesTaken.{written, failed}
+use Rattle.line_capture.specs.Takes.TakesRead.{no_memory, kept}
+use Rattle.line_capture.specs.Takes.HasOutcome.{same, flush_failed}
+use Rattle.line_capture.specs.Takes.Takes.{no_memory as no_room, read as was_read}
+use Rattle.line_capture.specs.declared.collect.CaptureEnd.{CaptureEnd}
+use Rattle.line_capture.specs.declared.collect.CaptureEnd.TheVariants as ends
+use Rattle.line_capture.specs.declared.collect.Kept.{Kept}
+use Rattle.line_capture.specs.declared.input.ReadEnd.{ReadEnd}
+use Rattle.line_capture.specs.declared.input.ReadEnd.TheVariants.{Whole, Failed, TooLong}
+use Rattle.line_capture.specs.declared.outcome.Outcome.{Outcome}
+use Rattle.line_capture.specs.declared.outcome.Outcome.TheVariants.{Ended, BadCapture}
+use Rattle.line_capture.specs.declared.outcome.Outcome.TheVariants as outcomes
+use Rattle.line_capture.specs.declared.placing.LineEnd.{LineEnd}
+use Rattle.line_capture.specs.declared.placing.LineStop.{LineStop}
+use Rattle.line_capture.specs.declared.placing.LineStop.TheVariants as stops
+use Rattle.line_capture.specs.declared.take.Taking.{Taking}
+use Rattle.line_capture.proofs.Written.{lines_front, all_got}
+
+-- ---- the outcome of what was read and placed
+
+-- These outcomes come of a capture, and no others do.
+record IsOfCapture (read : ReadEnd) (outcome : Outcome) : Type 0 where
+  no_usage : outcome ≡ Ended statuses.Usage → ⊥
+  no_write : is_write_fault outcome ≡ false
+  read_fault : outcome ≡ Ended statuses.ReadFault → read ≡ Failed
+
+of_read : (read : ReadEnd) → IsOfCapture read (read_outcome read)
+of_read Whole = record { no_usage = λ is. cc; no_write = refl; read_fault = λ is. cc }
+of_read Failed = record { no_usage = λ is. cc; no_write = refl; read_fault = λ is. refl }
+of_read TooLong = record { no_usage = λ is. cc; no_write = refl; read_fault = λ is. cc }
+
+of_stop : (read : ReadEnd) (w : _) (placed : ℕ) (stop : LineStop) (other : Outcome)
+    → IsOfCapture read other → IsOfCapture read (or_else (stop_outcome w placed stop) other)
+of_stop read w placed stops.AllPlaced other is = is
+of_stop read w placed (stops.Unplaced why) other is =
+    record { no_usage = λ is. cc; no_write = refl; read_fault = λ is. cc }
+of_stop read w placed (stops.TooLong count) other is =
+    record { no_usage = λ is. cc; no_write = refl; read_fault = λ is. cc }
+
+of_capture : (read : ReadEnd) (end : CaptureEnd) (a b : LineEnd)
+    → IsOfCapture read (outcome_of read end a b)
+of_capture read (ends.Bad bad) a b =
+    record { no_usage = λ is. cc; no_write = refl; read_fault = λ is. cc }
+of_capture read ends.Whole a b = of_stop read way.A a.placed a.stop _
+    (of_stop read way.B b.placed b.stop _ (of_read read))
+of_capture read ends.Open a b = of_stop read way.A a.placed a.stop _
+    (of_stop read way.B b.placed b.stop _ (of_read read))
+
+pub no_write_fault : (read : ReadEnd) (end : CaptureEnd) (a b : LineEnd)
+    → is_write_fault (outcome_of read end a b) ≡ false
+no_write_fault read end a b = (of_capture read end a b).no_write
+
+-- ---- the end of a run
+
+-- the flushes on the way to Done
+pub flushed : (status : Status) → (status ≡ statuses.Done) ⊎ (status ≡ statuses.WriteFault)
+    → HasOutcome (Ended statuses.Done) (Ended status)
+flushed status (inl done) = same (ap Ended done)
+flushed status (inr fault) = flush_failed refl (ap Ended fault)
+
+-- no count rose
+pub calm : (out log : ℕ) (outcome : Outcome) → is_write_fault outcome ≡ false
+    → SinkCause out out log log (status_in outcome)
+calm out log (Ended statuses.Done) none = (refl, refl)
+calm out log (Ended statuses.WriteFault) none = cc
+calm out log (Ended status) none = (refl, omega arith)
+calm out log (BadCapture bad) none = (refl, omega arith)
+calm out log (outcomes.Unplaced w place why) none = (refl, omega arith)
+
+-- behind calls that all went well
+pub sinks_then : (out0 out1 out2 log0 log1 log2 : ℕ) (status : Status) → out1 ≡ out0 → log1 ≡ log0
+    → SinkCause out1 out2 log1 log2 status → SinkCause out0 out2 log0 log2 status
+sinks_then out0 out1 out2 log0 log1 log2 status out log h =
+    subst (λ n. SinkCause n out2 log0 log2 status) out
+    (subst (λ n. SinkCause out1 out2 n log2 status) log h)
+
+-- the sinks' causes with a fault line that was written, or failed
+pub causes_after : (out0 out1 log0 log1 log2 : ℕ) (outcome : Outcome)
+    → SinkCause out0 out1 log0 log1 (status_in outcome) → log1 ≤ log2
+    → ((status : Status) → outcome ≡ Ended status → status_line status ≡ [] → log2 ≡ log1)
+    → SinkCause out0 out1 log0 log2 (status_in outcome)
+causes_after out0 out1 log0 log1 log2 (Ended status) h rises alike =
+    sinks_after out0 out1 log0 log1 log2 status h rises (alike status refl)
+causes_after out0 out1 log0 log1 log2 (BadCapture bad) h rises alike =
+    (h.0, omega (arith, h.1, rises))
+causes_after out0 out1 log0 log1 log2 (outcomes.Unplaced w place why) h rises alike =
+    (h.0, omega (arith, h.1, rises))
+
+module _ (taking : Taking) (k : Kept) (read : ReadEnd) (end : CaptureEnd) (before now : Held)
+    (a b : LineEnd)
+    (lines : WrittenLines (timing_for taking k) taking.ways k before.out now.out a b)
+    (overlaps_a overlaps_b overlaps : ℕ)
+    (overlap_a : CountsOverlaps (timing_for taking k) k.a.items overlaps_a)
+    (overlap_b : CountsOverlaps (timing_for taking k) k.b.items overlaps_b)
+    (sum : overlaps ≡ min (overlaps_a + overlaps_b) (2 ^ 64 - 1))
+    (log : now.log ≡ append_known before.log (counts_line overlaps end k)) where
+  pub ends_taken : (result : Outcome) → HasOutcome (outcome_of read end a b) result
+      → WritesTaken taking k read end before now result
+  ends_taken result (same is) = written (record {
+    a_end = a;
+    b_end = b;
+    lines = lines;
+    overlaps_a = overlaps_a;
+    overlaps_b = overlaps_b;
+    overlap_a = overlap_a;
+    overlap_b = overlap_b;
+    log = log ∙ ap (λ n. append_known before.log (counts_line n end k)) sum;
+    outcome_is = is;
+  })
+  ends_taken result (flush_failed done is) = failed is (record {
+    lines = lines_front (timing_for taking k) taking.ways k before.out now.out a b lines;
+    overlaps = overlaps;
+    log = all_got before.log now.log _ log;
+  })
+
+-- The same, of what the calls say.
+module _ (taking : Taking) (k : Kept) (read : ReadEnd) (end : CaptureEnd) (before now : Held)
+    (t : Timing) (timing : t ≡ timing_for taking k) (a b : LineEnd) (out_now : Option (List ℕ))
+    (lines : WrittenLines t taking.ways k before.out out_now a b)
+    (overlaps : ℕ) (log_mid : Option (List ℕ)) (log_same : log_mid ≡ before.log)
+    (text items : List ℕ) (text_is : text ≡ items)
+    (items_are : items ≡ counts_line overlaps end k) where
+  lines_are : WrittenLines (timing_for taking k) taking.ways k before.out out_now a b
+  lines_are = subst (λ u. WrittenLines u taking.ways k before.out out_now a b) timing lines
+
+  pub log_fails : now.out ≡ out_now → GotPrefix log_mid now.log text
+      → WritesTaken taking k read end before now (Ended statuses.WriteFault)
+  log_fails out got = failed refl (record {
+    lines = subst (λ l. WrittenFront (timing_for taking k) taking.ways k before.out l) (sym out)
+        (lines_front (timing_for taking k) taking.ways k before.out out_now a b lines_are);
+    overlaps = overlaps;
+    log = subst (λ l. GotPrefix before.log now.log l) (text_is ∙ items_are)
+        (subst (λ l. GotPrefix l now.log text) log_same got);
+  })
+
+  pub log_goes : (xs ys : List CaptureByte) (na nb : ℕ) (log_now : Option (List ℕ))
+      (result outcome : Outcome) → xs ≡ k.a.items → ys ≡ k.b.items → CountsOverlaps t xs na
+      → CountsOverlaps t ys nb → overlaps ≡ min (na + nb) (2 ^ 64 - 1)
+      → log_now ≡ append_known log_mid text → now.out ≡ out_now → now.log ≡ log_now
+      → outcome ≡ outcome_of read end a b → HasOutcome outcome result
+      → WritesTaken taking k read end before now result
+  log_goes xs ys na nb log_now result outcome xs_are ys_are count_a count_b sum got out log is has =
+      ends_taken taking k read end before now a b
+      (subst (λ l. WrittenLines (timing_for taking k) taking.ways k before.out l a b) (sym out)
+      lines_are) na nb overlaps
+      (subst (λ u. CountsOverlaps u k.a.items na) timing (subst (λ l. CountsOverlaps t l na) xs_are count_a))
+      (subst (λ u. CountsOverlaps u k.b.items nb) timing (subst (λ l. CountsOverlaps t l nb) ys_are count_b))
+      sum
+      (log ∙ got ∙ ap (λ l. append_known l text) log_same
+      ∙ ap (append_known before.log) (text_is ∙ items_are)) result
+      (subst (λ o. HasOutcome o result) is has)
+
+-- what was read was taken
+pub takes_kept : (format : Format) (taking : Taking) (read : ReadEnd) (file xs : List ℕ)
+    (whole : Bool) (k : Kept) (end : CaptureEnd) (before now : Held) (outcome : Outcome)
+    → whole ≡ is_whole read → xs ≡ file → Collects format taking.ways whole xs k end
+    → WritesTaken taking k read end before now outcome
+    → TakesRead format taking read file before now outcome
+takes_kept format taking read file xs whole k end before now outcome all is collects writes =
+    kept (record {
+      kept = k;
+      end = end;
+      collects = subst (λ w. Collects format taking.ways w file k end) all
+          (subst (λ l. Collects format taking.ways whole l k end) is collects);
+      writes = writes;
+    })
+
+-- ---- what an outcome tells
+
+module _ (format : Format) (taking : Taking) (file : List ℕ) (before now : Held) where
+  taken_usage : (k : Kept) (read : ReadEnd) (end : CaptureEnd) (outcome : Outcome)
+      → WritesTaken taking k read end before now outcome → outcome ≡ Ended statuses.Usage → ⊥
+  taken_usage k read end outcome (written all) is =
+      (of_capture read end all.a_end all.b_end).no_usage (sym all.outcome_is ∙ is)
+  taken_usage k read end outcome (failed fault part) is = cc
+
+  taken_fault : (k : Kept) (read : ReadEnd) (end : CaptureEnd) (outcome : Outcome)
+      → WritesTaken taking k read end before now outcome → outcome ≡ Ended statuses.ReadFault
+      → read ≡ Failed
+  taken_fault k read end outcome (written all) is =
+      (of_capture read end all.a_end all.b_end).read_fault (sym all.outcome_is ∙ is)
+  taken_fault k read end outcome (failed fault part) is = cc
+
+  read_usage : (read : ReadEnd) (outcome : Outcome)
+      → TakesRead format taking read file before now outcome → outcome ≡ Ended statuses.Usage → ⊥
+  read_usage read outcome (no_memory none) is = let h = none.outcome_is in cc
+  read_usage read outcome (kept takes) is =
+      taken_usage takes.kept read takes.end outcome takes.writes is
+
+  pub read_fault_is : (read : ReadEnd) (outcome : Outcome)
+      → TakesRead format taking read file before now outcome
+      → outcome ≡ Ended statuses.ReadFault → read ≡ Failed
+  read_fault_is read outcome (no_memory none) is = let h = none.outcome_is in cc
+  read_fault_is read outcome (kept takes) is =
+      taken_fault takes.kept read takes.end outcome takes.writes is
+
+pub take_usage : (format : Format) (taking : Taking) (in_before in_now : Option (List ℕ))
+    (before now : Held) (outcome : Outcome) → Takes format taking in_before in_now before now outcome
+    → outcome ≡ Ended statuses.Usage → ⊥
+take_usage format taking in_before in_now before now outcome (no_room none) is =
+    let h = none.outcome_is in cc
+take_usage format taking in_before in_now before now outcome (was_read input) is =
+    read_usage format taking input.file before now input.read outcome input.takes is

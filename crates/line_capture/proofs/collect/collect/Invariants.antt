@@ -1,0 +1,11 @@
+use Rattle.std.proofs.Common.{◌≡◌, take}
+use Rattle.line_capture.specs.Collecting.{Collecting}
+use Rattle.line_capture.proofs.collect.collect.Given as goal
+
+-- the bytes so far were read, and what they are is kept
+abbrev pub invariant-loop-b : goal.invariant-loop-b
+invariant-loop-b g l = record {
+  count : l.place ≡ l.b-index;
+  taken : g.F.FormReader.taken l.reader ≡ l.b-index;
+  so_far : Collecting g.F.FormReader l.fn.ways l.reader l.kept (take l.b-index l.file);
+}

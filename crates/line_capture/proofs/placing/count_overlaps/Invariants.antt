@@ -1,0 +1,10 @@
+use Rattle.std.proofs.Common.{◌≡◌, take}
+use Rattle.line_stamps.specs.Placing.{HasTaken, timing_of}
+use Rattle.line_capture.proofs.placing.count_overlaps.Given as goal
+
+-- the bytes so far were counted
+abbrev pub invariant-loop-byte : goal.invariant-loop-byte
+invariant-loop-byte l = record {
+  timing : timing_of l.placer ≡ l.fn.timing;
+  taken : HasTaken l.placer (take l.byte-index l.bytes);
+}

@@ -1,0 +1,45 @@
+-- A capture, collected byte by byte.
+use Rattle.std.specs.Prelude.{◌≡◌, ℕ, true, List, [], ◌∷◌, ◌++◌, length, Option, Some, None}
+use Rattle.line_stamps.specs.declared.seen.Seen.{Seen}
+use Rattle.line_capture.specs.Captures.{HoldsItems, NoError, is_error}
+use Rattle.line_capture.specs.declared.bad_capture.BadCapture.{BadCapture}
+use Rattle.line_capture.specs.declared.bad_capture.BadCapture.TheVariants.{ByteError}
+use Rattle.line_capture.specs.declared.collect.Kept.{Kept}
+use Rattle.line_capture.specs.declared.reader.FormReader.{Ghosts as FormReader}
+use Rattle.line_capture.specs.declared.words.Ways.{Ways}
+
+module _ {F : Type 0} (f : FormReader F) (chosen : Ways) where
+  -- The reader has taken this much of a file, and what it returned is kept.
+  pub record Collecting (reader : F) (kept : Kept) (file : List ℕ) : Type 0 where
+    pub items : List Seen
+    pub stands : f.stands reader file items
+    pub begins : f.format.begins file items
+    pub holds : HoldsItems chosen kept items
+    pub right : NoError items
+
+  -- The byte behind the file is refused by the reader.
+  pub record RefusesNext (kept : Kept) (file : List ℕ) (b : ℕ) (bad : BadCapture) : Type 0 where
+    pub items : List Seen
+    pub begins : f.format.begins file items
+    pub holds : HoldsItems chosen kept items
+    pub right : NoError items
+    pub refused : f.format.refuses file items b bad
+
+  -- The byte behind the file ends an event that tells of an error.
+  pub record ErrorNext (kept : Kept) (file : List ℕ) (b : ℕ) (bad : BadCapture) : Type 0 where
+    pub items : List Seen
+    pub error : Seen
+    pub begins : f.format.begins (file ++ b ∷ []) (items ++ error ∷ [])
+    pub holds : HoldsItems chosen kept items
+    pub right : NoError items
+    pub wrong : is_error error ≡ true
+    pub bad_is : bad ≡ ByteError (length file)
+
+  pub data StopsNext (kept : Kept) (file : List ℕ) (b : ℕ) (bad : BadCapture) : Type 0 where
+    refused : RefusesNext kept file b bad → StopsNext kept file b bad
+    in_error : ErrorNext kept file b bad → StopsNext kept file b bad
+
+  -- what the answer to one byte says
+  abbrev pub CollectsByte : F → Kept → List ℕ → ℕ → Option BadCapture → Type 0
+  CollectsByte reader kept file b None = Collecting reader kept (file ++ b ∷ [])
+  CollectsByte reader kept file b (Some bad) = StopsNext kept file b bad

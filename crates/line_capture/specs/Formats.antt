@@ -1,0 +1,72 @@
+-- The forms of captures: which files are captures, with which bytes of the line and events, and why
+-- others are refused.
+use Rattle.std.specs.Prelude.{◌≡◌, ℕ, List, [], ◌∷◌, ◌++◌, Some, None}
+use Rattle.byte_walk.specs.Walks.{BeginsNone}
+use Rattle.capture_pcap.specs.Pcap.{IsCapture}
+use Rattle.capture_pcap.specs.Reader.{Refuses as RefusesPacket}
+use Rattle.capture_text.specs.Reader.{IsSeenText, Refuses}
+use Rattle.line_stamps.specs.declared.seen.Seen.{Seen}
+use Rattle.line_capture.specs.declared.bad_capture.BadCapture.{BadCapture}
+use Rattle.line_capture.specs.declared.bad_capture.BadCapture.TheVariants.{Text, Pcap, ByteError}
+
+-- A form of captures.
+pub record Format : Type 1 where
+  -- the file is a capture with these items, in its order
+  pub is : List ℕ → List Seen → Type 0
+  -- behind a file so far, with these items so far, this byte is refused so
+  pub refuses : List ℕ → List Seen → ℕ → BadCapture → Type 0
+  -- a file with these items that ends here is refused so
+  pub lacks : List ℕ → List Seen → BadCapture → Type 0
+  -- each capture that begins so has these items first
+  pub begins : List ℕ → List Seen → Type 0
+
+-- Each capture that begins with these bytes has these items first.
+abbrev pub HaveFirst : (List ℕ → List Seen → Type 0) → List ℕ → List Seen → Type 0
+HaveFirst is file items = (more : List ℕ) (all : List Seen) → is (file ++ more) all
+    → (others : List Seen) × (all ≡ items ++ others)
+
+-- No capture is this file.
+abbrev pub IsNone : (List ℕ → List Seen → Type 0) → List ℕ → Type 0
+IsNone is file = (all : List Seen) → is file all → ⊥
+
+-- Behind this much of a file a byte begins no text capture.
+abbrev pub RefusesText : List ℕ → List Seen → ℕ → BadCapture → Type 0
+RefusesText file items b (Text bad) =
+    BeginsNone IsSeenText (file ++ b ∷ []) × Refuses file items (Some b) bad
+RefusesText file items b (Pcap bad) = ⊥
+RefusesText file items b (ByteError offset) = ⊥
+
+-- The file is no text capture, though it begins one.
+abbrev pub LacksText : List ℕ → List Seen → BadCapture → Type 0
+LacksText file items (Text bad) = IsNone IsSeenText file × Refuses file items None bad
+LacksText file items (Pcap bad) = ⊥
+LacksText file items (ByteError offset) = ⊥
+
+abbrev pub text_format : Format
+text_format = record {
+  is = IsSeenText;
+  refuses = RefusesText;
+  lacks = LacksText;
+  begins = HaveFirst IsSeenText;
+}
+
+-- Behind this much of a file a byte ends a field with which no pcap or pcapng file begins.
+abbrev pub RefusesPcap : List ℕ → List Seen → ℕ → BadCapture → Type 0
+RefusesPcap file items b (Pcap bad) =
+    BeginsNone IsCapture (file ++ b ∷ []) × RefusesPacket file items (Some b) bad
+RefusesPcap file items b (Text bad) = ⊥
+RefusesPcap file items b (ByteError offset) = ⊥
+
+-- The file is no pcap or pcapng file, though it begins one.
+abbrev pub LacksPcap : List ℕ → List Seen → BadCapture → Type 0
+LacksPcap file items (Pcap bad) = IsNone IsCapture file × RefusesPacket file items None bad
+LacksPcap file items (Text bad) = ⊥
+LacksPcap file items (ByteError offset) = ⊥
+
+abbrev pub pcap_format : Format
+pcap_format = record {
+  is = IsCapture;
+  refuses = RefusesPcap;
+  lacks = LacksPcap;
+  begins = HaveFirst IsCapture;
+}

@@ -1,0 +1,26 @@
+-- What is read of an input.
+use Rattle.std.specs.Prelude.{◌≡◌, ◌≢◌, ℕ, List, [], ◌++◌, length, Option}
+use Rattle.std.specs.Io.KnownBytes.{prepend_known, IsAtEnd}
+use Rattle.yasir_io.specs.Causes.{Rose}
+use Rattle.tick_drive.specs.Input.{max_bytes}
+use Rattle.line_capture.specs.declared.input.ReadEnd.{ReadEnd}
+use Rattle.line_capture.specs.declared.input.ReadEnd.TheVariants.{Whole, Failed, TooLong}
+
+-- More bytes came than are read: these are the first ones, as many as are read.
+pub record IsTooMuch (before now : Option (List ℕ)) (bytes : List ℕ) : Type 0 where
+  pub more : List ℕ
+  pub some : more ≢ []
+  pub came : before ≡ prepend_known (bytes ++ more) now
+  pub full : length bytes ≡ max_bytes
+
+-- These bytes were read of an input, and its reading ended so.
+abbrev pub ReadsInput : Option (List ℕ) → Option (List ℕ) → List ℕ → ReadEnd → Type 0
+ReadsInput before now bytes Whole = (before ≡ prepend_known bytes now) × IsAtEnd now
+ReadsInput before now bytes Failed = before ≡ prepend_known bytes now
+ReadsInput before now bytes TooLong = IsTooMuch before now bytes
+
+-- The count of faults rose where a read failed, and is as it was in any other case.
+abbrev pub IsReadOf : ℕ → ℕ → ReadEnd → Type 0
+IsReadOf before now Failed = Rose before now
+IsReadOf before now Whole = now ≡ before
+IsReadOf before now TooLong = now ≡ before

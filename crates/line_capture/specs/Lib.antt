@@ -1,0 +1,9 @@
+pub mod Words
+pub mod Formats
+pub mod Captures
+pub mod Inputs
+pub mod Placed
+pub mod Outcomes
+pub mod Takes
+pub mod Programs
+pub mod Collecting

@@ -1,0 +1,76 @@
+-- The exit status and the fault line of each outcome.
+use Rattle.std.specs.Prelude.{◌≡◌, ℕ, List, [], ◌++◌, codes, decimal, Option}
+use Rattle.line_stamps.specs.declared.capture.Way.{Way}
+use Rattle.line_stamps.specs.declared.capture.Way.TheVariants.{A, B}
+use Rattle.line_stamps.specs.declared.placer.Unplaced.{Unplaced}
+use Rattle.line_stamps.specs.declared.placer.Unplaced.TheVariants.{Early, Overlap, Late}
+use Rattle.capture_pcap.specs.declared.fault.PcapFault.{PcapFault}
+use Rattle.capture_pcap.specs.declared.fault.PcapFault.TheVariants as pcap
+use Rattle.capture_text.specs.declared.fault.TextFault.{TextFault}
+use Rattle.capture_text.specs.declared.fault.TextFault.TheVariants as text
+use Rattle.replay_status.specs.Causes.{GotLine, LogsFault}
+use Rattle.replay_status.specs.Statuses.{code_of as status_code, fault_line as status_line}
+use Rattle.replay_status.specs.declared.status.Status.{Status}
+use Rattle.replay_status.specs.declared.status.Status.TheVariants.{Usage}
+use Rattle.line_capture.specs.declared.bad_capture.BadCapture.TheVariants.{Text, Pcap, ByteError}
+use Rattle.line_capture.specs.declared.outcome.Outcome.{Outcome}
+use Rattle.line_capture.specs.declared.outcome.Outcome.TheVariants as outcomes
+use Rattle.line_capture.specs.declared.outcome.Outcome.TheVariants.{Ended, BadCapture}
+
+abbrev pub code_of : Outcome → ℕ
+code_of (Ended status) = status_code status
+code_of (BadCapture bad) = 4
+code_of (outcomes.Unplaced way place why) = 4
+
+abbrev pub text_word : TextFault → List ℕ
+text_word text.Char = codes "char"
+text_word text.Late = codes "late"
+text_word text.Odd = codes "odd"
+text_word text.Empty = codes "empty"
+
+abbrev pub pcap_word : PcapFault → List ℕ
+pcap_word pcap.Magic = codes "magic"
+pcap_word pcap.Link = codes "link"
+pcap_word pcap.Short = codes "short"
+pcap_word pcap.Cut = codes "cut"
+pcap_word pcap.Order = codes "order"
+pcap_word pcap.Size = codes "size"
+pcap_word pcap.Timeless = codes "timeless"
+pcap_word pcap.Resolution = codes "resolution"
+pcap_word pcap.Option = codes "option"
+pcap_word pcap.Interface = codes "interface"
+pcap_word pcap.Late = codes "late"
+pcap_word pcap.End = codes "end"
+
+abbrev pub unplaced_word : Unplaced → List ℕ
+unplaced_word Early = codes "early"
+unplaced_word Overlap = codes "overlap"
+unplaced_word Late = codes "late"
+
+-- a fault line: what is counted, so many of it, and a word for the cause
+abbrev pub counted_line : List ℕ → ℕ → List ℕ → List ℕ
+counted_line what count word =
+    codes "fault: " ++ what ++ decimal count ++ codes " " ++ word ++ codes "\n"
+
+-- the line that the log gets last; none after Done and after a write that failed
+abbrev pub fault_line : Outcome → List ℕ
+fault_line (Ended status) = status_line status
+fault_line (BadCapture (Text bad)) = counted_line (codes "line ") bad.line (text_word bad.why)
+fault_line (BadCapture (Pcap bad)) = counted_line (codes "byte ") bad.offset (pcap_word bad.why)
+fault_line (BadCapture (ByteError offset)) = counted_line (codes "byte ") offset (codes "error")
+fault_line (outcomes.Unplaced A place why) =
+    counted_line (codes "way a byte ") place (unplaced_word why)
+fault_line (outcomes.Unplaced B place why) =
+    counted_line (codes "way b byte ") place (unplaced_word why)
+
+-- What the log has got: the fault line of a refusal, or a front of it where this write failed.
+abbrev pub LogsOutcome : Option (List ℕ) → Option (List ℕ) → ℕ → ℕ → Outcome → Type 0
+LogsOutcome before now faults_before faults_now (Ended status) =
+    LogsFault before now faults_before faults_now status
+LogsOutcome before now faults_before faults_now outcome =
+    GotLine before now faults_before faults_now (fault_line outcome)
+
+-- The status of `link_replay` whose causes an outcome has: those of a refusal of the input.
+abbrev pub status_in : Outcome → Status
+status_in (Ended status) = status
+status_in outcome = Usage

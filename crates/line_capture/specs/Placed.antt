@@ -1,0 +1,172 @@
+-- The line of one way of a capture, as it is written.
+use Rattle.std.specs.Prelude.{◌≡◌, ℕ, ◌<◌, ◌≤◌, ◌-◌, ◌^◌, min, List, [], ◌∷◌, ◌++◌, length, Option}
+use Rattle.std.specs.Prelude.{Result, Ok, Err, OnOk, OnErr, ◌⊎◌, Some, None, Bool, true, false}
+use Rattle.std.specs.Io.KnownBytes.{append_known}
+use Rattle.yasir_io.specs.Output.{GotPrefix}
+use Rattle.yasir_io.specs.declared.Failed.{Failed}
+use Rattle.yasir_io.specs.declared.sink.Sink.{Ghosts as Sink}
+use Rattle.yasir_ticks.specs.CanonicalText.{canonical_text}
+use Rattle.yasir_ticks.specs.declared.tick.Tick.{Tick}
+use Rattle.tick_drive.specs.Input.{max_ticks}
+use Rattle.line_texts.specs.Sending.{LineAndNotes, SinkTexts, SendsTexts, HasSentFronts}
+use Rattle.line_texts.specs.Texts.{Writing, writing, waiting_in, texts_held, Writes}
+use Rattle.line_stamps.specs.declared.capture.CaptureByte.{CaptureByte}
+use Rattle.line_stamps.specs.declared.placer.Placer.{Placer}
+use Rattle.line_stamps.specs.declared.placer.Unplaced.TheVariants.{Early, Late}
+use Rattle.line_stamps.specs.declared.timing.Timing.{Timing}
+use Rattle.line_stamps.specs.Places.{line_of, last_spot}
+use Rattle.line_stamps.specs.Placing.{HasTaken, timing_of, answer_at, NoneRefused, overlap_count}
+use Rattle.line_capture.specs.declared.placing.LineEnd.{LineEnd}
+use Rattle.line_capture.specs.declared.placing.LineStop.{LineStop}
+use Rattle.line_capture.specs.declared.placing.LineStop.TheVariants.{AllPlaced, Unplaced, TooLong}
+
+-- the line itself, and no notes
+abbrev pub plain : LineAndNotes
+plain = record { other_line = λ line. line; note_lines = λ line. [] }
+
+-- These bytes come first, and each of them is placed.
+pub record IsFront (t : Timing) (cs front rest : List CaptureByte) : Type 0 where
+  pub is : cs ≡ front ++ rest
+  pub placed : NoneRefused t None front
+  pub few : length (line_of t front) ≤ max_ticks
+
+-- some byte is next, of which this holds
+abbrev pub NextIs : List CaptureByte → (CaptureByte → Type 0) → Type 0
+NextIs [] Holds = ⊥
+NextIs (c ∷ rest) Holds = Holds c
+
+-- Why no more bytes than these are placed.
+abbrev pub StopsAt : Timing → List CaptureByte → List CaptureByte → LineStop → Type 0
+StopsAt t front rest AllPlaced = rest ≡ []
+StopsAt t front rest (Unplaced why) = NextIs rest (λ c. answer_at t (last_spot t front) c ≡ Err why)
+StopsAt t front rest (TooLong count) =
+    NextIs rest (λ c. (count ≡ length (line_of t (front ++ c ∷ []))) × (max_ticks < count))
+
+-- A line was written, up to the first byte that isn't placed.
+pub record WrittenLine (t : Timing) (cs : List CaptureByte) (before now : Option (List ℕ))
+    (end : LineEnd) : Type 0 where
+  pub front : List CaptureByte
+  pub rest : List CaptureByte
+  pub is_front : IsFront t cs front rest
+  pub stop : StopsAt t front rest end.stop
+  pub placed : end.placed ≡ length front
+  pub text : now ≡ append_known before (canonical_text (line_of t front))
+
+-- A write failed: a front of the text of some first ticks was written.
+pub record WrittenPart (t : Timing) (cs : List CaptureByte) (before now : Option (List ℕ))
+    : Type 0 where
+  pub front : List CaptureByte
+  pub rest : List CaptureByte
+  pub is_front : IsFront t cs front rest
+  pub ticks : List Tick
+  pub later : List Tick
+  pub are : line_of t front ≡ ticks ++ later
+  pub got : GotPrefix before now (canonical_text ticks)
+
+abbrev pub WritesLine : Timing → List CaptureByte → Option (List ℕ) → Option (List ℕ)
+    → Result LineEnd Failed → Type 0
+WritesLine t cs before now (Ok end) = WrittenLine t cs before now end
+WritesLine t cs before now (Err failed) = WrittenPart t cs before now
+
+-- So many bytes overlap the one before them, of those up to the first one that is early or late.
+pub record CountsOverlaps (t : Timing) (cs : List CaptureByte) (count : ℕ) : Type 0 where
+  pub front : List CaptureByte
+  pub rest : List CaptureByte
+  pub is : cs ≡ front ++ rest
+  pub stop : (rest ≡ []) ⊎ NextIs rest (λ c.
+      (answer_at t (last_spot t front) c ≡ Err Early)
+      ⊎ (answer_at t (last_spot t front) c ≡ Err Late))
+  pub count_is : count ≡ min (overlap_count t front) (2 ^ 64 - 1)
+
+-- A byte was counted, or it is early or late.
+abbrev pub CountsNext : Placer → Placer → List CaptureByte → CaptureByte → Bool → Type 0
+CountsNext placer placed cs c true =
+    HasTaken placed (cs ++ c ∷ []) × (timing_of placed ≡ timing_of placer)
+CountsNext placer placed cs c false = (placed ≡ placer)
+    × ((answer_at (timing_of placer) (last_spot (timing_of placer) cs) c ≡ Err Early)
+    ⊎ (answer_at (timing_of placer) (last_spot (timing_of placer) cs) c ≡ Err Late))
+
+-- A byte is placed behind others, which adds these ticks to the line.
+pub record PlacesByte (t : Timing) (cs : List CaptureByte) (c : CaptureByte) (more : List Tick)
+    : Type 0 where
+  pub silence : ℕ
+  pub answer : answer_at t (last_spot t cs) c ≡ Ok silence
+  pub line : line_of t (cs ++ c ∷ []) ≡ line_of t cs ++ more
+  pub few : length (line_of t (cs ++ c ∷ [])) ≤ max_ticks
+
+-- The sinks have got a front of the texts of some first ticks of a line.
+pub record SendsFront (before now : SinkTexts) (line : List Tick) : Type 0 where
+  pub ticks : List Tick
+  pub later : List Tick
+  pub is : line ≡ ticks ++ later
+  pub sent : HasSentFronts plain before now ticks
+
+module _ {O L : Type 0} (o : Sink O) (l : Sink L) where
+  -- the text of a line is on its way
+  abbrev pub Sends : SinkTexts → Writing O L → List Tick → Type 0
+  Sends start at line = SendsTexts plain (waiting_in at.texts) start (texts_held o l at) line
+
+  -- These ticks were added, or a write failed at one of them.
+  pub record PushesLine (old new : Writing O L) (more : List Tick)
+      (result : Result (Unit {0}) Failed) : Type 0 where
+    pub goes : OnOk result ((start : SinkTexts) (line : List Tick) → Sends start old line
+        → Sends start new (line ++ more))
+    pub stops : OnErr result ((start : SinkTexts) (line : List Tick) → Sends start old line
+        → SendsFront start (texts_held o l new) (line ++ more))
+    pub writes : Writes o l old new result
+
+  -- A byte was placed and its ticks were added, or a write failed.
+  pub record PlacesOne (placer : Placer) (cs : List CaptureByte) (c : CaptureByte)
+      (old new : Writing O L) (result : Result (Unit {0}) Failed) : Type 0 where
+    pub more : List Tick
+    pub places : PlacesByte (timing_of placer) cs c more
+    pub pushes : PushesLine old new more result
+
+  -- The same, and the placer has taken the byte.
+  pub record TakesOne (placer placed : Placer) (cs : List CaptureByte) (c : CaptureByte)
+      (old new : Writing O L) : Type 0 where
+    pub one : PlacesOne placer cs c old new (Ok tt)
+    pub taken : HasTaken placed (cs ++ c ∷ [])
+    pub timing : timing_of placed ≡ timing_of placer
+
+  -- The next byte isn't placed, and nothing was added.
+  pub record StopsBefore (t : Timing) (cs : List CaptureByte) (c : CaptureByte)
+      (old new : Writing O L) (stop : LineStop) : Type 0 where
+    pub why : StopsAt t cs (c ∷ []) stop
+    pub same : new ≡ old
+
+  abbrev pub PlacesNext : Placer → Placer → List CaptureByte → CaptureByte → Writing O L
+      → Writing O L → Result LineStop Failed → Type 0
+  PlacesNext placer placed cs c old new (Ok AllPlaced) = TakesOne placer placed cs c old new
+  PlacesNext placer placed cs c old new (Ok (Unplaced why)) =
+      StopsBefore (timing_of placer) cs c old new (Unplaced why)
+  PlacesNext placer placed cs c old new (Ok (TooLong count)) =
+      StopsBefore (timing_of placer) cs c old new (TooLong count)
+  PlacesNext placer placed cs c old new (Err failed) =
+      PlacesOne placer cs c old new (Err failed)
+
+  -- The bytes of a way were placed and added, up to the first one that isn't placed.
+  pub record PlacesAll (t : Timing) (cs : List CaptureByte) (old new : Writing O L)
+      (end : LineEnd) : Type 0 where
+    pub front : List CaptureByte
+    pub rest : List CaptureByte
+    pub is_front : IsFront t cs front rest
+    pub stop : StopsAt t front rest end.stop
+    pub placed : end.placed ≡ length front
+    pub goes : (start : SinkTexts) → Sends start old [] → Sends start new (line_of t front)
+    pub writes : Writes o l old new (Ok tt)
+
+  -- A write failed at one of them.
+  pub record PlacesPart (t : Timing) (cs : List CaptureByte) (old new : Writing O L)
+      (failed : Failed) : Type 0 where
+    pub front : List CaptureByte
+    pub rest : List CaptureByte
+    pub is_front : IsFront t cs front rest
+    pub stops : (start : SinkTexts) → Sends start old []
+        → SendsFront start (texts_held o l new) (line_of t front)
+    pub writes : Writes o l old new (Err failed)
+
+  abbrev pub PlacesBytes : Timing → List CaptureByte → Writing O L → Writing O L
+      → Result LineEnd Failed → Type 0
+  PlacesBytes t cs old new (Ok end) = PlacesAll t cs old new end
+  PlacesBytes t cs old new (Err failed) = PlacesPart t cs old new failed

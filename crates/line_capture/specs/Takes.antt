@@ -1,0 +1,243 @@
+-- What `take` does.
+use Rattle.std.specs.Prelude.{◌≡◌, ℕ, ◌+◌, ◌^◌, min, Bool, true, false, List, [], ◌∷◌, ◌++◌, codes, ◌-◌, length}
+use Rattle.std.specs.Prelude.{decimal, Option, Some, None, Result, Ok, Err}
+use Rattle.std.specs.Io.KnownBytes.{append_known}
+use Rattle.yasir_io.specs.Output.{GotPrefix}
+use Rattle.yasir_io.specs.declared.Failed.{Failed}
+use Rattle.yasir_ticks.specs.CanonicalText.{canonical_text}
+use Rattle.yasir_ticks.specs.declared.tick.Tick.{Tick}
+use Rattle.tick_drive.specs.Input.{max_bytes}
+use Rattle.tick_drive.specs.declared.end.TooMuch.TheVariants.{Ticks, Bytes}
+use Rattle.line_stamps.specs.declared.capture.CaptureByte.{CaptureByte}
+use Rattle.line_stamps.specs.declared.capture.Way.{Way}
+use Rattle.line_stamps.specs.declared.capture.Way.TheVariants as way
+use Rattle.line_stamps.specs.declared.timing.Timing.{Timing}
+use Rattle.line_stamps.specs.Places.{line_of}
+use Rattle.replay_status.specs.declared.status.Status.TheVariants as statuses
+use Rattle.line_capture.specs.Captures.{Collects}
+use Rattle.line_capture.specs.Formats.{Format}
+use Rattle.line_capture.specs.Inputs.{ReadsInput}
+use Rattle.line_capture.specs.Placed.{IsFront, StopsAt, CountsOverlaps, WrittenLine}
+use Rattle.line_capture.specs.declared.bad_capture.BadCapture.TheVariants.{ByteError}
+use Rattle.line_capture.specs.declared.collect.CaptureEnd.{CaptureEnd}
+use Rattle.line_capture.specs.declared.collect.CaptureEnd.TheVariants as ends
+use Rattle.line_capture.specs.declared.collect.Kept.{Kept}
+use Rattle.line_capture.specs.declared.input.ReadEnd.{ReadEnd}
+use Rattle.line_capture.specs.declared.input.ReadEnd.TheVariants as reads
+use Rattle.line_capture.specs.declared.outcome.Outcome.{Outcome}
+use Rattle.line_capture.specs.declared.outcome.Outcome.TheVariants.{Ended, BadCapture}
+use Rattle.line_capture.specs.declared.outcome.Outcome.TheVariants as outcomes
+use Rattle.line_capture.specs.declared.placing.LineEnd.{LineEnd}
+use Rattle.line_capture.specs.declared.placing.LineStop.{LineStop}
+use Rattle.line_capture.specs.declared.placing.LineStop.TheVariants as stops
+use Rattle.line_capture.specs.declared.take.Taking.{Taking}
+use Rattle.line_capture.specs.declared.words.Ways.{Ways}
+use Rattle.line_capture.specs.declared.words.Ways.TheVariants.{A, B, Both}
+
+-- The time at which tick 0 begins: that of the first byte of either way.
+abbrev pub origin_of : List CaptureByte → List CaptureByte → ℕ
+origin_of [] [] = 0
+origin_of (c ∷ cs) [] = c.start
+origin_of [] (d ∷ ds) = d.start
+origin_of (c ∷ cs) (d ∷ ds) = min c.start d.start
+
+-- how the bytes that are kept of a capture are placed
+abbrev pub timing_for : Taking → Kept → Timing
+timing_for taking kept = record {
+  rate = taking.rate;
+  spacing = taking.spacing;
+  origin = origin_of kept.a.items kept.b.items;
+}
+
+-- what stands between the two lists
+abbrev pub mark_of : Ways → List ℕ
+mark_of A = []
+mark_of B = []
+mark_of Both = codes "%\n"
+
+-- the text of two lines, of which one is empty where one way is taken
+abbrev pub lines_text : Ways → List Tick → List Tick → List ℕ
+lines_text ways a b = canonical_text a ++ (mark_of ways ++ canonical_text b)
+
+-- Of each of two lists some first bytes were placed, and these are the ends of both.
+pub record PlacesWays (t : Timing) (kept : Kept) (a_end b_end : LineEnd) (a b : List Tick)
+    : Type 0 where
+  pub front_a : List CaptureByte
+  pub rest_a : List CaptureByte
+  pub a_is_front : IsFront t kept.a.items front_a rest_a
+  pub a_stop : StopsAt t front_a rest_a a_end.stop
+  pub a_is : a ≡ line_of t front_a
+  pub front_b : List CaptureByte
+  pub rest_b : List CaptureByte
+  pub b_is_front : IsFront t kept.b.items front_b rest_b
+  pub b_stop : StopsAt t front_b rest_b b_end.stop
+  pub b_is : b ≡ line_of t front_b
+  pub a_placed : a_end.placed ≡ length front_a
+  pub b_placed : b_end.placed ≡ length front_b
+
+-- The lines of both ways were written.
+pub record WrittenLines (t : Timing) (ways : Ways) (kept : Kept) (before now : Option (List ℕ))
+    (a_end b_end : LineEnd) : Type 0 where
+  pub a : List Tick
+  pub b : List Tick
+  pub places : PlacesWays t kept a_end b_end a b
+  pub text : now ≡ append_known before (lines_text ways a b)
+
+-- A write failed: a front of the text of some first ticks of each line was written.
+pub record WrittenFront (t : Timing) (ways : Ways) (kept : Kept) (before now : Option (List ℕ))
+    : Type 0 where
+  pub front_a : List CaptureByte
+  pub rest_a : List CaptureByte
+  pub a_is_front : IsFront t kept.a.items front_a rest_a
+  pub a : List Tick
+  pub later_a : List Tick
+  pub a_are : line_of t front_a ≡ a ++ later_a
+  pub front_b : List CaptureByte
+  pub rest_b : List CaptureByte
+  pub b_is_front : IsFront t kept.b.items front_b rest_b
+  pub b : List Tick
+  pub later_b : List Tick
+  pub b_are : line_of t front_b ≡ b ++ later_b
+  pub got : GotPrefix before now (lines_text ways a b)
+
+abbrev pub WritesLines : Timing → Ways → Kept → Option (List ℕ) → Option (List ℕ)
+    → Result (LineEnd × LineEnd) Failed → Type 0
+WritesLines t ways kept before now (Ok ends) =
+    WrittenLines t ways kept before now ends.0 ends.1
+WritesLines t ways kept before now (Err failed) = WrittenFront t ways kept before now
+
+-- ---- how a run ends
+
+abbrev pub stop_outcome : Way → ℕ → LineStop → Option Outcome
+stop_outcome w placed stops.AllPlaced = None
+stop_outcome w placed (stops.Unplaced why) = Some (outcomes.Unplaced w placed why)
+stop_outcome w placed (stops.TooLong count) = Some (Ended (statuses.TooLong Ticks count))
+
+abbrev pub line_outcome : Way → LineEnd → Option Outcome
+line_outcome w end = stop_outcome w end.placed end.stop
+
+abbrev pub read_outcome : ReadEnd → Outcome
+read_outcome reads.Whole = Ended statuses.Done
+read_outcome reads.Failed = Ended statuses.ReadFault
+read_outcome reads.TooLong = Ended (statuses.TooLong Bytes (max_bytes + 1))
+
+abbrev pub or_else : Option Outcome → Outcome → Outcome
+or_else (Some outcome) other = outcome
+or_else None other = other
+
+-- The capture's own refusal comes first, then that of a byte of way A, and then that of one of way
+-- B.
+abbrev pub outcome_of : ReadEnd → CaptureEnd → LineEnd → LineEnd → Outcome
+outcome_of read (ends.Bad bad) a b = BadCapture bad
+outcome_of read ends.Whole a b =
+    or_else (line_outcome way.A a) (or_else (line_outcome way.B b) (read_outcome read))
+outcome_of read ends.Open a b =
+    or_else (line_outcome way.A a) (or_else (line_outcome way.B b) (read_outcome read))
+
+abbrev pub is_whole : ReadEnd → Bool
+is_whole reads.Whole = true
+is_whole reads.Failed = false
+is_whole reads.TooLong = false
+
+-- ---- what was counted
+
+-- whether a byte with an error was met: there the capture is refused
+abbrev pub errors_in : CaptureEnd → List ℕ
+errors_in (ends.Bad (ByteError offset)) = codes "1"
+errors_in end = codes "0"
+
+-- the line that the log gets behind all ticks
+abbrev pub counts_line : ℕ → CaptureEnd → Kept → List ℕ
+counts_line overlaps end kept =
+    codes "counted: overlaps " ++ decimal overlaps ++ codes ", errors " ++ errors_in end
+    ++ codes ", breaks " ++ decimal kept.breaks ++ codes ", control lines "
+    ++ decimal kept.control_lines ++ codes "\n"
+
+-- ---- a capture that was collected
+
+-- What the sinks held.
+pub record Held : Type 0 where
+  pub out : Option (List ℕ)
+  pub log : Option (List ℕ)
+
+abbrev pub held : Option (List ℕ) → Option (List ℕ) → Held
+held out log = record { out = out; log = log }
+
+-- The lines and what was counted were written, and the run ends as both say.
+pub record WritesAll (taking : Taking) (kept : Kept) (read : ReadEnd) (end : CaptureEnd)
+    (before now : Held) (outcome : Outcome) : Type 0 where
+  pub a_end : LineEnd
+  pub b_end : LineEnd
+  pub lines : WrittenLines (timing_for taking kept) taking.ways kept before.out now.out a_end b_end
+  pub overlaps_a : ℕ
+  pub overlaps_b : ℕ
+  pub overlap_a : CountsOverlaps (timing_for taking kept) kept.a.items overlaps_a
+  pub overlap_b : CountsOverlaps (timing_for taking kept) kept.b.items overlaps_b
+  pub log : now.log ≡ append_known before.log
+      (counts_line (min (overlaps_a + overlaps_b) (2 ^ 64 - 1)) end kept)
+  pub outcome_is : outcome ≡ outcome_of read end a_end b_end
+
+-- A write or a flush failed.
+pub record WritesPart (taking : Taking) (kept : Kept) (end : CaptureEnd) (before now : Held)
+    : Type 0 where
+  pub lines : WrittenFront (timing_for taking kept) taking.ways kept before.out now.out
+  pub overlaps : ℕ
+  pub log : GotPrefix before.log now.log (counts_line overlaps end kept)
+
+pub data WritesTaken (taking : Taking) (kept : Kept) (read : ReadEnd) (end : CaptureEnd)
+    (before now : Held) (outcome : Outcome) : Type 0 where
+  written : WritesAll taking kept read end before now outcome
+      → WritesTaken taking kept read end before now outcome
+  failed : outcome ≡ Ended statuses.WriteFault → WritesPart taking kept end before now
+      → WritesTaken taking kept read end before now outcome
+
+-- ---- a file that was read
+
+-- What is kept of the file was written.
+pub record TakesFile (format : Format) (taking : Taking) (read : ReadEnd) (file : List ℕ)
+    (before now : Held) (outcome : Outcome) : Type 0 where
+  pub kept : Kept
+  pub end : CaptureEnd
+  pub collects : Collects format taking.ways (is_whole read) file kept end
+  pub writes : WritesTaken taking kept read end before now outcome
+
+-- There was no memory, and nothing was written.
+pub record HasNoMemory (before now : Held) (outcome : Outcome) : Type 0 where
+  pub outcome_is : outcome ≡ Ended statuses.NoMemory
+  pub same : now ≡ before
+
+pub data TakesRead (format : Format) (taking : Taking) (read : ReadEnd) (file : List ℕ)
+    (before now : Held) (outcome : Outcome) : Type 0 where
+  no_memory : HasNoMemory before now outcome
+      → TakesRead format taking read file before now outcome
+  kept : TakesFile format taking read file before now outcome
+      → TakesRead format taking read file before now outcome
+
+-- ---- an input
+
+-- What was read of the input was taken.
+pub record TakesInput (format : Format) (taking : Taking) (in_before in_now : Option (List ℕ))
+    (before now : Held) (outcome : Outcome) : Type 0 where
+  pub read : ReadEnd
+  pub file : List ℕ
+  pub reads : ReadsInput in_before in_now file read
+  pub takes : TakesRead format taking read file before now outcome
+
+pub data Takes (format : Format) (taking : Taking) (in_before in_now : Option (List ℕ))
+    (before now : Held) (outcome : Outcome) : Type 0 where
+  no_memory : HasNoMemory before now outcome
+      → Takes format taking in_before in_now before now outcome
+  read : TakesInput format taking in_before in_now before now outcome
+      → Takes format taking in_before in_now before now outcome
+
+-- ---- causes
+
+abbrev pub is_write_fault : Outcome → Bool
+is_write_fault (Ended statuses.WriteFault) = true
+is_write_fault outcome = false
+
+-- The run ends so, unless a flush on the way to Done failed.
+pub data HasOutcome (outcome result : Outcome) : Type 0 where
+  same : result ≡ outcome → HasOutcome outcome result
+  flush_failed : outcome ≡ Ended statuses.Done → result ≡ Ended statuses.WriteFault
+      → HasOutcome outcome result

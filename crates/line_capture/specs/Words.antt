@@ -1,0 +1,34 @@
+-- The words of the program's commands.
+use Rattle.std.specs.Prelude.{◌≡◌, ℕ, List, [], ◌∷◌, Option, Some, None, codes}
+use Rattle.line_stamps.specs.RateWords.{rate_word}
+use Rattle.line_stamps.specs.declared.timing.Spacing.{Spacing}
+use Rattle.line_stamps.specs.declared.timing.Spacing.TheVariants.{ByTime, ByRecord}
+use Rattle.line_capture.specs.declared.words.Command.{Command}
+use Rattle.line_capture.specs.declared.words.TakeForm.{TakeForm}
+use Rattle.line_capture.specs.declared.words.TakeForm.TheVariants as take_forms
+use Rattle.line_capture.specs.declared.words.Ways.{Ways}
+use Rattle.line_capture.specs.declared.words.Ways.TheVariants.{A, B, Both}
+
+abbrev pub take_form_word : TakeForm → List ℕ
+take_form_word take_forms.Pcap = codes "pcap"
+take_form_word take_forms.Text = codes "text"
+
+abbrev pub ways_word : Ways → List ℕ
+ways_word A = codes "a"
+ways_word B = codes "b"
+ways_word Both = codes "both"
+
+-- the word behind the ways, where each record is taken for a frame
+abbrev pub spacing_words : Spacing → List (List ℕ)
+spacing_words ByTime = []
+spacing_words ByRecord = codes "frames" ∷ []
+
+-- These words ask for the command.
+abbrev pub IsCommand : List (List ℕ) → Command → Type 0
+IsCommand words command = words ≡ codes "take" ∷ take_form_word command.form
+    ∷ rate_word command.rate ∷ ways_word command.ways ∷ spacing_words command.spacing
+
+-- what the words ask for: a command, or none where they fit no command
+abbrev pub Asks : List (List ℕ) → Option Command → Type 0
+Asks words None = (command : Command) → IsCommand words command → ⊥
+Asks words (Some command) = IsCommand words command

@@ -1,0 +1,16 @@
+//! Why a capture is refused.
+
+use capture_pcap::BadPcap;
+use capture_text::BadText;
+
+/// A refusal of a capture, with its place.
+#[derive(Clone, Copy, Debug, PartialEq, Eq)]
+pub enum BadCapture {
+    /// The input is no text capture.
+    Text(BadText),
+    /// The input is no pcap file of a serial line.
+    Pcap(BadPcap),
+    /// A byte of the line came with a framing or a parity error. `offset` bytes of the capture
+    /// stand before the one that told of it.
+    ByteError { offset: u64 },
+}

@@ -1,0 +1,65 @@
+//! The whole input, kept in memory.
+ghost use Rattle.std.specs.Prelude.{◌≡◌, ◌≤◌, [], ◌++◌, length, take, Option, List, ℕ, IfOk, OnErr};
+ghost use Rattle.yasir_io.specs.Causes.{Rose};
+ghost use Rattle.tick_drive.specs.Input.{max_bytes};
+ghost use Rattle.line_capture.specs.Inputs.{ReadsInput, IsReadOf};
+
+use std::alloc::Global;
+use yasir_io::{NoMemory, Source};
+
+/// The most bytes of an input that are read: 268,435,456.
+pub const MAX_INPUT_BYTES: usize = 268_435_456;
+
+/// How much is read at once at most.
+const PIECE_LEN: usize = 65_536;
+
+/// How the reading of an input ended.
+#[derive(Clone, Copy, Debug, PartialEq, Eq)]
+pub enum ReadEnd {
+    /// At its end.
+    Whole,
+    /// A read failed.
+    Failed,
+    /// One byte more came than is read.
+    TooLong,
+}
+
+/// The bytes of an input, and how its reading ended.
+#[derive(Drop)]
+pub struct Input {
+    pub bytes: Vec<u8>,
+    pub end: ReadEnd,
+}
+
+/// Reads the input to its end, or as far as can be. It takes memory for what it read, up to three
+/// times as much while it grows.
+pub fn read_input<S: Source>(alloc: Global, source: &mut S) -> Result<Input, NoMemory>
+    ensures reads { IfOk result (λ input. ReadsInput (S.left source.old) (S.left source.new)
+        input.bytes.items input.end) }
+    ensures few { IfOk result (λ input. length input.bytes.items ≤ max_bytes) }
+    ensures never_falls { S.faults source.old ≤ S.faults source.new }
+    ensures failed { IfOk result (λ input. IsReadOf (S.faults source.old) (S.faults source.new)
+        input.end) }
+    ensures no_memory { OnErr result (S.faults source.new ≡ S.faults source.old) }
+{
+    let mut bytes = Vec::new(alloc);
+    let mut piece = [0; PIECE_LEN];
+    loop {
+        let Ok(n) = source.read(&mut piece) else {
+            let end = ReadEnd::Failed;
+            return Ok(Input { bytes, end });
+        };
+        if n == 0 {
+            let end = ReadEnd::Whole;
+            return Ok(Input { bytes, end });
+        }
+        let kept = n.min(MAX_INPUT_BYTES - bytes.len());
+        let Ok(()) = bytes.extend_from_slice(&piece[..kept]) else {
+            return Err(NoMemory);
+        };
+        if kept < n {
+            let end = ReadEnd::TooLong;
+            return Ok(Input { bytes, end });
+        }
+    }
+}

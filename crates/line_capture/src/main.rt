@@ -1,0 +1,49 @@
+//! `line_capture`: turns captures of a serial line into tick text.
+#![tactic(auto)]
+
+mod bad_capture;
+mod collect;
+mod input;
+mod outcome;
+mod placing;
+mod program;
+mod reader;
+mod take;
+#[cfg(test)]
+mod tests;
+mod words;
+
+pub use bad_capture::BadCapture;
+pub use collect::{CaptureEnd, Collected, Kept, collect};
+pub use input::{Input, MAX_INPUT_BYTES, ReadEnd, read_input};
+pub use outcome::{Outcome, log_outcome};
+pub use placing::{LineEnd, LineStop, MAX_LINE_TICKS, count_overlaps, write_line};
+pub use program::{run, words_after_name};
+pub use reader::FormReader;
+use std::process::ExitCode;
+pub use take::{Taking, take};
+pub use words::{Command, TakeForm, Usage, Ways, read_words};
+use yasir_io::{StderrSink, StdinSource, StdoutSink};
+
+/// The exit status of a run that was given no words by its runtime: nothing is done.
+const NOT_GIVEN: u8 = 13;
+
+/// The exit status of a run that was given no memory for its words.
+const NO_MEMORY: u8 = 9;
+
+fn main(rt: HostRuntime) -> ExitCode {
+    let Ok(args) = std::env::args(&rt) else {
+        return ExitCode::from(NOT_GIVEN);
+    };
+    let Ok(words) = words_after_name(rt.alloc(), args) else {
+        return ExitCode::from(NO_MEMORY);
+    };
+    let outcome = run(
+        rt.alloc(),
+        words.as_slice(),
+        &mut StdinSource::new(rt.stdin()),
+        &mut StdoutSink::new(rt.stdout()),
+        &mut StderrSink::new(rt.stderr()),
+    );
+    ExitCode::from(outcome.code())
+}

@@ -1,0 +1,135 @@
+//! How a run ends: its exit status and its fault line.
+ghost use Rattle.std.specs.Prelude.{◌≡◌, ◌≤◌, ◌+◌, [], ◌++◌, ◌∷◌, length, codes, decimal};
+ghost use Rattle.replay_status.specs.Statuses.{fault_line as status_line};
+ghost use Rattle.replay_status.specs.declared.status.Status.{Status};
+ghost use Rattle.line_capture.specs.Outcomes.{code_of, fault_line, text_word, pcap_word};
+ghost use Rattle.line_capture.specs.Outcomes.{unplaced_word, LogsOutcome};
+
+use crate::bad_capture::BadCapture;
+use capture_pcap::PcapFault;
+use capture_text::TextFault;
+use line_stamps::{Unplaced, Way};
+use replay_status::{Line, Status, push_decimal, write_fault};
+use yasir_io::{Sink, write_all};
+
+/// How a run of the program ended.
+#[derive(Clone, Copy, Debug, PartialEq, Eq)]
+pub enum Outcome {
+    /// As runs of `link_replay` end too.
+    Ended(Status),
+    /// The input is no capture of its form.
+    BadCapture(BadCapture),
+    /// A byte of a way isn't placed: `place` bytes of the way stand before it.
+    Unplaced { way: Way, place: u64, why: Unplaced },
+}
+
+impl Outcome {
+    /// The program's exit status: 4 where the input is no capture, or has a byte that isn't placed.
+    pub fn code(&self) -> u8
+        ensures { result ≡ code_of self.now }
+    {
+        match self {
+            Outcome::Ended(status) => status.code(),
+            Outcome::BadCapture(_) | Outcome::Unplaced { .. } => 4,
+        }
+    }
+}
+
+fn text_word(why: TextFault) -> &'static [u8]
+    ensures word { result.now ≡ text_word why }
+    ensures short { length result.now ≤ 5 }
+{
+    match why {
+        TextFault::Char => b"char",
+        TextFault::Late => b"late",
+        TextFault::Odd => b"odd",
+        TextFault::Empty => b"empty",
+    }
+}
+
+fn pcap_word(why: PcapFault) -> &'static [u8]
+    ensures word { result.now ≡ pcap_word why }
+    ensures short { length result.now ≤ 10 }
+{
+    match why {
+        PcapFault::Magic => b"magic",
+        PcapFault::Link => b"link",
+        PcapFault::Short => b"short",
+        PcapFault::Cut => b"cut",
+        PcapFault::Order => b"order",
+        PcapFault::Size => b"size",
+        PcapFault::Timeless => b"timeless",
+        PcapFault::Resolution => b"resolution",
+        PcapFault::Option => b"option",
+        PcapFault::Interface => b"interface",
+        PcapFault::Late => b"late",
+        PcapFault::End => b"end",
+    }
+}
+
+fn unplaced_word(why: Unplaced) -> &'static [u8]
+    ensures word { result.now ≡ unplaced_word why }
+    ensures short { length result.now ≤ 7 }
+{
+    match why {
+        Unplaced::Early => b"early",
+        Unplaced::Overlap => b"overlap",
+        Unplaced::Late => b"late",
+    }
+}
+
+// A fault line: what is counted, so many of it, and a word for the cause.
+fn counted_line(what: &[u8], count: u64, word: &[u8]) -> Line
+    requires what { length what.now ≤ 20 }
+    requires word { length word.now ≤ 10 }
+    ensures { result.items
+        ≡ codes "fault: " ++ what.now ++ decimal count ++ codes " " ++ word.now ++ codes "\n" }
+{
+    let mut line = Line::new();
+    line.try_extend_from_slice(b"fault: ").unwrap();
+    line.try_extend_from_slice(what).unwrap();
+    push_decimal(&mut line, count);
+    line.push(b' ');
+    line.try_extend_from_slice(word).unwrap();
+    line.push(b'\n');
+    line
+}
+
+fn bad_capture_line(bad: &BadCapture) -> Line
+    ensures { result.items ≡ fault_line (Outcome.BadCapture bad.now) }
+{
+    match bad {
+        BadCapture::Text(bad) => counted_line(b"line ", bad.line, text_word(bad.why)),
+        BadCapture::Pcap(bad) => counted_line(b"byte ", bad.offset, pcap_word(bad.why)),
+        BadCapture::ByteError { offset } => counted_line(b"byte ", *offset, b"error"),
+    }
+}
+
+fn unplaced_line(way: Way, place: u64, why: Unplaced) -> Line
+    ensures { result.items ≡ fault_line (Outcome.Unplaced way place why) }
+{
+    match way {
+        Way::A => counted_line(b"way a byte ", place, unplaced_word(why)),
+        Way::B => counted_line(b"way b byte ", place, unplaced_word(why)),
+    }
+}
+
+/// Writes the fault line of an outcome to the log. A failure of this write changes nothing.
+pub fn log_outcome<L: Sink>(log: &mut L, outcome: &Outcome)
+    ensures logs { LogsOutcome (L.held log.old) (L.held log.new) (L.faults log.old)
+        (L.faults log.new) outcome.now }
+    ensures never_falls { L.faults log.old ≤ L.faults log.new }
+    ensures flushes { L.flushes log.new ≡ L.flushes log.old }
+    ensures same { (status : Status) → outcome.now ≡ Outcome.Ended status → status_line status ≡ []
+        → L.faults log.new ≡ L.faults log.old }
+{
+    let line = match outcome {
+        Outcome::Ended(status) => {
+            write_fault(log, status);
+            return;
+        }
+        Outcome::BadCapture(bad) => bad_capture_line(bad),
+        Outcome::Unplaced { way, place, why } => unplaced_line(*way, *place, *why),
+    };
+    let _ = write_all(log, line.as_slice());
+}

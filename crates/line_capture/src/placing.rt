@@ -1,0 +1,168 @@
+//! The bytes of a way as ticks, on their way to the output.
+ghost use Rattle.std.specs.Prelude.{◌≡◌, ◌∷◌, [], ◌++◌, List};
+ghost use Rattle.yasir_io.specs.Flushed.{NoneFlushed};
+ghost use Rattle.yasir_ticks.specs.Ticks.{silent};
+ghost use Rattle.yasir_ticks.specs.declared.tick.Tick.TheVariants.{Byte};
+ghost use Rattle.line_texts.specs.Sending.{HaveCause};
+ghost use Rattle.line_texts.specs.Texts.{writing};
+ghost use Rattle.line_stamps.specs.declared.capture.CaptureByte.{CaptureByte};
+ghost use Rattle.line_stamps.specs.Placing.{HasTaken};
+ghost use Rattle.line_capture.specs.Placed.{PushesLine, PlacesBytes, PlacesNext, WritesLine};
+ghost use Rattle.line_capture.specs.Placed.{CountsOverlaps, CountsNext};
+
+use line_stamps::{CaptureByte, Placer, Timing, Unplaced};
+use line_texts::{Texts, push_run};
+use yasir_io::{Failed, Sink};
+use yasir_ticks::TickRun;
+
+/// The most ticks of a line that are written, as many as `link_replay` takes.
+pub const MAX_LINE_TICKS: u64 = 16_777_216;
+
+/// Why no further byte of a way is placed.
+#[derive(Clone, Copy, Debug, PartialEq, Eq)]
+pub enum LineStop {
+    /// There is none.
+    AllPlaced,
+    /// The next one can't be placed.
+    Unplaced(Unplaced),
+    /// With the next one the line would have more ticks than are written: so many.
+    TooLong(u64),
+}
+
+/// How far the bytes of a way were placed.
+#[derive(Clone, Copy, Debug, PartialEq, Eq)]
+pub struct LineEnd {
+    /// How many bytes were placed.
+    pub placed: u64,
+    pub stop: LineStop,
+}
+
+// Adds silent ticks, and a byte behind them.
+#[inline]
+fn push_byte<O: Sink, L: Sink>(
+    texts: &mut Texts,
+    out: &mut O,
+    log: &mut L,
+    silence: u32,
+    byte: u8,
+) -> Result<(), Failed>
+    ensures { PushesLine O.Sink L.Sink (writing texts.old out.old log.old)
+        (writing texts.new out.new log.new) (silent silence ++ Byte byte ∷ []) result }
+{
+    match push_run(texts, out, log, TickRun::Silence(silence)) {
+        Ok(()) => {}
+        Err(Failed) => return Err(Failed),
+    }
+    push_run(texts, out, log, TickRun::Bytes(&[byte]))
+}
+
+// Places the next byte, and adds it and the silence before it to the text.
+#[inline]
+fn place_next<O: Sink, L: Sink>(
+    placer: &mut Placer,
+    byte: CaptureByte,
+    texts: &mut Texts,
+    out: &mut O,
+    log: &mut L,
+) -> Result<LineStop, Failed>
+    requires { (cs : List CaptureByte) × HasTaken placer.old cs }
+    ensures { (cs : List CaptureByte) → HasTaken placer.old cs
+        → PlacesNext O.Sink L.Sink placer.old placer.new cs byte (writing texts.old out.old log.old)
+        (writing texts.new out.new log.new) result }
+{
+    let silence = match placer.place(byte) {
+        Ok(silence) => silence,
+        Err(why) => return Ok(LineStop::Unplaced(why)),
+    };
+    let ticks = placer.ticks();
+    if ticks > MAX_LINE_TICKS {
+        return Ok(LineStop::TooLong(ticks));
+    }
+    match push_byte(texts, out, log, silence as u32, byte.byte) {
+        Ok(()) => Ok(LineStop::AllPlaced),
+        Err(Failed) => Err(Failed),
+    }
+}
+
+// Places the bytes of a way, up to the first one that isn't placed.
+fn place_bytes<O: Sink, L: Sink>(
+    timing: Timing,
+    bytes: &[CaptureByte],
+    texts: &mut Texts,
+    out: &mut O,
+    log: &mut L,
+) -> Result<LineEnd, Failed>
+    ensures { PlacesBytes O.Sink L.Sink timing bytes.now (writing texts.old out.old log.old)
+        (writing texts.new out.new log.new) result }
+{
+    let mut placer = Placer::new(timing);
+    let mut placed: u64 = 0;
+    for byte in bytes {
+        match place_next(&mut placer, *byte, texts, out, log) {
+            Ok(LineStop::AllPlaced) => placed += 1,
+            Ok(LineStop::Unplaced(why)) => {
+                let stop = LineStop::Unplaced(why);
+                return Ok(LineEnd { placed, stop });
+            }
+            Ok(LineStop::TooLong(count)) => {
+                let stop = LineStop::TooLong(count);
+                return Ok(LineEnd { placed, stop });
+            }
+            Err(Failed) => return Err(Failed),
+        }
+    }
+    let stop = LineStop::AllPlaced;
+    Ok(LineEnd { placed, stop })
+}
+
+/// Writes the line of the bytes of a way as tick text, up to the first byte that isn't placed.
+pub fn write_line<O: Sink, L: Sink>(
+    timing: Timing,
+    bytes: &[CaptureByte],
+    out: &mut O,
+    log: &mut L,
+) -> Result<LineEnd, Failed>
+    ensures line { WritesLine timing bytes.now (O.held out.old) (O.held out.new) result }
+    ensures log { L.held log.new ≡ L.held log.old }
+    ensures cause { HaveCause (O.faults out.old) (O.faults out.new) (L.faults log.old)
+        (L.faults log.new) result }
+    ensures flushes { NoneFlushed O.Sink L.Sink out.old out.new log.old log.new }
+{
+    let mut texts = Texts::new();
+    let end = match place_bytes(timing, bytes, &mut texts, out, log) {
+        Ok(end) => end,
+        Err(Failed) => return Err(Failed),
+    };
+    match texts.finish(out, log) {
+        Ok(()) => Ok(end),
+        Err(Failed) => Err(Failed),
+    }
+}
+
+// Takes the next byte, to see whether it overlaps the one before it. Returns whether it is neither
+// early nor late.
+fn count_next(placer: &mut Placer, byte: CaptureByte) -> bool
+    ensures { (cs : List CaptureByte) → HasTaken placer.old cs
+        → CountsNext placer.old placer.new cs byte result }
+{
+    match placer.place(byte) {
+        Ok(_) => true,
+        Err(Unplaced::Overlap) => true,
+        Err(Unplaced::Early) => false,
+        Err(Unplaced::Late) => false,
+    }
+}
+
+/// How many bytes of a way overlap the one before them, up to the first one that is early or late.
+/// The count stands still at 2^64 - 1.
+pub fn count_overlaps(timing: Timing, bytes: &[CaptureByte]) -> u64
+    ensures { CountsOverlaps timing bytes.now result }
+{
+    let mut placer = Placer::new(timing);
+    for byte in bytes {
+        if !count_next(&mut placer, *byte) {
+            return placer.overlaps();
+        }
+    }
+    placer.overlaps()
+}

@@ -1,0 +1,109 @@
+//! A run of the program: its words, and what they ask for.
+ghost use Rattle.std.specs.Prelude.{◌≡◌, ◌↔◌, ◌≤◌, None, map, IfOk, drop};
+ghost use Rattle.std.specs.Vec.Iter.{into_iter_items};
+ghost use Rattle.std.specs.String.{string_bytes};
+ghost use Rattle.yasir_io.specs.Causes.{Rose};
+ghost use Rattle.replay_status.specs.Causes.{SinkCause};
+ghost use Rattle.replay_status.specs.declared.status.Status.{Status};
+ghost use Rattle.line_capture.specs.Programs.{outside, Runs, Answers, RunCauses, format_of};
+ghost use Rattle.line_capture.specs.Outcomes.{status_in};
+ghost use Rattle.line_capture.specs.Takes.{Takes, held};
+ghost use Rattle.line_capture.specs.Words.{Asks};
+ghost use Rattle.line_capture.specs.declared.outcome.Outcome.{Outcome};
+
+use crate::outcome::{Outcome, log_outcome};
+use crate::take::{Taking, take};
+use crate::words::{TakeForm, Usage, read_words};
+use capture_pcap::PcapReader;
+use capture_text::TextReader;
+use replay_status::Status;
+use std::alloc::{AllocError, Global};
+use std::env::Args;
+use yasir_io::{Sink, Source};
+
+/// The words behind the program's name.
+pub fn words_after_name(alloc: Global, args: Args) -> Result<Vec<String>, AllocError>
+    ensures { IfOk result (λ words. words.items ≡ drop 1 (into_iter_items args)) }
+{
+    args.skip(1).collect(alloc)
+}
+
+// Takes a capture of a form.
+fn take_form<S: Source, O: Sink, L: Sink>(
+    alloc: Global,
+    form: TakeForm,
+    taking: Taking,
+    input: &mut S,
+    out: &mut O,
+    log: &mut L,
+) -> Outcome
+    ensures takes { Takes (format_of form) taking (S.left input.old) (S.left input.new)
+        (held (O.held out.old) (L.held log.old)) (held (O.held out.new) (L.held log.new)) result }
+    ensures sinks { SinkCause (O.faults out.old) (O.faults out.new) (L.faults log.old)
+        (L.faults log.new) (status_in result) }
+    ensures input { S.faults input.old ≤ S.faults input.new }
+    ensures read_failed { result ≡ Outcome.Ended Status.ReadFault
+        → Rose (S.faults input.old) (S.faults input.new) }
+{
+    match form {
+        TakeForm::Pcap => take::<PcapReader, S, O, L>(alloc, taking, input, out, log),
+        TakeForm::Text => take::<TextReader, S, O, L>(alloc, taking, input, out, log),
+    }
+}
+
+// What was asked for, but for the fault line.
+fn answer<S: Source, O: Sink, L: Sink>(
+    alloc: Global,
+    words: &[String],
+    input: &mut S,
+    out: &mut O,
+    log: &mut L,
+) -> Outcome
+    ensures usage { (result ≡ Outcome.Ended Status.Usage)
+        ↔ Asks (map string_bytes words.now) None }
+    ensures answers { Answers S.Source O.Sink L.Sink (map string_bytes words.now)
+        (outside input.old out.old log.old) (outside input.new out.new log.new) result }
+    ensures sinks { SinkCause (O.faults out.old) (O.faults out.new) (L.faults log.old)
+        (L.faults log.new) (status_in result) }
+    ensures input { S.faults input.old ≤ S.faults input.new }
+    ensures read_failed { result ≡ Outcome.Ended Status.ReadFault
+        → Rose (S.faults input.old) (S.faults input.new) }
+{
+    let command = match read_words(words) {
+        Ok(command) => command,
+        Err(Usage) => return Outcome::Ended(Status::Usage),
+    };
+    let taking = Taking {
+        rate: command.rate,
+        ways: command.ways,
+        spacing: command.spacing,
+    };
+    take_form(alloc, command.form, taking, input, out, log)
+}
+
+/// The program: reads its words, those after the program's name, and does what they ask for. Behind
+/// all else it writes the fault line of what was refused to the log.
+pub fn run<S: Source, O: Sink, L: Sink>(
+    alloc: Global,
+    words: &[String],
+    input: &mut S,
+    out: &mut O,
+    log: &mut L,
+) -> Outcome
+    // Usage comes exactly where the words ask for no command.
+    ensures usage { (result ≡ Outcome.Ended Status.Usage)
+        ↔ Asks (map string_bytes words.now) None }
+
+    // What was read and written, and the fault line behind it.
+    ensures runs { Runs S.Source O.Sink L.Sink (map string_bytes words.now)
+        (outside input.old out.old log.old) (outside input.new out.new log.new) result }
+
+    // A fault of reading or writing comes only where a count of faults rose. Where the run is done
+    // no write has failed.
+    ensures causes { RunCauses S.Source O.Sink L.Sink (outside input.old out.old log.old)
+        (outside input.new out.new log.new) result }
+{
+    let outcome = answer(alloc, words, input, out, log);
+    log_outcome(log, &outcome);
+    outcome
+}

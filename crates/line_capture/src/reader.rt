@@ -1,0 +1,110 @@
+//! Readers of captures, each of one form, as the program drives them.
+ghost use Rattle.std.specs.Prelude.{◌≡◌, ℕ, ◌+◌, ◌<◌, ◌++◌, ◌∷◌, [], List, OnOk, IfOk, IfErr};
+ghost use Rattle.std.specs.Option.{option_to_list};
+ghost use Rattle.line_stamps.specs.declared.TheConstants.{MAX_BYTES};
+ghost use Rattle.line_stamps.specs.declared.seen.Seen.{Seen};
+ghost use Rattle.line_capture.specs.Formats.{Format};
+
+use crate::bad_capture::BadCapture;
+use capture_pcap::PcapReader;
+use capture_text::TextReader;
+use line_stamps::{CaptureReader, Seen};
+
+/// A reader of captures of one form, whose refusals are told as those of any form.
+pub trait FormReader: Drop {
+    /// The form: which files are captures, and why others are refused.
+    ghost format: { Format };
+
+    /// It has taken this much of a file, and these items are what it returned.
+    ghost stands: { Self → List ℕ → List Seen → Type 0 };
+
+    /// How many bytes it has taken.
+    ghost taken: { Self → ℕ };
+
+    /// A reader before its file.
+    fn begin() -> Self
+        ensures stands { stands result [] [] }
+        ensures begins { format.begins [] [] }
+        ensures taken { taken result ≡ 0 };
+
+    /// Takes the next byte of the file, and returns the byte of the line or the event that it ends.
+    fn feed(&mut self, b: u8) -> Result<Option<Seen>, BadCapture>
+        requires { taken self.old < MAX_BYTES }
+        ensures stands { (file : List ℕ) (items : List Seen) → stands self.old file items
+            → IfOk result (λ seen. stands self.new (file ++ b ∷ [])
+            (items ++ option_to_list seen)) }
+        // Each capture that goes on so has these items first.
+        ensures each { (file : List ℕ) (items : List Seen) → stands self.old file items
+            → IfOk result (λ seen. format.begins (file ++ b ∷ [])
+            (items ++ option_to_list seen)) }
+        ensures refused { (file : List ℕ) (items : List Seen) → stands self.old file items
+            → IfErr result (λ bad. format.refuses file items b bad) }
+        ensures taken { OnOk result (taken self.new ≡ taken self.old + 1) };
+
+    /// Takes the end of the file.
+    fn finish(self) -> Result<(), BadCapture>
+        ensures right { (file : List ℕ) (items : List Seen) → stands self file items
+            → OnOk result (format.is file items) }
+        ensures refused { (file : List ℕ) (items : List Seen) → stands self file items
+            → IfErr result (λ bad. format.lacks file items bad) };
+}
+
+impl FormReader for TextReader {
+    ghost use Rattle.line_capture.specs.Formats.{text_format};
+    ghost use Rattle.capture_text.specs.Reader.{HasSeen, bytes_taken};
+
+    ghost format = { text_format };
+
+    ghost stands = { HasSeen };
+
+    ghost taken = { bytes_taken };
+
+    fn begin() -> Self {
+        <TextReader as CaptureReader>::start()
+    }
+
+    #[inline]
+    fn feed(&mut self, b: u8) -> Result<Option<Seen>, BadCapture> {
+        match <TextReader as CaptureReader>::feed(self, b) {
+            Ok(seen) => Ok(seen),
+            Err(bad) => Err(BadCapture::Text(bad)),
+        }
+    }
+
+    fn finish(self) -> Result<(), BadCapture> {
+        match <TextReader as CaptureReader>::finish(self) {
+            Ok(()) => Ok(()),
+            Err(bad) => Err(BadCapture::Text(bad)),
+        }
+    }
+}
+
+impl FormReader for PcapReader {
+    ghost use Rattle.line_capture.specs.Formats.{pcap_format};
+    ghost use Rattle.capture_pcap.specs.Reader.{StandsFor, bytes_taken};
+
+    ghost format = { pcap_format };
+
+    ghost stands = { StandsFor };
+
+    ghost taken = { bytes_taken };
+
+    fn begin() -> Self {
+        <PcapReader as CaptureReader>::start()
+    }
+
+    #[inline]
+    fn feed(&mut self, b: u8) -> Result<Option<Seen>, BadCapture> {
+        match <PcapReader as CaptureReader>::feed(self, b) {
+            Ok(seen) => Ok(seen),
+            Err(bad) => Err(BadCapture::Pcap(bad)),
+        }
+    }
+
+    fn finish(self) -> Result<(), BadCapture> {
+        match <PcapReader as CaptureReader>::finish(self) {
+            Ok(()) => Ok(()),
+            Err(bad) => Err(BadCapture::Pcap(bad)),
+        }
+    }
+}

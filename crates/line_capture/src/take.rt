@@ -1,0 +1,283 @@
+//! The command `take`: a capture as tick text.
+ghost use Rattle.std.specs.Prelude.{◌≡◌, ◌≤◌, length, false, OnOk, OnErr};
+ghost use Rattle.std.specs.Io.KnownBytes.{append_known};
+ghost use Rattle.yasir_io.specs.Causes.{HasCause, Rose};
+ghost use Rattle.yasir_io.specs.Output.{GotPrefix};
+ghost use Rattle.yasir_io.specs.Flushed.{NoneFlushed};
+ghost use Rattle.line_texts.specs.Sending.{HaveCause};
+ghost use Rattle.tick_drive.specs.Input.{max_bytes};
+ghost use Rattle.replay_status.specs.Causes.{SinkCause};
+ghost use Rattle.replay_status.specs.declared.status.Status.{Status};
+ghost use Rattle.line_capture.specs.Outcomes.{status_in};
+ghost use Rattle.line_capture.specs.Takes.{WritesLines, origin_of, line_outcome, read_outcome};
+ghost use Rattle.line_capture.specs.Takes.{outcome_of, counts_line, held, WritesTaken, TakesRead};
+ghost use Rattle.line_capture.specs.Takes.{Takes, is_write_fault, HasOutcome, mark_of, timing_for};
+ghost use Rattle.line_capture.specs.Takes.{is_whole};
+ghost use Rattle.line_capture.specs.declared.outcome.Outcome.{Outcome};
+
+use crate::bad_capture::BadCapture;
+use crate::collect::{CaptureEnd, Collected, Kept, collect};
+use crate::input::{Input, ReadEnd, read_input};
+use crate::outcome::Outcome;
+use crate::placing::{LineEnd, LineStop, count_overlaps, write_line};
+use crate::reader::FormReader;
+use crate::words::Ways;
+use line_stamps::{CaptureByte, Rate, Spacing, Timing, Way};
+use replay_status::{Line, Status, flush_both, push_decimal};
+use std::alloc::Global;
+use tick_drive::TooMuch;
+use yasir_io::{Failed, NoMemory, Sink, Source, write_all};
+
+/// One byte more than is read of an input.
+const TOO_MANY_BYTES: u64 = 268_435_457;
+
+/// How a capture is taken.
+#[derive(Clone, Copy, Debug, PartialEq, Eq)]
+pub struct Taking {
+    pub rate: Rate,
+    pub ways: Ways,
+    pub spacing: Spacing,
+}
+
+// The time of the first byte of either way; 0 where there is none.
+fn origin(a: &[CaptureByte], b: &[CaptureByte]) -> u64
+    ensures { result ≡ origin_of a.now b.now }
+{
+    match (a, b) {
+        ([], []) => 0,
+        ([first, ..], []) => first.start,
+        ([], [first, ..]) => first.start,
+        ([first, ..], [other, ..]) => first.start.min(other.start),
+    }
+}
+
+// How the bytes that are kept are placed.
+fn timing_for(taking: Taking, kept: &Kept) -> Timing
+    ensures { result ≡ timing_for taking kept.now }
+{
+    Timing {
+        rate: taking.rate,
+        spacing: taking.spacing,
+        origin: origin(&kept.a, &kept.b),
+    }
+}
+
+// Writes the mark between two lists, where both ways are taken.
+fn write_mark<O: Sink>(ways: Ways, out: &mut O) -> Result<(), Failed>
+    ensures ok { OnOk result (O.held out.new ≡ append_known (O.held out.old) (mark_of ways)) }
+    ensures err { OnErr result (GotPrefix (O.held out.old) (O.held out.new) (mark_of ways)) }
+    ensures cause { HasCause (O.faults out.old) (O.faults out.new) result }
+    ensures flushes { O.flushes out.new ≡ O.flushes out.old }
+{
+    match ways {
+        Ways::Both => write_all(out, b"%\n"),
+        Ways::A => write_all(out, b""),
+        Ways::B => write_all(out, b""),
+    }
+}
+
+// Writes the lines of both ways, with a mark between where both are taken.
+fn write_lines<O: Sink, L: Sink>(
+    timing: Timing,
+    ways: Ways,
+    kept: &Kept,
+    out: &mut O,
+    log: &mut L,
+) -> Result<(LineEnd, LineEnd), Failed>
+    ensures lines { WritesLines timing ways kept.now (O.held out.old) (O.held out.new) result }
+    ensures log { L.held log.new ≡ L.held log.old }
+    ensures cause { HaveCause (O.faults out.old) (O.faults out.new) (L.faults log.old)
+        (L.faults log.new) result }
+    ensures flushes { NoneFlushed O.Sink L.Sink out.old out.new log.old log.new }
+{
+    let first = kept.a.as_slice();
+    let second = kept.b.as_slice();
+    let a = match write_line(timing, first, out, log) {
+        Ok(a) => a,
+        Err(Failed) => return Err(Failed),
+    };
+    match write_mark(ways, out) {
+        Ok(()) => {}
+        Err(Failed) => return Err(Failed),
+    }
+    match write_line(timing, second, out, log) {
+        Ok(b) => Ok((a, b)),
+        Err(Failed) => Err(Failed),
+    }
+}
+
+// How a run ends of which a line was placed so far, where that tells.
+fn line_outcome(way: Way, end: LineEnd) -> Option<Outcome>
+    ensures { result ≡ line_outcome way end }
+{
+    match end.stop {
+        LineStop::AllPlaced => None,
+        LineStop::Unplaced(why) => Some(Outcome::Unplaced {
+            way,
+            place: end.placed,
+            why,
+        }),
+        LineStop::TooLong(count) => Some(Outcome::Ended(Status::TooLong {
+            what: TooMuch::Ticks,
+            count,
+        })),
+    }
+}
+
+// How a run ends of which all that was read was taken.
+fn read_outcome(read: ReadEnd) -> Outcome
+    ensures { result ≡ read_outcome read }
+{
+    match read {
+        ReadEnd::Whole => Outcome::Ended(Status::Done),
+        ReadEnd::Failed => Outcome::Ended(Status::ReadFault),
+        ReadEnd::TooLong => Outcome::Ended(Status::TooLong {
+            what: TooMuch::Bytes,
+            count: TOO_MANY_BYTES,
+        }),
+    }
+}
+
+// How a run ends: the capture's own refusal comes first, then that of a byte of way A, and then
+// that of one of way B.
+fn outcome_of(read: ReadEnd, end: CaptureEnd, a: LineEnd, b: LineEnd) -> Outcome
+    ensures { result ≡ outcome_of read end a b }
+{
+    if let CaptureEnd::Bad(bad) = end {
+        return Outcome::BadCapture(bad);
+    }
+    if let Some(outcome) = line_outcome(Way::A, a) {
+        return outcome;
+    }
+    if let Some(outcome) = line_outcome(Way::B, b) {
+        return outcome;
+    }
+    read_outcome(read)
+}
+
+// The line of what was counted.
+fn counts_line(overlaps: u64, end: CaptureEnd, kept: &Kept) -> Line
+    ensures { result.items ≡ counts_line overlaps end kept.now }
+{
+    let mut line = Line::new();
+    line.try_extend_from_slice(b"counted: overlaps ").unwrap();
+    push_decimal(&mut line, overlaps);
+    line.try_extend_from_slice(b", errors ").unwrap();
+    match end {
+        CaptureEnd::Bad(BadCapture::ByteError { .. }) => line.push(b'1'),
+        _ => line.push(b'0'),
+    }
+    line.try_extend_from_slice(b", breaks ").unwrap();
+    push_decimal(&mut line, kept.breaks);
+    line.try_extend_from_slice(b", control lines ").unwrap();
+    push_decimal(&mut line, kept.control_lines);
+    line.push(b'\n');
+    line
+}
+
+// Ends a run whose lines were written: both sinks are flushed on the way to Done.
+fn end_run<O: Sink, L: Sink>(outcome: Outcome, out: &mut O, log: &mut L) -> Outcome
+    requires { is_write_fault outcome ≡ false }
+    ensures outcome { HasOutcome outcome result }
+    ensures out { O.held out.new ≡ O.held out.old }
+    ensures log { L.held log.new ≡ L.held log.old }
+    ensures sinks { SinkCause (O.faults out.old) (O.faults out.new) (L.faults log.old)
+        (L.faults log.new) (status_in result) }
+{
+    match outcome {
+        Outcome::Ended(Status::Done) => Outcome::Ended(flush_both(out, log)),
+        _ => outcome,
+    }
+}
+
+// Writes what was kept of a capture, and what was counted.
+fn write_taken<O: Sink, L: Sink>(
+    taking: Taking,
+    read: ReadEnd,
+    collected: &Collected,
+    out: &mut O,
+    log: &mut L,
+) -> Outcome
+    ensures writes { WritesTaken taking collected.now.kept read collected.now.end
+        (held (O.held out.old) (L.held log.old)) (held (O.held out.new) (L.held log.new)) result }
+    ensures sinks { SinkCause (O.faults out.old) (O.faults out.new) (L.faults log.old)
+        (L.faults log.new) (status_in result) }
+{
+    let kept = &collected.kept;
+    let timing = timing_for(taking, kept);
+    let first = kept.a.as_slice();
+    let second = kept.b.as_slice();
+    let (a, b) = match write_lines(timing, taking.ways, kept, out, log) {
+        Ok(ends) => ends,
+        Err(Failed) => return Outcome::Ended(Status::WriteFault),
+    };
+    let overlaps_a = count_overlaps(timing, first);
+    let overlaps_b = count_overlaps(timing, second);
+    let overlaps = overlaps_a.saturating_add(overlaps_b);
+    let line = counts_line(overlaps, collected.end, kept);
+    match write_all(log, line.as_slice()) {
+        Ok(()) => {}
+        Err(Failed) => return Outcome::Ended(Status::WriteFault),
+    }
+    end_run(outcome_of(read, collected.end, a, b), out, log)
+}
+
+// Whether an input was read to its end.
+fn is_whole(read: ReadEnd) -> bool
+    ensures { result ≡ is_whole read }
+{
+    match read {
+        ReadEnd::Whole => true,
+        ReadEnd::Failed => false,
+        ReadEnd::TooLong => false,
+    }
+}
+
+// Takes what was read of an input.
+fn take_read<F: FormReader, O: Sink, L: Sink>(
+    alloc: Global,
+    taking: Taking,
+    read: &Input,
+    out: &mut O,
+    log: &mut L,
+) -> Outcome
+    requires { length read.now.bytes.items ≤ max_bytes }
+    ensures takes { TakesRead F.format taking read.now.end read.now.bytes.items
+        (held (O.held out.old) (L.held log.old)) (held (O.held out.new) (L.held log.new)) result }
+    ensures sinks { SinkCause (O.faults out.old) (O.faults out.new) (L.faults log.old)
+        (L.faults log.new) (status_in result) }
+{
+    let whole = is_whole(read.end);
+    let file = read.bytes.as_slice();
+    let collected = match collect::<F>(alloc, taking.ways, whole, file) {
+        Ok(collected) => collected,
+        Err(NoMemory) => return Outcome::Ended(Status::NoMemory),
+    };
+    write_taken(taking, read.end, &collected, out, log)
+}
+
+/// Writes the tick text of a capture: the lines of the ways that are taken go to `out`, and what
+/// was counted to the log. What is refused ends the lines where it stands. Memory is taken for the
+/// input and for 16 bytes a byte of the ways, each up to three times as much while it grows; where
+/// there is none, nothing is written.
+pub fn take<F: FormReader, S: Source, O: Sink, L: Sink>(
+    alloc: Global,
+    taking: Taking,
+    input: &mut S,
+    out: &mut O,
+    log: &mut L,
+) -> Outcome
+    ensures takes { Takes F.format taking (S.left input.old) (S.left input.new)
+        (held (O.held out.old) (L.held log.old)) (held (O.held out.new) (L.held log.new)) result }
+    ensures sinks { SinkCause (O.faults out.old) (O.faults out.new) (L.faults log.old)
+        (L.faults log.new) (status_in result) }
+    ensures input { S.faults input.old ≤ S.faults input.new }
+    ensures read_failed { result ≡ Outcome.Ended Status.ReadFault
+        → Rose (S.faults input.old) (S.faults input.new) }
+{
+    let read = match read_input(alloc, input) {
+        Ok(read) => read,
+        Err(NoMemory) => return Outcome::Ended(Status::NoMemory),
+    };
+    take_read::<F, O, L>(alloc, taking, &read, out, log)
+}

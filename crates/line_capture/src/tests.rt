@@ -1,0 +1,201 @@
+//! Runs of the program over ends in memory, which give and take few bytes a call and fail at chosen
+//! calls. The captures and their ticks are those of `examples/captures/`, whose ticks were written
+//! by hand, or come of the model in `scripts/capture_model.py`.
+
+use crate::*;
+use line_stamps::{Unplaced, Way};
+use replay_status::Status;
+use std::alloc::{AllocError, Global};
+use std::process::Abort;
+use std::test::Fail;
+use yasir_io::{MemSink, MemSource, Plan};
+
+/// Two polls of a device.
+const POLLS: &[u8] = b"1690000000.000000 01030000000ac5cd\n1690000000.114583 0103000a0002e409\n";
+
+/// `examples/captures/modbus.pcap`: two polls of a device and its replies, by `text2pcap -l 250`.
+const EXCHANGE: [u8; 182] = [
+    0xD4, 0xC3, 0xB2, 0xA1, 0x02, 0x00, 0x04, 0x00, 0x00, 0x00, 0x00, 0x00, 0x00, 0x00, 0x00, 0x00,
+    0x00, 0x00, 0x04, 0x00, 0xFA, 0x00, 0x00, 0x00, 0x80, 0x5A, 0xBB, 0x64, 0x00, 0x00, 0x00, 0x00,
+    0x14, 0x00, 0x00, 0x00, 0x14, 0x00, 0x00, 0x00, 0x64, 0xBB, 0x5A, 0x80, 0x00, 0x00, 0x00, 0x00,
+    0x01, 0x00, 0x00, 0x00, 0x01, 0x03, 0x00, 0x00, 0x00, 0x0A, 0xC5, 0xCD, 0x80, 0x5A, 0xBB, 0x64,
+    0x53, 0x7D, 0x00, 0x00, 0x25, 0x00, 0x00, 0x00, 0x25, 0x00, 0x00, 0x00, 0x64, 0xBB, 0x5A, 0x80,
+    0x00, 0x00, 0x7D, 0x53, 0x02, 0x00, 0x00, 0x00, 0x01, 0x03, 0x14, 0x08, 0xFD, 0x08, 0xFA, 0x09,
+    0x01, 0x00, 0x65, 0x00, 0x67, 0x00, 0x63, 0x01, 0xF4, 0x00, 0x00, 0x00, 0x00, 0x00, 0x01, 0x98,
+    0xD2, 0x80, 0x5A, 0xBB, 0x64, 0x97, 0xBF, 0x01, 0x00, 0x14, 0x00, 0x00, 0x00, 0x14, 0x00, 0x00,
+    0x00, 0x64, 0xBB, 0x5A, 0x80, 0x00, 0x01, 0xBF, 0x97, 0x01, 0x00, 0x00, 0x00, 0x01, 0x03, 0x00,
+    0x0A, 0x00, 0x02, 0xE4, 0x09, 0x80, 0x5A, 0xBB, 0x64, 0x1C, 0x19, 0x02, 0x00, 0x11, 0x00, 0x00,
+    0x00, 0x11, 0x00, 0x00, 0x00, 0x64, 0xBB, 0x5A, 0x80, 0x00, 0x02, 0x19, 0x1C, 0x02, 0x00, 0x00,
+    0x00, 0x01, 0x83, 0x02, 0xC0, 0xF1,
+];
+
+/// `examples/captures/errors.pcap`: a poll with a parity error behind its third byte.
+const ERRORS: [u8; 172] = [
+    0xD4, 0xC3, 0xB2, 0xA1, 0x02, 0x00, 0x04, 0x00, 0x00, 0x00, 0x00, 0x00, 0x00, 0x00, 0x00, 0x00,
+    0x00, 0x00, 0x04, 0x00, 0xFA, 0x00, 0x00, 0x00, 0x80, 0x5A, 0xBB, 0x64, 0x00, 0x00, 0x00, 0x00,
+    0x0F, 0x00, 0x00, 0x00, 0x0F, 0x00, 0x00, 0x00, 0x64, 0xBB, 0x5A, 0x80, 0x00, 0x00, 0x00, 0x00,
+    0x01, 0x00, 0x00, 0x00, 0x01, 0x03, 0x00, 0x80, 0x5A, 0xBB, 0x64, 0x6D, 0x0D, 0x00, 0x00, 0x0C,
+    0x00, 0x00, 0x00, 0x0C, 0x00, 0x00, 0x00, 0x64, 0xBB, 0x5A, 0x80, 0x00, 0x00, 0x0D, 0x6D, 0x08,
+    0x00, 0x00, 0x00, 0x80, 0x5A, 0xBB, 0x64, 0x6D, 0x0D, 0x00, 0x00, 0x11, 0x00, 0x00, 0x00, 0x11,
+    0x00, 0x00, 0x00, 0x64, 0xBB, 0x5A, 0x80, 0x00, 0x00, 0x0D, 0x6D, 0x01, 0x00, 0x00, 0x00, 0x00,
+    0x00, 0x0A, 0xC5, 0xCD, 0x80, 0x5A, 0xBB, 0x64, 0x53, 0x7D, 0x00, 0x00, 0x0C, 0x00, 0x00, 0x00,
+    0x0C, 0x00, 0x00, 0x00, 0x64, 0xBB, 0x5A, 0x80, 0x00, 0x00, 0x7D, 0x53, 0x07, 0x00, 0x00, 0x00,
+    0x80, 0x5A, 0xBB, 0x64, 0x40, 0x9C, 0x00, 0x00, 0x0C, 0x00, 0x00, 0x00, 0x0C, 0x00, 0x00, 0x00,
+    0x64, 0xBB, 0x5A, 0x80, 0x00, 0x00, 0x9C, 0x40, 0x09, 0x00, 0x00, 0x00,
+];
+
+/// The ticks of the polls in it.
+const POLL_TICKS: &[u8] = b"+01030000000ac5cd\n-92\n+0103000a0002e409\n";
+
+/// The ticks of both ways.
+const BOTH_TICKS: &[u8] = b"+01030000000ac5cd\n-92\n+0103000a0002e409\n%\n-28\n\
++01031408fd08fa090100650067006301f400000000000198d2\n-67\n+018302c0f1\n";
+
+/// Nothing that is worth a note.
+const NO_COUNTS: &[u8] = b"counted: overlaps 0, errors 0, breaks 0, control lines 0\n";
+
+/// This call fails, and none where it is 0.
+fn plan(call: u32) -> Plan {
+    let mut plan = Plan::new();
+    if call > 0 {
+        let _ = plan.try_push(call);
+    }
+    plan
+}
+
+/// How a run ended, and what its sinks hold.
+#[derive(Drop)]
+struct Ran {
+    outcome: Outcome,
+    out: MemSink,
+    log: MemSink,
+}
+
+/// The words of a text, with a space between one and the next.
+fn words_of(alloc: Global, text: &str) -> Result<Vec<String>, AllocError> {
+    let mut words = Vec::new(alloc);
+    for word in text.split(' ') {
+        words.push(String::from_str(alloc, word)?)?;
+    }
+    Ok(words)
+}
+
+/// A run with these words. Calls move a few bytes. Of the reads and of the writes to the output the
+/// calls with these numbers fail, if they are above 0.
+fn run_words(
+    alloc: Global,
+    words: &str,
+    input: &[u8],
+    read_fails: u32,
+    write_fails: u32,
+) -> Result<Ran, Fail> {
+    let words = words_of(alloc, words)?;
+    let mut source = MemSource::new(input, 7, plan(read_fails));
+    let Ok(mut out) = MemSink::with_room(alloc, 1000, 5, plan(write_fails)) else {
+        return Err("no memory".into());
+    };
+    let Ok(mut log) = MemSink::with_room(alloc, 1000, 5, plan(0)) else {
+        return Err("no memory".into());
+    };
+    let outcome = run(alloc, words.as_slice(), &mut source, &mut out, &mut log);
+    Ok(Ran { outcome, out, log })
+}
+
+/// A run ended with this outcome, and its sinks hold these bytes; behind the counts the log has the
+/// fault line.
+fn ended(rt: &impl Abort, ran: &Ran, outcome: Outcome, out: &[u8], log: &[u8]) {
+    assert_eq!(rt; ran.outcome, outcome);
+    assert_eq!(rt; ran.out.held(), out);
+    assert_eq!(rt; ran.log.held(), log);
+}
+
+const DONE: Outcome = Outcome::Ended(Status::Done);
+
+#[test]
+fn captures_are_taken(rt: HostRuntime) -> Result<(), Fail> {
+    let alloc = rt.alloc();
+    let ran = run_words(alloc, "take text 9600x11 a", POLLS, 0, 0)?;
+    ended(&rt, &ran, DONE, POLL_TICKS, NO_COUNTS);
+    let ran = run_words(alloc, "take pcap 9600x11 a", &EXCHANGE, 0, 0)?;
+    ended(&rt, &ran, DONE, POLL_TICKS, NO_COUNTS);
+    let ran = run_words(alloc, "take pcap 9600x11 both", &EXCHANGE, 0, 0)?;
+    ended(&rt, &ran, DONE, BOTH_TICKS, NO_COUNTS);
+    let ran = run_words(alloc, "take text 9600x11 b", POLLS, 0, 0)?;
+    ended(&rt, &ran, DONE, b"", NO_COUNTS);
+    Ok(())
+}
+
+#[test]
+fn records_that_overlap(rt: HostRuntime) -> Result<(), Fail> {
+    let alloc = rt.alloc();
+    let close = b"1.000 0102\n1.001 0304\n";
+    let overlap = Outcome::Unplaced {
+        way: Way::A,
+        place: 2,
+        why: Unplaced::Overlap,
+    };
+    let ran = run_words(alloc, "take text 9600x11 a", close, 0, 0)?;
+    let log = b"counted: overlaps 1, errors 0, breaks 0, control lines 0\n\
+fault: way a byte 2 overlap\n";
+    ended(&rt, &ran, overlap, b"+0102\n", log);
+    let ran = run_words(alloc, "take text 9600x11 a frames", close, 0, 0)?;
+    ended(&rt, &ran, DONE, b"+0102\n-4\n+0304\n", NO_COUNTS);
+    Ok(())
+}
+
+#[test]
+fn captures_that_are_refused(rt: HostRuntime) -> Result<(), Fail> {
+    let alloc = rt.alloc();
+    let ran = run_words(alloc, "take text 9600x11 a", b"1.0 0102\n2.0 010\n", 0, 0)?;
+    let odd = b"counted: overlaps 0, errors 0, breaks 0, control lines 0\nfault: line 2 odd\n";
+    assert_eq!(rt; ran.outcome.code(), 4);
+    // the byte before the digit that is missing was there
+    assert_eq!(rt; ran.out.held(), b"+0102\n-871\n+01\n".as_slice());
+    assert_eq!(rt; ran.log.held(), odd.as_slice());
+    let ran = run_words(alloc, "take pcap 9600x11 a", &EXCHANGE[..181], 0, 0)?;
+    assert_eq!(rt; ran.outcome.code(), 4);
+    assert_eq!(rt; ran.out.held(), POLL_TICKS);
+    let ran = run_words(alloc, "take pcap 9600x11 a", &ERRORS, 0, 0)?;
+    let error = b"counted: overlaps 0, errors 1, breaks 0, control lines 0\nfault: byte 82 error\n";
+    assert_eq!(rt; ran.outcome.code(), 4);
+    assert_eq!(rt; ran.out.held(), b"+010300\n".as_slice());
+    assert_eq!(rt; ran.log.held(), error.as_slice());
+    Ok(())
+}
+
+#[test]
+fn calls_that_fail(rt: HostRuntime) -> Result<(), Fail> {
+    let alloc = rt.alloc();
+    let ran = run_words(alloc, "take text 9600x11 a", POLLS, 6, 0)?;
+    assert_eq!(rt; ran.outcome, Outcome::Ended(Status::ReadFault));
+    assert_eq!(rt; ran.outcome.code(), 5);
+    assert_eq!(rt; ran.out.held(), b"+01030000000ac5cd\n".as_slice());
+    let ran = run_words(alloc, "take text 9600x11 a", POLLS, 0, 2)?;
+    assert_eq!(rt; ran.outcome, Outcome::Ended(Status::WriteFault));
+    assert_eq!(rt; ran.out.held(), b"+0103".as_slice());
+    Ok(())
+}
+
+#[test]
+fn other_words_are_usage(rt: HostRuntime) -> Result<(), Fail> {
+    let alloc = rt.alloc();
+    for words in [
+        "take",
+        "take pcap 9600x11",
+        "take pcap 9600x11 c",
+        "take pcap 299x11 a",
+        "take text 9600x9 a",
+        "take text 9600x11 a frame",
+        "give text 9600x11 a",
+    ] {
+        let ran = run_words(alloc, words, POLLS, 0, 0)?;
+        ended(
+            &rt,
+            &ran,
+            Outcome::Ended(Status::Usage),
+            b"",
+            b"fault: usage\n",
+        );
+    }
+    Ok(())
+}
