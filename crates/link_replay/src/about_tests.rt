@@ -37,7 +37,7 @@ fn run_about(alloc: Global, words: &str, fail: u32) -> Result<Ran, Fail> {
     let ends = Ends {
         key: MemSource::new(KEY, 512, Plan::new()),
         input: MemSource::new(b"+00\n", 512, Plan::new()),
-        out: MemSink::with_room(alloc, 2000, 4000, plan(fail))?,
+        out: MemSink::with_room(alloc, 2000, 512, plan(fail))?,
         log: MemSink::with_room(alloc, 200, 512, Plan::new())?,
     };
     let mut disk = SteadySlots::new([0; 24], [0; 24]);
