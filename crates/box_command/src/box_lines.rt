@@ -60,7 +60,7 @@ impl<B: LineBox> BoxLines<B> {
         }
     }
 
-    // Takes the first ticks of this run, as far as the box forwards them, and answers how many.
+    // Takes the first ticks of this run, as far as the box forwards them, and returns how many.
     #[inline(always)]
     fn forward<O: Sink, L: Sink, D: SlotDisk>(
         &mut self,
@@ -87,7 +87,7 @@ impl<B: LineBox> BoxLines<B> {
     }
 
     // Takes the first ticks of this run, as far as the box answers them with silence or with bytes,
-    // and answers how many.
+    // and returns how many.
     #[inline(always)]
     fn pass<O: Sink, L: Sink, D: SlotDisk>(
         &mut self,

@@ -134,7 +134,7 @@ impl<B: LineBox> KeptBox<B> {
     }
 
     // Takes the first ticks of this run at once, as far as the box has an answer to them, and
-    // answers how many.
+    // returns how many.
     #[inline(always)]
     fn take_front(&mut self, run: TickRun<'_>) -> Result<usize, NoMemory>
         requires room { ticks_kept self.old + length (run_ticks run) ≤ MAX_TICKS }
@@ -177,7 +177,7 @@ impl<B: LineBox> KeptBox<B> {
         }
     }
 
-    /// Takes so many silent ticks.
+    /// Takes this many silent ticks.
     pub(crate) fn wait(&mut self, ticks: u32) -> Result<(), NoMemory>
         requires room { ticks_kept self.old + ticks ≤ MAX_TICKS }
         requires steady { IsSteady B.LinkBox B.line_of self.old }

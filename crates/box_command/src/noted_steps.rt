@@ -1,4 +1,4 @@
-//! What a box answers in a step, on its way to the texts.
+//! What a box returns in a step, on its way to the texts.
 ghost use Rattle.std.specs.Prelude.{◌≡◌, [], ◌∷◌};
 ghost use Rattle.line_texts.specs.Texts.{writing, Pushes};
 ghost use Rattle.box_command.specs.Boxes.{line_of_note};

@@ -19,7 +19,7 @@ pub enum DuplexFault {
     Incoming,
 }
 
-/// What a step of both directions answers.
+/// What a step of both directions returns.
 #[derive(Clone, Copy, Debug, PartialEq, Eq)]
 pub struct PairStep<A, B> {
     /// The tick that is sent on the link.
@@ -99,7 +99,7 @@ impl<S: LinkBox, C: LinkBox> BoxPair<S, C> {
     }
 
     /// Takes the next tick of the device and the next one of the link, the outgoing direction first,
-    /// and answers what leaves in both directions with the notes that fall into this step. `sent`
+    /// and returns what leaves in both directions with the notes that fall into this step. `sent`
     /// and `sent_disk` are the journal of the outgoing direction and its disk, `got` and `got_disk`
     /// those of the incoming one, each as the steps before left it: each journal serves the link of
     /// its box. Fewer than `MAX_TICKS` ticks were taken before in each direction.

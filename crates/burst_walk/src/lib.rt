@@ -1,5 +1,5 @@
 //! The walk over the bursts of a line that transmitter and receiver share: definitions and laws,
-//! and the record of what a step answers.
+//! and the record of what a step returns.
 //!
 //! A box judges each burst of a line in turn. It keeps a state from burst to burst, writes one note
 //! of each burst, and emits at most one burst for it on the other line. `specs/` has such a walk

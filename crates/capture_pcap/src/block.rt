@@ -56,11 +56,11 @@ pub enum Block {
     /// How many bytes of a packet are taken at most.
     Snap(Section, u32),
     /// An option of the interface, of whose options so many fields are left. A unit of its times is
-    /// so many nanoseconds.
+    /// this many nanoseconds.
     Option(Section, u32, u32, u32),
-    /// The last fields of an option, and how many of them; behind them so many fields are left.
+    /// The last fields of an option, and how many of them; behind them this many fields are left.
     Value(Section, u32, u32, u32, u32),
-    /// The resolution of the interface's times, with so many fields from here on.
+    /// The resolution of the interface's times, with this many fields from here on.
     Resolution(Section, u32, u32),
     /// The interface of a packet.
     Interface(Section, u32),
@@ -72,9 +72,9 @@ pub enum Block {
     Captured(Section, u32, u64),
     /// How many bytes this packet had, of which the file has so many.
     Original(Section, u32, u64, u32),
-    /// The packet itself, and then so many bytes.
+    /// The packet itself, and then this many bytes.
     Packet(Section, u32, u32, Body),
-    /// So many bytes that say nothing here.
+    /// This many bytes that say nothing here.
     Rest(Section, u32, u32),
     /// The length of the block again.
     End(Section, u32),
@@ -83,7 +83,7 @@ pub enum Block {
 /// What a field or a byte comes to: what comes next and what was seen, or why it is refused.
 pub type Step = Result<(Block, Option<Seen>), PcapFault>;
 
-/// So many bytes that say nothing here, and the end of the block.
+/// This many bytes that say nothing here, and the end of the block.
 #[inline]
 fn rest(section: Section, size: u32, left: u32) -> Block
     ensures rest { result ≡ rest_or_end section size left }
@@ -96,7 +96,7 @@ fn rest(section: Section, size: u32, left: u32) -> Block
     }
 }
 
-/// Whether a block of at least so many bytes may have this length.
+/// Whether a block of at least this many bytes may have this length.
 fn is_size(size: u32, least: u32) -> bool
     ensures { result ≡ is_size size least }
 {
@@ -170,7 +170,7 @@ fn after_size(section: Section, kind: Kind, size: u32) -> Step
     }
 }
 
-/// A section with one interface more, a unit of whose times is so many nanoseconds.
+/// A section with one interface more, a unit of whose times is this many nanoseconds.
 fn with_interface(section: Section, counts: u32) -> Section
     requires { section.interfaces < 4294967295 }
     ensures { result ≡ section_with section counts }
@@ -187,7 +187,7 @@ fn with_interface(section: Section, counts: u32) -> Section
     }
 }
 
-/// What comes after the options of an interface, with so many fields behind them.
+/// What comes after the options of an interface, with this many fields behind them.
 fn after_options(section: Section, size: u32, left: u32, counts: u32) -> Step
     requires small { 4 * left < 2 ^ 32 }
     requires room { section.interfaces < 4294967295 }
@@ -197,7 +197,7 @@ fn after_options(section: Section, size: u32, left: u32, counts: u32) -> Step
     Ok((rest(with_interface(section, counts), size, 4 * left), None))
 }
 
-/// What comes after an option, with so many fields left.
+/// What comes after an option, with this many fields left.
 fn next_option(section: Section, size: u32, left: u32, counts: u32) -> Step
     requires small { 4 * left < 2 ^ 32 }
     requires room { section.interfaces < 4294967295 }
@@ -211,7 +211,7 @@ fn next_option(section: Section, size: u32, left: u32, counts: u32) -> Step
     }
 }
 
-/// What comes after the head of an option, in front of so many fields.
+/// What comes after the head of an option, in front of this many fields.
 fn after_option(section: Section, size: u32, left: u32, counts: u32, word: &[u8]) -> Step
     requires four { length word.now ≡ 4 }
     requires small { 4 * left < 2 ^ 32 }

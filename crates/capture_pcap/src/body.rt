@@ -9,7 +9,7 @@ ghost use Rattle.capture_pcap.specs.Record.{event_way};
 use crate::{LineEvent, Seen};
 use line_stamps::{CaptureByte, Way};
 
-/// What comes next of a packet of this time, in nanoseconds, with so many bytes of data left.
+/// What comes next of a packet of this time, in nanoseconds, with this many bytes of data left.
 #[derive(Clone, Copy, Debug, PartialEq, Eq)]
 pub enum Body {
     /// The seconds in the RTAC header.
@@ -36,7 +36,7 @@ fn way_of(event: u8) -> Option<Way>
     }
 }
 
-/// The data behind an event, so many bytes.
+/// The data behind an event, this many bytes.
 fn behind_event(start: u64, left: u32, event: u8) -> Next
     ensures { result ≡ body_event start left event }
 {

@@ -61,7 +61,7 @@ fn push_event(out: &mut PacketHeader, way: Way)
     let _ = out.try_extend_from_slice(&[event_of(way), 0, 0, 0]);
 }
 
-/// What stands before so many bytes of data, which start then, in nanoseconds since 1970.
+/// What stands before this many bytes of data, which start then, in nanoseconds since 1970.
 pub fn packet_header(way: Way, start: u64, count: u32) -> PacketHeader
     requires time { start < 2 ^ 32 * 1000000000 }
     requires size { count + 12 < 2 ^ 32 }

@@ -118,7 +118,7 @@ fn in_whole(time: u64, b: u8) -> Step
     }
 }
 
-/// A digit behind the point that counts so many nanoseconds.
+/// A digit behind the point that counts this many nanoseconds.
 fn in_fraction(time: u64, counts: u32, b: u8) -> Step
     requires { is_decimal_digit b ≡ true }
     ensures { result ≡ after_fraction time counts b }

@@ -99,7 +99,7 @@ impl<R: LineRules, M: Mac, const B: usize, const D: usize> Checker<R, M, B, D> {
         }
     }
 
-    /// Takes the next tick of the link, and answers the tick that the device is sent at the same
+    /// Takes the next tick of the link, and returns the tick that the device is sent at the same
     /// place, with the note that falls into this step. The journal is that of the steps before and
     /// serves the receiver's own link, and the disk is the journal's. Fewer than `MAX_TICKS` ticks
     /// were taken before.
@@ -143,7 +143,7 @@ impl<R: LineRules, M: Mac, const B: usize, const D: usize> Checker<R, M, B, D> {
     }
 
     /// Takes the first of these bytes, one a tick, as far as no note falls into their steps and what
-    /// leaves is alike, all bytes or all silence. Answers how many; `left` gets the bytes that
+    /// leaves is alike, all bytes or all silence. Returns how many; `left` gets the bytes that
     /// leave, one for each, or none where silence leaves. With 0 the caller goes on by `step`.
     #[inline]
     pub fn pass_bytes(&mut self, bytes: &[u8], left: &mut RunBytes) -> usize
@@ -172,7 +172,9 @@ impl<R: LineRules, M: Mac, const B: usize, const D: usize> Checker<R, M, B, D> {
         self.pass_over(bytes, left)
     }
 
-    /// The same of so many silent ticks.
+    /// Takes the first of this many silent ticks, as far as no note falls into their steps and what
+    /// leaves is alike, all bytes or all silence. Returns how many; `left` gets the bytes that
+    /// leave, one for each, or none where silence leaves. With 0 the caller goes on by `step`.
     #[inline]
     pub fn pass_silence(&mut self, ticks: u32, left: &mut RunBytes) -> u32
         requires { ticks_taken self.old + ticks ≤ MAX_TICKS }

@@ -10,7 +10,7 @@ ghost use Rattle.check_receiver.specs.Checkings.{KeepsJournal, numbers_noted};
 
 use yasir_io::SlotDisk;
 
-/// A call of the receiver's `step` is a step of an uptime: it answers the number of its note, and a
+/// A call of the receiver's `step` is a step of an uptime: it returns the number of its note, and a
 /// crash at any moment inside it leaves no floor below the one before. The next step goes on from
 /// the last number answered. The calls that take runs have no disk.
 pub fn steps_are_of_an_uptime<D: SlotDisk>()

@@ -20,7 +20,7 @@ use line_rules::{Head, LineRules};
 use spoiler::Outlet;
 
 // Takes the first of these bytes, one a tick, as far as they are alike, all live or none, and begin
-// no burst. Answers how many.
+// no burst. Returns how many.
 #[inline]
 pub fn cut_some<R: LineRules>(cut: &mut BurstCut<R>, bytes: &[u8]) -> usize
     requires { ticks_cut cut.old + length bytes.now ≤ MAX_TICKS }

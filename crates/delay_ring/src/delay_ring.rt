@@ -139,7 +139,7 @@ impl<const D: usize> DelayRing<D> {
         self.oldest += count;
     }
 
-    /// Takes so many silent ticks, `MAX_RUN` at most.
+    /// Takes this many silent ticks, `MAX_RUN` at most.
     #[inline]
     pub fn pass_silence(&mut self, ticks: usize)
         requires { ticks ≤ 64 }
@@ -193,7 +193,7 @@ impl<const D: usize> DelayRing<D> {
         most
     }
 
-    /// The bytes that leave next, of so many ticks, up to the first silent one.
+    /// The bytes that leave next, of this many ticks, up to the first silent one.
     #[inline]
     pub fn front_bytes(&self, most: usize) -> &[u8]
         requires { most ≤ D }

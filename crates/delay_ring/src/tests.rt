@@ -96,7 +96,7 @@ fn runs_are_as_their_ticks(rt: HostRuntime) {
     assert!(rt; takes_runs_as_ticks::<64>(&lengths));
 }
 
-// Whether the silence in front of so many marks, silent up to this place, ends there.
+// Whether the silence in front of this many marks, silent up to this place, ends there.
 fn silence_ends_at(marks: &mut [u8; 71], place: usize) -> bool {
     if place >= 71 {
         return false;

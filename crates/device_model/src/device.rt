@@ -44,7 +44,7 @@ pub trait Device {
         ensures stands { stands result [] }
         ensures nothing { reads [] ≡ [] };
 
-    /// Takes the next tick of the line. Answers the frame that is read in this very tick, and
+    /// Takes the next tick of the line. Returns the frame that is read in this very tick, and
     /// `None` where none is.
     fn step(&mut self, t: Tick) -> Option<FrameAt>
         requires { taken self.old < MAX_TICKS }
@@ -83,7 +83,7 @@ pub trait Device {
         }
     }
 
-    /// Takes so many silent ticks, up to the first one in which a frame is read.
+    /// Takes this many silent ticks, up to the first one in which a frame is read.
     fn wait_some(&mut self, ticks: usize) -> Heard
         requires { taken self.old + ticks ≤ MAX_TICKS }
         ensures some { 0 < ticks → 0 < result.taken }

@@ -83,7 +83,7 @@ impl<R: Hunted> HuntingFamily<R> {
         self.device.frame_bytes()
     }
 
-    /// Takes the next tick of the line. Answers the tick of the first byte of the frame that is read
+    /// Takes the next tick of the line. Returns the tick of the first byte of the frame that is read
     /// in this very tick, which is lent then, and `None` where none is. Fewer than `MAX_TICKS` ticks
     /// were taken before.
     #[inline]

@@ -36,7 +36,7 @@ pub trait LendingDevice: Device {
         ensures bytes { result.now ≡ lent self.now }
         ensures few { length result.now ≤ 292 };
 
-    /// Takes the next tick of the line. Answers the tick of the first byte of the frame that is read
+    /// Takes the next tick of the line. Returns the tick of the first byte of the frame that is read
     /// in this very tick, whose bytes are lent then, and `None` where none is.
     fn step_on(&mut self, t: Tick) -> Option<u64>
         requires { Self.taken self.old < MAX_TICKS }
@@ -76,7 +76,7 @@ pub trait LendingDevice: Device {
         }
     }
 
-    /// Takes so many silent ticks, up to the first one in which a frame is read.
+    /// Takes this many silent ticks, up to the first one in which a frame is read.
     fn wait_on(&mut self, ticks: usize) -> Met
         requires { Self.taken self.old + ticks ≤ MAX_TICKS }
         ensures some { 0 < ticks → 0 < result.taken }

@@ -3,7 +3,7 @@
 /// How long a line has been silent, as a device counts it: up to the silence that parts the line.
 #[derive(Clone, Copy)]
 pub(crate) struct Silence {
-    // so many silent ticks together part the line; with 0 no silence does
+    // this many silent ticks together part the line; with 0 no silence does
     cut: u8,
     // the silent ticks since the last byte, counted up to `cut`
     quiet: u8,
@@ -60,7 +60,7 @@ impl Silence {
         self.cut.saturating_sub(self.quiet)
     }
 
-    // So many silent ticks more, with which the silence doesn't come to part the line.
+    // This many silent ticks more, with which the silence doesn't come to part the line.
     #[inline]
     pub(crate) fn rest(&mut self, ticks: usize)
         requires { (self.old.cut ≤ self.old.quiet) ⊎ (self.old.quiet + ticks < self.old.cut) }

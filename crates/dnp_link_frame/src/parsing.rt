@@ -55,7 +55,7 @@ fn right_in_start(bytes: &[u8]) -> usize
     3
 }
 
-// How many bytes are right of a part with so many bytes of any sort and their CRC.
+// How many bytes are right of a part with this many bytes of any sort and their CRC.
 #[tactic(auto, unfolding(crate::specs::Beginnings::right_in_part))]
 fn right_in_part(bytes: &[u8], len: usize) -> usize
     requires { len ≤ 16 }
@@ -77,7 +77,7 @@ fn right_in_part(bytes: &[u8], len: usize) -> usize
     }
 }
 
-// How many bytes are right of blocks with so many bytes of user data.
+// How many bytes are right of blocks with this many bytes of user data.
 fn right_in_blocks(bytes: &[u8], user_len: usize) -> usize
     requires { user_len ≤ 250 }
     ensures right { result ≡ right_in_blocks (blocks_for user_len) user_len bytes.now }

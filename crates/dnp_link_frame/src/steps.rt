@@ -72,7 +72,7 @@ pub(crate) fn is_header(first: u8, second: u8, len_byte: u8, register: u16) -> b
     first == START[0] && second == START[1] && len_byte >= COUNTED_OF_HEADER && register == RESIDUE
 }
 
-// What a header says of which so many bytes are there.
+// What a header says of which this many bytes are there.
 #[inline]
 pub(crate) fn head_by(len: u16, header_right: bool) -> Head
     ensures { result ≡ head_by len header_right }

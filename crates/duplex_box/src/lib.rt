@@ -47,5 +47,5 @@ pub type Duplex<R, M, const B: usize, const D: usize> = BoxPair<
     Checker<R, M, B, D>,
 >;
 
-/// What its step answers.
+/// What its step returns.
 pub type DuplexStep = PairStep<SealNote, CheckNote>;

@@ -36,7 +36,7 @@ const TRAILER_AB: &[u8] = b"\x00\x01\x01\x4c\x5b\x8d\x33\xc6\xd2\x9a\x34\x70\x13
 
 const TRAILER_BA: &[u8] = b"\x00\x01\x15\x0d\xa5\x68\x30\xaa\x1f\xa9\x41\x7b\xec\xc1";
 
-// The ticks of these runs, and silence up to so many ticks.
+// The ticks of these runs, and silence up to this many ticks.
 fn line_of(alloc: Global, runs: &[TickRun<'_>], count: usize) -> Result<Vec<Tick>, Fail> {
     let mut line = Vec::new(alloc);
     for run in runs {

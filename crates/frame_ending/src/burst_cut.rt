@@ -200,7 +200,7 @@ impl<R: LineRules> BurstCut<R> {
         count
     }
 
-    /// Takes so many silent ticks, if no burst runs, and says how many: all or none.
+    /// Takes this many silent ticks, if no burst runs, and says how many: all or none.
     #[inline]
     pub fn rest(&mut self, ticks: u32) -> u32
         requires { ticks_taken self.old + ticks ≤ MAX_TICKS }
@@ -260,7 +260,7 @@ impl<R: LineRules> BurstCut<R> {
         count
     }
 
-    /// Takes so many silent ticks.
+    /// Takes this many silent ticks.
     #[inline]
     pub fn wait_some(&mut self, ticks: u32)
         requires { ticks_taken self.old + ticks ≤ MAX_TICKS }

@@ -258,7 +258,7 @@ fn step_times(cut: &mut BurstCut<FourBytes>, tick: Tick, times: usize)
 
 const BYTE: u8 = 0x41;
 
-// A value that has taken so many bytes and then so many silent ticks.
+// A value that has taken this many bytes and then this many silent ticks.
 fn begun(bytes: usize, silence: usize) -> BurstCut<FourBytes>
     requires { bytes + silence ≤ 500 }
     ensures { ticks_taken result ≡ bytes + silence }
@@ -269,7 +269,7 @@ fn begun(bytes: usize, silence: usize) -> BurstCut<FourBytes>
     cut
 }
 
-// Takes so many bytes as runs, as far as each is live, and the others by steps.
+// Takes this many bytes as runs, as far as each is live, and the others by steps.
 fn take_by_runs(cut: &mut BurstCut<FourBytes>, len: usize)
     requires length { len ≤ 200 }
     requires room { ticks_taken cut.old + len ≤ 1000 }

@@ -11,7 +11,7 @@ const DIGITS: &[u8; 16] = b"0123456789aBcDEf";
 
 const BYTES: [u8; 8] = [0x01, 0x23, 0x45, 0x67, 0x89, 0xab, 0xcd, 0xef];
 
-// What is read of so many digits and what stands behind them, in pieces of so many bytes.
+// What is read of so many digits and what stands behind them, in pieces of this many bytes.
 fn read(
     rt: &impl Abort,
     alloc: Global,

@@ -31,7 +31,7 @@ impl<const POLY: u16> CrcTable<POLY> {
         }
     }
 
-    // What the shifts of so many bytes make of each byte.
+    // What the shifts of this many bytes make of each byte.
     fn after_bytes(count: u8) -> [u16; 256]
         requires { count ≤ 8 }
         ensures { (byte : ℕ) → byte < 256

@@ -61,7 +61,7 @@ fn steps(spacing: Spacing, first: bool, gap: u64, character: u64) -> u64
     }
 }
 
-// The tick of a byte so many ticks behind the one before, drift taken up where it may be.
+// The tick of a byte this many ticks behind the one before, drift taken up where it may be.
 #[inline]
 fn settled(steps: u64, before: u64, time: u64, character: u64) -> u64
     requires some { 0 < character }

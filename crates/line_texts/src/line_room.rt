@@ -115,7 +115,7 @@ impl LineRoom {
         self.extend(b"\n");
     }
 
-    /// Appends the line `-` of so many silent ticks.
+    /// Appends the line `-` of this many silent ticks.
     #[inline(always)]
     pub(crate) fn push_silence_line(&mut self, ticks: u32)
         requires { length self.old.items + 66 ≤ 65536 }

@@ -26,7 +26,7 @@ pub(crate) fn skip_run(writer: &mut LineWriter, run: TickRun<'_>)
     }
 }
 
-// Adds the first of these ticks, up to and with the first one that completes a line, and answers
+// Adds the first of these ticks, up to and with the first one that completes a line, and returns
 // how many.
 #[inline(always)]
 fn push_line<O: Sink, L: Sink>(
@@ -147,7 +147,7 @@ pub fn push_run<O: Sink, L: Sink>(
     push_completing_run(texts, out, log, run)
 }
 
-/// What is answered to a run of ticks: these bytes, or so many silent ticks where there is none.
+/// What is answered to a run of ticks: these bytes, or this many silent ticks where there is none.
 #[inline]
 pub fn answer_run(count: u32, left: &[u8]) -> TickRun<'_>
     ensures { run_ticks result ≡ answered count left.now }

@@ -48,7 +48,7 @@ fn forward_alike<X: LinkBox>(line_box: &mut X, run: TickRun<'_>, left: &mut RunB
 }
 
 /// Takes the first of these ticks, as far as the box answers all of them with silence or all of
-/// them with bytes, without a note and without a number, and answers how many: what it forwards
+/// them with bytes, without a note and without a number, and returns how many: what it forwards
 /// comes first, then what it doesn't. Puts the bytes of the answer into `left`, one for each tick,
 /// or none for silence. With 0 the caller goes on by `step`. At most `MAX_TICKS` ticks are taken
 /// then.

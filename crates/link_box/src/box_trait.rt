@@ -18,7 +18,7 @@ use yasir_io::SlotDisk;
 use yasir_ticks::{MAX_TICKS, Tick, TickRun};
 
 /// A box between two lines, set up with a key and a direction: it takes one line tick by tick and
-/// answers the other one. The numbers that it uses come from a journal, which is that of the steps
+/// returns the other one. The numbers that it uses come from a journal, which is that of the steps
 /// before and serves the link of the box.
 pub trait LinkBox: Drop {
     /// What it notes in a step.
@@ -55,7 +55,7 @@ pub trait LinkBox: Drop {
         ensures link { link_of result ≡ link_in dir }
         ensures stands { (floor : ℕ) → stands result floor (setup_of key.now dir floor) [] };
 
-    /// Takes the next tick, and answers that of the other line at the same place, with the note
+    /// Takes the next tick, and returns that of the other line at the same place, with the note
     /// that falls into this step. The journal is that of the steps before and serves the box's own
     /// link, and the disk is the journal's. Fewer than `MAX_TICKS` ticks were taken before.
     ///
@@ -78,7 +78,7 @@ pub trait LinkBox: Drop {
             result };
 
     /// Takes the first of these ticks, as far as the box answers each with itself, without a note
-    /// and without a number, and answers how many. With 0 the caller goes on by another call. At
+    /// and without a number, and returns how many. With 0 the caller goes on by another call. At
     /// most `MAX_TICKS` ticks are taken then.
     fn forward(&mut self, _run: TickRun<'_>) -> usize
         requires { taken self.old + length (run_ticks _run) ≤ MAX_TICKS }
@@ -92,7 +92,7 @@ pub trait LinkBox: Drop {
     }
 
     /// Takes the first of these ticks, as far as the box answers all of them with silence or all of
-    /// them with bytes, without a note and without a number, and answers how many. Puts the bytes of
+    /// them with bytes, without a note and without a number, and returns how many. Puts the bytes of
     /// the answer into `left`, one for each tick, or none for silence. With 0 the caller goes on by
     /// another call. At most `MAX_TICKS` ticks are taken then.
     fn pass(&mut self, _run: TickRun<'_>, left: &mut RunBytes) -> usize

@@ -1,5 +1,5 @@
 //! What transmitter and receiver are alike in: a box between two lines, which takes the one tick by
-//! tick or in runs, answers the other one, and uses the numbers of a journal.
+//! tick or in runs, returns the other one, and uses the numbers of a journal.
 //!
 //! Code that is generic over boxes takes what it can as a run, and the rest tick by tick:
 //!

@@ -72,7 +72,7 @@ impl<const B: usize> Trailer<B> {
         &bytes[self.sent.min(bytes.len())..]
     }
 
-    /// Sends so many bytes, one a tick; there are as many.
+    /// Sends this many bytes, one a tick; there are as many.
     #[inline]
     pub fn send_some(&mut self, count: usize) -> LineBytes
         requires { count ≤ length (bytes_left self.old) }

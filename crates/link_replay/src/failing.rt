@@ -185,7 +185,7 @@ fn front(bytes: &'static [u8], n: usize) -> &'static [u8] {
     if n < bytes.len() { &bytes[..n] } else { bytes }
 }
 
-// What stands where a read failed after so many bytes of the input.
+// What stands where a read failed after this many bytes of the input.
 fn left_after(case: &Case, bytes: usize) -> Option<Left> {
     let mut left = None;
     for (least, next) in case.reads {

@@ -21,7 +21,7 @@ const FRAME: &str = "01100000000d1a000102030405060708090a0b0c0d0e0f1011121314151
 /// How many ticks it has, with its silence.
 const PERIOD: u64 = 35 + 40;
 
-/// So many ticks after it has come a byte leaves the receiver.
+/// This many ticks after it has come a byte leaves the receiver.
 const DELAY: u64 = 18;
 
 // A run with these words over this text, with ample room for what is written.

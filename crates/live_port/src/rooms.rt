@@ -27,7 +27,7 @@ fn push_bytes(text: &mut AnswerText, bytes: &[u8])
     text.push(b'\n');
 }
 
-// Appends the line `-` of so many silent ticks.
+// Appends the line `-` of this many silent ticks.
 fn push_silence(text: &mut AnswerText, ticks: u32)
     requires room { length text.old.items + 22 ≤ 256 }
     ensures line { text.new.items ≡ text.old.items ++ silence_line ticks }

@@ -18,7 +18,7 @@ pub(crate) struct Passed<'a> {
     pub(crate) frames: &'a FrameList<Numbered>,
 }
 
-// Whether a frame that passed is read so many ticks later, in this tick and with these bytes.
+// Whether a frame that passed is read this many ticks later, in this tick and with these bytes.
 fn is_read(late: u64, start: u64, frame: &[u8], at: u64, bytes: &[u8]) -> bool
     ensures { result ≡ (late + start == at && bytes_eq frame.now bytes.now) }
 {

@@ -73,7 +73,7 @@ pub trait FrameBox: Drop {
             → AnswersFrame (numbering setup) line t result (shown self.new) };
 
     /// Takes the first of these bytes, one a tick, as far as the box answers all of them with
-    /// silence or all of them with bytes, and seals or passes no frame; answers how many it took.
+    /// silence or all of them with bytes, and seals or passes no frame; returns how many it took.
     /// Puts the bytes of the answer into `left`, or none for silence. With 0 the caller goes on by
     /// `step`.
     fn pass_bytes(&mut self, _bytes: &[u8], left: &mut RunBytes) -> usize
@@ -92,7 +92,9 @@ pub trait FrameBox: Drop {
         0
     }
 
-    /// The same of so many silent ticks.
+    /// Takes the first of this many silent ticks, as far as the box answers all of them with silence
+    /// or all of them with bytes, and seals or passes no frame; returns how many it took. Puts the
+    /// bytes of the answer into `left`, or none for silence. With 0 the caller goes on by `step`.
     fn pass_silence(&mut self, _ticks: u32, left: &mut RunBytes) -> u32
         requires room { taken self.old + _ticks ≤ MAX_TICKS }
         requires able { able self.old }

@@ -35,7 +35,7 @@ fn take_tick<B: FrameBox>(
 }
 
 /// A box takes the first ticks of this run: at once where it has an answer to them, and else one
-/// alone, whose frame is kept. Answers how many.
+/// alone, whose frame is kept. Returns how many.
 #[inline(always)]
 pub(crate) fn take_front<B: FrameBox>(
     line_box: &mut B,
@@ -63,7 +63,7 @@ pub(crate) fn take_front<B: FrameBox>(
 }
 
 /// A device hears the first ticks of this run, up to the first one in which it reads a frame, which
-/// is compared. Answers how many.
+/// is compared. Returns how many.
 #[inline(always)]
 pub(crate) fn hear_front<V: LendingDevice>(
     device: &mut V,

@@ -12,7 +12,7 @@ use crate::frame_list::FrameList;
 use device_model::Device;
 use yasir_io::NoMemory;
 
-// A device hears bytes up to the first one in which it reads a frame, which is kept. Answers how
+// A device hears bytes up to the first one in which it reads a frame, which is kept. Returns how
 // many.
 pub(crate) fn hear_some<V: Device>(
     device: &mut V,
@@ -39,7 +39,8 @@ pub(crate) fn hear_some<V: Device>(
     }
 }
 
-// The same of so many silent ticks.
+// A device hears this many silent ticks, up to the first one in which it reads a frame, which is
+// kept. Returns how many.
 #[inline]
 pub(crate) fn wait_some<V: Device>(
     device: &mut V,
@@ -87,7 +88,7 @@ fn hear_bytes<V: Device>(
     Ok(())
 }
 
-// A device hears so many silent ticks.
+// A device hears this many silent ticks.
 #[inline(always)]
 pub(crate) fn hear_silence<V: Device>(
     device: &mut V,
@@ -132,7 +133,7 @@ fn hear_run<V: Device>(
     }
 }
 
-// A device hears what a box answers to a run of so many ticks: as many bytes, or silence.
+// A device hears what a box answers to a run of this many ticks: as many bytes, or silence.
 #[inline(always)]
 pub(crate) fn hear_answered<V: Device>(
     device: &mut V,

@@ -38,7 +38,7 @@ pub(crate) fn take_line<B: FrameBox>(
     Ok(())
 }
 
-// The same of so many silent ticks.
+// A box takes this many silent ticks, and its frames are kept.
 pub(crate) fn take_silence<B: FrameBox>(
     line_box: &mut B,
     frames: &mut FrameList<Numbered>,
@@ -120,7 +120,7 @@ pub(crate) fn hear_line<V: LendingDevice>(
     }
 }
 
-/// A device hears so many silent ticks.
+/// A device hears this many silent ticks.
 pub(crate) fn hear_rest<V: LendingDevice>(
     device: &mut V,
     read: &mut Comparison,

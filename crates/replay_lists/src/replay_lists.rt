@@ -27,7 +27,7 @@ use yasir_ticks::{MAX_TICKS, Tick, TickRun};
 #[cfg(test)]
 pub(crate) mod turn_tests;
 
-// One step of a box, whose frame is kept. Answers the tick of the other line.
+// One step of a box, whose frame is kept. Returns the tick of the other line.
 #[inline]
 pub(crate) fn step_into<B: FrameBox>(
     line_box: &mut B,
@@ -53,7 +53,7 @@ pub(crate) fn step_into<B: FrameBox>(
     }
 }
 
-// A box takes the first ticks of this run at once. Answers how many, and puts the bytes of the
+// A box takes the first ticks of this run at once. Returns how many, and puts the bytes of the
 // answer into `left`, or none for silence.
 #[inline(always)]
 pub(crate) fn pass_run<B: FrameBox>(
@@ -184,7 +184,7 @@ impl<S: FrameBox, C: FrameBox, V: Device + Drop> ReplayLists<S, C, V> {
         hear_into(&mut self.device, &mut self.read, received)
     }
 
-    // Gives the first ticks of this run to the transmitter at once, and answers how many.
+    // Gives the first ticks of this run to the transmitter at once, and returns how many.
     #[inline(always)]
     fn seal_run(&mut self, run: TickRun<'_>) -> usize
         requires room { S.taken self.old.sealer + length (run_ticks run) ≤ MAX_TICKS }
@@ -206,7 +206,7 @@ impl<S: FrameBox, C: FrameBox, V: Device + Drop> ReplayLists<S, C, V> {
     }
 
     // Gives the first ticks of this run to the receiver at once, and what it answers to the device.
-    // Answers how many.
+    // Returns how many.
     #[inline(always)]
     fn check_run(&mut self, run: TickRun<'_>) -> Result<usize, NoMemory>
         requires room { C.taken self.old.checker + length (run_ticks run) ≤ MAX_TICKS }
@@ -234,7 +234,7 @@ impl<S: FrameBox, C: FrameBox, V: Device + Drop> ReplayLists<S, C, V> {
         }
     }
 
-    // Takes the first ticks of this run at once, and answers how many.
+    // Takes the first ticks of this run at once, and returns how many.
     #[inline(always)]
     fn take_front(&mut self, run: TickRun<'_>) -> Result<usize, NoMemory>
         requires room { lists_taken S.FrameBox C.FrameBox V.Device self.old
@@ -301,7 +301,7 @@ impl<S: FrameBox, C: FrameBox, V: Device + Drop> ReplayLists<S, C, V> {
         &self.read
     }
 
-    /// Gives so many silent ticks to the transmitter, behind the recording before the mark.
+    /// Gives this many silent ticks to the transmitter, behind the recording before the mark.
     pub fn rest(&mut self, ticks: u32) -> Result<(), NoMemory>
         requires room { S.taken self.old.sealer + ticks ≤ MAX_TICKS }
         requires able { S.able self.old.sealer }

@@ -107,7 +107,7 @@ impl<S: FrameBox, C: FrameBox, V: LendingDevice + Drop> SessionLists<S, C, V> {
         }
     }
 
-    // Takes the first ticks of this run, and answers how many.
+    // Takes the first ticks of this run, and returns how many.
     #[inline(always)]
     fn take_front(&mut self, run: TickRun<'_>) -> Result<usize, NoMemory>
         requires some { 0 < length (run_ticks run) }

@@ -8,7 +8,7 @@ use seal_transmitter::Sealer;
 use spoiler::Outlet;
 
 // Neither box keeps a frame, which would be 256 bytes of Modbus RTU in its rules, and 292 in a box:
-// so many bytes more than its parts have it doesn't have.
+// this many bytes more than its parts have it doesn't have.
 const BESIDE_THE_PARTS: usize = 280;
 
 const _: () = prove!(size_of::<Rtu>() <= 128);

@@ -292,7 +292,7 @@ fn checks(
     }
 }
 
-// The frame of a packet, so many silent ticks and a burst of so many bytes, at a transmitter.
+// The frame of a packet, this many silent ticks and a burst of this many bytes, at a transmitter.
 fn seals_frame(
     rt: &impl Abort,
     alloc: Global,
@@ -307,7 +307,7 @@ fn seals_frame(
     seals(rt, alloc, link, line.as_slice(), most)
 }
 
-// A packet and a burst of so many bytes that joins it, at a receiver.
+// A packet and a burst of this many bytes that joins it, at a receiver.
 fn checks_packet(
     rt: &impl Abort,
     alloc: Global,
@@ -320,7 +320,7 @@ fn checks_packet(
     checks(rt, alloc, link, line.as_slice(), most)
 }
 
-// The frame of a packet, so many silent ticks and a burst of so many bytes, at a receiver.
+// The frame of a packet, this many silent ticks and a burst of this many bytes, at a receiver.
 fn checks_frame(
     rt: &impl Abort,
     alloc: Global,

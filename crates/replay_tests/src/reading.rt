@@ -185,7 +185,7 @@ fn with_millions(alloc: Global, before: &[u8], behind: &[u8]) -> Result<Vec<u8>,
     Ok(text)
 }
 
-// So many ticks are too much.
+// This many ticks are too much.
 fn is_too_long(
     rt: &impl Abort,
     alloc: Global,

@@ -58,7 +58,7 @@ fn pass<R: LineRules, M: Mac, const B: usize, const D: usize>(
     }
 }
 
-// Whether so many ticks have no note, and are these bytes, or silence where there are none.
+// Whether this many ticks have no note, and are these bytes, or silence where there are none.
 fn are_answered(wanted: &[BoxStep<CheckNote>], count: usize, left: &[u8]) -> bool {
     if !left.is_empty() && left.len() != count {
         return false;
@@ -77,7 +77,7 @@ fn are_answered(wanted: &[BoxStep<CheckNote>], count: usize, left: &[u8]) -> boo
 }
 
 // Takes letters that are alike as a run, as far as the receiver does so, or else the first of them
-// by a step. Answers how many it took, each of them as wanted.
+// by a step. Returns how many it took, each of them as wanted.
 fn take<R: LineRules, M: Mac, S: SlotDisk, const B: usize, const D: usize>(
     rt: &impl Abort,
     checker: &mut Checker<R, M, B, D>,
@@ -111,7 +111,7 @@ fn take<R: LineRules, M: Mac, S: SlotDisk, const B: usize, const D: usize>(
 }
 
 // Compares a receiver that takes a link by runs with the steps of one that takes it tick by tick.
-// One run ends at the cut, and those behind it have so many ticks at most. Answers how many runs
+// One run ends at the cut, and those behind it have this many ticks at most. Returns how many runs
 // and single steps it took.
 fn follow<R: LineRules, M: Mac, S: SlotDisk, const B: usize, const D: usize>(
     rt: &impl Abort,
@@ -301,7 +301,7 @@ fn add(link: &mut Vec<u8>, letter: u8, times: usize) -> Result<(), AllocError> {
 }
 
 // The first ticks of the packet, so many and one of them wrong, then so many silent ticks, a burst
-// of so many bytes, and silence.
+// of this many bytes, and silence.
 pub fn link_of(
     alloc: Global,
     packet: &[u8],

@@ -8,7 +8,7 @@ use replay_status::Status;
 use std::alloc::Global;
 use std::test::Fail;
 
-// Adds a burst of so many bytes, in lines of at most so many.
+// Adds a burst of this many bytes, in lines of at most so many.
 fn push_burst(text: &mut Vec<u8>, len: usize, most: usize) -> Result<(), Fail>
     requires { 0 < most }
 {

@@ -36,7 +36,7 @@ pub fn longer_lines<R: LineRules, M: Mac>()
         (sealed (profile_of R.LineRules M.Mac word_len limit setup) R.rules setup.floor line) }
 {}
 
-/// A call of the transmitter's `step` is a step of an uptime: it answers the number of its note,
+/// A call of the transmitter's `step` is a step of an uptime: it returns the number of its note,
 /// and a crash at any moment inside it leaves no floor below the one before. The next step goes on
 /// from the last number answered. The calls that take runs have no disk.
 pub fn steps_are_of_an_uptime<D: SlotDisk>()

@@ -25,7 +25,7 @@ fn add(link: &mut Vec<Tick>, tick: Tick, times: usize) -> Result<(), AllocError>
     Ok(())
 }
 
-// What a run is answered with: these bytes, or so many silent ticks.
+// What a run is answered with: these bytes, or this many silent ticks.
 fn add_answered(link: &mut Vec<Tick>, count: usize, left: &[u8]) -> Result<(), AllocError> {
     if left.is_empty() {
         return add(link, Tick::Silent, count);
@@ -68,7 +68,7 @@ fn step_times<D: SlotDisk>(
     Ok(())
 }
 
-// Takes so many silent ticks: as runs if asked, and those that no run takes by steps.
+// Takes this many silent ticks: as runs if asked, and those that no run takes by steps.
 fn wait<D: SlotDisk>(
     sealer: &mut FourSealer,
     journal: &mut Journal,
@@ -105,7 +105,7 @@ fn wait<D: SlotDisk>(
     step_times(sealer, journal, disk, Tick::Silent, others, link)
 }
 
-// The same of so many bytes.
+// The transmitter takes these bytes, by runs or one by one.
 fn hear<D: SlotDisk>(
     sealer: &mut FourSealer,
     journal: &mut Journal,

@@ -85,7 +85,7 @@ impl<R: LineRules, M: Mac, const B: usize> Sealer<R, M, B> {
         }
     }
 
-    /// Takes the next tick of the device, and answers the tick of the link at the same place, with
+    /// Takes the next tick of the device, and returns the tick of the link at the same place, with
     /// the note that falls into this step. The journal is that of the steps before and serves the
     /// transmitter's own link, and the disk is the journal's. Fewer than `MAX_TICKS` ticks were taken
     /// before.
@@ -239,7 +239,7 @@ impl<R: LineRules, M: Mac, const B: usize> Sealer<R, M, B> {
     }
 
     /// Takes the first of these bytes, as far as each is a further live byte of an early burst and
-    /// something is left of the trailer. Answers what is sent of it, a byte for each. At most
+    /// something is left of the trailer. Returns what is sent of it, a byte for each. At most
     /// `MAX_TICKS` ticks are taken then.
     #[inline]
     pub fn send_over(&mut self, bytes: &[u8]) -> LineBytes
@@ -281,7 +281,7 @@ impl<R: LineRules, M: Mac, const B: usize> Sealer<R, M, B> {
     }
 
     /// Takes of so many silent ticks as many as something is left of the trailer for, as far as none
-    /// closes a burst. Answers what is sent of it, a byte for each. At most `MAX_TICKS` ticks are
+    /// closes a burst. Returns what is sent of it, a byte for each. At most `MAX_TICKS` ticks are
     /// taken then.
     #[inline]
     pub fn send_some(&mut self, ticks: u32) -> LineBytes
@@ -341,7 +341,10 @@ impl<R: LineRules, M: Mac, const B: usize> Sealer<R, M, B> {
         put(left, &self.send_over(bytes))
     }
 
-    /// The same of silence, as far as it closes no burst: what is left of a trailer is sent.
+    /// Takes the first of this many silent ticks, as far as they close no burst, and says how many.
+    /// Puts into `left` what is sent meanwhile of a trailer, a byte for each, or nothing where the
+    /// link is silent. With 0 the caller goes on by another call. At most `MAX_TICKS` ticks are
+    /// taken then.
     #[inline]
     pub fn pass_silence(&mut self, ticks: u32, left: &mut RunBytes) -> u32
         requires { ticks_taken self.old + ticks ≤ MAX_TICKS }

@@ -9,7 +9,7 @@ use frame_ending::BurstCut;
 use line_rules::LineRules;
 use yasir_ticks::{MAX_TICKS, T3_5_TICKS};
 
-/// Takes the first of so many silent ticks, as far as none closes a burst, and says how many.
+/// Takes the first of this many silent ticks, as far as none closes a burst, and says how many.
 #[inline]
 pub(crate) fn wait_open<R: LineRules>(cut: &mut BurstCut<R>, ticks: u32) -> u32
     requires { ticks_taken cut.old + ticks ≤ MAX_TICKS }

@@ -327,8 +327,8 @@ fn a_new_journal_stands_at_zero(rt: HostRuntime) -> Result<(), Fail> {
     Ok(())
 }
 
-// An uptime that answers one number, the next one, and ends inside the commit of the one after it:
-// nobody hears what that commit answers.
+// An uptime that returns one number, the next one, and ends inside the commit of the one after it:
+// nobody hears what that commit returns.
 fn answer_one<D: SlotDisk>(disk: &mut D, link: &LinkId) -> Option<u64>
     requires { IsLink link.now }
     ensures next { IfSome result (λ n. (begins : Slots) (floor : ℕ) → D.told disk.old ≡ Some begins

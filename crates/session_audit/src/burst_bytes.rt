@@ -69,7 +69,7 @@ impl BurstBytes {
         self.keep(bytes);
     }
 
-    /// Takes so many silent ticks.
+    /// Takes this many silent ticks.
     #[inline]
     pub fn wait_some(&mut self, ticks: u32)
         ensures { (line : List Tick) → BurstFor self.old line

@@ -55,7 +55,7 @@ pub fn only_sealed_hunted_frames_are_given<R: Hunted>()
 /// A law of the same definitions, for each profile, floors, and line of a device whose frames are
 /// spaced: where nothing is changed on the link, a spacer behind the receiver loses no frame, if as
 /// many may wait as come while the longest is sent. It gives all of them, in order, each as a whole
-/// and byte behind byte. It begins with each so many ticks after it began on the device's line at
+/// and byte behind byte. It begins with each this many ticks after it began on the device's line at
 /// most: the receiver's delay, the ticks of the longest, and those behind its end in which it is
 /// read. So it is for the same spacers.
 pub fn untouched_link_gives_all()

@@ -47,7 +47,7 @@ pub fn hunted_frames_are_spaced<R: Hunted>()
 {}
 
 /// A law of the spacer's definitions, for each line and each gap: all frames that are accepted of
-/// it have left once so many silent ticks follow that a frame more than may wait would fit into
+/// it have left once this many silent ticks follow that a frame more than may wait would fit into
 /// them, each of the longest, with its gap. For Modbus RTU the silence that ends the last frame
 /// comes first. So it is for the members of the families of both devices.
 pub fn accepted_frames_leave()

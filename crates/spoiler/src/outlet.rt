@@ -50,7 +50,7 @@ impl<R: LineRules> Outlet<R> {
         self.open = true;
     }
 
-    /// Answers what leaves for the next byte of the burst: itself, unless it is the last one of a
+    /// Returns what leaves for the next byte of the burst: itself, unless it is the last one of a
     /// burst that isn't passed. There must be room for it.
     #[inline]
     pub fn emit(&mut self, b: u8, last: bool, passed: bool) -> u8
@@ -81,7 +81,7 @@ impl<R: LineRules> Outlet<R> {
     }
 
     /// Lets these bytes of the burst leave as they are, since none of them is its last one, as many
-    /// as there is room for. Answers how many.
+    /// as there is room for. Returns how many.
     #[inline]
     pub fn emit_some(&mut self, bytes: &[u8]) -> usize
         ensures within { result ≤ length bytes.now }

@@ -72,7 +72,7 @@ fn give<C: Consumer>(content: Content, bytes: &[u8], consumer: &mut C) -> Result
     }
 }
 
-// Hands one line to the consumer, unless its ticks with those before are too many. Answers the sum.
+// Hands one line to the consumer, unless its ticks with those before are too many. Returns the sum.
 #[inline(always)]
 fn hand_over<C: Consumer>(
     ticks: u32,
@@ -162,7 +162,7 @@ pub fn drive<S: Source, C: Consumer>(marks: u8, input: &mut S, consumer: &mut C)
     drive_with_room(marks, input, consumer)
 }
 
-/// Drives an input into a consumer, and then so many silent ticks behind an input that was taken
+/// Drives an input into a consumer, and then this many silent ticks behind an input that was taken
 /// whole.
 pub fn drive_to_rest<S: Source, C: Consumer>(
     marks: u8,

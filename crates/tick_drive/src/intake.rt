@@ -29,7 +29,7 @@ impl Intake {
     ghost use Rattle.yasir_io.specs.Pieces.{kept_bytes};
     ghost use Rattle.tick_drive.specs.Input.{is_read_answer, IsReadCause};
 
-    /// Nothing met yet of a text with exactly so many marks.
+    /// Nothing met yet of a text with exactly this many marks.
     pub fn new(marks: u8) -> Intake
         ensures { (before : Option (List ℕ)) → HasMet result marks before before [] }
     {

@@ -7,7 +7,7 @@ use std::alloc::Global;
 use tick_drive::{End, drive};
 use yasir_io::Source;
 
-/// Keeps the ticks of an input with exactly so many marks, or returns how the input ended
+/// Keeps the ticks of an input with exactly this many marks, or returns how the input ended
 /// otherwise.
 pub fn list_ticks<I: Source>(alloc: Global, marks: u8, input: &mut I) -> Result<TickLists, End>
     ensures lists { ListsTicks marks (I.left input.old) (I.left input.new) result }

@@ -38,7 +38,7 @@ impl Draws {
         (self.state >> 32) as u32
     }
 
-    /// So many bytes, at most 292, each the low byte of a draw.
+    /// This many bytes, at most 292, each the low byte of a draw.
     pub fn draw_bytes(&mut self, n: usize) -> FrameBytes
         requires { n ≤ 292 }
         ensures state { draw_state self.new ≡ state_after n (draw_state self.old) }

@@ -12,7 +12,7 @@ pub const PERIOD: usize = 640;
 
 const HALF: usize = 320;
 
-// The marks of so many bytes, and of so many silent ticks.
+// The marks of this many bytes, and of this many silent ticks.
 const BYTES: [u8; PERIOD] = [1; PERIOD];
 
 const SILENCE: [u8; PERIOD] = [0; PERIOD];
@@ -71,7 +71,7 @@ impl Link {
         self.len += count;
     }
 
-    // Sends so many silent ticks.
+    // Sends this many silent ticks.
     #[inline]
     fn add_silence(&mut self, ticks: usize)
         requires { self.old.len + ticks ≤ 640 }
@@ -82,7 +82,7 @@ impl Link {
         self.len += ticks;
     }
 
-    /// Sends an answer to so many ticks: as many bytes, or silence where there is none.
+    /// Sends an answer to this many ticks: as many bytes, or silence where there is none.
     #[inline]
     pub fn add(&mut self, count: usize, left: &[u8])
         requires { self.old.len + count ≤ 640 }

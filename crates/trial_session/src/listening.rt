@@ -79,7 +79,7 @@ impl<V: Device + Drop> Listening<V> {
         }
     }
 
-    /// Hears so many silent ticks.
+    /// Hears this many silent ticks.
     pub fn wait(&mut self, ticks: usize)
         requires few { self.old.read ≤ V.taken self.old.device }
         requires room { V.taken self.old.device + ticks ≤ MAX_TICKS }

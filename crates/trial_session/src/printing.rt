@@ -40,7 +40,7 @@ fn trial_line(name: &[u8], seed: u32, count: u32, counted: Summary) -> Line
     line
 }
 
-/// Runs the session of so many frames from a seed, as `try_session` does, and returns its line,
+/// Runs the session of this many frames from a seed, as `try_session` does, and returns its line,
 /// with the name of its protocol.
 pub fn session_line<R: DrawnFrames, S: CountingBox, C: CountingBox, V: Device + Drop>(
     name: &[u8],

@@ -102,7 +102,7 @@ impl<C: CountingBox, V: Device + Drop> Receiving<C, V> {
         }
     }
 
-    /// Takes so many silent ticks.
+    /// Takes this many silent ticks.
     pub fn take_silence(&mut self, ticks: u32)
         requires able { MayReceive C.LinkBox V.Device self.old }
         requires room { C.taken self.old.checking.line_box + ticks ≤ MAX_TICKS }

@@ -13,7 +13,7 @@ use crate::{CountingBox, DrawnFrames, Draws, Summary};
 use device_model::Device;
 use yasir_ticks::{MAX_TICKS, TickRun};
 
-/// So many silent ticks follow the link of a session, so that all that has passed is read.
+/// This many silent ticks follow the link of a session, so that all that has passed is read.
 const REST: u32 = 320;
 
 /// A session on its way: frames go through the transmitter `S`, over the link, through the receiver
@@ -25,7 +25,7 @@ pub struct Session<S, C, V> {
     receiving: Receiving<C, V>,
 }
 
-// Draws what becomes of the link in the period of a packet of so many ticks.
+// Draws what becomes of the link in the period of a packet of this many ticks.
 fn draw_alteration(draws: &mut Draws, packet_len: usize) -> Alteration
     requires { 0 < packet_len }
     ensures state { draw_state draws.new ≡ state_after 3 (draw_state draws.old) }
@@ -62,7 +62,7 @@ impl<S: CountingBox, C: CountingBox, V: Device + Drop> Session<S, C, V> {
         }
     }
 
-    // One more period, where so many ticks follow a frame in its packet.
+    // One more period, where this many ticks follow a frame in its packet.
     fn run_period<R: DrawnFrames>(&mut self, behind: usize)
         requires some { 0 < behind }
         requires few { behind ≤ 64 }
@@ -109,8 +109,8 @@ impl<S: CountingBox, C: CountingBox, V: Device + Drop> Session<S, C, V> {
     }
 }
 
-/// Runs the session of so many frames from a seed: drawn by the protocol `R`, sealed by `S`,
-/// checked by `C` and read by `V`. So many ticks follow a frame in its packet.
+/// Runs the session of this many frames from a seed: drawn by the protocol `R`, sealed by `S`,
+/// checked by `C` and read by `V`. This many ticks follow a frame in its packet.
 pub fn try_session<R: DrawnFrames, S: CountingBox, C: CountingBox, V: Device + Drop>(
     seed: u32,
     count: u32,

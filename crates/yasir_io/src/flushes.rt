@@ -21,7 +21,7 @@ impl Flushes {
         }
     }
 
-    /// So many bytes were written.
+    /// This many bytes were written.
     pub(crate) fn wait(&mut self, bytes: usize)
         ensures count { self.new.count ≡ self.old.count }
         ensures some { 0 < bytes → self.new.unflushed ≡ true }

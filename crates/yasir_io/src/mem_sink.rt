@@ -24,7 +24,7 @@ impl MemSink {
     ghost use Rattle.yasir_io.specs.MemSink.{sink_bytes, sink_room, sink_plan, sink_calls};
     ghost use Rattle.yasir_io.specs.MemSink.{sink_piece, sink_flushes, sink_unflushed};
 
-    /// An empty sink with room for so many bytes, which is taken at once. A call moves at most
+    /// An empty sink with room for this many bytes, which is taken at once. A call moves at most
     /// `piece` bytes; those in `fail`, counted from 1, fail.
     pub fn with_room(
         alloc: Global,

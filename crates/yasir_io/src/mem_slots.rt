@@ -95,7 +95,7 @@ impl MemSlots {
     ghost use Rattle.yasir_io.specs.MemSlots.{mem_slots, slots_plan, slots_calls, slots_room};
     ghost use Rattle.yasir_io.specs.MemSlots.{slots_recorded, MayAdd, MayLeave, SlotsFail};
 
-    /// A disk with these slots, all synced, and room to record so many calls, which is taken at
+    /// A disk with these slots, all synced, and room to record this many calls, which is taken at
     /// once. The calls in `fail`, counted from 1, fail, and so does each one past `calls`.
     pub fn with_room(
         alloc: Global,

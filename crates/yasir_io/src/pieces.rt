@@ -123,7 +123,7 @@ impl Pieces {
         self.place += n;
     }
 
-    /// Reads where nothing is kept. Answers whether a byte is kept then; none is once a read has
+    /// Reads where nothing is kept. Returns whether a byte is kept then; none is once a read has
     /// returned 0, and from then on always.
     pub fn fill<S: Source>(&mut self, source: &mut S) -> Result<bool, Failed>
         // No byte is lost.

@@ -37,10 +37,10 @@ pub use whole_lines::FedLine;
 /// How many ticks may be taken at most by whatever counts its ticks: 2^62.
 pub const MAX_TICKS: u64 = 4_611_686_018_427_387_904;
 
-/// So many silent ticks between two bytes end a burst: t3.5 of Modbus over Serial Line V1.02, 3.5
+/// This many silent ticks between two bytes end a burst: t3.5 of Modbus over Serial Line V1.02, 3.5
 /// character times, in whole ticks.
 pub const T3_5_TICKS: u8 = 4;
 
-/// So many silent ticks between two bytes of a burst make it no frame: more than t1.5 of Modbus
+/// This many silent ticks between two bytes of a burst make it no frame: more than t1.5 of Modbus
 /// over Serial Line V1.02, 1.5 character times, in whole ticks.
 pub const T1_5_TICKS: u8 = 2;

@@ -10,7 +10,7 @@ pub enum Content {
     NoTick,
     /// The bytes that the reader keeps.
     KeptBytes,
-    /// So many silent ticks.
+    /// This many silent ticks.
     SilentTicks(u32),
     /// A mark.
     OneMark,
@@ -41,7 +41,7 @@ impl Content {
 pub enum Place {
     /// Before its first byte.
     Start,
-    /// In a comment, after `#` and so many bytes.
+    /// In a comment, after `#` and this many bytes.
     Comment(u8),
     /// After `+` and whole pairs of digits.
     Pairs,

@@ -40,7 +40,7 @@ impl TickReader {
     ghost use Rattle.yasir_ticks.specs.Reader.{StandsFor, HasRefused, reader_line};
     ghost use Rattle.yasir_ticks.specs.ReaderStep.{Advances, Steps, Stops, Closes, IsOpen};
 
-    /// A reader of a text with exactly so many marks.
+    /// A reader of a text with exactly this many marks.
     pub fn new(marks: u8) -> TickReader
         ensures stands { StandsFor result marks [] }
         ensures begins { BeginsTickText marks [] }

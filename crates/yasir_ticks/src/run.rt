@@ -11,7 +11,7 @@ pub enum Run {
     Nothing,
     /// These bytes, one a tick.
     Bytes(LineBytes),
-    /// So many silent ticks.
+    /// This many silent ticks.
     Silence(u32),
     /// A mark, which is no tick.
     Mark,

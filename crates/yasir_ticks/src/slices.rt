@@ -14,7 +14,7 @@ impl TickReader {
     ghost use Rattle.yasir_ticks.specs.Reader.{HasRefused};
     ghost use Rattle.yasir_ticks.specs.Slices.{GoesOn};
 
-    // Takes whole pairs of digits from the front, as long as there is room. Answers how many bytes
+    // Takes whole pairs of digits from the front, as long as there is room. Returns how many bytes
     // these are.
     #[inline]
     fn take_pairs(&mut self, bytes: &[u8]) -> usize
@@ -38,7 +38,7 @@ impl TickReader {
         taken
     }
 
-    // Takes what stands before the next LF, as long as the comment may go on. Answers how many
+    // Takes what stands before the next LF, as long as the comment may go on. Returns how many
     // bytes these are.
     #[inline]
     fn take_comment(&mut self, behind: u8, bytes: &[u8]) -> usize
@@ -56,7 +56,7 @@ impl TickReader {
         taken
     }
 
-    // Takes bytes from the front that one loop can take, or none. Answers how many these are.
+    // Takes bytes from the front that one loop can take, or none. Returns how many these are.
     #[inline]
     pub(crate) fn take_many(&mut self, bytes: &[u8]) -> usize
         ensures within { result ≤ length bytes.now }

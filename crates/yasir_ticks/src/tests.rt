@@ -65,7 +65,7 @@ const REFUSED: [(&[u8], u32, TickFault); 21] = [
     ),
 ];
 
-/// Texts with so many marks, and the bytes, silent ticks and marks that they stand for.
+/// Texts with this many marks, and the bytes, silent ticks and marks that they stand for.
 const MARKED: [(u8, &[u8], &[u8], u32); 5] = [
     (1, b"%", b"", 0),
     (1, b"+01\n%\n-3\n", b"\x01", 3),
@@ -74,7 +74,7 @@ const MARKED: [(u8, &[u8], &[u8], u32); 5] = [
     (3, b"%\n%\n%\n+ff\n", b"\xff", 0),
 ];
 
-/// Texts with so many marks stated, and the line and the cause of their refusal.
+/// Texts with this many marks stated, and the line and the cause of their refusal.
 const REFUSED_MARKS: [(u8, &[u8], u32, TickFault); 10] = [
     (1, b"+01", 1, TickFault::Mark),
     (1, b"+01\n", 2, TickFault::Mark),
@@ -195,7 +195,7 @@ fn reads_marks(rt: HostRuntime) -> Result<(), Fail> {
 const LINE_OF_SEVENS: [u8; 66] =
     *b"+0707070707070707070707070707070707070707070707070707070707070707\n";
 
-/// Feeds a text in slices of so many bytes to a reader and ends it.
+/// Feeds a text in slices of this many bytes to a reader and ends it.
 fn read_slices(alloc: Global, marks: u8, text: &[u8], size: usize) -> Result<Seen, Fail> {
     let mut reader = TickReader::new(marks);
     let mut seen = Seen::none(alloc);
@@ -278,7 +278,7 @@ fn drawn(state: &mut u32) -> usize {
     (*state >> 8) as usize
 }
 
-/// A line of so many bytes behind its sign, and two more lines.
+/// A line of this many bytes behind its sign, and two more lines.
 fn drawn_text(alloc: Global, length: usize, state: &mut u32) -> Result<Vec<u8>, Fail> {
     let mut text = Vec::new(alloc);
     let sign = b"++-#"[drawn(state) % 4];

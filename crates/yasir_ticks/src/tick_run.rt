@@ -8,7 +8,7 @@ use crate::Tick;
 pub enum TickRun<'a> {
     /// These bytes, one a tick.
     Bytes(&'a [u8]),
-    /// So many silent ticks.
+    /// This many silent ticks.
     Silence(u32),
 }
 

@@ -41,7 +41,7 @@ fn link_word(proto: Proto, profile: Profile) -> &'static [u8]
     }
 }
 
-// The line of the session of so many frames from a seed, over a link.
+// The line of the session of this many frames from a seed, over a link.
 fn line_of_session(proto: Proto, profile: Profile, seed: u32, count: u32) -> Line
     ensures { result.items ≡ trial_line (link_word proto profile) seed count
         (trial_counts proto profile seed count) }
@@ -50,7 +50,7 @@ fn line_of_session(proto: Proto, profile: Profile, seed: u32, count: u32) -> Lin
     with_link!(proto, profile, session_by(name, seed, count))
 }
 
-/// Tries a link over so many frames that are drawn from a seed, and prints what came of them.
+/// Tries a link over this many frames that are drawn from a seed, and prints what came of them.
 pub fn try_link<K: Source, S: Source, O: Sink, L: Sink, D: SlotDisk>(
     proto: Proto,
     profile: Profile,
