@@ -30,7 +30,7 @@ length-filled steps line within =
       within,
     )
 
--- so many silent ticks, as they were counted
+-- this many silent ticks, as they were counted
 pub filled-by : (ticks left steps : ℕ) (line : List Tick) → ticks ≡ length line
     → left ≡ steps - ticks → line ++ silent left ≡ filled steps line
 filled-by ticks left steps line counted is =

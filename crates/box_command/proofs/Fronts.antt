@@ -46,7 +46,7 @@ front_first n most all front is within =
       ap (take n) is ∙ take-take n most all few,
     )
 
--- The box has taken so many first ticks of a run, which are these.
+-- The box has taken this many first ticks of a run, which are these.
 module _ {B N O L D : Type 0} (b : LinkBox B N) (line_of : N → List ℕ) (o : Sink O) (l : Sink L)
     (d : SlotDisk D)
     (causal : (value : B) (last : ℕ) (setup : Setup) (line : List Tick)

@@ -71,7 +71,7 @@ cases-last h n below = elim (cases_lt h n) [
 
 -- ---- the next line
 
--- a line that stands in front of all
+-- a line that comes before all
 front-of : (x p q r : List ℕ) → (x ++ p) ++ (q ++ r) ≡ x ++ (p ++ (q ++ r))
 front-of x p q r = append_assoc x p (q ++ r)
 

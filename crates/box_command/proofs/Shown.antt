@@ -13,11 +13,11 @@ use Rattle.box_command.specs.SealBoxed.{sealing}
 use Rattle.box_command.specs.CheckLines.{check_line}
 use Rattle.box_command.specs.CheckBoxed.{checking}
 
-module _ {R M : Type 0} (proto : LineRules R) (code : Mac M) (word_len : ℕ) (setup : Setup) where
-  pub sealing-shown : boxed_of (seal_walking proto code word_len) seal_line setup
-      ≡ sealing (profile_of proto code word_len LIMIT setup) proto.rules setup.floor
+module _ {R M : Type 0} (proto : LineRules R) (macs : Mac M) (word_len : ℕ) (setup : Setup) where
+  pub sealing-shown : boxed_of (seal_walking proto macs word_len) seal_line setup
+      ≡ sealing (profile_of proto macs word_len LIMIT setup) proto.rules setup.floor
   sealing-shown = refl
 
-  pub checking-shown : boxed_of (check_walking proto code word_len) check_line setup
-      ≡ checking (profile_of proto code word_len LIMIT setup) proto.rules setup.floor
+  pub checking-shown : boxed_of (check_walking proto macs word_len) check_line setup
+      ≡ checking (profile_of proto macs word_len LIMIT setup) proto.rules setup.floor
   checking-shown = refl

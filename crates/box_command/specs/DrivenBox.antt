@@ -11,7 +11,7 @@ use Rattle.box_command.specs.BoxLines.{State, state_of, GoesOn, driving}
 use Rattle.box_command.specs.BoxLinesLaws.{drives-none, drives-then}
 use Rattle.box_command.specs.declared.driven_box.DrivenBox.{DrivenBox}
 
--- what stands behind the references
+-- what comes after the references
 abbrev pub state_in : {B O L D : Type 0} → DrivenBox B O L D → State B O L D
 state_in driven = state_of driven.lines.now driven.out.now driven.log.now driven.disk.now
 

@@ -57,8 +57,8 @@ module _ {B N : Type 0} (b : LinkBox B N) (line_of : N → List ℕ) where
     pub notes : Holds value.notes ((timed_of b.walking line_of setup).note_lines line)
     pub in_order : AreInOrder 0 (length line) ((timed_of b.walking line_of setup).note_lines line)
 
-  -- The journal is that of the box's link, the disk is the journal's, the box has counted its ticks,
-  -- and the bytes of the notes are whole.
+  -- The journal is that of the box's link, the disk is the journal's, the box has counted its
+  -- ticks, and the bytes of the notes are whole.
   pub record IsSteady (value : KeptBox B) : Type 0 where
     pub of_link : journal_link value.journal ≡ b.link_of value.line_box
     pub fits : Fits value.journal (Some (steady_slots value.disk))
@@ -72,12 +72,12 @@ module _ {B N : Type 0} (b : LinkBox B N) (line_of : N → List ℕ) where
     pub keeps : (setup : Setup) (line : List Tick) → KeepsLine old setup line
         → KeepsLine new setup (line ++ run)
 
-  -- so many of these ticks, or none
+  -- this many of these ticks, or none
   pub record KeepsUpTo (old new : KeptBox B) (run : List Tick) (count : ℕ) : Type 0 where
     pub within : count ≤ length run
     pub goes : KeepsOn old new (take count run)
 
-  -- Of so many silent ticks all but these are taken.
+  -- Of this many silent ticks all but these are taken.
   pub record KeepsWaiting (old new : KeptBox B) (ticks left : ℕ) : Type 0 where
     pub done : ℕ
     pub all : done + left ≡ ticks

@@ -8,7 +8,7 @@ numbered_line word number start len =
     word ++ decimal number ++ codes " at " ++ decimal start ++ codes " len " ++ decimal len
     ++ codes "\n"
 
--- `WORD at S WHY`: a word with all up to the start of a burst, and the reason, with the space before
--- it and the LF
+-- `WORD at S WHY`: a word with all up to the start of a burst, and the reason, with the space
+-- before it and the LF
 abbrev pub placed_line : List ℕ → ℕ → List ℕ → List ℕ
 placed_line word start why = word ++ decimal start ++ why

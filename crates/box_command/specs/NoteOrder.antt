@@ -17,7 +17,8 @@ ComesBefore [] other = ⊥
 ComesBefore (line ∷ lines) [] = ⊤
 ComesBefore (line ∷ lines) (next ∷ other) = line.head < next.head
 
--- Of the steps before a tick, the lines from these places on are missing in the text, and no others.
+-- Of the steps before a tick, the lines from these places on are missing in the text, and no
+-- others.
 pub record MergedTo (n : ℕ) (a b : List (Kept ℕ)) (text : List ℕ) (i j : ℕ) : Type 0 where
   pub is : text ++ lines_before n (drop i a) (drop j b) ≡ lines_before n a b
   pub first_in_order : AreInOrder 0 n (drop i a)

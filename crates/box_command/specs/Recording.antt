@@ -21,7 +21,7 @@ use Rattle.box_command.specs.KeptBox.{TimedBox}
 use Rattle.box_command.specs.TimedLines.{lines_before}
 use Rattle.box_command.specs.declared.recording.Recorded.{Recorded}
 
--- how many silent ticks stand behind the longer one of both recordings
+-- how many silent ticks come after the longer one of both recordings
 abbrev pub both_rest : ℕ
 both_rest = 320
 
@@ -29,7 +29,7 @@ both_rest = 320
 abbrev pub steps_of : List Tick → List Tick → ℕ
 steps_of device link = max (length device) (length link) + both_rest
 
--- a recording with silence behind it, up to so many ticks
+-- a recording with silence behind it, up to this many ticks
 abbrev pub filled : ℕ → List Tick → List Tick
 filled steps line = line ++ silent (steps - length line)
 
@@ -40,7 +40,7 @@ pub record BothTexts : Type 0 where
   pub notes : List ℕ
 
 -- What both boxes make of the line of a device and a link: both are filled, so that tick i of both
--- goes into step i, and the notes stand in the order of steps, the outgoing box's first.
+-- goes into step i, and the notes are in the order of steps, the outgoing box's first.
 abbrev pub both_texts : TimedBox → TimedBox → List Tick → List Tick → BothTexts
 both_texts outgoing incoming device link =
     let steps : ℕ = steps_of device link in

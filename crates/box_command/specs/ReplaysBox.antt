@@ -94,7 +94,7 @@ module _ {S O L D : Type 0} (s : Source S) (o : Sink O) (l : Sink L) (d : SlotDi
     pub images : KeepsFloor d link (box.number line) before.disk after.disk
     pub uptime : LeavesUptime d link (box.numbers line) before.disk after.disk
 
-  -- The box by the floor of its journal, and how many silent ticks stand behind a whole input.
+  -- The box by the floor of its journal, and how many silent ticks come after a whole input.
   module _ (box : ℕ → Boxed) (rest : ℕ) (before after : Around S O L D) where
     -- The input ended so, and the box has answered each of its ticks.
     pub record EndsBox (end : End) : Type 0 where
@@ -122,10 +122,10 @@ module _ {S O L D : Type 0} (s : Source S) (o : Sink O) (l : Sink L) (d : SlotDi
       pub from_load : KeepsFloorFromLoad d link floor before.disk after.disk
       pub fails : FailsBox link (box floor) line last (d.told after.disk)
 
-    -- A write failed: of what the box makes of so many ticks the sinks have got a front. Its last
+    -- A write failed: of what the box makes of this many ticks the sinks have got a front. Its last
     -- number is committed, and it may be that of the next tick is; each image makes an uptime with
     -- the numbers of these ticks. Nor has an image a floor below the last number within the whole
-    -- lines that `out` got: as many ticks as stand in these lines were answered there, since a box
+    -- lines that `out` got: as many ticks as are in these lines were answered there, since a box
     -- answers each tick with one.
     pub record WritesFronts : Type 0 where
       pub floor : ℕ

@@ -13,7 +13,7 @@ abbrev pub lines_at : ℕ → List (Kept ℕ) → List ℕ
 lines_at n lines = flat_map (λ line. cond (eqb line.head n) line.frame []) lines
 
 -- the lines of the steps before this tick, in the order of steps; of a step those of the first box
--- stand before those of the second one
+-- come before those of the second one
 abbrev pub lines_before : ℕ → List (Kept ℕ) → List (Kept ℕ) → List ℕ
 lines_before zero first second = []
 lines_before (suc n) first second =

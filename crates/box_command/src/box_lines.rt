@@ -27,8 +27,8 @@ mod turn_tests;
 // How many ticks a box is asked to answer at once at most.
 const MAX_RUN: usize = 4_294_967_295;
 
-/// Drives a box over its journal: the other line goes on as canonical tick text, and a line for each
-/// note to the log.
+/// Drives a box over its journal: the other line goes on as canonical tick text, and a line for
+/// each note to the log.
 #[derive(Drop)]
 pub struct BoxLines<B> {
     line_box: B,
@@ -116,7 +116,7 @@ impl<B: LineBox> BoxLines<B> {
         }
     }
 
-    // Takes one tick. It stands apart from runs, since few ticks go alone.
+    // Takes one tick. It is kept separate from runs, since few ticks go alone.
     #[inline(never)]
     fn step<O: Sink, L: Sink, D: SlotDisk>(
         &mut self,
@@ -141,7 +141,8 @@ impl<B: LineBox> BoxLines<B> {
         }
     }
 
-    /// Takes the first ticks of this run: as many as the box has an answer to at once, and else one.
+    /// Takes the first ticks of this run: as many as the box has an answer to at once, and else
+    /// one.
     #[inline(always)]
     pub fn take_some<O: Sink, L: Sink, D: SlotDisk>(
         &mut self,

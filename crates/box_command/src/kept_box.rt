@@ -109,7 +109,7 @@ impl<B: LineBox> KeptBox<B> {
         }
     }
 
-    // Takes one tick. It stands apart from runs, since few ticks go alone.
+    // Takes one tick. It is kept separate from runs, since few ticks go alone.
     #[inline(never)]
     fn step(&mut self, tick: Tick) -> Result<(), NoMemory>
         requires room { ticks_kept self.old < MAX_TICKS }
@@ -154,7 +154,8 @@ impl<B: LineBox> KeptBox<B> {
         Ok(count)
     }
 
-    /// Takes the first ticks of this run: as many as the box has an answer to at once, and else one.
+    /// Takes the first ticks of this run: as many as the box has an answer to at once, and else
+    /// one.
     #[inline(always)]
     pub(crate) fn take_some(&mut self, run: TickRun<'_>) -> Result<usize, NoMemory>
         requires some { 0 < length (run_ticks run) }

@@ -8,7 +8,8 @@ use line_texts::Texts;
 use yasir_io::{Failed, Sink};
 use yasir_ticks::{Tick, TickRun};
 
-// Adds the line of a note, and the tick of its step. It stands apart, since few steps have a note.
+// Adds the line of a note, and the tick of its step. It is kept separate, since few steps have a
+// note.
 #[inline(never)]
 fn push_note<B: LineBox, O: Sink, L: Sink>(
     texts: &mut Texts,

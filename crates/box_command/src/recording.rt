@@ -24,7 +24,7 @@ use std::alloc::Global;
 use tick_drive::{End, Stop, drive};
 use yasir_io::{Failed, NoMemory, Sink, Source, write_all};
 
-/// How many silent ticks stand behind the longer one of both recordings, so that what passes leaves
+/// How many silent ticks come after the longer one of both recordings, so that what passes leaves
 /// the receiver.
 const BOTH_REST: u64 = 320;
 
@@ -83,7 +83,7 @@ fn finish_both<S: LineBox, C: LineBox>(
 
 /// Takes two recordings that a mark parts in the input: the line of a device, through a box of the
 /// line's direction `outgoing`, and the link, through one of its other direction. Both are filled
-/// with silence to the longer one's length, and 320 silent ticks stand behind them. The boxes have
+/// with silence to the longer one's length, and 320 silent ticks come after them. The boxes have
 /// this key, and journals of their own, whose numbers begin at 1.
 ///
 /// It fails as the input does, and with `Stop::NoMemory` where there is no memory for the texts.

@@ -31,7 +31,7 @@ module _ {S A : Type 0} (boxed : LinkBox S A) (old new : S) where
     takes = takes;
   }
 
-  -- so many silent ticks
+  -- this many silent ticks
   pub passed-silence : (n : ℕ) (lent : List ℕ) → lent ≡ []
       → boxed.taken new ≡ boxed.taken old + n → boxed.link_of new ≡ boxed.link_of old
       → TakesRun boxed.walking boxed.stands old new (silent n) (silent n)

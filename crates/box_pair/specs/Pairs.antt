@@ -44,7 +44,7 @@ ways_of pair sent sent_disk got got_disk = record {
   incoming = record { line_box = incoming_box pair; journal = got; disk = got_disk };
 }
 
--- In one direction the box has taken this run, as so many steps without a note take it, and these
+-- In one direction the box has taken this run, as this many steps without a note take it, and these
 -- ticks are what it answered. No number is used, so its journal and disk have no part in it.
 pub record HasPassed {S A : Type 0} (boxed : LinkBox S A) (old new : S) (run answer : List Tick) :
     Type 0 where
@@ -85,8 +85,8 @@ module _ {S C A B X Y : Type 0} (sends : LinkBox S A) (gets : LinkBox C B) (d : 
     pub outgoing : HasTaken sends d old.outgoing new.outgoing from_device step.link step.sealed
     pub incoming : HasTaken gets e old.incoming new.incoming from_link step.device step.checked
 
-  -- After a fault of the outgoing direction the incoming one hasn't begun its step: box, journal and
-  -- disk are as they were.
+  -- After a fault of the outgoing direction the incoming one hasn't begun its step: box, journal
+  -- and disk are as they were.
   pub record FailsOutgoing : Type 0 where
     pub outgoing : HasFailed sends d old.outgoing new.outgoing from_device
     pub incoming : new.incoming ≡ old.incoming

@@ -12,9 +12,9 @@ ghost use Rattle.box_pair.specs.Turns.{ticks_to_device, notes_sealed, notes_chec
 use link_box::LinkBox;
 use yasir_io::SlotDisk;
 
-/// A law of the steps and runs of a pair, in any order, whatever ticks come from the device and from
-/// the link: in each direction they have answered with the other line and with the notes that the
-/// definition of its box makes of the ticks of this direction alone. A run has no notes.
+/// A law of the steps and runs of a pair, in any order, whatever ticks come from the device and
+/// from the link: in each direction they have answered with the other line and with the notes that
+/// the definition of its box makes of the ticks of this direction alone. A run has no notes.
 pub fn directions_are_apart<S: LinkBox, C: LinkBox, X: SlotDisk, Y: SlotDisk>()
     ensures outgoing { (old new : BothWays S C X Y) (turns : List (Turn S.Note C.Note))
         → Turns S.LinkBox C.LinkBox X.SlotDisk Y.SlotDisk old turns new

@@ -98,11 +98,11 @@ impl<S: LinkBox, C: LinkBox> BoxPair<S, C> {
         &self.receiver
     }
 
-    /// Takes the next tick of the device and the next one of the link, the outgoing direction first,
-    /// and returns what leaves in both directions with the notes that fall into this step. `sent`
-    /// and `sent_disk` are the journal of the outgoing direction and its disk, `got` and `got_disk`
-    /// those of the incoming one, each as the steps before left it: each journal serves the link of
-    /// its box. Fewer than `MAX_TICKS` ticks were taken before in each direction.
+    /// Takes the next tick of the device and the next one of the link, the outgoing direction
+    /// first, and returns what leaves in both directions with the notes that fall into this step.
+    /// `sent` and `sent_disk` are the journal of the outgoing direction and its disk, `got` and
+    /// `got_disk` those of the incoming one, each as the steps before left it: each journal serves
+    /// the link of its box. Fewer than `MAX_TICKS` ticks were taken before in each direction.
     ///
     /// It fails where the number of a frame isn't committed. No step follows.
     #[inline(always)]

@@ -1,4 +1,4 @@
--- Bursts that are laid on a line are the bursts of that line, and laid later they stand behind
+-- Bursts that are laid on a line are the bursts of that line, and laid later they come after
 -- silence.
 use Rattle.std.proofs.Common.{◌≡◌, ◌∙◌, ◌&&◌, ◌⊎◌, inl, inr, ℕ, zero, suc, ◌+◌, ◌-◌, ◌<◌, ◌≤◌}
 use Rattle.std.proofs.Common.{nat_lt}
@@ -180,7 +180,7 @@ module _ (n : ℕ) where
       let back : n + i - (n + d.start) ≡ i - d.start = omega arith in
       rw (sym at, same_place d.start (length d.body) i, back, tick_at-later ds i (n + i) refl) refl
 
-  -- What is laid n ticks later stands behind n silent ticks.
+  -- What is laid n ticks later comes after n silent ticks.
   pub laid-later : (m : ℕ) (ds : List Burst)
       → laid (n + m) (map (later n) ds) ≡ silent n ++ laid m ds
   laid-later m ds =

@@ -21,7 +21,7 @@ row floor line notes other = record {
 abbrev pub noted_at : {N : Type 0} → ℕ → N → Noted N
 noted_at tick note = record { tick = tick; note = note }
 
--- a definition of notes says of each row what stands there
+-- a definition of notes says of each row what is there
 abbrev pub AreNotes : {N : Type 0} → (ℕ → List Tick → List (Noted N)) → List (Row N) → Type 0
 AreNotes notes_of rows = map (λ r. notes_of r.floor r.line) rows ≡ map (λ r. r.notes) rows
 

@@ -4,7 +4,7 @@ use Rattle.yasir_ticks.specs.Ticks.{silent}
 use Rattle.yasir_ticks.specs.declared.tick.Tick.{Tick}
 use Rattle.yasir_ticks.specs.declared.tick.Tick.TheVariants.{Byte}
 
--- these bytes, or so many silent ticks where there is none
+-- these bytes, or this many silent ticks where there is none
 abbrev pub answered : ℕ → List ℕ → List Tick
 answered n [] = silent n
 answered n (b ∷ x) = map Byte (b ∷ x)

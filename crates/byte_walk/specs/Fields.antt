@@ -3,7 +3,7 @@ use Rattle.std.specs.Prelude.{◌≡◌, ℕ, ◌≤◌, nat_lt, Bool, if◌then
 use Rattle.std.specs.Prelude.{length, Option, None, Result, Ok, Err}
 use Rattle.byte_walk.specs.Walks.{Begins, BeginsNone}
 
--- where such a reader stands: what comes next, and the bytes of a field that have come
+-- where such a reader is: what comes next, and the bytes of a field that have come
 pub record Spot (S : Type 0) : Type 0 where
   pub stage : S
   pub partial : List ℕ
@@ -28,7 +28,7 @@ module _ {S I F : Type 0} (takes_bytes : S → Bool) (field_at : S → List ℕ 
       else at_spot (field_at spot.stage (spot.partial ++ b ∷ []))
 
 -- A byte is refused after these bytes: its field is the first one with which no input of the format
--- begins, for this cause. What stands before the field begins one, with these items.
+-- begins, for this cause. What comes before the field begins one, with these items.
 module _ {I F : Type 0} (IsRight : List ℕ → List I → Type 0)
     (IsCause : List ℕ → List ℕ → F → Type 0) where
   pub record RefusesField (bytes : List ℕ) (items : List I) (b offset : ℕ) (why : F) : Type 0 where

@@ -22,7 +22,7 @@ module _ {P I F : Type 0} (step : P → ℕ → Result (P × Option I) F) where
   walk from [] = Ok (from, [])
   walk from (b ∷ bytes) = and_then_walk (step from b) (λ place. walk place bytes)
 
--- The bytes begin an input of this format, and these are the items of what stands there: an input
+-- The bytes begin an input of this format, and these are the items of what is there: an input
 -- that goes on so has these items first.
 module _ {I : Type 0} (IsRight : List ℕ → List I → Type 0) where
   pub record Begins (bytes : List ℕ) (items : List I) : Type 0 where

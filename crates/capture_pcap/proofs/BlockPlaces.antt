@@ -1,5 +1,5 @@
--- What may follow a pcapng file so far at each place of its reader, and what a field or a byte makes
--- of it.
+-- What may follow a pcapng file so far at each place of its reader, and what a field or a byte
+-- makes of it.
 use Rattle.std.proofs.Common.{◌≡◌, ◌∙◌, ℕ, ◌+◌, ◌*◌, ◌-◌, ◌/◌, ◌%◌, ◌<◌, ◌≤◌, ◌^◌, ◌==◌, ◌&&◌, ◌||◌}
 use Rattle.std.proofs.Common.{not, nat_lt, nat_le, Bool, true, false, List, [], ◌∷◌, ◌++◌, length}
 use Rattle.std.proofs.Common.{drop, Option, Some, None, Ok, Err, refl, ap, sym, subst, arith}
@@ -56,7 +56,7 @@ abbrev pub EndsAs : Section → ℕ → List ℕ → List Seen → Type 0
 EndsAs s size text items = (again : List ℕ) → length again ≡ 4 → number s.order again ≡ size
     → AreBlocks (Some s) (text ++ again) items
 
--- so many bytes, and the length
+-- this many bytes, and the length
 abbrev pub RestsAs : Section → ℕ → ℕ → List ℕ → List Seen → Type 0
 RestsAs s size left text items = (rest : List ℕ) → length rest ≡ left
     → EndsAs s size (text ++ rest) items

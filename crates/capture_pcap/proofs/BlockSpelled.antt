@@ -90,7 +90,7 @@ unfolding block_field_at
 end_walk s size again four e =
     one (b.End s size) (b.Kind s) again refl four (rw (eq-eqb (number s.order again) size e) refl)
 
--- so many bytes, and the length again
+-- this many bytes, and the length again
 close_walk : (s : Section) (size left : ℕ) (rest again : List ℕ) → length rest ≡ left
     → length again ≡ 4 → number s.order again ≡ size
     → Walks (Blocks (rest_or_end s size left)) (rest ++ again) (Blocks (b.Kind s)) []
@@ -161,7 +161,7 @@ section_walk order size mark rest again size_long m whole four size_is again_is 
 
 -- ---- options
 
--- where the reader of an interface stands before these options, and that it comes over them to the
+-- where the reader of an interface comes before these options, and that it comes over them to the
 -- end of the block
 record OptionsWalk (s : Section) (size left counts to : ℕ) (options : List ℕ) : Type 0 where
   pub place : Block
@@ -649,7 +649,7 @@ packet_walk s bytes items e =
 
 -- ---- a whole file
 
--- where a reader stands before a block
+-- where a reader is before a block
 abbrev pub before_block : Option Section → Stage
 before_block None = Magic
 before_block (Some s) = Blocks (b.Kind s)

@@ -40,7 +40,7 @@ pub on_field : (from to : Stage) (field : List ℕ) (item : Option Seen) → tak
 on_field from to field item h four e on =
     on_walk from to field (option_to_list item) (one_field from to field item h four e) on
 
--- in a packet, whatever stands behind it
+-- in a packet, whatever comes after it
 module _ (within : Body → Stage) (behind : Stage)
     (takes : (body : Body) → takes_bytes (within body) ≡ takes_data body)
     (fields : (body : Body) (field : List ℕ) → field_at (within body) field

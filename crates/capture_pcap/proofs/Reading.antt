@@ -45,7 +45,7 @@ bytes stage next front items b item at h e =
     let Q : Stepped → Type 0 = λ s. Moves front (b ∷ []) items s in
     subst Q e (byte_goes stage front items b at h)
 
--- what came before the field in which a reader stands
+-- what came before the field in which a reader is
 abbrev pub Reached : Spot Stage → List ℕ → List Seen → Type 0
 Reached = ReachedSpot takes_bytes field_at byte_at Magic AtStage fields bytes
 

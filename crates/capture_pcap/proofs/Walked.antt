@@ -10,7 +10,7 @@ use Rattle.capture_pcap.specs.PcapStep.{takes_bytes, field_at, byte_at, step_at}
 use Rattle.line_stamps.specs.declared.seen.Seen.{Seen}
 use Rattle.capture_pcap.specs.declared.stage.Stage.{Stage}
 
--- a reader that stands before a field comes over these bytes to where it stands before another
+-- a reader that comes before a field comes over these bytes to where it comes before another
 pub record Walks (from : Stage) (bytes : List ℕ) (to : Stage) (items : List Seen) : Type 0 where
   pub is : walk step_at (before_field from) bytes ≡ Ok (before_field to, items)
 

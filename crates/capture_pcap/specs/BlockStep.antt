@@ -35,7 +35,7 @@ takes_bytes (b.Packet section size left body) = takes_data body
 takes_bytes (b.Rest section size left) = true
 takes_bytes _ = false
 
--- whether a block of at least so many bytes may have this length
+-- whether a block of at least this many bytes may have this length
 abbrev pub is_size : ℕ → ℕ → Bool
 is_size size least = nat_le least size && (size % 4 == 0)
 
@@ -89,7 +89,7 @@ abbrev pub IsSoundStep : Stepped → Type 0
 IsSoundStep (Ok next) = is_sound next.0 ≡ true
 IsSoundStep (Err why) = Unit {0}
 
--- so many bytes that say nothing here, and the end of the block
+-- this many bytes that say nothing here, and the end of the block
 abbrev pub rest_or_end : Section → ℕ → ℕ → Block
 rest_or_end section size left =
     if nat_lt 0 left then b.Rest section size left else b.End section size

@@ -1,5 +1,5 @@
--- A pcapng file whose interfaces have link type 250, RTAC serial (draft-ietf-opsawg-pcapng): blocks,
--- each with its kind and its length in front, and the length again at its end.
+-- A pcapng file whose interfaces have link type 250, RTAC serial (draft-ietf-opsawg-pcapng):
+-- blocks, each with its kind and its length in front, and the length again at its end.
 use Rattle.std.specs.Prelude.{◌≡◌, ℕ, ◌+◌, ◌*◌, ◌-◌, ◌/◌, ◌%◌, ◌<◌, ◌≤◌, ◌^◌, ◌==◌, ◌&&◌, ◌||◌, not}
 use Rattle.std.specs.Prelude.{nat_le, Bool, true, false, List, [], ◌∷◌, ◌++◌, length, drop}
 use Rattle.std.specs.Prelude.{Option, Some, None, if◌then◌else◌, slice_index}
@@ -52,8 +52,8 @@ abbrev pub is_plain : ℕ → Bool
 is_plain code = not (code == 0) && not (code == 9) && not (code == 14)
 
 -- The options of an interface, and how many nanoseconds a unit of its times is, before them and
--- behind them: if_tsresol, option 9, sets it, by a power of ten of at most nine. Option 0 ends them.
--- An interface with if_tsoffset, option 14, isn't read.
+-- behind them: if_tsresol, option 9, sets it, by a power of ten of at most nine. Option 0 ends
+-- them. An interface with if_tsoffset, option 14, isn't read.
 pub data AreOptions (order : Order) : ℕ → List ℕ → ℕ → Type 0 where
   none : (counts : ℕ) → AreOptions order counts [] counts
   ended : (counts : ℕ) (head rest : List ℕ) → length head ≡ 4 → short_number order head ≡ 0
@@ -67,7 +67,7 @@ pub data AreOptions (order : Order) : ℕ → List ℕ → ℕ → Type 0 where
       → counts_at (slice_index value 0) ≡ Some counts → AreOptions order counts more to
       → AreOptions order from (head ++ (value ++ more)) to
 
--- an interface of link type 250, a unit of whose times is so many nanoseconds
+-- an interface of link type 250, a unit of whose times is this many nanoseconds
 pub record IsInterface (order : Order) (bytes : List ℕ) (counts : ℕ) : Type 0 where
   pub kind : List ℕ
   pub link : List ℕ

@@ -32,7 +32,7 @@ IsSoundNext next = sound next.0
     sound (Some body) = has_more body ≡ true
     sound None = Unit {0}
 
--- data of which so many bytes are left
+-- data of which this many bytes are left
 abbrev pub data_of : ℕ → ℕ → Option Way → Bool → Option Body
 data_of start left way first = if nat_lt 0 left then Some (Data start left way first) else None
 

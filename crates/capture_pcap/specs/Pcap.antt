@@ -103,7 +103,7 @@ pub data IsCause (front field : List ℕ) : PcapFault → Type 0 where
       → front ≡ (packets ++ time) ++ captured → ArePackets clock packets items
       → IsTime clock time start → length captured ≡ 4
       → (number clock.order field ≡ number clock.order captured → ⊥) → IsCause front field Cut
-  -- In a pcapng file: what stands before the field leads to this place in a block, and there the
+  -- In a pcapng file: what comes before the field leads to this place in a block, and there the
   -- field is refused for this cause.
   in_block : (block : Block) (items : List Seen) (why : PcapFault)
       → walk step_at (before_field FileBegin) front ≡ Ok (before_field (Blocks block), items)

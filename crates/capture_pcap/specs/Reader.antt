@@ -29,7 +29,8 @@ pub record StandsFor (reader : PcapReader) (file : List ℕ) (items : List Seen)
 abbrev pub HasRefused : PcapReader → BadPcap → Type 0
 HasRefused reader bad = reader.refused ≡ Some bad
 
--- The next byte, or the end of the file, is refused with this place and cause: a byte with its field.
+-- The next byte, or the end of the file, is refused with this place and cause: a byte with its
+-- field.
 abbrev pub Refuses : List ℕ → List Seen → Option ℕ → BadPcap → Type 0
 Refuses file items (Some b) bad = RefusesField IsCapture IsCause file items b bad.offset bad.why
 Refuses file items None bad = (bad.offset ≡ length file) × (bad.why ≡ End)

@@ -40,7 +40,7 @@ seen_of start event bytes =
     option_to_list (seen_event start event (length bytes) (event_way event))
     ++ seen_data start (event_way event) true bytes
 
--- A record of this time, with so many bytes of data.
+-- A record of this time, with this many bytes of data.
 pub record IsRecord (start count : ℕ) (bytes : List ℕ) (items : List Seen) : Type 0 where
   pub seconds : List ℕ
   pub microseconds : List ℕ

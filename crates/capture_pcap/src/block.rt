@@ -55,8 +55,8 @@ pub enum Block {
     Link(Section, u32),
     /// How many bytes of a packet are taken at most.
     Snap(Section, u32),
-    /// An option of the interface, of whose options so many fields are left. A unit of its times is
-    /// this many nanoseconds.
+    /// An option of the interface, of whose options this many fields are left. A unit of its times
+    /// is this many nanoseconds.
     Option(Section, u32, u32, u32),
     /// The last fields of an option, and how many of them; behind them this many fields are left.
     Value(Section, u32, u32, u32, u32),
@@ -70,7 +70,7 @@ pub enum Block {
     Low(Section, u32, u32),
     /// How many bytes of the packet of this time, in nanoseconds, the file has.
     Captured(Section, u32, u64),
-    /// How many bytes this packet had, of which the file has so many.
+    /// How many bytes this packet had, of which the file has this many.
     Original(Section, u32, u64, u32),
     /// The packet itself, and then this many bytes.
     Packet(Section, u32, u32, Body),

@@ -33,7 +33,7 @@ pub enum PcapFault {
 /// A refusal of a pcap file.
 #[derive(Clone, Copy, Debug, PartialEq, Eq)]
 pub struct BadPcap {
-    /// How many bytes stand before the refused field, or before the end of the file.
+    /// How many bytes come before the refused field, or before the end of the file.
     pub offset: u64,
     pub why: PcapFault,
 }

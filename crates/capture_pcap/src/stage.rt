@@ -16,7 +16,7 @@ use crate::{Block, Body, Clock, Order, PcapFault, Resolution, Seen, block};
 /// The link type of RTAC serial.
 const RTAC_SERIAL: u32 = 250;
 
-/// The bytes of an RTAC header, which stands in front of a packet's data.
+/// The bytes of an RTAC header, which comes before a packet's data.
 const RTAC_HEADER: u32 = 12;
 
 /// What comes next in a pcap file.
@@ -24,7 +24,7 @@ const RTAC_HEADER: u32 = 12;
 pub enum Stage {
     /// The magic number.
     Magic,
-    /// A field of the header that may be anything, after so many of the four: version, zone,
+    /// A field of the header that may be anything, after this many of the four: version, zone,
     /// figures and length of a packet.
     Free(Clock, u8),
     /// The link type.
@@ -35,7 +35,7 @@ pub enum Stage {
     Fraction(Clock, u32),
     /// How many bytes of the packet of this time, in nanoseconds, the file has.
     Captured(Clock, u64),
-    /// How many bytes this packet had, of which the file has so many.
+    /// How many bytes this packet had, of which the file has this many.
     Original(Clock, u64, u32),
     /// The packet itself.
     Packet(Clock, Body),

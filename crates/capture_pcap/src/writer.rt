@@ -15,7 +15,7 @@ pub const FILE_HEADER: [u8; 24] = [
     0x4D, 0x3C, 0xB2, 0xA1, 2, 0, 4, 0, 0, 0, 0, 0, 0, 0, 0, 0, 0, 0, 4, 0, 250, 0, 0, 0,
 ];
 
-/// What stands before the data of a packet.
+/// What comes before the data of a packet.
 pub type PacketHeader = ArrayVec<u8, 28>;
 
 /// `FILE_HEADER` is the header of a file whose times count nanoseconds.
@@ -61,7 +61,7 @@ fn push_event(out: &mut PacketHeader, way: Way)
     let _ = out.try_extend_from_slice(&[event_of(way), 0, 0, 0]);
 }
 
-/// What stands before this many bytes of data, which start then, in nanoseconds since 1970.
+/// What comes before this many bytes of data, which start then, in nanoseconds since 1970.
 pub fn packet_header(way: Way, start: u64, count: u32) -> PacketHeader
     requires time { start < 2 ^ 32 * 1000000000 }
     requires size { count + 12 < 2 ^ 32 }

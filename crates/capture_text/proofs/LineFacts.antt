@@ -40,9 +40,6 @@ all_weaker test other w (c ∷ x) h =
 pub digit_is_time_byte : (b : ℕ) → is_decimal_digit b ≡ true → is_time_byte b ≡ true
 digit_is_time_byte b h = rw h refl
 
-pub time_byte_stays : (b : ℕ) → is_time_byte b ≡ true → stays_in_line b ≡ true
-time_byte_stays b h = grind arith
-
 pub time_byte_no_blank : (b : ℕ) → is_time_byte b ≡ true → is_blank b ≡ false
 time_byte_no_blank b h = grind arith
 
@@ -82,7 +79,7 @@ ends_in_return-none test apart (c ∷ []) h =
 ends_in_return-none test apart (c ∷ d ∷ x) h =
     ends_in_return-none test apart (d ∷ x) (and_parts (test c) (list_all test (d ∷ x)) h).1
 
--- ---- what stands behind a blank
+-- ---- what comes after a blank
 
 pub behind_blank-none : (x : List ℕ) → list_all is_time_byte x ≡ true → behind_blank x ≡ []
 behind_blank-none [] h = refl
@@ -140,16 +137,3 @@ pairs_more (d ∷ []) bytes high low byte h g = absurd h
 pairs_more (d ∷ e ∷ digits) [] high low byte h g = absurd h
 pairs_more (d ∷ e ∷ digits) (b ∷ bytes) high low byte h g =
     (h.0, pairs_more digits bytes high low byte h.1 g)
-
-pub pairs_stay : (digits bytes : List ℕ) → ArePairs digits bytes
-    → list_all stays_in_line digits ≡ true
-pairs_stay [] [] h = refl
-pairs_stay [] (b ∷ bytes) h = absurd h
-pairs_stay (d ∷ []) bytes h = absurd h
-pairs_stay (d ∷ e ∷ digits) [] h = absurd h
-pairs_stay (d ∷ e ∷ digits) (b ∷ bytes) h =
-    rw (
-      hex_stays d h.0.first h.0.high_is,
-      hex_stays e h.0.second h.0.low_is,
-      pairs_stay digits bytes h.1,
-    ) refl

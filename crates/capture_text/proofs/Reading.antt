@@ -27,11 +27,6 @@ at_once : (place : Place) → may_end place ≡ true → GoesOn place
 unfolding walk
 at_once place e = record { more = []; others = []; last = place; walks = refl; end = e }
 
-blank_on : (time : ℕ) → walk step_at (Blank time) (48 ∷ 48 ∷ [])
-    ≡ Ok (Pairs time, capture_byte time true 0 ∷ [])
-unfolding walk step_at
-blank_on time = refl
-
 goes_on : (place : Place) (line : List ℕ) (items : List CaptureByte) → At place line items
     → GoesOn place
 unfolding walk step_at

@@ -27,7 +27,7 @@ is_blank b = b == 32 || b == 9
 abbrev pub ends_line : ℕ → Bool
 ends_line b = b == line_feed || b == carriage_return
 
--- what digits behind a point count, the first of them so many nanoseconds, and each further one a
+-- what digits behind a point count, the first of them this many nanoseconds, and each further one a
 -- tenth of the digit before it: the tenth one behind the point and those that follow count nothing
 abbrev pub fraction_value : ℕ → List ℕ → ℕ
 fraction_value counts [] = 0
@@ -135,7 +135,7 @@ pub record IsTextCapture (text : List ℕ) (items : List CaptureByte) : Type 0 w
   pub lines : AreLines ended items_before
   pub last_line : IsLine last items_last
 
--- what stands behind the first blank of a line
+-- what comes after the first blank of a line
 abbrev pub behind_blank : List ℕ → List ℕ
 behind_blank [] = []
 behind_blank (b ∷ line) = if is_blank b then line else behind_blank line

@@ -25,7 +25,7 @@ fitting time = if nat_lt time (2 ^ 64) then Some time else None
 abbrev pub whole_time : ℕ → ℕ → Option ℕ
 whole_time time digit = fitting (10 * time + (digit - digit_zero) * 1000000000)
 
--- a time with one digit more behind its point, which counts so many nanoseconds
+-- a time with one digit more behind its point, which counts this many nanoseconds
 abbrev pub fraction_time : ℕ → ℕ → ℕ → Option ℕ
 fraction_time time counts digit = fitting (time + (digit - digit_zero) * counts)
 
@@ -55,7 +55,7 @@ to_fraction counts None = Err Late
 abbrev pub after_fraction : ℕ → ℕ → ℕ → Stepped
 after_fraction time counts b = to_fraction counts (fraction_time time counts b)
 
--- the first digit of a pair, or what else may stand there
+-- the first digit of a pair, or what else may come there
 abbrev pub to_half : ℕ → Bool → Option ℕ → Stepped → Stepped
 to_half time first (Some high) other = Ok (Half time first high, None)
 to_half time first None other = other

@@ -3,7 +3,7 @@
 /// Why a text capture is refused.
 #[derive(Clone, Copy, Debug, PartialEq, Eq)]
 pub enum TextFault {
-    /// A byte that may not stand at its place.
+    /// A byte that may not come at its place.
     Char,
     /// A digit of a time that makes it 2^64 nanoseconds or more, some 584 years.
     Late,
@@ -16,7 +16,7 @@ pub enum TextFault {
 /// A refusal of a text capture.
 #[derive(Clone, Copy, Debug, PartialEq, Eq)]
 pub struct BadText {
-    /// How many bytes stand before the refused one, or before the end of the text.
+    /// How many bytes come before the refused one, or before the end of the text.
     pub offset: u64,
     /// The line, counted from 1, in which the refused byte or the end of the text stands.
     pub line: u64,

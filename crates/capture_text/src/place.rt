@@ -1,4 +1,4 @@
-//! Where in a line of a text capture its reader stands, and what one byte does there.
+//! Where in a line of a text capture its reader is, and what one byte does there.
 #![tactic(auto, unfolding(crate::specs::TextStep::step_at))]
 
 ghost use Rattle.std.specs.Prelude.{◌≡◌, ◌<◌, true};
@@ -14,7 +14,7 @@ const SECOND: u64 = 1_000_000_000;
 /// The nanoseconds that the first digit behind the point of a time counts.
 const TENTH: u32 = 100_000_000;
 
-/// Where in a line of a text capture its reader stands.
+/// Where in a line of a text capture its reader is.
 #[derive(Clone, Copy, Debug, PartialEq, Eq)]
 pub enum Place {
     /// Before its first byte.
@@ -25,7 +25,8 @@ pub enum Place {
     Whole(u64),
     /// After these and a point.
     Point(u64),
-    /// After digits behind the point, this time in nanoseconds. The next digit counts so many.
+    /// After digits behind the point, this time in nanoseconds. The next digit counts as
+    /// many nanoseconds as the second number says.
     Fraction(u64, u32),
     /// After a time and a blank.
     Blank(u64),

@@ -63,7 +63,7 @@ impl TextReader {
         self.taken
     }
 
-    /// Refuses the text where the reader stands, for good.
+    /// Refuses the text where the reader is, for good.
     fn refuse(&mut self, why: TextFault) -> BadText
         requires { bytes_taken self.old < MAX_BYTES }
         ensures place { (text : List ℕ) (items : List CaptureByte) → StandsFor self.old text items

@@ -15,7 +15,7 @@ const SECOND: u64 = 1_000_000_000;
 /// What a line has before the digits of its bytes.
 pub type LineFront = ArrayVec<u8, 32>;
 
-/// Appends the digit that counts so many, and returns what is left.
+/// Appends the digit that counts how often `counts` fits, and returns the remainder.
 fn push_digit(front: &mut LineFront, rest: u32, counts: u32) -> u32
     requires room { length front.old.items < 32 }
     requires some { 0 < counts }

@@ -133,16 +133,16 @@ ring-still (suc (suc n)) b many = refl
 
 -- ---- runs
 
-module _ {R M : Type 0} (proto : LineRules R) (code : Mac M) {B D : ℕ} (new : Checker R M B D)
+module _ {R M : Type 0} (proto : LineRules R) (macs : Mac M) {B D : ℕ} (new : Checker R M B D)
     (last : ℕ) (setup : Setup) (line : List Tick) where
   abbrev w : Walker CheckState FullNote
-  w = checker (profile_of proto code B LIMIT setup) proto.rules
+  w = checker (profile_of proto macs B LIMIT setup) proto.rules
 
   -- a tick without a note is a run
   pub one-taken : (t a : Tick) (step : BoxStep CheckNote)
-      → HasTaken proto code new last setup line t step
+      → HasTaken proto macs new last setup line t step
       → step.note ≡ None → step.tick ≡ a
-      → HasTakenRun proto code new last setup line (t ∷ []) (a ∷ [])
+      → HasTakenRun proto macs new last setup line (t ∷ []) (a ∷ [])
   one-taken t a step taken none is =
       let A : Tick → Option CheckNote → Type 0 = λ u n. AnswersTickOf w brief_note
       (at_floor setup.floor) line t u n in
@@ -154,11 +154,11 @@ module _ {R M : Type 0} (proto : LineRules R) (code : Mac M) {B D : ℕ} (new : 
 
   -- and a run goes on by another one
   pub more-taken : (mid : Checker R M B D) (run more answer next : List Tick)
-      → HasTakenRun proto code mid last setup line run answer
-      → HasTakenRun proto code new last setup (line ++ run) more next
-      → HasTakenRun proto code new last setup line (run ++ more) (answer ++ next)
+      → HasTakenRun proto macs mid last setup line run answer
+      → HasTakenRun proto macs new last setup (line ++ run) more next
+      → HasTakenRun proto macs new last setup line (run ++ more) (answer ++ next)
   more-taken mid run more answer next first rest =
-      let S : List Tick → Type 0 = λ l. StandsAt proto code new last setup l in
+      let S : List Tick → Type 0 = λ l. StandsAt proto macs new last setup l in
       record {
         stands = subst S (append_assoc line run more) rest.stands;
         answers = run-joined w brief_note (at_floor setup.floor) line run more answer next
@@ -166,12 +166,12 @@ module _ {R M : Type 0} (proto : LineRules R) (code : Mac M) {B D : ℕ} (new : 
       }
 
 -- the receiver after no byte
-pub still-stands : {R M : Type 0} (proto : LineRules R) (code : Mac M) {B D : ℕ}
+pub still-stands : {R M : Type 0} (proto : LineRules R) (macs : Mac M) {B D : ℕ}
     (old : Checker R M B D) (last : ℕ) (setup : Setup) (line : List Tick) (cut : BurstCut R)
-    (k : ℕ) (bytes : List ℕ) → StandsAt proto code old last setup line → k ≡ 0
+    (k : ℕ) (bytes : List ℕ) → StandsAt proto macs old last setup line → k ≡ 0
     → CutStandsFor proto cut (line ++ map (λ b. Byte b) (take k bytes))
-    → StandsAt proto code (record old { cut = cut }) last setup line
-still-stands proto code old last setup line cut k bytes stands none cuts =
+    → StandsAt proto macs (record old { cut = cut }) last setup line
+still-stands proto macs old last setup line cut k bytes stands none cuts =
     let C : List Tick → Type 0 = λ l. CutStandsFor proto cut l in
     record {
       word_is = stands.word_is;

@@ -21,7 +21,7 @@ use Rattle.link_verdicts.specs.declared.note.CheckNote.TheVariants.{Passed, Refu
 use Rattle.link_verdicts.specs.declared.note.RefusedWhy.{RefusedWhy}
 use Rattle.check_receiver.specs.Between.{IsWhole, verdict_told}
 use Rattle.check_receiver.specs.Checkings.{PassesWith}
-use Rattle.check_receiver.specs.Stands.{Codes, HasTaken}
+use Rattle.check_receiver.specs.Stands.{MacHolds, HasTaken}
 use Rattle.check_receiver.specs.Turning.{Turned, closed_at}
 use Rattle.check_receiver.specs.declared.checker.Checker.{Checker}
 use Rattle.burst_walk.specs.declared.box_step.BoxStep.{BoxStep}
@@ -32,11 +32,11 @@ use Rattle.check_receiver.proofs.Hearing.{refuse-taken, pass-taken, passes-with}
 -- A burst with a whole trailer is judged so.
 abbrev pub Judges : {R M : Type 0} → LineRules R → Mac M → {B D : ℕ} → Checker R M B D → ℕ
     → Result ℕ RefusedWhy → Type 0
-Judges proto code {B = B} old last result = (setup : Setup) (line : List Tick) (d : Burst)
+Judges proto macs {B = B} old last result = (setup : Setup) (line : List Tick) (d : Burst)
     → CutStandsFor proto old.cut line → last_burst line ≡ Some d
-    → Codes proto code setup old.mac old.arriving d
-    → length (trailer_so_far proto.rules d) ≡ B + code.TAG
-    → verdict_told result ≡ whole_verdict (profile_of proto code B LIMIT setup) proto.rules last
+    → MacHolds proto macs setup old.mac old.arriving d
+    → length (trailer_so_far proto.rules d) ≡ B + macs.TAG
+    → verdict_told result ≡ whole_verdict (profile_of proto macs B LIMIT setup) proto.rules last
     (live_bytes proto.rules d) (trailer_so_far proto.rules d)
 
 pub room-kept : {R M : Type 0} {B D : ℕ} (old told : Checker R M B D)
@@ -46,28 +46,28 @@ room-kept {R = R} {M = M} {B = B} {D = D} old told rest room =
     let P : Checker R M B D → Type 0 = λ v. ticks_cut v.cut ≤ MAX_TICKS in
     subst P (sym rest) room
 
-module _ {R M : Type 0} (proto : LineRules R) (code : Mac M) {B D : ℕ} (old : Checker R M B D)
+module _ {R M : Type 0} (proto : LineRules R) (macs : Mac M) {B D : ℕ} (old : Checker R M B D)
     (last : ℕ) (setup : Setup) (line : List Tick) (t : Tick)
-    (whole : IsWhole proto code old last setup line t) (told : Checker R M B D)
+    (whole : IsWhole proto macs old last setup line t) (told : Checker R M B D)
     (rest : told ≡ record old { mac = told.mac })
-    (code_is : (text : List ℕ) × code.stands told.mac setup.key text) where
+    (mac_stands : (text : List ℕ) × macs.stands told.mac setup.key text) where
   abbrev rules : Rules
   rules = proto.rules
 
   abbrev profile : Profile
-  profile = profile_of proto code B LIMIT setup
+  profile = profile_of proto macs B LIMIT setup
 
-  abbrev hears : Hears proto code old last setup line t whole.byte
-  hears = hears-whole proto code old last setup line t whole
+  abbrev hears : Hears proto macs old last setup line t whole.byte
+  hears = hears-whole proto macs old last setup line t whole
 
   abbrev e : Burst
   e = going_on hears.burst (length line) whole.byte
 
-  -- Where the verdict is told, the code has gone on.
+  -- Where the verdict is told, the MAC has gone on.
   abbrev after : Checker R M B D
   after = record old { mac = told.mac }
 
-  abbrev hears-after : Hears proto code after last setup line t whole.byte
+  abbrev hears-after : Hears proto macs after last setup line t whole.byte
   hears-after = record {
     word_is = hears.word_is;
     wide = hears.wide;
@@ -80,22 +80,22 @@ module _ {R M : Type 0} (proto : LineRules R) (code : Mac M) {B D : ℕ} (old : 
     mac = hears.mac;
     arriving = hears.arriving;
     walks = hears.walks;
-    code_is = code_is;
+    mac_stands = mac_stands;
     burst = hears.burst;
     waits_is = hears.waits_is;
   }
 
-  judged : (result : Result ℕ RefusedWhy) → Judges proto code old last result
+  judged : (result : Result ℕ RefusedWhy) → Judges proto macs old last result
       → whole_verdict profile rules last (live_bytes rules e) (trailer_of profile rules e)
       ≡ verdict_told result
   judged result judges =
-      let is = next-last proto code old last setup line t whole.byte hears in
+      let is = next-last proto macs old last setup line t whole.byte hears in
       ap (λ x. whole_verdict profile rules last (live_bytes rules e) x)
-      (whole-trailer proto code old last setup line t whole.byte hears whole.last_place)
-      ∙ sym (judges setup (line ++ t ∷ []) e whole.cuts is (whole.coded e is)
-      (whole-long proto code old last setup line t whole.byte hears whole.last_place))
+      (whole-trailer proto macs old last setup line t whole.byte hears whole.last_place)
+      ∙ sym (judges setup (line ++ t ∷ []) e whole.cuts is (whole.mac_holds e is)
+      (whole-long proto macs old last setup line t whole.byte hears whole.last_place))
 
-  pub decide-refuses : (why : RefusedWhy) → Judges proto code old last (Err why)
+  pub decide-refuses : (why : RefusedWhy) → Judges proto macs old last (Err why)
       → (new : Checker R M B D) (step : BoxStep CheckNote)
       → Turned proto (closed_at new.earliest_start told) new Silent step.tick
       → ((link : List Tick) → CutStandsFor proto told.cut link
@@ -103,7 +103,7 @@ module _ {R M : Type 0} (proto : LineRules R) (code : Mac M) {B D : ℕ} (old : 
       + left_of rules (live_bytes_so_far rules link))
       → ((link : List Tick) → CutStandsFor proto told.cut link
       → step.note ≡ Some (Refused (start_so_far link) why))
-      → HasTaken proto code new last setup line t step
+      → HasTaken proto macs new last setup line t step
   decide-refuses why judges new step turned earliest noted =
       let link : List Tick = line ++ t ∷ [] in
       let T : Checker R M B D → Type 0 = λ v. Turned proto (closed_at new.earliest_start v) new
@@ -112,11 +112,11 @@ module _ {R M : Type 0} (proto : LineRules R) (code : Mac M) {B D : ℕ} (old : 
       → new.earliest_start ≡ length link + v.until + left_of rules (live_bytes_so_far rules link) in
       let N : Checker R M B D → Type 0 = λ v. CutStandsFor proto v.cut link
       → step.note ≡ Some (Refused (start_so_far link) why) in
-      refuse-taken proto code after last setup line t whole.byte hears-after new step
+      refuse-taken proto macs after last setup line t whole.byte hears-after new step
       (subst T rest turned) (subst E rest (earliest link) whole.cuts) why
       (subst N rest (noted link) whole.cuts) whole.last_place (judged (Err why) judges)
 
-  pub decide-passes : (number : ℕ) → Judges proto code old last (Ok number)
+  pub decide-passes : (number : ℕ) → Judges proto macs old last (Ok number)
       → (new : Checker R M B D) (step : BoxStep CheckNote)
       → Turned proto (record told {
         waits = false;
@@ -127,7 +127,7 @@ module _ {R M : Type 0} (proto : LineRules R) (code : Mac M) {B D : ℕ} (old : 
       → ((link : List Tick) → CutStandsFor proto told.cut link
       → step.note ≡ Some (Passed number (start_so_far link)
       (length (live_bytes_so_far rules link))))
-      → HasTaken proto code new number setup line t step
+      → HasTaken proto macs new number setup line t step
   decide-passes number judges new step turned earliest noted =
       let link : List Tick = line ++ t ∷ [] in
       let T : Checker R M B D → Type 0 = λ v. Turned proto (record v {
@@ -139,13 +139,13 @@ module _ {R M : Type 0} (proto : LineRules R) (code : Mac M) {B D : ℕ} (old : 
       let N : Checker R M B D → Type 0 = λ v. CutStandsFor proto v.cut link
       → step.note ≡ Some (Passed number (start_so_far link)
       (length (live_bytes_so_far rules link))) in
-      pass-taken proto code after last setup line t whole.byte hears-after whole.last_place number
+      pass-taken proto macs after last setup line t whole.byte hears-after whole.last_place number
       (judged (Ok number) judges) new step (subst T rest turned) (subst E rest earliest)
       (subst N rest (noted link) whole.cuts)
 
   -- and where its number can't be committed, it would have passed
-  pub decide-fails : (number : ℕ) → Judges proto code old last (Ok number)
+  pub decide-fails : (number : ℕ) → Judges proto macs old last (Ok number)
       → PassesWith profile rules setup.floor line t number
   decide-fails number judges =
-      passes-with proto code old last setup line t whole.byte hears whole.last_place number
+      passes-with proto macs old last setup line t whole.byte hears whole.last_place number
       (judged (Ok number) judges)

@@ -51,16 +51,16 @@ use Rattle.link_verdicts.proofs.Opened.{joined-last, still}
 
 -- ---- the ring is emptied
 
-module _ {R M : Type 0} (proto : LineRules R) (code : Mac M) {B D : ℕ} (setup : Setup)
+module _ {R M : Type 0} (proto : LineRules R) (macs : Mac M) {B D : ℕ} (setup : Setup)
     (line : List Tick) (t : Tick) (base new : Checker R M B D) (step : BoxStep CheckNote)
     (clear : TurnedClear proto base new step.tick) (word_is : IsWordLen B) (wide : 2 ≤ B)
-    (delay_is : D ≡ 4 + B + code.TAG)
+    (delay_is : D ≡ 4 + B + macs.TAG)
     (direction_is : direction_number base.direction ≡ setup.direction)
     (cuts : CutStandsFor proto base.cut (line ++ t ∷ [])) (last : ℕ) (left : List ℕ)
     (stands : OutletStandsFor proto base.outlet left) (none : owed_by base.outlet ≡ 0)
-    (code_is : (text : List ℕ) × code.stands base.mac setup.key text) where
+    (mac_stands : (text : List ℕ) × macs.stands base.mac setup.key text) where
   abbrev profile : Profile
-  profile = profile_of proto code B LIMIT setup
+  profile = profile_of proto macs B LIMIT setup
 
   abbrev state : CheckState
   state = record { floor = last; earliest_start = base.earliest_start }
@@ -75,12 +75,12 @@ module _ {R M : Type 0} (proto : LineRules R) (code : Mac M) {B D : ℕ} (setup 
       → base.earliest_start ≤ m → checked profile proto.rules state d ≡ dropped_for NoHead
       → note_tick profile proto.rules d (dropped_for NoHead) ≡ m
       → step.note ≡ Some (Dropped (start_so_far (line ++ t ∷ [])) NoHead)
-      → HasTaken proto code new last setup line t step
+      → HasTaken proto macs new last setup line t step
   drops emissions d come free is now noted =
       let gone : Checker R M B D = dropped base clear.ring in
       let ring_is : ring_ticks clear.ring ≡ [] ++ silent (D - length {A = Tick} []) =
       clear.clear ∙ (let whole : D ≡ D - length {A = Tick} [] = omega arith in ap silent whole) in
-      let flows = flow proto code gone new Silent step.tick clear.turned left [] stands ring_is
+      let flows = flow proto macs gone new Silent step.tick clear.turned left [] stands ring_is
       (λ some. absurd (omega arith)) (λ some. absurd (omega arith))
       (λ some. absurd (omega arith)) in
       let Rest : ℕ → Type 0 = λ o. Rests proto.rules base.passed m base.earliest_start left [] o
@@ -88,31 +88,31 @@ module _ {R M : Type 0} (proto : LineRules R) (code : Mac M) {B D : ℕ} (setup 
       let rests : Rest (owed_by base.outlet) = subst Rest (sym none)
       (come-rests profile proto.rules setup.floor m (bursts (line ++ t ∷ [])) state emissions
       (Some d) come base.passed left free) in
-      let goes = rest-drops proto profile (timely proto code B setup wide) setup.floor line t state
+      let goes = rest-drops proto profile (timely proto macs B setup wide) setup.floor line t state
       emissions base.passed left [] (owed_by base.outlet) new.outlet step.tick flows rests
       (λ some. absurd (omega arith)) d NoHead is come now in
       let whose = ap (λ x. last_of x) come.is ∙ last_of-more come.settled d in
-      assembled proto code setup line t gone new Silent step clear.turned word_is wide delay_is
+      assembled proto macs setup line t gone new Silent step clear.turned word_is wide delay_is
       direction_is cuts last flows.after [] None (Some (Dropped d.start NoHead)) goes
       (noted ∙ ap (λ o. Some (Dropped (start_in o) NoHead)) whose) flows.stands
-      (ring-waits proto code gone new step.tick clear.turned [] ring_is (omega arith)
+      (ring-waits proto macs gone new step.tick clear.turned [] ring_is (omega arith)
       (omega arith))
-      (omega arith) refl refl code_is tt
+      (omega arith) refl refl mac_stands tt
 
 -- ---- a header that is too short
 
-module _ {R M : Type 0} (proto : LineRules R) (code : Mac M) {B D : ℕ} (old : Checker R M B D)
+module _ {R M : Type 0} (proto : LineRules R) (macs : Mac M) {B D : ℕ} (old : Checker R M B D)
     (last : ℕ) (setup : Setup) (line : List Tick) (cut : Cut)
-    (between : IsBetween proto code old last setup line Silent cut) (new : Checker R M B D)
+    (between : IsBetween proto macs old last setup line Silent cut) (new : Checker R M B D)
     (step : BoxStep CheckNote) (clear : TurnedClear proto old new step.tick)
     (noted : step.note ≡ Some (Dropped (start_so_far (line ++ Silent ∷ [])) NoHead)) where
   -- the second silent tick in a row comes after it
   pub drop-silent : (d : Burst) → between.walks.waiting ≡ Some d
       → length line ≡ live_end proto.rules d + 1
       → length (live_bytes proto.rules d) < proto.rules.header_len
-      → HasTaken proto code new last setup line Silent step
+      → HasTaken proto macs new last setup line Silent step
   drop-silent d is second short =
-      let profile : Profile = profile_of proto code B LIMIT setup in
+      let profile : Profile = profile_of proto macs B LIMIT setup in
       let state : CheckState = record { floor = last; earliest_start = old.earliest_start } in
       let m : ℕ = length line in
       let it = open-walks between.walks between.wide d is in
@@ -122,9 +122,9 @@ module _ {R M : Type 0} (proto : LineRules R) (code : Mac M) {B D : ℕ} (old : 
       let tick = ap (λ h. head_tick proto.rules d h)
       (head-short proto.rules (live_bytes proto.rules d) short) in
       let now : note_tick profile proto.rules d (dropped_for NoHead) ≡ m = omega arith in
-      drops proto code setup line Silent old new step clear between.word_is between.wide
+      drops proto macs setup line Silent old new step clear between.word_is between.wide
       between.delay_is between.direction_is between.cuts last between.walks.left
-      between.walks.outlet_is (unowed-of it) between.walks.code_is it.walked.emissions d
+      between.walks.outlet_is (unowed-of it) between.walks.mac_stands it.walked.emissions d
       (silently it) (omega arith) (checked-short profile proto.rules state d late short) now noted
 
 -- ---- a header that isn't good
@@ -157,20 +157,20 @@ bad-now profile rules lawful headed d m b may begun open' good bad =
     let tick = ap (λ h. head_tick rules e h) bad in
     omega arith
 
-module _ {R M : Type 0} (proto : LineRules R) (code : Mac M) {B D : ℕ} (old : Checker R M B D)
+module _ {R M : Type 0} (proto : LineRules R) (macs : Mac M) {B D : ℕ} (old : Checker R M B D)
     (last : ℕ) (setup : Setup) (line : List Tick) (b : ℕ)
-    (between : IsBetween proto code old last setup line (Byte b) (Live b)) (mac : M)
+    (between : IsBetween proto macs old last setup line (Byte b) (Live b)) (mac : M)
     (new : Checker R M B D) (step : BoxStep CheckNote)
     (clear : TurnedClear proto (record old { mac = mac }) new step.tick)
     (noted : step.note ≡ Some (Dropped (start_so_far (line ++ Byte b ∷ [])) NoHead))
     (bad : head_of proto.rules (live_bytes_so_far proto.rules (line ++ Byte b ∷ [])) ≡ Bad)
-    (code_is : (text : List ℕ) × code.stands mac setup.key text) where
+    (mac_stands : (text : List ℕ) × macs.stands mac setup.key text) where
   -- its last byte comes
   pub drop-live : (d : Burst) → between.walks.waiting ≡ Some d
-      → HasTaken proto code new last setup line (Byte b) step
+      → HasTaken proto macs new last setup line (Byte b) step
   drop-live d is =
       let rules : Rules = proto.rules in
-      let profile : Profile = profile_of proto code B LIMIT setup in
+      let profile : Profile = profile_of proto macs B LIMIT setup in
       let state : CheckState = record { floor = last; earliest_start = old.earliest_start } in
       let m : ℕ = length line in
       let e : Burst = going_on d m b in
@@ -180,9 +180,9 @@ module _ {R M : Type 0} (proto : LineRules R) (code : Mac M) {B D : ℕ} (old : 
       let now : head_of rules (live_bytes rules e) ≡ Bad = subst H (joined-last it b) bad in
       let late = opens.late in
       let from = opens.from in
-      drops proto code setup line (Byte b) (record old { mac = mac }) new step clear between.word_is
+      drops proto macs setup line (Byte b) (record old { mac = mac }) new step clear between.word_is
       between.wide between.delay_is between.direction_is between.cuts last between.walks.left
-      between.walks.outlet_is (unowed-of it) code_is it.walked.emissions e (joined it b)
+      between.walks.outlet_is (unowed-of it) mac_stands it.walked.emissions e (joined it b)
       (omega arith)
       (checked-bad profile rules state e late
       (head-isn't-short rules (live_bytes rules e) (λ short. cc))

@@ -26,7 +26,7 @@ use Rattle.link_verdicts.proofs.Opened.{live-after}
 use Rattle.link_verdicts.proofs.Opening.{length-silent}
 use Rattle.link_verdicts.proofs.Rings.{ring-byte}
 use Rattle.check_receiver.specs.Between.{IsBetween}
-use Rattle.check_receiver.specs.Stands.{Codes, HasTaken}
+use Rattle.check_receiver.specs.Stands.{MacHolds, HasTaken}
 use Rattle.check_receiver.specs.Turning.{Turned, with_until}
 use Rattle.check_receiver.specs.declared.checker.Checker.{Checker}
 use Rattle.burst_walk.specs.declared.box_step.BoxStep.{BoxStep}
@@ -36,17 +36,17 @@ use Rattle.check_receiver.proofs.OpenBursts.{open-walks, moved}
 
 -- a live byte finds its burst open
 
-module _ {R M : Type 0} (proto : LineRules R) (code : Mac M) {B D : ℕ} (old : Checker R M B D)
+module _ {R M : Type 0} (proto : LineRules R) (macs : Mac M) {B D : ℕ} (old : Checker R M B D)
     (last : ℕ) (setup : Setup) (line : List Tick) (b : ℕ)
-    (between : IsBetween proto code old last setup line (Byte b) (Live b)) (mac : M) (n : ℕ)
+    (between : IsBetween proto macs old last setup line (Byte b) (Live b)) (mac : M) (n : ℕ)
     (new : Checker R M B D) (step : BoxStep CheckNote)
     (turned : Turned proto (with_until n (record old { mac = mac })) new (Byte b) step.tick)
     (until : D ≤ 64 → n ≡ D) (noted : step.note ≡ None)
     (not_bad : head_of proto.rules (live_bytes_so_far proto.rules (line ++ Byte b ∷ [])) ≡ Bad → ⊥)
     (d : Burst) (is : between.walks.waiting ≡ Some d)
-    (code_is : (text : List ℕ) × code.stands mac setup.key text)
-    (coded : Codes proto code setup mac old.arriving (going_on d (length line) b)) where
-  pub live-taken : old.waits ≡ true → HasTaken proto code new last setup line (Byte b) step
+    (mac_stands : (text : List ℕ) × macs.stands mac setup.key text)
+    (mac_holds : MacHolds proto macs setup mac old.arriving (going_on d (length line) b)) where
+  pub live-taken : old.waits ≡ true → HasTaken proto macs new last setup line (Byte b) step
   live-taken waits =
       let rules : Rules = proto.rules in
       let m : ℕ = length line in
@@ -61,7 +61,7 @@ module _ {R M : Type 0} (proto : LineRules R) (code : Mac M) {B D : ℕ} (old : 
       let fits : F (Some e) = subst F next (proto.within _ _ between.cuts.bytes) in
       let N : Option Burst → Type 0 = λ o. head_of rules (live_bytes_in rules o) ≡ Bad → ⊥ in
       let never : N (Some e) = subst N next not_bad in
-      let size = code.tag_size in
+      let size = macs.tag_size in
       let delay_is = between.delay_is in
       let word_is = between.word_is in
       let top = word_is.1 in
@@ -93,31 +93,31 @@ module _ {R M : Type 0} (proto : LineRules R) (code : Mac M) {B D : ℕ} (old : 
       ∙ (ring-byte live (D - length live) b (omega arith)
       ∙ (ap (λ k. drop 1 live ++ (silent k ++ Byte b ∷ [])) same
       ∙ (sym (append-nil entered) ∙ ap (λ k. entered ++ silent k) (sym empty))))) in
-      assembled proto code setup line (Byte b) base new (Byte b) step turned between.word_is
+      assembled proto macs setup line (Byte b) base new (Byte b) step turned between.word_is
       between.wide between.delay_is between.direction_is between.cuts last
       (left ++ bytes_in (take 1 live)) entered (Some e) None
       (goes-as (Byte b) step.tick old.passed (owed_by new.outlet) old.earliest_start goes refl
       turn.answer_is it.walked.opens.1 turn.unowed refl)
-      noted turn.stands ring (omega arith) (omega arith) waits code_is coded
+      noted turn.stands ring (omega arith) (omega arith) waits mac_stands mac_holds
 
-module _ {R M : Type 0} (proto : LineRules R) (code : Mac M) {B D : ℕ} (old : Checker R M B D)
+module _ {R M : Type 0} (proto : LineRules R) (macs : Mac M) {B D : ℕ} (old : Checker R M B D)
     (last : ℕ) (setup : Setup) (line : List Tick) (b : ℕ)
-    (between : IsBetween proto code old last setup line (Byte b) (Live b)) (mac : M)
+    (between : IsBetween proto macs old last setup line (Byte b) (Live b)) (mac : M)
     (d : Burst) (is : between.walks.waiting ≡ Some d)
-    (update : (key text : List ℕ) → code.stands old.mac key text
-    → code.stands mac key (text ++ b ∷ [])) where
-  pub live-coded : Codes proto code setup mac old.arriving (going_on d (length line) b)
-  live-coded =
+    (update : (key text : List ℕ) → macs.stands old.mac key text
+    → macs.stands mac key (text ++ b ∷ [])) where
+  pub live-mac_holds : MacHolds proto macs setup mac old.arriving (going_on d (length line) b)
+  live-mac_holds =
       let rules : Rules = proto.rules in
       let it = open-walks between.walks between.wide d is in
       let S : Option Burst → Type 0 = λ o. IfSome o
-      (λ x. Codes proto code setup old.mac old.arriving x) in
-      let coded : S (Some d) = subst S is between.walks.coded in
-      let C : List ℕ → Type 0 = λ x. code.stands mac setup.key
+      (λ x. MacHolds proto macs setup old.mac old.arriving x) in
+      let mac_holds : S (Some d) = subst S is between.walks.mac_holds in
+      let C : List ℕ → Type 0 = λ x. macs.stands mac setup.key
       (rules.label ∷ setup.direction ∷ x) in
       record {
-        codes = subst C (sym (live-adds it b between.is_cut))
-            (update setup.key (rules.label ∷ setup.direction ∷ live_bytes rules d) coded.codes);
-        come = coded.come
+        mac_is = subst C (sym (live-adds it b between.is_cut))
+            (update setup.key (rules.label ∷ setup.direction ∷ live_bytes rules d) mac_holds.mac_is);
+        come = mac_holds.come
             ∙ (live-before it b between.is_cut ∙ sym (live-after it b between.is_cut));
       }

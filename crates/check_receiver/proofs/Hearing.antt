@@ -52,7 +52,7 @@ use Rattle.link_verdicts.proofs.Settling.{after-long}
 use Rattle.check_receiver.specs.Arrivals.{bytes_come}
 use Rattle.check_receiver.specs.Between.{IsBetween, IsWhole}
 use Rattle.check_receiver.specs.Checkings.{PassesWith}
-use Rattle.check_receiver.specs.Stands.{Codes, Walks, HasTaken}
+use Rattle.check_receiver.specs.Stands.{MacHolds, Walks, HasTaken}
 use Rattle.check_receiver.specs.Turning.{Turned, closed_at}
 use Rattle.check_receiver.specs.declared.arriving.Arriving.{Arriving}
 use Rattle.check_receiver.specs.declared.checker.Checker.{Checker}
@@ -62,14 +62,14 @@ use Rattle.check_receiver.proofs.OpenBursts.{open-walks, Moved, moved}
 
 -- ---- what is known then
 
--- Of the receiver the code and the arriving trailer may have gone on; all else is as it was before
+-- Of the receiver the MAC and the arriving trailer may have gone on; all else is as it was before
 -- the byte.
-pub record Hears {R M : Type 0} (proto : LineRules R) (code : Mac M) {B D : ℕ}
+pub record Hears {R M : Type 0} (proto : LineRules R) (macs : Mac M) {B D : ℕ}
     (old : Checker R M B D) (last : ℕ) (setup : Setup) (line : List Tick) (t : Tick) (b : ℕ) :
     Type 0 where
   pub word_is : IsWordLen B
   pub wide : 2 ≤ B
-  pub delay_is : D ≡ 4 + B + code.TAG
+  pub delay_is : D ≡ 4 + B + macs.TAG
   pub direction_is : direction_number old.direction ≡ setup.direction
   pub cuts : CutStandsFor proto old.cut (line ++ t ∷ [])
   pub is_cut : cut_of proto.rules line t ≡ Extra b
@@ -77,21 +77,21 @@ pub record Hears {R M : Type 0} (proto : LineRules R) (code : Mac M) {B D : ℕ}
   pub one_less : old.until ≡ before - 1
   pub mac : M
   pub arriving : Arriving B
-  pub walks : Walks proto code B D last old.earliest_start true old.passed mac arriving old.ring
+  pub walks : Walks proto macs B D last old.earliest_start true old.passed mac arriving old.ring
       before old.outlet setup line
-  pub code_is : (text : List ℕ) × code.stands old.mac setup.key text
+  pub mac_stands : (text : List ℕ) × macs.stands old.mac setup.key text
   pub burst : Burst
   pub waits_is : walks.waiting ≡ Some burst
 
-module _ {R M : Type 0} (proto : LineRules R) (code : Mac M) {B D : ℕ} (old : Checker R M B D)
+module _ {R M : Type 0} (proto : LineRules R) (macs : Mac M) {B D : ℕ} (old : Checker R M B D)
     (last : ℕ) (setup : Setup) (line : List Tick) (t : Tick) where
   abbrev pub hears-between : (b : ℕ)
-      → (between : IsBetween proto code old last setup line t (Extra b)) → old.waits ≡ true
+      → (between : IsBetween proto macs old last setup line t (Extra b)) → old.waits ≡ true
       → (arriving : Arriving B) (mac : M)
-      → ((text : List ℕ) × code.stands mac setup.key text)
-      → Hears proto code (record old { arriving = arriving; mac = mac }) last setup line t b
-  hears-between b between waits arriving mac code_is =
-      let W : Bool → Type 0 = λ w. Walks proto code B D last old.earliest_start w old.passed old.mac
+      → ((text : List ℕ) × macs.stands mac setup.key text)
+      → Hears proto macs (record old { arriving = arriving; mac = mac }) last setup line t b
+  hears-between b between waits arriving mac mac_stands =
+      let W : Bool → Type 0 = λ w. Walks proto macs B D last old.earliest_start w old.passed old.mac
       old.arriving old.ring between.before old.outlet setup line in
       let walks : W true = subst W waits between.walks in
       let d = waiting-some walks.waiting (sym walks.waits_is) in
@@ -107,13 +107,13 @@ module _ {R M : Type 0} (proto : LineRules R) (code : Mac M) {B D : ℕ} (old : 
         mac = old.mac;
         arriving = old.arriving;
         walks = walks;
-        code_is = code_is;
+        mac_stands = mac_stands;
         burst = d.0;
         waits_is = d.1;
       }
 
-  pub hears-whole : (whole : IsWhole proto code old last setup line t)
-      → Hears proto code old last setup line t whole.byte
+  pub hears-whole : (whole : IsWhole proto macs old last setup line t)
+      → Hears proto macs old last setup line t whole.byte
   hears-whole whole =
       let d = waiting-some whole.walks.waiting (sym whole.walks.waits_is) in
       record {
@@ -128,19 +128,19 @@ module _ {R M : Type 0} (proto : LineRules R) (code : Mac M) {B D : ℕ} (old : 
         mac = whole.mac;
         arriving = whole.arriving;
         walks = whole.walks;
-        code_is = (whole.key_text, whole.codes);
+        mac_stands = (whole.key_text, whole.mac_is);
         burst = d.0;
         waits_is = d.1;
       }
 
-module _ {R M : Type 0} (proto : LineRules R) (code : Mac M) {B D : ℕ} (old : Checker R M B D)
+module _ {R M : Type 0} (proto : LineRules R) (macs : Mac M) {B D : ℕ} (old : Checker R M B D)
     (last : ℕ) (setup : Setup) (line : List Tick) (t : Tick) (b : ℕ)
-    (hears : Hears proto code old last setup line t b) where
+    (hears : Hears proto macs old last setup line t b) where
   abbrev rules : Rules
   rules = proto.rules
 
   abbrev profile : Profile
-  profile = profile_of proto code B LIMIT setup
+  profile = profile_of proto macs B LIMIT setup
 
   abbrev m : ℕ
   m = length line
@@ -239,21 +239,21 @@ module _ {R M : Type 0} (proto : LineRules R) (code : Mac M) {B D : ℕ} (old : 
 
     -- ---- what stands for it
 
-    pub coded : Codes proto code setup hears.mac hears.arriving d
-    coded =
+    pub mac_holds : MacHolds proto macs setup hears.mac hears.arriving d
+    mac_holds =
         let C : Option Burst → Type 0 = λ o. IfSome o
-        (λ x. Codes proto code setup hears.mac hears.arriving x) in
-        subst C hears.waits_is hears.walks.coded
+        (λ x. MacHolds proto macs setup hears.mac hears.arriving x) in
+        subst C hears.waits_is hears.walks.mac_holds
 
-    pub next-coded : (arriving : Arriving B)
+    pub next-mac_holds : (arriving : Arriving B)
         → bytes_come arriving ≡ bytes_come hears.arriving ++ b ∷ []
-        → Codes proto code setup hears.mac arriving e
-    next-coded arriving more =
-        let C : List ℕ → Type 0 = λ x. code.stands hears.mac setup.key
+        → MacHolds proto macs setup hears.mac arriving e
+    next-mac_holds arriving more =
+        let C : List ℕ → Type 0 = λ x. macs.stands hears.mac setup.key
         (rules.label ∷ setup.direction ∷ x) in
         record {
-          codes = subst C (sym (extra-bytes it b is-extra)) coded.codes;
-          come = more ∙ (ap (λ x. x ++ b ∷ []) coded.come ∙ sym trailer-next);
+          mac_is = subst C (sym (extra-bytes it b is-extra)) mac_holds.mac_is;
+          come = more ∙ (ap (λ x. x ++ b ∷ []) mac_holds.come ∙ sym trailer-next);
         }
 
   -- ---- the receiver has taken it
@@ -262,24 +262,24 @@ module _ {R M : Type 0} (proto : LineRules R) (code : Mac M) {B D : ℕ} (old : 
   pub trailer-taken : (new : Checker R M B D) (step : BoxStep CheckNote)
       → Turned proto old new Silent step.tick → step.note ≡ None → old.waits ≡ true
       → live_end rules d + pause_len ≤ m → m + 2 < live_end rules d + D
-      → Codes proto code setup old.mac old.arriving e
-      → HasTaken proto code new last setup line t step
-  trailer-taken new step turned noted waits behind before coded' =
+      → MacHolds proto macs setup old.mac old.arriving e
+      → HasTaken proto macs new last setup line t step
+  trailer-taken new step turned noted waits behind before mac_holds' =
       let turn' = turn old new step.tick turned refl refl refl in
       let delay_is = hears.delay_is in
       let less = length-drop 1 live in
       let long = until-long in
       let whole = still-long in
       let few = hears.walks.few in
-      assembled proto code setup line t old new Silent step turned hears.word_is hears.wide
+      assembled proto macs setup line t old new Silent step turned hears.word_is hears.wide
       hears.delay_is hears.direction_is hears.cuts last after (drop 1 live) (Some e) None
       (goes-as t step.tick old.passed (owed_by new.outlet) old.earliest_start
       (extra-goes it b is-extra behind (omega arith)) is-byte turn'.answer_is it.walked.opens.1
       turn'.unowed refl)
       noted turn'.stands
-      (ring-waits proto code old new step.tick turned live hears.walks.ring_is (omega arith)
+      (ring-waits proto macs old new step.tick turned live hears.walks.ring_is (omega arith)
       hears.walks.few)
-      (omega arith) (omega arith) waits hears.code_is coded'
+      (omega arith) (omega arith) waits hears.mac_stands mac_holds'
 
   -- ---- it refuses the burst
 
@@ -295,7 +295,7 @@ module _ {R M : Type 0} (proto : LineRules R) (code : Mac M) {B D : ℕ} (old : 
           earliest_start = live_end rules e + delay profile + owed rules e;
         })
         false after (drop 1 live) 0 None (get_or live 0 Silent) (Some (Refused e.start why))
-        → HasTaken proto code new last setup line t step
+        → HasTaken proto macs new last setup line t step
     refused-taken goes =
         let base : Checker R M B D = closed_at new.earliest_start old in
         let turn' = turn base new step.tick turned refl refl refl in
@@ -309,19 +309,19 @@ module _ {R M : Type 0} (proto : LineRules R) (code : Mac M) {B D : ℕ} (old : 
         let less = length-drop 1 live in
         let whole = still-long in
         let few = hears.walks.few in
-        assembled proto code setup line t base new Silent step turned hears.word_is hears.wide
+        assembled proto macs setup line t base new Silent step turned hears.word_is hears.wide
         hears.delay_is hears.direction_is hears.cuts last after (drop 1 live) None
         (Some (Refused e.start why))
         (goes-as t step.tick old.passed (owed_by new.outlet) new.earliest_start goes is-byte
         turn'.answer_is it.walked.opens.1 turn'.unowed same)
         (noted ∙ ap (λ o. Some (Refused (start_in o) why)) next-last) turn'.stands
-        (ring-waits proto code base new step.tick turned live hears.walks.ring_is (omega arith)
+        (ring-waits proto macs base new step.tick turned live hears.walks.ring_is (omega arith)
         hears.walks.few)
-        (omega arith) (omega arith) refl hears.code_is tt
+        (omega arith) (omega arith) refl hears.mac_stands tt
 
     -- inside the pause,
     pub break-taken : why ≡ Trailer → m < live_end rules d + pause_len
-        → HasTaken proto code new last setup line t step
+        → HasTaken proto macs new last setup line t step
     break-taken is few =
         let G : RefusedWhy → Type 0 = λ w. Goes profile rules setup.floor line (Byte b)
         (record {
@@ -335,7 +335,7 @@ module _ {R M : Type 0} (proto : LineRules R) (code : Mac M) {B D : ℕ} (old : 
     pub refuse-taken : old.until ≡ 1
         → whole_verdict profile rules last (live_bytes rules e) (trailer_of profile rules e)
         ≡ refused why
-        → HasTaken proto code new last setup line t step
+        → HasTaken proto macs new last setup line t step
     refuse-taken last_place verdict =
         let long = until-long in
         let delay_is = hears.delay_is in
@@ -350,7 +350,7 @@ module _ {R M : Type 0} (proto : LineRules R) (code : Mac M) {B D : ℕ} (old : 
     behind-pause : live_end rules d + pause_len ≤ m
     behind-pause = let end = final in let wide = hears.wide in omega arith
 
-    pub whole-long : length (trailer_so_far rules e) ≡ B + code.TAG
+    pub whole-long : length (trailer_so_far rules e) ≡ B + macs.TAG
     whole-long =
         let end = final in
         let more' = ap length (trailer-next behind-pause) in
@@ -406,7 +406,7 @@ module _ {R M : Type 0} (proto : LineRules R) (code : Mac M) {B D : ℕ} (old : 
           → new.earliest_start ≡ ticks_cut old.cut + old.until
           → step.note ≡ Some (Passed number (start_so_far (line ++ t ∷ []))
           (length (live_bytes_so_far rules (line ++ t ∷ []))))
-          → HasTaken proto code new number setup line t step
+          → HasTaken proto macs new number setup line t step
       pass-taken new step turned earliest noted =
           let base : Checker R M B D = record old {
             waits = false;
@@ -425,7 +425,7 @@ module _ {R M : Type 0} (proto : LineRules R) (code : Mac M) {B D : ℕ} (old : 
           let less = length-drop 1 live in
           let whole = still-long in
           let few = hears.walks.few in
-          assembled proto code setup line t base new Silent step turned hears.word_is hears.wide
+          assembled proto macs setup line t base new Silent step turned hears.word_is hears.wide
           hears.delay_is hears.direction_is hears.cuts number after (drop 1 live) None told
           (goes-as t step.tick true (owed_by new.outlet) new.earliest_start
           (whole-passes it b is-extra final number verdict) is-byte turn'.answer_is refl
@@ -433,6 +433,6 @@ module _ {R M : Type 0} (proto : LineRules R) (code : Mac M) {B D : ℕ} (old : 
           (noted ∙ ap (λ o. Some (Passed number (start_in o) (length (live_bytes_in rules o))))
           next-last)
           turn'.stands
-          (ring-waits proto code base new step.tick turned live hears.walks.ring_is (omega arith)
+          (ring-waits proto macs base new step.tick turned live hears.walks.ring_is (omega arith)
           hears.walks.few)
-          (omega arith) (omega arith) refl hears.code_is tt
+          (omega arith) (omega arith) refl hears.mac_stands tt

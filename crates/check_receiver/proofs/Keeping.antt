@@ -65,16 +65,16 @@ module _ {S : Type 0} (d : SlotDisk S) (old new : Journal) (disk_old disk_new : 
     };
   }
 
-module _ {R M : Type 0} (proto : LineRules R) (code : Mac M) {B D : ℕ}
+module _ {R M : Type 0} (proto : LineRules R) (macs : Mac M) {B D : ℕ}
     (old new : Checker R M B D) where
   -- A run that it takes is one of a box, by other names.
   pub takes-run : (run answer front told : List Tick) → run ≡ front → answer ≡ told
-      → ((last : ℕ) (setup : Setup) (line : List Tick) → StandsAt proto code old last setup line
-      → HasTakenRun proto code new last setup line run answer)
-      → TakesRun (check_walking proto code B) (λ value. StandsAt proto code value) old new front
+      → ((last : ℕ) (setup : Setup) (line : List Tick) → StandsAt proto macs old last setup line
+      → HasTakenRun proto macs new last setup line run answer)
+      → TakesRun (check_walking proto macs B) (λ value. StandsAt proto macs value) old new front
       told
   takes-run run answer front told run_is answer_is takes =
-      takes-as (check_walking proto code B) (λ value. StandsAt proto code value) old new run answer
+      takes-as (check_walking proto macs B) (λ value. StandsAt proto macs value) old new run answer
       front told run_is answer_is
       (λ last setup line stands.
       let taken = takes last setup line stands in

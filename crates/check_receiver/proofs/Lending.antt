@@ -51,8 +51,8 @@ byte-first (suc n) (b ∷ x) (q ∷ Q) some bytes any is =
     let both : Byte b ≡ Silent = byte ∙ first in
     absurd cc
 
--- Ticks of which so many at the front are alike, of a ring and of bytes behind it: within the ring,
--- as they are there,
+-- Ticks of which this many at the front are alike, of a ring and of bytes behind it: within the
+-- ring, as they are there,
 pub alike-front : (Q E : List Tick) (k : ℕ) → k ≤ length Q → AreAlike (take k Q)
     → AreAlike (take k (Q ++ E))
 alike-front Q E k few alike =
@@ -156,13 +156,13 @@ all-left proto new x left n within stands short room =
     (cases_lt n (length left))
 
 -- the receiver after no tick
-pub none-taken : {R M : Type 0} (proto : LineRules R) (code : Mac M) {B D : ℕ}
+pub none-taken : {R M : Type 0} (proto : LineRules R) (macs : Mac M) {B D : ℕ}
     (old : Checker R M B D) (last : ℕ) (setup : Setup) (line : List Tick)
-    → StandsAt proto code old last setup line → (cut : BurstCut R)
+    → StandsAt proto macs old last setup line → (cut : BurstCut R)
     → CutStandsFor proto cut (line ++ [])
-    → HasTakenRun proto code (record old { cut = cut }) last setup line [] []
-none-taken proto code {B} old last setup line stands cut cuts =
-    let P : List Tick → Type 0 = λ l. StandsAt proto code (record old { cut = cut }) last setup l in
+    → HasTakenRun proto macs (record old { cut = cut }) last setup line [] []
+none-taken proto macs {B} old last setup line stands cut cuts =
+    let P : List Tick → Type 0 = λ l. StandsAt proto macs (record old { cut = cut }) last setup l in
     let C : List Tick → Type 0 = λ l. CutStandsFor proto cut l in
     record {
       stands = subst P (sym (append-nil line)) (record {
@@ -173,20 +173,20 @@ none-taken proto code {B} old last setup line stands cut cuts =
         cuts = subst C (append-nil line) cuts;
         walks = stands.walks;
       });
-      answers = run-none (checker (profile_of proto code B LIMIT setup) proto.rules) brief_note
+      answers = run-none (checker (profile_of proto macs B LIMIT setup) proto.rules) brief_note
           (at_floor setup.floor) line;
     }
 
 -- the same where nothing has changed
-pub same-taken : {R M : Type 0} (proto : LineRules R) (code : Mac M) {B D : ℕ}
+pub same-taken : {R M : Type 0} (proto : LineRules R) (macs : Mac M) {B D : ℕ}
     (old : Checker R M B D) (last : ℕ) (setup : Setup) (line : List Tick)
-    → StandsAt proto code old last setup line → (left : List ℕ) → left ≡ []
-    → HasTakenRun proto code old last setup line [] (answered 0 left)
-same-taken proto code {B} old last setup line stands left empty =
-    let P : List Tick → Type 0 = λ l. StandsAt proto code old last setup l in
-    let A : List ℕ → Type 0 = λ y. HasTakenRun proto code old last setup line [] (answered 0 y) in
+    → StandsAt proto macs old last setup line → (left : List ℕ) → left ≡ []
+    → HasTakenRun proto macs old last setup line [] (answered 0 left)
+same-taken proto macs {B} old last setup line stands left empty =
+    let P : List Tick → Type 0 = λ l. StandsAt proto macs old last setup l in
+    let A : List ℕ → Type 0 = λ y. HasTakenRun proto macs old last setup line [] (answered 0 y) in
     subst A (sym empty) (record {
       stands = subst P (sym (append-nil line)) stands;
-      answers = run-none (checker (profile_of proto code B LIMIT setup) proto.rules) brief_note
+      answers = run-none (checker (profile_of proto macs B LIMIT setup) proto.rules) brief_note
           (at_floor setup.floor) line;
     })

@@ -1,4 +1,4 @@
--- How the machine's parts stand together after a step.
+-- How the machine's parts are together after a step.
 use Rattle.std.proofs.Common.{◌≡◌, ◌∙◌, ℕ, ◌+◌, ◌-◌, ◌<◌, ◌≤◌, ◌==◌, true, false, List, [], ◌∷◌}
 use Rattle.std.proofs.Common.{◌++◌, length, drop, get_or, refl, sym, ap, subst, arith, Option, Some}
 use Rattle.std.proofs.Common.{None, IfSome, is_some}
@@ -25,7 +25,7 @@ use Rattle.link_verdicts.specs.Turns.{HasTurned}
 use Rattle.link_verdicts.proofs.Flow.{Flows, flows}
 use Rattle.link_verdicts.proofs.Rings.{ring-first, ring-silent}
 use Rattle.link_verdicts.proofs.Numbers.{walked-number}
-use Rattle.check_receiver.specs.Stands.{Codes, HasTaken}
+use Rattle.check_receiver.specs.Stands.{MacHolds, HasTaken}
 use Rattle.check_receiver.specs.Turning.{Turned}
 use Rattle.check_receiver.specs.declared.checker.Checker.{Checker}
 use Rattle.burst_walk.specs.declared.box_step.BoxStep.{BoxStep}
@@ -51,7 +51,7 @@ some-left [] more = absurd (omega arith)
 some-left (t ∷ []) more = absurd (omega arith)
 some-left (t ∷ u ∷ live) more = refl
 
-module _ {R M : Type 0} (proto : LineRules R) (code : Mac M) {B D : ℕ} where
+module _ {R M : Type 0} (proto : LineRules R) (macs : Mac M) {B D : ℕ} where
   -- ---- a turn, by what is to leave
 
   module _ (base new : Checker R M B D) (entering answer : Tick)
@@ -82,25 +82,25 @@ module _ {R M : Type 0} (proto : LineRules R) (code : Mac M) {B D : ℕ} where
     -- the machine's parts after a step
     pub assembled : (base new : Checker R M B D) (entering : Tick) (step : BoxStep CheckNote)
         → Turned proto base new entering step.tick
-        → IsWordLen B → 2 ≤ B → D ≡ 4 + B + code.TAG
+        → IsWordLen B → 2 ≤ B → D ≡ 4 + B + macs.TAG
         → direction_number base.direction ≡ setup.direction
         → CutStandsFor proto base.cut (line ++ t ∷ [])
         → (number : ℕ) (left : List ℕ) (live : List Tick) (waiting : Option Burst)
         (told : Option CheckNote)
-        → Goes (profile_of proto code B LIMIT setup) proto.rules setup.floor line t
+        → Goes (profile_of proto macs B LIMIT setup) proto.rules setup.floor line t
         (record { floor = number; earliest_start = base.earliest_start }) base.passed left live
         (owed_by new.outlet) waiting step.tick told
         → step.note ≡ told → OutletStandsFor proto new.outlet left
         → ring_ticks new.ring ≡ live ++ silent (D - length live) → length live ≤ D
         → base.until ≡ length live → base.waits ≡ is_some waiting
-        → ((text : List ℕ) × code.stands base.mac setup.key text)
-        → IfSome waiting (λ d. Codes proto code setup base.mac base.arriving d)
-        → HasTaken proto code new number setup line t step
+        → ((text : List ℕ) × macs.stands base.mac setup.key text)
+        → IfSome waiting (λ d. MacHolds proto macs setup base.mac base.arriving d)
+        → HasTaken proto macs new number setup line t step
     assembled base new entering step turned word_is wide delay_is direction_is cuts number left live
-        waiting told goes noted stands ring_is few until_is waits_is code_is coded =
-        let P : Checker R M B D → Type 0 = λ v. HasTaken proto code v number setup line t step in
+        waiting told goes noted stands ring_is few until_is waits_is mac_stands mac_holds =
+        let P : Checker R M B D → Type 0 = λ v. HasTaken proto macs v number setup line t step in
         let N : Option CheckNote → Type 0 = λ n. AnswersTick
-        (checker (profile_of proto code B LIMIT setup) proto.rules) brief_note
+        (checker (profile_of proto macs B LIMIT setup) proto.rules) brief_note
         (at_floor setup.floor) line t step.tick n in
         subst P (sym turned.rest)
         (record {
@@ -120,11 +120,11 @@ module _ {R M : Type 0} (proto : LineRules R) (code : Mac M) {B D : ℕ} where
               few = few;
               until_is = until_is;
               waits_is = waits_is;
-              code_is = code_is;
-              coded = coded;
+              mac_stands = mac_stands;
+              mac_holds = mac_holds;
             };
           };
-          floor = walked-number (profile_of proto code B LIMIT setup) proto.rules setup.floor
+          floor = walked-number (profile_of proto macs B LIMIT setup) proto.rules setup.floor
               (line ++ t ∷ []) (record { floor = number; earliest_start = base.earliest_start })
               base.passed left live (owed_by new.outlet) waiting goes.walked;
           answers = subst N (sym noted) goes.answers;

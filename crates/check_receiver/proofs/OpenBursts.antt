@@ -29,30 +29,30 @@ use Rattle.check_receiver.specs.declared.checker.Checker.{Checker}
 use Rattle.check_receiver.proofs.Machine.{some-left}
 
 -- a header is whole before its first byte leaves
-pub timely : {R M : Type 0} (proto : LineRules R) (code : Mac M) (B : ℕ) (setup : Setup) → 2 ≤ B
-    → IsTimely (profile_of proto code B LIMIT setup) proto.rules
-timely proto code B setup wide =
+pub timely : {R M : Type 0} (proto : LineRules R) (macs : Mac M) (B : ℕ) (setup : Setup) → 2 ≤ B
+    → IsTimely (profile_of proto macs B LIMIT setup) proto.rules
+timely proto macs B setup wide =
     let short = proto.headed.short in
     record {
-      in_time = ⊎_elim (λ twelve. omega arith) (λ sixteen. omega arith) code.tag_size;
+      in_time = ⊎_elim (λ twelve. omega arith) (λ sixteen. omega arith) macs.tag_size;
     }
 
-pub open-walks : {R M : Type 0} {proto : LineRules R} {code : Mac M} {B D last earliest : ℕ}
+pub open-walks : {R M : Type 0} {proto : LineRules R} {macs : Mac M} {B D last earliest : ℕ}
     {waits passes : Bool} {mac : M} {arriving : Arriving B} {ring : DelayRing D} {until : ℕ}
     {outlet : Outlet R} {setup : Setup} {line : List Tick}
-    (walks : Walks proto code B D last earliest waits passes mac arriving ring until outlet setup
+    (walks : Walks proto macs B D last earliest waits passes mac arriving ring until outlet setup
     line)
     → 2 ≤ B → (d : Burst) → walks.waiting ≡ Some d
-    → IsOpen proto (profile_of proto code B LIMIT setup) setup.floor
+    → IsOpen proto (profile_of proto macs B LIMIT setup) setup.floor
     (record { floor = last; earliest_start = earliest }) line passes walks.left walks.live
     (owed_by outlet) d
-open-walks {R} {M} {proto} {code} {B} {D} {last} {earliest} {waits} {passes} {mac} {arriving} {ring}
+open-walks {R} {M} {proto} {macs} {B} {D} {last} {earliest} {waits} {passes} {mac} {arriving} {ring}
     {until} {outlet} {setup} {line} walks wide d is =
-    let W : Option Burst → Type 0 = λ o. HasWalked (profile_of proto code B LIMIT setup) proto.rules
+    let W : Option Burst → Type 0 = λ o. HasWalked (profile_of proto macs B LIMIT setup) proto.rules
     setup.floor (length line) (bursts line) (record { floor = last; earliest_start = earliest })
     passes walks.left walks.live (owed_by outlet) o in
     record {
-      timely = timely proto code B setup wide;
+      timely = timely proto macs B setup wide;
       some = omega arith;
       walked = subst W is walks.walked;
     }

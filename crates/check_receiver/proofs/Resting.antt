@@ -72,23 +72,23 @@ comes proto profile timely floor s line (Byte b) emissions come none =
     come-runs_on (checker profile proto.rules) (causal proto profile timely floor line (Byte b))
     (at_floor floor) line s emissions b come (runs-on proto.rules proto.lawful line b none)
 
-pub rest-taken : {R M : Type 0} (proto : LineRules R) (code : Mac M) {B D : ℕ}
+pub rest-taken : {R M : Type 0} (proto : LineRules R) (macs : Mac M) {B D : ℕ}
     (old : Checker R M B D) (last : ℕ) (setup : Setup) (line : List Tick) (t : Tick) (cut : Cut)
-    (between : IsBetween proto code old last setup line t cut) (new : Checker R M B D)
+    (between : IsBetween proto macs old last setup line t cut) (new : Checker R M B D)
     (step : BoxStep CheckNote) → Turned proto old new Silent step.tick → step.note ≡ None
     → BeginsNone proto.rules line t → old.waits ≡ false
-    → HasTaken proto code new last setup line t step
-rest-taken proto code {B} {D} old last setup line t cut between new step turned noted begins
+    → HasTaken proto macs new last setup line t step
+rest-taken proto macs {B} {D} old last setup line t cut between new step turned noted begins
     closed =
-    let profile : Profile = profile_of proto code B LIMIT setup in
+    let profile : Profile = profile_of proto macs B LIMIT setup in
     let state : CheckState = record { floor = last; earliest_start = old.earliest_start } in
     let W : Option Burst → Type 0 = λ o. HasWalked profile proto.rules setup.floor (length line)
     (bursts line) state old.passed between.walks.left between.walks.live (owed_by old.outlet) o in
     let none = waiting-none between.walks.waiting (sym between.walks.waits_is ∙ closed) in
     let walked : W None = subst W none between.walks.walked in
-    let time = timely proto code B setup between.wide in
+    let time = timely proto macs B setup between.wide in
     let until = between.one_less ∙ ap (λ k. k - 1) between.walks.until_is in
-    let flows = flow proto code old new Silent step.tick turned between.walks.left
+    let flows = flow proto macs old new Silent step.tick turned between.walks.left
     between.walks.live between.walks.outlet_is between.walks.ring_is walked.unowed
     (λ there. until-last between.walks.live old.until until there) walked.room in
     let less = length-drop 1 between.walks.live in
@@ -96,7 +96,7 @@ rest-taken proto code {B} {D} old last setup line t cut between new step turned 
     let until_is = between.walks.until_is in
     let few = between.walks.few in
     let delay_is = between.delay_is in
-    assembled proto code setup line t old new Silent step turned between.word_is between.wide
+    assembled proto macs setup line t old new Silent step turned between.word_is between.wide
     between.delay_is between.direction_is between.cuts last flows.after
     (drop 1 between.walks.live) None None
     (rest-goes proto profile time setup.floor line t state walked.emissions old.passed
@@ -104,6 +104,6 @@ rest-taken proto code {B} {D} old last setup line t cut between new step turned 
     walked.rests walked.room
     (comes proto profile time setup.floor state line t walked.emissions walked.come begins))
     noted flows.stands
-    (ring-waits proto code old new step.tick turned between.walks.live between.walks.ring_is
+    (ring-waits proto macs old new step.tick turned between.walks.live between.walks.ring_is
     (omega arith) between.walks.few)
-    (omega arith) (omega arith) closed between.walks.code_is tt
+    (omega arith) (omega arith) closed between.walks.mac_stands tt

@@ -37,7 +37,7 @@ use Rattle.link_verdicts.proofs.Judging.{head-short}
 use Rattle.link_verdicts.proofs.Settling.{after-long}
 use Rattle.check_receiver.specs.Arrivals.{bytes_come}
 use Rattle.check_receiver.specs.Runs.{HasTakenRun, BeginNone, IsFront, HaveRoom, KeepsHeader}
-use Rattle.check_receiver.specs.Stands.{Codes, StandsAt}
+use Rattle.check_receiver.specs.Stands.{MacHolds, StandsAt}
 use Rattle.check_receiver.specs.declared.checker.Checker.{Checker}
 use Rattle.check_receiver.proofs.LiveRuns.{LiveRun, live-run}
 use Rattle.check_receiver.proofs.Machine.{waiting-none, waiting-some}
@@ -98,14 +98,14 @@ ring-rest live D k few within =
     ∙ ap (λ l. drop k live ++ l)
     (replicate-append-replicate (D - length live) k Silent ∙ ap silent sum))
 
-module _ {R M : Type 0} (proto : LineRules R) (code : Mac M) {B D : ℕ} (old : Checker R M B D)
-    (last : ℕ) (setup : Setup) (line : List Tick) (stands : StandsAt proto code old last setup line)
+module _ {R M : Type 0} (proto : LineRules R) (macs : Mac M) {B D : ℕ} (old : Checker R M B D)
+    (last : ℕ) (setup : Setup) (line : List Tick) (stands : StandsAt proto macs old last setup line)
     (cut : BurstCut R) where
   abbrev rules : Rules
   rules = proto.rules
 
   abbrev profile : Profile
-  profile = profile_of proto code B LIMIT setup
+  profile = profile_of proto macs B LIMIT setup
 
   abbrev state : CheckState
   state = record { floor = last; earliest_start = old.earliest_start }
@@ -137,9 +137,9 @@ module _ {R M : Type 0} (proto : LineRules R) (code : Mac M) {B D : ℕ} (old : 
       → CutStandsFor proto cut (line ++ run)
       → Runs run old.passed y l (owed_by outlet) waiting answer → OutletStandsFor proto outlet y
       → ring_ticks ring ≡ l ++ silent (D - length l) → length l ≤ D → until ≡ length l
-      → old.waits ≡ is_some waiting → ((text : List ℕ) × code.stands mac setup.key text)
-      → IfSome waiting (λ d. Codes proto code setup mac arriving d)
-      → HasTakenRun proto code
+      → old.waits ≡ is_some waiting → ((text : List ℕ) × macs.stands mac setup.key text)
+      → IfSome waiting (λ d. MacHolds proto macs setup mac arriving d)
+      → HasTakenRun proto macs
       (record old {
         cut = cut;
         mac = mac;
@@ -150,7 +150,7 @@ module _ {R M : Type 0} (proto : LineRules R) (code : Mac M) {B D : ℕ} (old : 
       }) last setup line run answer
   made run answer mac arriving ring outlet until waiting y l cuts runs outlet_is ring_is few
       until_is
-      waits_is code_is coded =
+      waits_is mac_stands mac_holds =
       record {
         stands = record {
           word_is = stands.word_is;
@@ -168,8 +168,8 @@ module _ {R M : Type 0} (proto : LineRules R) (code : Mac M) {B D : ℕ} (old : 
             few = few;
             until_is = until_is;
             waits_is = waits_is;
-            code_is = code_is;
-            coded = coded;
+            mac_stands = mac_stands;
+            mac_holds = mac_holds;
           };
         };
         answers = runs.answers;
@@ -191,12 +191,12 @@ module _ {R M : Type 0} (proto : LineRules R) (code : Mac M) {B D : ℕ} (old : 
       let it = open-burst waits in
       record { timely = it.timely; some = it.some; walked = bare-of it }
 
-  coded-opened : (waits : old.waits ≡ true)
-      → Codes proto code setup old.mac old.arriving (opened waits).0
-  coded-opened waits =
+  mac_holds-opened : (waits : old.waits ≡ true)
+      → MacHolds proto macs setup old.mac old.arriving (opened waits).0
+  mac_holds-opened waits =
       let C : Option Burst → Type 0 = λ o. IfSome o
-      (λ e. Codes proto code setup old.mac old.arriving e) in
-      subst C (opened waits).1 stands.walks.coded
+      (λ e. MacHolds proto macs setup old.mac old.arriving e) in
+      subst C (opened waits).1 stands.walks.mac_holds
 
   head-opened : (waits : old.waits ≡ true)
       → head_of rules (live_bytes_so_far rules line) ≡ Good
@@ -226,12 +226,12 @@ module _ {R M : Type 0} (proto : LineRules R) (code : Mac M) {B D : ℕ} (old : 
       (subst (λ o. Walked live (owed_by old.outlet) o) waiting stands.walks.walked)
 
   time : IsTimely profile rules
-  time = timely proto code B setup stands.wide
+  time = timely proto macs B setup stands.wide
 
   -- nothing is to leave
   pub idle-taken : (run : List Tick) → old.waits ≡ false → owed_by old.outlet ≡ 0
       → old.until ≡ 0 → CutStandsFor proto cut (line ++ run) → BeginNone rules line run
-      → HasTakenRun proto code (record old { cut = cut }) last setup line run
+      → HasTakenRun proto macs (record old { cut = cut }) last setup line run
       (silent (length run))
   idle-taken run rests unowed none cuts begin =
       let empty : live ≡ [] = no-ticks live (sym stands.walks.until_is ∙ none) in
@@ -244,7 +244,7 @@ module _ {R M : Type 0} (proto : LineRules R) (code : Mac M) {B D : ℕ} (old : 
       unowed)
       stands.walks.outlet_is
       (stands.walks.ring_is ∙ ap (λ l. l ++ silent (D - length l)) empty)
-      (omega arith) none rests stands.walks.code_is tt
+      (omega arith) none rests stands.walks.mac_stands tt
 
   module _ (ring : DelayRing D) (outlet : Outlet R) (c : ℕ) (x : List ℕ) (until : ℕ)
       (within : c ≤ D) (alike : AreAlike (take c (ring_ticks old.ring)))
@@ -259,8 +259,8 @@ module _ {R M : Type 0} (proto : LineRules R) (code : Mac M) {B D : ℕ} (old : 
         → length (left ++ bytes_in live) ≤ rules.room (left ++ bytes_in live)
         → Runs run passes (left ++ bytes_in (take k live)) (drop k live) 0 waiting (take k live)
         → old.passed ≡ passes → old.waits ≡ is_some waiting
-        → IfSome waiting (λ d. Codes proto code setup old.mac arriving d)
-        → HasTakenRun proto code
+        → IfSome waiting (λ d. MacHolds proto macs setup old.mac arriving d)
+        → HasTakenRun proto macs
         (record old {
           cut = cut;
           arriving = arriving;
@@ -270,7 +270,7 @@ module _ {R M : Type 0} (proto : LineRules R) (code : Mac M) {B D : ℕ} (old : 
         }) last setup line run (answered k x)
     entered run k arriving waiting passes few less cuts is ring_is until_is room runs passes_is
         waits
-        coded =
+        mac_holds =
         let count = stands.walks.until_is in
         let most = stands.walks.few in
         let size = ring-whole old.ring in
@@ -282,7 +282,7 @@ module _ {R M : Type 0} (proto : LineRules R) (code : Mac M) {B D : ℕ} (old : 
         ap (λ l. bytes_in l) (first ∙ leaves) ∙ answered-bytes k x in
         let fewer = length-drop k live in
         let L : List ℕ → Type 0 = λ y. OutletStandsFor proto outlet (left ++ y) in
-        let A : List Tick → Type 0 = λ l. HasTakenRun proto code
+        let A : List Tick → Type 0 = λ l. HasTakenRun proto macs
         (record old {
           cut = cut;
           arriving = arriving;
@@ -300,7 +300,7 @@ module _ {R M : Type 0} (proto : LineRules R) (code : Mac M) {B D : ℕ} (old : 
         leaves room)))
         (ring_is
         ∙ (ap (λ l. drop k (l ++ silent k)) stands.walks.ring_is ∙ ring-rest live D k less most))
-        (omega arith) (omega arith) waits stands.walks.code_is coded)
+        (omega arith) (omega arith) waits stands.walks.mac_stands mac_holds)
 
     -- ---- no verdict is open, and live ticks are still to leave
 
@@ -308,7 +308,7 @@ module _ {R M : Type 0} (proto : LineRules R) (code : Mac M) {B D : ℕ} (old : 
         → owed_by old.outlet ≡ 0 → k < old.until → k ≤ c → CutStandsFor proto cut (line ++ run)
         → BeginNone rules line run → IsFront (ring_ticks old.ring) k x
         → ring_ticks ring ≡ drop k (ring_ticks old.ring ++ silent k) → until ≡ old.until - k
-        → HasTakenRun proto code
+        → HasTakenRun proto macs
         (record old { cut = cut; ring = ring; outlet = outlet; until = until }) last setup line run
         (answered k x)
     flow-counted run k long rests owes less few cuts begin is ring_is until_is =
@@ -328,7 +328,7 @@ module _ {R M : Type 0} (proto : LineRules R) (code : Mac M) {B D : ℕ} (old : 
         → head_of rules (live_bytes_so_far rules line) ≡ Good → n ≤ c → D + n ≤ old.until + 3
         → CutStandsFor proto cut (line ++ silent n) → IsFront (ring_ticks old.ring) n x
         → ring_ticks ring ≡ drop n (ring_ticks old.ring ++ silent n) → until ≡ old.until - n
-        → HasTakenRun proto code
+        → HasTakenRun proto macs
         (record old { cut = cut; ring = ring; outlet = outlet; until = until }) last setup line
         (silent n) (answered n x)
     pause-taken n waits good few within_pause cuts is ring_is until_is =
@@ -341,7 +341,7 @@ module _ {R M : Type 0} (proto : LineRules R) (code : Mac M) {B D : ℕ} (old : 
         ring_is until_is (room-of it)
         (pause-run proto profile setup.floor state (opened waits).0 (head-opened waits good) n line
         left live (open-bare waits) (omega arith) (omega arith))
-        it.walked.opens.1 waits (coded-opened waits)
+        it.walked.opens.1 waits (mac_holds-opened waits)
 
     -- ---- bytes of the trailer come of the burst whose verdict is open
 
@@ -354,7 +354,7 @@ module _ {R M : Type 0} (proto : LineRules R) (code : Mac M) {B D : ℕ} (old : 
         → IsFront (ring_ticks old.ring) (length bytes) x
         → ring_ticks ring ≡ drop (length bytes) (ring_ticks old.ring ++ silent (length bytes))
         → until ≡ old.until - length bytes
-        → HasTakenRun proto code
+        → HasTakenRun proto macs
         (record old {
           cut = cut;
           arriving = arriving;
@@ -372,18 +372,18 @@ module _ {R M : Type 0} (proto : LineRules R) (code : Mac M) {B D : ℕ} (old : 
         let wide = stands.wide in
         let after = trailer-run proto profile setup.floor state bytes line left live d
         (open-bare waits) (omega arith) (omega arith) (omega arith) are_extra in
-        let before = coded-opened waits in
+        let before = mac_holds-opened waits in
         let size = trailer-long it in
         let come = ap length before.come in
         let short = stands.word_is.1 in
         let room : length (bytes_come old.arriving) + length bytes ≤ 20 =
-        ⊎_elim (λ twelve. omega arith) (λ sixteen. omega arith) code.tag_size in
-        let C : List ℕ → Type 0 = λ y. code.stands old.mac setup.key
+        ⊎_elim (λ twelve. omega arith) (λ sixteen. omega arith) macs.tag_size in
+        let C : List ℕ → Type 0 = λ y. macs.stands old.mac setup.key
         (rules.label ∷ setup.direction ∷ y) in
         entered (map (λ b. Byte b) bytes) (length bytes) arriving (Some after.burst) false few
         (omega arith) cuts is ring_is until_is (room-of it) after.runs it.walked.opens.1 waits
         (record {
-          codes = subst C (sym after.bytes) before.codes;
+          mac_is = subst C (sym after.bytes) before.mac_is;
           come = takes room ∙ (ap (λ y. y ++ bytes) before.come ∙ sym after.trailer);
         })
 
@@ -403,8 +403,8 @@ module _ {R M : Type 0} (proto : LineRules R) (code : Mac M) {B D : ℕ} (old : 
         (cuts : CutStandsFor proto cut (line ++ map (λ b. Byte b) bytes))
         (are_live : cuts_after proto.rules line (map (λ b. Byte b) bytes)
         ≡ map (λ b. Live b) bytes)
-        (codes : (key text : List ℕ) → code.stands old.mac key text
-        → code.stands mac key (text ++ bytes))
+        (mac_is : (key text : List ℕ) → macs.stands old.mac key text
+        → macs.stands mac key (text ++ bytes))
         (is : IsFront (ring_ticks old.ring ++ E) (length bytes) x)
         (ring_is : ring_ticks ring
         ≡ drop (length bytes) (ring_ticks old.ring ++ map (λ b. Byte b) bytes))
@@ -456,20 +456,20 @@ module _ {R M : Type 0} (proto : LineRules R) (code : Mac M) {B D : ℕ} (old : 
           let long = after-long rules e in
           nothing-after (after_live rules e) (omega arith)
 
-      coded-after : Codes proto code setup mac old.arriving live-runs.burst
-      coded-after =
-          let before = coded-opened waits in
+      mac_holds-after : MacHolds proto macs setup mac old.arriving live-runs.burst
+      mac_holds-after =
+          let before = mac_holds-opened waits in
           let none = live-runs.none any in
-          let C : List ℕ → Type 0 = λ y. code.stands mac setup.key
+          let C : List ℕ → Type 0 = λ y. macs.stands mac setup.key
           (rules.label ∷ setup.direction ∷ y) in
           record {
-            codes = subst C (sym live-runs.bytes)
-                (codes setup.key (rules.label ∷ setup.direction ∷ live_bytes rules d)
-                before.codes);
+            mac_is = subst C (sym live-runs.bytes)
+                (mac_is setup.key (rules.label ∷ setup.direction ∷ live_bytes rules d)
+                before.mac_is);
             come = before.come ∙ (none ∙ sym none-after);
           }
 
-      pub follow-taken : HasTakenRun proto code
+      pub follow-taken : HasTakenRun proto macs
           (record old { cut = cut; mac = mac; ring = ring; outlet = outlet; until = until }) last
           setup line run (answered k x)
       follow-taken =
@@ -489,7 +489,7 @@ module _ {R M : Type 0} (proto : LineRules R) (code : Mac M) {B D : ℕ} (old : 
           let lent : Left (bytes_in (take k (Q ++ run))) = subst Left (sym bytes_left)
           (lends left stands.walks.outlet_is
           (rooms rules proto.lawful x left rest fits_still)) in
-          let A : List Tick → Type 0 = λ l. HasTakenRun proto code
+          let A : List Tick → Type 0 = λ l. HasTakenRun proto macs
           (record old { cut = cut; mac = mac; ring = ring; outlet = outlet; until = until }) last
           setup line run l in
           subst A leaves
@@ -503,5 +503,5 @@ module _ {R M : Type 0} (proto : LineRules R) (code : Mac M) {B D : ℕ} (old : 
           ∙ (sym after.ring
           ∙ ap (λ n. after.ticks ++ silent (n - length after.ticks)) (sym delay-is)))
           (let within' = after.few in omega arith) (omega arith) waits
-          (rules.label ∷ setup.direction ∷ live_bytes rules after.burst, coded-after.codes)
-          coded-after)
+          (rules.label ∷ setup.direction ∷ live_bytes rules after.burst, mac_holds-after.mac_is)
+          mac_holds-after)

@@ -26,7 +26,7 @@ use Rattle.link_verdicts.proofs.Opened.{opens-of, last-of, long-of, more-of, uno
 use Rattle.link_verdicts.proofs.Opened.{goes-as}
 use Rattle.link_verdicts.proofs.Opened.{silent-goes, silent-breaks}
 use Rattle.check_receiver.specs.Between.{IsBetween}
-use Rattle.check_receiver.specs.Stands.{Codes, HasTaken}
+use Rattle.check_receiver.specs.Stands.{MacHolds, HasTaken}
 use Rattle.check_receiver.specs.Turning.{Turned, closed_at}
 use Rattle.check_receiver.specs.declared.checker.Checker.{Checker}
 use Rattle.burst_walk.specs.declared.box_step.BoxStep.{BoxStep}
@@ -40,18 +40,18 @@ use Rattle.std.proofs.lemmas.Bool.{ne_eqb}
 use Rattle.yasir_ticks.specs.Ticks.{bytes_in}
 
 -- where more than one live tick is to leave, this step's isn't the last one
-pub not-last : {R M : Type 0} (proto : LineRules R) (code : Mac M) {B D : ℕ} (old : Checker R M B D)
+pub not-last : {R M : Type 0} (proto : LineRules R) (macs : Mac M) {B D : ℕ} (old : Checker R M B D)
     (last : ℕ) (setup : Setup) (line : List Tick) (t : Tick) (cut : Cut)
-    (between : IsBetween proto code old last setup line t cut) → 1 < length between.walks.live
+    (between : IsBetween proto macs old last setup line t cut) → 1 < length between.walks.live
     → (old.until == 0) ≡ false
-not-last proto code old last setup line t cut between more =
+not-last proto macs old last setup line t cut between more =
     let one = between.one_less in
     let is = between.walks.until_is in
     ne_eqb old.until 0 (λ zero'. omega arith)
 
-module _ {R M : Type 0} (proto : LineRules R) (code : Mac M) {B D : ℕ} (old : Checker R M B D)
+module _ {R M : Type 0} (proto : LineRules R) (macs : Mac M) {B D : ℕ} (old : Checker R M B D)
     (last : ℕ) (setup : Setup) (line : List Tick) (cut : Cut)
-    (between : IsBetween proto code old last setup line Silent cut)
+    (between : IsBetween proto macs old last setup line Silent cut)
     (new : Checker R M B D) (step : BoxStep CheckNote)
     (turned : Turned proto old new Silent step.tick) (noted : step.note ≡ None) where
   -- A verdict is open, and stays so through the pause.
@@ -59,7 +59,7 @@ module _ {R M : Type 0} (proto : LineRules R) (code : Mac M) {B D : ℕ} (old : 
       → length line < live_end proto.rules d + 3
       → (live_end proto.rules d + 1 ≤ length line
       → proto.rules.header_len ≤ length (live_bytes proto.rules d))
-      → old.waits ≡ true → HasTaken proto code new last setup line Silent step
+      → old.waits ≡ true → HasTaken proto macs new last setup line Silent step
   open-silent d is few header waits =
       let left : List ℕ = between.walks.left in
       let live : List Tick = between.walks.live in
@@ -67,26 +67,26 @@ module _ {R M : Type 0} (proto : LineRules R) (code : Mac M) {B D : ℕ} (old : 
       let more = more-of it in
       let turn = moved proto old new Silent step.tick turned left live between.walks.outlet_is
       between.walks.ring_is (unowed-of it)
-      (not-last proto code old last setup line Silent cut between more) more (room-of it) in
+      (not-last proto macs old last setup line Silent cut between more) more (room-of it) in
       let Coded : Option Burst → Type 0 = λ o. IfSome o
-      (λ e. Codes proto code setup old.mac old.arriving e) in
+      (λ e. MacHolds proto macs setup old.mac old.arriving e) in
       let less = length-drop 1 live in
       let one = between.one_less in
       let until_is = between.walks.until_is in
       let most = between.walks.few in
       let delay_is = between.delay_is in
-      assembled proto code setup line Silent old new Silent step turned between.word_is between.wide
+      assembled proto macs setup line Silent old new Silent step turned between.word_is between.wide
       between.delay_is between.direction_is between.cuts last (left ++ bytes_in (take 1 live))
       (drop 1 live) (Some d) None
       (goes-as Silent step.tick old.passed (owed_by new.outlet) old.earliest_start
       (silent-goes it few header) refl turn.answer_is it.walked.opens.1 turn.unowed refl)
       noted turn.stands
-      (ring-waits proto code old new step.tick turned live between.walks.ring_is (omega arith) most)
-      (omega arith) (omega arith) waits between.walks.code_is (subst Coded is between.walks.coded)
+      (ring-waits proto macs old new step.tick turned live between.walks.ring_is (omega arith) most)
+      (omega arith) (omega arith) waits between.walks.mac_stands (subst Coded is between.walks.mac_holds)
 
-module _ {R M : Type 0} (proto : LineRules R) (code : Mac M) {B D : ℕ} (old : Checker R M B D)
+module _ {R M : Type 0} (proto : LineRules R) (macs : Mac M) {B D : ℕ} (old : Checker R M B D)
     (last : ℕ) (setup : Setup) (line : List Tick) (cut : Cut)
-    (between : IsBetween proto code old last setup line Silent cut) (d : Burst)
+    (between : IsBetween proto macs old last setup line Silent cut) (d : Burst)
     (is : between.walks.waiting ≡ Some d) where
   -- how many live ticks are still to leave of the burst whose verdict is open
   pub waits-long : length between.walks.live + length line ≡ live_end proto.rules d + D
@@ -106,23 +106,23 @@ module _ {R M : Type 0} (proto : LineRules R) (code : Mac M) {B D : ℕ} (old : 
   waits-header behind =
       (opens-of (open-walks between.walks between.wide d is)).not_short behind
 
-module _ {R M : Type 0} (proto : LineRules R) (code : Mac M) {B D : ℕ} (old : Checker R M B D)
+module _ {R M : Type 0} (proto : LineRules R) (macs : Mac M) {B D : ℕ} (old : Checker R M B D)
     (last : ℕ) (setup : Setup) (line : List Tick) (cut : Cut)
-    (between : IsBetween proto code old last setup line Silent cut) (new : Checker R M B D)
+    (between : IsBetween proto macs old last setup line Silent cut) (new : Checker R M B D)
     (step : BoxStep CheckNote)
     (turned : Turned proto (closed_at new.earliest_start old) new Silent step.tick)
     (earliest : new.earliest_start ≡ length (line ++ Silent ∷ []) + old.until
     + left_of proto.rules (live_bytes_so_far proto.rules (line ++ Silent ∷ [])))
     (noted : step.note ≡ Some (Refused (start_so_far (line ++ Silent ∷ [])) Trailer)) where
   abbrev refusing : Profile
-  refusing = profile_of proto code B LIMIT setup
+  refusing = profile_of proto macs B LIMIT setup
 
   abbrev at : ℕ
   at = length line
 
   -- behind the pause silence refuses the burst
   pub refuse-silent : (d : Burst) → between.walks.waiting ≡ Some d
-      → live_end proto.rules d + 3 ≤ at → HasTaken proto code new last setup line Silent step
+      → live_end proto.rules d + 3 ≤ at → HasTaken proto macs new last setup line Silent step
   refuse-silent d is behind =
       let left : List ℕ = between.walks.left in
       let live : List Tick = between.walks.live in
@@ -131,23 +131,23 @@ module _ {R M : Type 0} (proto : LineRules R) (code : Mac M) {B D : ℕ} (old : 
       let base : Checker R M B D = closed_at new.earliest_start old in
       let turn = moved proto base new Silent step.tick turned left live between.walks.outlet_is
       between.walks.ring_is (unowed-of it)
-      (not-last proto code old last setup line Silent cut between more) more (room-of it) in
-      let whose = waits-last proto code old last setup line cut between d is in
+      (not-last proto macs old last setup line Silent cut between more) more (room-of it) in
+      let whose = waits-last proto macs old last setup line cut between d is in
       let lacks = ap (λ o. left_of proto.rules (live_bytes_in proto.rules o)) whose in
       let line_long = longer-line line Silent in
       let one = between.one_less in
       let until_is = between.walks.until_is in
-      let long = waits-long proto code old last setup line cut between d is in
+      let long = waits-long proto macs old last setup line cut between d is in
       let delay_is = between.delay_is in
       let same : new.earliest_start
       ≡ live_end proto.rules d + delay refusing + owed proto.rules d = omega arith in
       let less = length-drop 1 live in
-      assembled proto code setup line Silent base new Silent step turned between.word_is
+      assembled proto macs setup line Silent base new Silent step turned between.word_is
       between.wide between.delay_is between.direction_is between.cuts last
       (left ++ bytes_in (take 1 live)) (drop 1 live) None (Some (Refused d.start Trailer))
       (goes-as Silent step.tick old.passed (owed_by new.outlet) new.earliest_start
       (silent-breaks it behind) refl turn.answer_is it.walked.opens.1 turn.unowed same)
       (noted ∙ ap (λ o. Some (Refused (start_in o) Trailer)) whose) turn.stands
-      (ring-waits proto code base new step.tick turned live between.walks.ring_is (omega arith)
+      (ring-waits proto macs base new step.tick turned live between.walks.ring_is (omega arith)
       between.walks.few)
-      (let few = between.walks.few in omega arith) (omega arith) refl between.walks.code_is tt
+      (let few = between.walks.few in omega arith) (omega arith) refl between.walks.mac_stands tt

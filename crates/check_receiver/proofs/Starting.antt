@@ -48,7 +48,7 @@ use Rattle.link_verdicts.proofs.Rings.{ring-first, ring-begun}
 use Rattle.link_verdicts.proofs.Settling.{after-long}
 use Rattle.check_receiver.specs.Arrivals.{bytes_come}
 use Rattle.check_receiver.specs.Between.{IsBetween}
-use Rattle.check_receiver.specs.Stands.{Codes, HasTaken}
+use Rattle.check_receiver.specs.Stands.{MacHolds, HasTaken}
 use Rattle.check_receiver.specs.Turning.{Turned, TurnedClear, with_until}
 use Rattle.check_receiver.specs.declared.arriving.Arriving.{Arriving}
 use Rattle.check_receiver.specs.declared.checker.Checker.{Checker}
@@ -77,14 +77,14 @@ module _ (rules : Rules) (lawful : IsLawful rules) (line : List Tick) (b : ℕ)
       (ap (λ x. last_of x) on.is ∙ last_of-more on.front on.last) on.near))
       (closed-or-runs_on line)
 
-module _ {R M : Type 0} (proto : LineRules R) (code : Mac M) {B D : ℕ} (old : Checker R M B D)
+module _ {R M : Type 0} (proto : LineRules R) (macs : Mac M) {B D : ℕ} (old : Checker R M B D)
     (last : ℕ) (setup : Setup) (line : List Tick) (b : ℕ)
-    (between : IsBetween proto code old last setup line (Byte b) (Start b)) where
+    (between : IsBetween proto macs old last setup line (Byte b) (Start b)) where
   abbrev rules : Rules
   rules = proto.rules
 
   abbrev profile : Profile
-  profile = profile_of proto code B LIMIT setup
+  profile = profile_of proto macs B LIMIT setup
 
   abbrev state : CheckState
   state = record { floor = last; earliest_start = old.earliest_start }
@@ -100,7 +100,7 @@ module _ {R M : Type 0} (proto : LineRules R) (code : Mac M) {B D : ℕ} (old : 
       between.walks.left between.walks.live (owed_by old.outlet) o
 
   time : IsTimely profile rules
-  time = timely proto code B setup between.wide
+  time = timely proto macs B setup between.wide
 
   -- so no verdict is open
   rests-still : (o : Option Burst) → Walked o → o ≡ None
@@ -135,12 +135,12 @@ module _ {R M : Type 0} (proto : LineRules R) (code : Mac M) {B D : ℕ} (old : 
   module _ (new : Checker R M B D) (step : BoxStep CheckNote)
       (turned : Turned proto old new Silent step.tick)
       (noted : step.note ≡ Some (Dropped (start_so_far (line ++ Byte b ∷ [])) Busy)) where
-    pub start-busy : m < old.earliest_start → HasTaken proto code new last setup line (Byte b) step
+    pub start-busy : m < old.earliest_start → HasTaken proto macs new last setup line (Byte b) step
     start-busy early =
         let left : List ℕ = between.walks.left in
         let live : List Tick = between.walks.live in
         let until = between.one_less ∙ ap (λ k. k - 1) between.walks.until_is in
-        let flows = flow proto code old new Silent step.tick turned left live
+        let flows = flow proto macs old new Silent step.tick turned left live
         between.walks.outlet_is between.walks.ring_is resting.unowed
         (λ there. until-last live old.until until there) resting.room in
         let less = length-drop 1 live in
@@ -148,17 +148,17 @@ module _ {R M : Type 0} (proto : LineRules R) (code : Mac M) {B D : ℕ} (old : 
         let until_is = between.walks.until_is in
         let few = between.walks.few in
         let delay_is = between.delay_is in
-        assembled proto code setup line (Byte b) old new Silent step turned between.word_is
+        assembled proto macs setup line (Byte b) old new Silent step turned between.word_is
         between.wide between.delay_is between.direction_is between.cuts last flows.after
         (drop 1 live) None (Some (Dropped e.start Busy))
         (rest-drops proto profile time setup.floor line (Byte b) state resting.emissions old.passed
         left live (owed_by old.outlet) new.outlet step.tick flows resting.rests resting.room e Busy
         (checked-busy profile rules state e early) begins refl)
         (noted ∙ ap (λ o. Some (Dropped (start_in o) Busy)) last-is) flows.stands
-        (ring-waits proto code old new step.tick turned live between.walks.ring_is (omega arith)
+        (ring-waits proto macs old new step.tick turned live between.walks.ring_is (omega arith)
         between.walks.few)
         (omega arith) (omega arith)
-        (between.walks.waits_is ∙ ap (λ o. is_some o) none-waits) between.walks.code_is tt
+        (between.walks.waits_is ∙ ap (λ o. is_some o) none-waits) between.walks.mac_stands tt
 
   -- ---- nothing is left to leave
 
@@ -188,16 +188,16 @@ module _ {R M : Type 0} (proto : LineRules R) (code : Mac M) {B D : ℕ} (old : 
     pub start-bad : TurnedClear proto base new step.tick
         → step.note ≡ Some (Dropped (start_so_far (line ++ Byte b ∷ [])) NoHead)
         → head_of rules (live_bytes_so_far rules (line ++ Byte b ∷ [])) ≡ Bad
-        → ((text : List ℕ) × code.stands mac setup.key text)
-        → HasTaken proto code new last setup line (Byte b) step
-    start-bad clear noted bad code_is =
+        → ((text : List ℕ) × macs.stands mac setup.key text)
+        → HasTaken proto macs new last setup line (Byte b) step
+    start-bad clear noted bad mac_stands =
         let H : Option Burst → Type 0 = λ o. head_of rules (live_bytes_in rules o) ≡ Bad in
         let is : head_of rules (live_bytes rules e) ≡ Bad = subst H last-is bad in
         let few = up_to_byte-le rules.header_len e.body in
         let tick = ap (λ h. head_tick rules e h) is in
         let now : note_tick profile rules e (dropped_for NoHead) ≡ m = omega arith in
-        drops proto code setup line (Byte b) base new step clear between.word_is between.wide
-        between.delay_is between.direction_is between.cuts last [] begun unowed code_is
+        drops proto macs setup line (Byte b) base new step clear between.word_is between.wide
+        between.delay_is between.direction_is between.cuts last [] begun unowed mac_stands
         resting.emissions e begins free
         (checked-bad profile rules state e free
         (head-isn't-short rules (live_bytes rules e) (λ short. cc))
@@ -265,9 +265,9 @@ module _ {R M : Type 0} (proto : LineRules R) (code : Mac M) {B D : ℕ} (old : 
 
       pub start-open : (D ≤ 64 → n ≡ D) → step.note ≡ None
           → (head_of rules (live_bytes_so_far rules (line ++ Byte b ∷ [])) ≡ Bad → ⊥)
-          → Codes proto code setup mac arriving e
-          → HasTaken proto code new last setup line (Byte b) step
-      start-open until noted not_bad coded =
+          → MacHolds proto macs setup mac arriving e
+          → HasTaken proto macs new last setup line (Byte b) step
+      start-open until noted not_bad mac_holds =
           let F : Option Burst → Type 0 = λ o. length (live_bytes_in rules o)
           ≤ rules.room (live_bytes_in rules o) in
           let fits : F (Some e) = subst F last-is (proto.within _ _ between.cuts.bytes) in
@@ -278,7 +278,7 @@ module _ {R M : Type 0} (proto : LineRules R) (code : Mac M) {B D : ℕ} (old : 
           open'.left_is
           ∙ whole-bytes profile rules e (m + 1 - e.start)) in
           let Fits : List ℕ → Type 0 = λ x. length x ≤ rules.room x in
-          let tag = code.tag_size in
+          let tag = macs.tag_size in
           let delay_is = between.delay_is in
           let few = between.word_is.1 in
           let small : D ≤ 64 = ⊎_elim (λ twelve. omega arith) (λ sixteen. omega arith) tag in
@@ -295,23 +295,23 @@ module _ {R M : Type 0} (proto : LineRules R) (code : Mac M) {B D : ℕ} (old : 
           resting.emissions e begins (one b) (omega arith) (omega arith) step.tick
           (quiet.0 ∙ sym (begun-seen profile rules proto.lawful m b bytes)) [] entered open'
           (owed_by new.outlet) quiet.2 (λ there. subst Fits (sym all) fits) in
-          assembled proto code setup line (Byte b) (with_until n base) new (Byte b) step turned
+          assembled proto macs setup line (Byte b) (with_until n base) new (Byte b) step turned
           between.word_is between.wide between.delay_is between.direction_is between.cuts last []
           entered (Some e) None goes noted quiet.1 ring (omega arith) (omega arith) refl
-          (rules.label ∷ setup.direction ∷ live_bytes rules e, coded.codes) coded
+          (rules.label ∷ setup.direction ∷ live_bytes rules e, mac_holds.mac_is) mac_holds
 
-  -- its code and its trailer
-  pub start-coded : (mac : M) (arriving : Arriving B) → bytes_come arriving ≡ []
-      → code.stands mac setup.key (rules.label ∷ setup.direction ∷ b ∷ [])
-      → Codes proto code setup mac arriving e
-  start-coded mac arriving begun codes =
+  -- its MAC and its trailer
+  pub start-mac_holds : (mac : M) (arriving : Arriving B) → bytes_come arriving ≡ []
+      → macs.stands mac setup.key (rules.label ∷ setup.direction ∷ b ∷ [])
+      → MacHolds proto macs setup mac arriving e
+  start-mac_holds mac arriving begun mac_is =
       let end = ends in
       let all = after-long rules e in
       let none : trailer_so_far rules e ≡ [] =
       nothing-after (after_live rules e) (omega arith) in
-      let C : List ℕ → Type 0 = λ x. code.stands mac setup.key
+      let C : List ℕ → Type 0 = λ x. macs.stands mac setup.key
       (rules.label ∷ setup.direction ∷ x) in
       record {
-        codes = subst C (sym bytes) codes;
+        mac_is = subst C (sym bytes) mac_is;
         come = begun ∙ sym none;
       }

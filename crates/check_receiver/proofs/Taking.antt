@@ -14,18 +14,18 @@ use Rattle.link_format.specs.Profile.{pause_len}
 use Rattle.link_format.specs.Setup.{Setup}
 use Rattle.check_receiver.specs.Arrivals.{bytes_come}
 use Rattle.check_receiver.specs.Between.{IsBetween, IsWhole}
-use Rattle.check_receiver.specs.Stands.{Codes, HasTaken}
+use Rattle.check_receiver.specs.Stands.{MacHolds, HasTaken}
 use Rattle.check_receiver.specs.Turning.{Turned}
 use Rattle.check_receiver.specs.declared.arriving.Arriving.{Arriving}
 use Rattle.check_receiver.specs.declared.checker.Checker.{Checker}
 use Rattle.burst_walk.specs.declared.box_step.BoxStep.{BoxStep}
 use Rattle.link_verdicts.specs.declared.note.CheckNote.{CheckNote}
 use Rattle.check_receiver.proofs.Hearing.{Hears, hears-between, next-last, until-long, until-some}
-use Rattle.check_receiver.proofs.Hearing.{coded, next-coded, trailer-long, trailer-taken}
+use Rattle.check_receiver.proofs.Hearing.{mac_holds, next-mac_holds, trailer-long, trailer-taken}
 
-module _ {R M : Type 0} (proto : LineRules R) (code : Mac M) {B D : ℕ} (old : Checker R M B D)
+module _ {R M : Type 0} (proto : LineRules R) (macs : Mac M) {B D : ℕ} (old : Checker R M B D)
     (last : ℕ) (setup : Setup) (line : List Tick) (t : Tick) (b : ℕ)
-    (between : IsBetween proto code old last setup line t (Extra b)) (waits : old.waits ≡ true)
+    (between : IsBetween proto macs old last setup line t (Extra b)) (waits : old.waits ≡ true)
     (behind : old.until + pause_len < D) (arriving : Arriving B)
     (takes : length (bytes_come old.arriving) < 20
     → bytes_come arriving ≡ bytes_come old.arriving ++ b ∷ []) where
@@ -33,9 +33,9 @@ module _ {R M : Type 0} (proto : LineRules R) (code : Mac M) {B D : ℕ} (old : 
   rules = proto.rules
 
   -- before the byte is kept, and after
-  abbrev hears : Hears proto code old last setup line t b
-  hears = hears-between proto code old last setup line t b between waits old.arriving old.mac
-      between.walks.code_is
+  abbrev hears : Hears proto macs old last setup line t b
+  hears = hears-between proto macs old last setup line t b between waits old.arriving old.mac
+      between.walks.mac_stands
 
   abbrev after : Checker R M B D
   after = record old { arriving = arriving }
@@ -47,7 +47,7 @@ module _ {R M : Type 0} (proto : LineRules R) (code : Mac M) {B D : ℕ} (old : 
   e = going_on d (length line) b
 
   long : old.until + 1 + length line ≡ live_end rules d + D
-  long = until-long proto code old last setup line t b hears
+  long = until-long proto macs old last setup line t b hears
 
   behind-pause : live_end rules d + pause_len ≤ length line
   behind-pause = let all = long in omega arith
@@ -55,37 +55,37 @@ module _ {R M : Type 0} (proto : LineRules R) (code : Mac M) {B D : ℕ} (old : 
   -- there is room for it
   few-come : length (bytes_come old.arriving) < 20
   few-come =
-      let before = coded proto code old last setup line t b hears behind-pause in
+      let before = mac_holds proto macs old last setup line t b hears behind-pause in
       let come = ap length before.come in
-      let size = trailer-long proto code old last setup line t b hears in
+      let size = trailer-long proto macs old last setup line t b hears in
       let all = long in
-      let some = until-some proto code old last setup line t b hears in
+      let some = until-some proto macs old last setup line t b hears in
       let delay_is = between.delay_is in
       let short = between.word_is.1 in
-      ⊎_elim (λ twelve. omega arith) (λ sixteen. omega arith) code.tag_size
+      ⊎_elim (λ twelve. omega arith) (λ sixteen. omega arith) macs.tag_size
 
-  codes : Codes proto code setup old.mac arriving e
-  codes = next-coded proto code old last setup line t b hears behind-pause arriving (takes few-come)
+  mac_is : MacHolds proto macs setup old.mac arriving e
+  mac_is = next-mac_holds proto macs old last setup line t b hears behind-pause arriving (takes few-come)
 
-  abbrev hears-after : Hears proto code after last setup line t b
-  hears-after = hears-between proto code old last setup line t b between waits arriving old.mac
-      between.walks.code_is
+  abbrev hears-after : Hears proto macs after last setup line t b
+  hears-after = hears-between proto macs old last setup line t b between waits arriving old.mac
+      between.walks.mac_stands
 
   -- more bytes of the trailer are to come
   pub more-taken : 1 < old.until → (new : Checker R M B D) (step : BoxStep CheckNote)
       → Turned proto after new Silent step.tick → step.note ≡ None
-      → HasTaken proto code new last setup line t step
+      → HasTaken proto macs new last setup line t step
   more-taken more new step turned noted =
       let all = long in
-      trailer-taken proto code after last setup line t b hears-after new step turned noted waits
-      behind-pause (omega arith) codes
+      trailer-taken proto macs after last setup line t b hears-after new step turned noted waits
+      behind-pause (omega arith) mac_is
 
   -- it was the last one
-  pub whole-taken : old.until ≤ 1 → IsWhole proto code after last setup line t
+  pub whole-taken : old.until ≤ 1 → IsWhole proto macs after last setup line t
   whole-taken few =
-      let some = until-some proto code old last setup line t b hears in
-      let is = next-last proto code old last setup line t b hears in
-      let A : Burst → Type 0 = λ x. Codes proto code setup old.mac arriving x in
+      let some = until-some proto macs old last setup line t b hears in
+      let is = next-last proto macs old last setup line t b hears in
+      let A : Burst → Type 0 = λ x. MacHolds proto macs setup old.mac arriving x in
       record {
         word_is = between.word_is;
         wide = between.wide;
@@ -100,7 +100,7 @@ module _ {R M : Type 0} (proto : LineRules R) (code : Mac M) {B D : ℕ} (old : 
         one_less = between.one_less;
         last_place = omega arith;
         walks = hears.walks;
-        key_text = between.walks.code_is.0;
-        codes = between.walks.code_is.1;
-        coded = λ x last_is. let same : e ≡ x = cc in subst A same codes;
+        key_text = between.walks.mac_stands.0;
+        mac_is = between.walks.mac_stands.1;
+        mac_holds = λ x last_is. let same : e ≡ x = cc in subst A same mac_is;
       }

@@ -21,7 +21,7 @@ use Rattle.link_verdicts.specs.Holding.{trailer_so_far}
 use Rattle.link_verdicts.specs.declared.note.RefusedWhy.TheVariants.{Tag, Number}
 use Rattle.link_verdicts.proofs.Passing.{number-within}
 use Rattle.check_receiver.specs.Arrivals.{bytes_come}
-use Rattle.check_receiver.specs.Stands.{Codes}
+use Rattle.check_receiver.specs.Stands.{MacHolds}
 use Rattle.check_receiver.specs.declared.arriving.Arriving.{Arriving}
 
 -- the live bytes of the last burst are a frame
@@ -32,14 +32,14 @@ last-frame rules line d good is last whole =
     sym (ap (λ o. rules.is_frame (live_bytes_in rules o)) last) ∙ (sym is ∙ whole)
 
 -- Above this floor, as it was told, this is read of the bytes of the word.
-module _ {R M : Type 0} (proto : LineRules R) (code : Mac M) {B : ℕ} (setup : Setup) {mac : M}
-    {arriving : Arriving B} (d : Burst) (codes : Codes proto code setup mac arriving d)
-    (long : length (trailer_so_far proto.rules d) ≡ B + code.TAG) (floor told : ℕ)
+module _ {R M : Type 0} (proto : LineRules R) (macs : Mac M) {B : ℕ} (setup : Setup) {mac : M}
+    {arriving : Arriving B} (d : Burst) (mac_is : MacHolds proto macs setup mac arriving d)
+    (long : length (trailer_so_far proto.rules d) ≡ B + macs.TAG) (floor told : ℕ)
     (still : told ≡ floor) (o : Option ℕ)
     (read : B ≤ length (bytes_come arriving)
     → o ≡ full_of LIMIT (256 ^ B) told (big_number B (bytes_come arriving))) where
   abbrev profile : Profile
-  profile = profile_of proto code B LIMIT setup
+  profile = profile_of proto macs B LIMIT setup
 
   abbrev rules : Rules
   rules = proto.rules
@@ -51,12 +51,12 @@ module _ {R M : Type 0} (proto : LineRules R) (code : Mac M) {B : ℕ} (setup : 
   bytes = trailer_so_far rules d
 
   whole : B ≤ length (bytes_come arriving)
-  whole = let size = ap length codes.come in omega arith
+  whole = let size = ap length mac_is.come in omega arith
 
   -- the number that is read is that of the trailer's bytes
   numbered : o ≡ number_of profile floor bytes
   numbered = read whole
-      ∙ (ap (λ y. full_of LIMIT (256 ^ B) told (big_number B y)) codes.come
+      ∙ (ap (λ y. full_of LIMIT (256 ^ B) told (big_number B y)) mac_is.come
       ∙ ap (λ n. full_of LIMIT (256 ^ B) n (big_number B bytes)) still)
 
   framed : rules.is_frame frame ≡ true
@@ -77,15 +77,15 @@ module _ {R M : Type 0} (proto : LineRules R) (code : Mac M) {B : ℕ} (setup : 
       (lies.1, lies.2)
 
   module _ (good : rules.is_frame frame ≡ true) (n : ℕ) (is : o ≡ Some n) (same : Bool)
-      (compared : (key text : List ℕ) → code.stands mac key text → B ≤ length (bytes_come arriving)
+      (compared : (key text : List ℕ) → macs.stands mac key text → B ≤ length (bytes_come arriving)
       → same ≡ bytes_eq (drop B (bytes_come arriving))
-      (code.tag_of key (text ++ to_be_bytes w64 n))) where
+      (macs.tag_of key (text ++ to_be_bytes w64 n))) where
     weighed : same ≡ bytes_eq (tag_in profile bytes) (profile.tag n frame)
     weighed =
         let text : List ℕ = rules.label ∷ setup.direction ∷ frame in
-        compared setup.key text codes.codes whole
-        ∙ ap (λ x. bytes_eq (drop B x) (code.tag_of setup.key (text ++ to_be_bytes w64 n)))
-        codes.come
+        compared setup.key text mac_is.mac_is whole
+        ∙ ap (λ x. bytes_eq (drop B x) (macs.tag_of setup.key (text ++ to_be_bytes w64 n)))
+        mac_is.come
 
     pub wrong-tag : same ≡ false → refused Tag ≡ whole_verdict profile rules floor frame bytes
     wrong-tag other =

@@ -48,7 +48,7 @@ silence-tick rules line (Byte b) Closed is silence = closed-tick rules line (Byt
 silence-tick rules line (Byte b) Quiet is silence =
     let extra = passing-byte rules line b Quiet is tt in absurd cc
 
-module _ {R M : Type 0} (proto : LineRules R) (code : Mac M) {B D : ℕ} (old : Checker R M B D)
+module _ {R M : Type 0} (proto : LineRules R) (macs : Mac M) {B D : ℕ} (old : Checker R M B D)
     (last : ℕ) (cut : BurstCut R) (fewer : ℕ) (one_less : fewer ≡ old.until - 1) (t : Tick)
     (told : Cut)
     (answers : (line : List Tick) → CutStandsFor proto old.cut line
@@ -56,10 +56,10 @@ module _ {R M : Type 0} (proto : LineRules R) (code : Mac M) {B D : ℕ} (old : 
     (takes : (line : List Tick) → CutStandsFor proto old.cut line
     → CutStandsFor proto cut (line ++ t ∷ [])) where
   abbrev Before : Setup → List Tick → Type 0
-  Before setup line = StandsAt proto code old last setup line
+  Before setup line = StandsAt proto macs old last setup line
 
   abbrev Between : Cut → Setup → List Tick → Tick → Type 0
-  Between what setup line u = IsBetween proto code (record old { cut = cut; until = fewer }) last
+  Between what setup line u = IsBetween proto macs (record old { cut = cut; until = fewer }) last
       setup line u what
 
   between : (what : Cut) → told ≡ what → (setup : Setup) (line : List Tick) → Before setup line
@@ -80,9 +80,9 @@ module _ {R M : Type 0} (proto : LineRules R) (code : Mac M) {B D : ℕ} (old : 
   pub taken-then : (what : Cut) → told ≡ what → (new : Checker R M B D) (number : ℕ)
       (step : BoxStep CheckNote)
       → ((setup : Setup) (line : List Tick) → Between what setup line t
-      → HasTaken proto code new number setup line t step)
+      → HasTaken proto macs new number setup line t step)
       → (setup : Setup) (line : List Tick) → Before setup line
-      → HasTaken proto code new number setup line t step
+      → HasTaken proto macs new number setup line t step
   taken-then what is new number step rest setup line stands =
       rest setup line (between what is setup line stands)
 
@@ -90,13 +90,13 @@ module _ {R M : Type 0} (proto : LineRules R) (code : Mac M) {B D : ℕ} (old : 
   pub taken-silence : IsSilence told → (new : Checker R M B D) (number : ℕ)
       (step : BoxStep CheckNote)
       → ((setup : Setup) (line : List Tick) → Between told setup line Silent
-      → HasTaken proto code new number setup line Silent step)
+      → HasTaken proto macs new number setup line Silent step)
       → (setup : Setup) (line : List Tick) → Before setup line
-      → HasTaken proto code new number setup line t step
+      → HasTaken proto macs new number setup line t step
   taken-silence silence new number step rest setup line stands =
       let at = between told refl setup line stands in
       let P : Tick → Type 0 = λ u. Between told setup line u
-      → HasTaken proto code new number setup line u step in
+      → HasTaken proto macs new number setup line u step in
       subst P (sym (silence-tick proto.rules line t told at.is_cut silence)) (rest setup line) at
 
   -- ---- a step that may fail
@@ -105,15 +105,15 @@ module _ {R M : Type 0} (proto : LineRules R) (code : Mac M) {B D : ℕ} (old : 
     pub taken-ok : (new : Checker R M B D) (number : ℕ)
         (result : Result (BoxStep CheckNote) JournalFault)
         → IfOk result (λ step. (setup : Setup) (line : List Tick) (u : Tick)
-        → Between what setup line u → HasTaken proto code new number setup line u step)
+        → Between what setup line u → HasTaken proto macs new number setup line u step)
         → IfOk result (λ step. (setup : Setup) (line : List Tick) → Before setup line
-        → HasTaken proto code new number setup line t step)
+        → HasTaken proto macs new number setup line t step)
     taken-ok new number (Ok step) rest = λ setup line stands.
         rest setup line t (between what is setup line stands)
     taken-ok new number (Err fault) rest = tt
 
     abbrev Passes : Setup → List Tick → Tick → ℕ → Type 0
-    Passes setup line u number = PassesWith (profile_of proto code B LIMIT setup) proto.rules
+    Passes setup line u number = PassesWith (profile_of proto macs B LIMIT setup) proto.rules
         setup.floor line u number
 
     pub passes-err : (Failed : ℕ → Type 0) (result : Result (BoxStep CheckNote) JournalFault)

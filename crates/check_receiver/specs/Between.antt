@@ -20,29 +20,29 @@ use Rattle.link_verdicts.specs.declared.note.CheckNote.TheVariants.{Passed, Refu
 use Rattle.link_verdicts.specs.declared.note.RefusedWhy.{RefusedWhy}
 use Rattle.link_verdicts.specs.Verdicts.{Verdict}
 use Rattle.link_verdicts.specs.Verdicts.Verdict.{passed_with, refused}
-use Rattle.check_receiver.specs.Stands.{Codes, Walks}
+use Rattle.check_receiver.specs.Stands.{MacHolds, Walks}
 use Rattle.check_receiver.specs.declared.arriving.Arriving.{Arriving}
 use Rattle.check_receiver.specs.declared.checker.Checker.{Checker}
 
-module _ {R M : Type 0} (proto : LineRules R) (code : Mac M) {B D : ℕ} (value : Checker R M B D)
+module _ {R M : Type 0} (proto : LineRules R) (macs : Mac M) {B D : ℕ} (value : Checker R M B D)
     (last : ℕ) (setup : Setup) (line : List Tick) where
   pub record IsBetween (t : Tick) (cut : Cut) : Type 0 where
     pub word_is : IsWordLen B
     pub wide : 2 ≤ B
-    pub delay_is : D ≡ 4 + B + code.TAG
+    pub delay_is : D ≡ 4 + B + macs.TAG
     pub direction_is : direction_number value.direction ≡ setup.direction
     pub cuts : CutStandsFor proto value.cut (line ++ t ∷ [])
     pub is_cut : cut_of proto.rules line t ≡ cut
     pub before : ℕ
     pub one_less : value.until ≡ before - 1
-    pub walks : Walks proto code B D last value.earliest_start value.waits value.passed value.mac
+    pub walks : Walks proto macs B D last value.earliest_start value.waits value.passed value.mac
         value.arriving value.ring before value.outlet setup line
 
   -- A byte has come that isn't live: the last one of a trailer of the burst whose verdict is open.
   pub record IsWhole (t : Tick) : Type 0 where
     pub word_is : IsWordLen B
     pub wide : 2 ≤ B
-    pub delay_is : D ≡ 4 + B + code.TAG
+    pub delay_is : D ≡ 4 + B + macs.TAG
     pub direction_is : direction_number value.direction ≡ setup.direction
     pub cuts : CutStandsFor proto value.cut (line ++ t ∷ [])
     pub byte : ℕ
@@ -52,12 +52,12 @@ module _ {R M : Type 0} (proto : LineRules R) (code : Mac M) {B D : ℕ} (value 
     pub before : ℕ
     pub one_less : value.until ≡ before - 1
     pub last_place : value.until ≡ 1
-    pub walks : Walks proto code B D last value.earliest_start true value.passed mac arriving
+    pub walks : Walks proto macs B D last value.earliest_start true value.passed mac arriving
         value.ring before value.outlet setup line
     pub key_text : List ℕ
-    pub codes : code.stands value.mac setup.key key_text
-    pub coded : (d : Burst) → last_burst (line ++ t ∷ []) ≡ Some d
-        → Codes proto code setup value.mac value.arriving d
+    pub mac_is : macs.stands value.mac setup.key key_text
+    pub mac_holds : (d : Burst) → last_burst (line ++ t ∷ []) ≡ Some d
+        → MacHolds proto macs setup value.mac value.arriving d
 
 -- the verdict on a burst with a whole trailer, by the number with which it passes or why not
 abbrev pub verdict_told : Result ℕ RefusedWhy → Verdict

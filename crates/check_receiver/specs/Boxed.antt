@@ -9,12 +9,12 @@ use Rattle.link_verdicts.specs.Verdicts.{CheckState}
 use Rattle.link_verdicts.specs.Checking.{FullNote, checker, at_floor, brief_note, passed_in}
 use Rattle.link_verdicts.specs.declared.note.CheckNote.{CheckNote}
 
--- its walk, by the rules of a protocol and a code, with words of so many bytes
+-- its walk, by the rules of a protocol and a MAC, with words of this many bytes
 abbrev pub check_walking : {R M : Type 0} → LineRules R → Mac M → ℕ → Walking CheckNote
-check_walking proto code word_len = record {
+check_walking proto macs word_len = record {
   State = CheckState;
   Full = FullNote;
-  walker = λ setup. checker (profile_of proto code word_len LIMIT setup) proto.rules;
+  walker = λ setup. checker (profile_of proto macs word_len LIMIT setup) proto.rules;
   begun = λ setup. at_floor setup.floor;
   brief = brief_note;
   frame_in = passed_in;

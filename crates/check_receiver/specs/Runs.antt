@@ -18,11 +18,11 @@ use Rattle.check_receiver.specs.declared.checker.Checker.{Checker}
 
 -- After these ticks the receiver has taken a run more, none of which has a note: it then stands for
 -- all of them, and it answers as the definitions say.
-pub record HasTakenRun {R M : Type 0} (proto : LineRules R) (code : Mac M) {B D : ℕ}
+pub record HasTakenRun {R M : Type 0} (proto : LineRules R) (macs : Mac M) {B D : ℕ}
     (value : Checker R M B D) (last : ℕ) (setup : Setup) (line run answer : List Tick) : Type 0
   where
-    pub stands : StandsAt proto code value last setup (line ++ run)
-    pub answers : AnswersRun (checker (profile_of proto code B LIMIT setup) proto.rules) brief_note
+    pub stands : StandsAt proto macs value last setup (line ++ run)
+    pub answers : AnswersRun (checker (profile_of proto macs B LIMIT setup) proto.rules) brief_note
         (at_floor setup.floor) line run answer
 
 -- a tick that begins no burst
@@ -36,7 +36,7 @@ abbrev pub BeginNone : Rules → List Tick → List Tick → Type 0
 BeginNone rules line [] = Unit {0}
 BeginNone rules line (t ∷ run) = BeginsNone rules line t × BeginNone rules (line ++ t ∷ []) run
 
--- These are the bytes at the front of some ticks, so many at most, up to the first silent one.
+-- These are the bytes at the front of some ticks, this many at most, up to the first silent one.
 pub record IsFront (ticks : List Tick) (most : ℕ) (x : List ℕ) : Type 0 where
   pub within : length x ≤ most
   pub bytes : map Byte x ≡ take (length x) ticks

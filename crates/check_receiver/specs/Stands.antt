@@ -28,12 +28,12 @@ use Rattle.check_receiver.specs.declared.checker.Checker.{Checker}
 use Rattle.burst_walk.specs.declared.box_step.BoxStep.{BoxStep}
 use Rattle.link_verdicts.specs.declared.note.CheckNote.{CheckNote}
 
-module _ {R M : Type 0} (proto : LineRules R) (code : Mac M) where
-  -- Of a burst whose verdict is open the code has taken the live bytes, and the bytes of the
+module _ {R M : Type 0} (proto : LineRules R) (macs : Mac M) where
+  -- Of a burst whose verdict is open the MAC has taken the live bytes, and the bytes of the
   -- trailer are kept.
-  pub record Codes {B : ℕ} (setup : Setup) (mac : M) (arriving : Arriving B) (d : Burst) :
+  pub record MacHolds {B : ℕ} (setup : Setup) (mac : M) (arriving : Arriving B) (d : Burst) :
       Type 0 where
-    pub codes : code.stands mac setup.key
+    pub mac_is : macs.stands mac setup.key
         (proto.rules.label ∷ setup.direction ∷ live_bytes proto.rules d)
     pub come : bytes_come arriving ≡ trailer_so_far proto.rules d
 
@@ -45,7 +45,7 @@ module _ {R M : Type 0} (proto : LineRules R) (code : Mac M) where
     pub waiting : Option Burst
     pub left : List ℕ
     pub live : List Tick
-    pub walked : HasWalked (profile_of proto code B LIMIT setup) proto.rules setup.floor
+    pub walked : HasWalked (profile_of proto macs B LIMIT setup) proto.rules setup.floor
         (length line) (bursts line) (record { floor = last; earliest_start = earliest }) passes
         left live (owed_by outlet) waiting
     pub outlet_is : OutletStandsFor proto outlet left
@@ -53,8 +53,8 @@ module _ {R M : Type 0} (proto : LineRules R) (code : Mac M) where
     pub few : length live ≤ D
     pub until_is : until ≡ length live
     pub waits_is : waits ≡ is_some waiting
-    pub code_is : (text : List ℕ) × code.stands mac setup.key text
-    pub coded : IfSome waiting (λ d. Codes setup mac arriving d)
+    pub mac_stands : (text : List ℕ) × macs.stands mac setup.key text
+    pub mac_holds : IfSome waiting (λ d. MacHolds setup mac arriving d)
 
   -- Set up so, the receiver has taken these ticks, and the last number that passed is this one.
   pub record StandsAt {B D : ℕ} (value : Checker R M B D) (last : ℕ) (setup : Setup)
@@ -62,7 +62,7 @@ module _ {R M : Type 0} (proto : LineRules R) (code : Mac M) where
     pub word_is : IsWordLen B
     -- so that a header is whole before its first byte leaves
     pub wide : 2 ≤ B
-    pub delay_is : D ≡ 4 + B + code.TAG
+    pub delay_is : D ≡ 4 + B + macs.TAG
     pub direction_is : direction_number value.direction ≡ setup.direction
     pub cuts : CutStandsFor proto value.cut line
     pub walks : Walks B D last value.earliest_start value.waits value.passed value.mac
@@ -78,8 +78,8 @@ module _ {R M : Type 0} (proto : LineRules R) (code : Mac M) where
       (line : List Tick) (t : Tick) (step : BoxStep CheckNote) : Type 0 where
     pub stands : StandsAt value last setup (line ++ t ∷ [])
     pub floor : last ≡ last_number setup.floor
-        (passed (profile_of proto code B LIMIT setup) proto.rules setup.floor (line ++ t ∷ []))
-    pub answers : AnswersTick (profile_of proto code B LIMIT setup) proto.rules setup.floor line t
+        (passed (profile_of proto macs B LIMIT setup) proto.rules setup.floor (line ++ t ∷ []))
+    pub answers : AnswersTick (profile_of proto macs B LIMIT setup) proto.rules setup.floor line t
         step
 
 -- how many ticks it has taken

@@ -30,7 +30,7 @@ pub record TurnedClear {R M : Type 0} {B D : ℕ} (proto : LineRules R) (old new
   pub clear : ring_ticks ring ≡ silent D
   pub turned : Turned proto (dropped old ring) new Silent answer
 
--- the last live byte leaves so many steps later
+-- the last live byte leaves this many steps later
 abbrev pub with_until : {R M : Type 0} {B D : ℕ} → ℕ → Checker R M B D → Checker R M B D
 with_until n old = record old { until = n }
 

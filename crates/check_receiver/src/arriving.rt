@@ -11,8 +11,8 @@ use sequence_journal::{LIMIT, full_with};
 const ROOM: usize = 20;
 
 // Whether these are the same bytes. All of them are looked at, wherever they differ, and none of
-// them decides a branch: the bits that differ are gathered, and whether there are any is asked once.
-// So what can be seen of the time tells nothing of how many bytes of a forged tag are right.
+// them decides a branch: the bits that differ are gathered, and whether there are any is asked
+// once. So what can be seen of the time tells nothing of how many bytes of a forged tag are right.
 fn are_same(left: &[u8], right: &[u8]) -> bool
     ensures { result ≡ bytes_eq left.now right.now }
 {

@@ -16,7 +16,7 @@ mod run_steps;
 mod single_steps;
 mod verdict;
 
-/// How many silent ticks stand between a frame and its trailer.
+/// How many silent ticks are between a frame and its trailer.
 const PAUSE: usize = 3;
 
 /// The receiver, by the rules `R` of a protocol, with words of `B` bytes and tags by `M`. Each live
@@ -142,8 +142,8 @@ impl<R: LineRules, M: Mac, const B: usize, const D: usize> Checker<R, M, B, D> {
         }
     }
 
-    /// Takes the first of these bytes, one a tick, as far as no note falls into their steps and what
-    /// leaves is alike, all bytes or all silence. Returns how many; `left` gets the bytes that
+    /// Takes the first of these bytes, one a tick, as far as no note falls into their steps and
+    /// what leaves is alike, all bytes or all silence. Returns how many; `left` gets the bytes that
     /// leave, one for each, or none where silence leaves. With 0 the caller goes on by `step`.
     #[inline]
     pub fn pass_bytes(&mut self, bytes: &[u8], left: &mut RunBytes) -> usize

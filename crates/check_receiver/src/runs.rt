@@ -72,7 +72,7 @@ pub fn begin_well<R: LineRules>(bytes: &[u8]) -> bool
     }
 }
 
-// Lends the bytes that leave in the next ticks, so many and none of them a burst's last one. The
+// Lends the bytes that leave in the next ticks, this many and none of them a burst's last one. The
 // ticks are alike, and where they are silent it lends none.
 #[inline]
 pub fn lend<R: LineRules, const D: usize>(
@@ -115,7 +115,7 @@ pub fn alike_along<const D: usize>(ring: &DelayRing<D>, bytes: &[u8]) -> usize
     most
 }
 
-// Puts in what leaves while so many of these bytes come: the bytes that leave the ring, up to the
+// Puts in what leaves while this many of these bytes come: the bytes that leave the ring, up to the
 // first silent tick, and behind those of a whole ring the bytes themselves.
 #[inline]
 fn leave_along<const D: usize>(ring: &DelayRing<D>, bytes: &[u8], count: usize, left: &mut RunBytes)
@@ -133,7 +133,7 @@ fn leave_along<const D: usize>(ring: &DelayRing<D>, bytes: &[u8], count: usize, 
     let _ = left.try_extend_from_slice(behind);
 }
 
-// Lends the bytes that leave while so many of these bytes come, none of them a burst's last one.
+// Lends the bytes that leave while this many of these bytes come, none of them a burst's last one.
 #[inline]
 pub fn lend_along<R: LineRules, const D: usize>(
     ring: &DelayRing<D>,

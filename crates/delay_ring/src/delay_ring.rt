@@ -29,7 +29,7 @@ fn overwrite(places: &mut [u8], from: usize, with: &[u8])
     places[from..from + with.len()].copy_from_slice(with);
 }
 
-// Moves so many places to the front.
+// Moves this many places to the front.
 fn move_to_front(places: &mut [u8], from: usize, count: usize)
     requires few { count ≤ 64 }
     requires within { from + count ≤ length places.old }
@@ -172,7 +172,7 @@ impl<const D: usize> DelayRing<D> {
         self.tick_at(self.oldest + i)
     }
 
-    // How many of the ticks that leave next, of so many, are bytes up to the first silent one.
+    // How many of the ticks that leave next, of this many, are bytes up to the first silent one.
     #[inline]
     fn bytes_in_front(&self, most: usize) -> usize
         requires { most ≤ D }
@@ -193,7 +193,7 @@ impl<const D: usize> DelayRing<D> {
         most
     }
 
-    /// The bytes that leave next, of this many ticks, up to the first silent one.
+    /// The bytes among the `most` ticks that leave next, up to the first silent one.
     #[inline]
     pub fn front_bytes(&self, most: usize) -> &[u8]
         requires { most ≤ D }
@@ -206,7 +206,7 @@ impl<const D: usize> DelayRing<D> {
         &self.bytes[self.oldest..self.oldest + count]
     }
 
-    /// How many of the ticks that leave next, of so many, are silent up to the first byte.
+    /// How many of the `most` ticks that leave next are silent, up to the first byte.
     #[inline]
     pub fn front_silence(&self, most: usize) -> usize
         requires { most ≤ D }
@@ -226,7 +226,7 @@ impl<const D: usize> DelayRing<D> {
         most
     }
 
-    /// How many of the ticks that leave next, of so many, are alike: all silent, or all bytes.
+    /// How many of the `most` ticks that leave next are alike: all silent, or all bytes.
     #[inline]
     pub fn front_alike(&self, most: usize) -> usize
         requires { most ≤ D }

@@ -12,7 +12,7 @@ use Rattle.frame_ending.proofs.Pauses.{contiguous-ends}
 use Rattle.device_model.specs.RtuReads.{begins_silent, has_silence}
 use Rattle.device_model.specs.RtuFamily.{is_broken}
 
--- ---- silent ticks that stand together
+-- ---- silent ticks that are together
 
 -- a byte ends them
 begins-seam : (k : ℕ) (w : List Tick) (a : ℕ) (z : List Tick)
@@ -26,7 +26,7 @@ or-assoc : (x y z : Bool) → (x || (y || z)) ≡ ((x || y) || z)
 or-assoc true y z = refl
 or-assoc false y z = refl
 
--- they stand before the byte or after it
+-- they come before the byte or after it
 silence-seam : (g : ℕ) (w : List Tick) (a : ℕ) (z : List Tick)
     → has_silence (suc g) (w ++ Byte a ∷ z)
     ≡ (has_silence (suc g) (w ++ Byte a ∷ []) || has_silence (suc g) z)
@@ -112,7 +112,7 @@ pub alone-whole : (gap b : ℕ) → is_broken gap (Byte b ∷ []) ≡ false
 unfolding has_silence
 alone-whole gap b = refl
 
--- The ticks with this byte are broken where they were before, or too much silence stands between,
+-- The ticks with this byte are broken where they were before, or too much silence is between,
 -- or there was no room for the byte.
 grown-broken : (gap c : ℕ) (body : List Tick) (q b : ℕ) → IsContiguous c body
     → is_broken gap (body ++ (silent q ++ Byte b ∷ []))

@@ -42,7 +42,7 @@ burst-contiguous line d contains =
 
 -- ---- two silent ticks together
 
--- both definitions of two silent ticks that stand together say the same
+-- both definitions of two silent ticks that are together say the same
 pauses : (x : List Tick) → has_silence 2 x ≡ has_pause x
 unfolding has_silence has_pause
 pauses [] = refl
@@ -51,7 +51,7 @@ pauses (Silent ∷ []) = refl
 pauses (Silent ∷ Silent ∷ x) = refl
 pauses (Silent ∷ Byte b ∷ x) = pauses x
 
--- a byte stands behind them
+-- a byte comes after them
 before-fewer : (w : List Tick) (a : ℕ) → has_pause (ended w a) ≡ true
     → length (bytes_in (before_pause (ended w a))) < length (bytes_in (ended w a))
 unfolding has_pause before_pause

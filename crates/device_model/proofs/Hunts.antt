@@ -69,7 +69,7 @@ module _ (first second : ℕ) (rules : Rules) where
   unfolding hunt
   hunt-here t x = refl
 
-  -- so many bytes are passed over
+  -- this many bytes are passed over
   pub hunt-drop : (k : ℕ) (x z : List Timed) → length x ≡ k → hunts k (x ++ z) ≡ hunts 0 z
   hunt-drop k [] z is = ap (λ n. hunts n z) (sym is)
   hunt-drop zero (t ∷ x) z is = absurd (omega arith)

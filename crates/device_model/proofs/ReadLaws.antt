@@ -25,7 +25,7 @@ no_test : (ended whole : Bool) (d : Burst) → ended ≡ false
 no_test false whole d e = refl
 no_test true whole d e = absurd (cc)
 
--- the frames of those of these bursts that are whole by some test, and end so many ticks before m
+-- the frames of those of these bursts that are whole by some test, and end this many ticks before m
 abbrev pub frames_ended : ℕ → (Burst → Bool) → ℕ → List Burst → List FrameRead
 frames_ended cut whole m ds = map frame_in (filter (λ d. nat_le (end_of d + cut) m && whole d) ds)
 

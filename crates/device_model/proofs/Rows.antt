@@ -1,5 +1,5 @@
 -- What is read of a recorded exchange, computed: a query, the same with a wrong check, and the
--- least frame with one silent tick in it. A burst in which two silent ticks stand together isn't
+-- least frame with one silent tick in it. A burst in which two silent ticks are together isn't
 -- read, nor one that only three silent ticks follow.
 use Rattle.std.proofs.Common.{◌≡◌, List, [], ◌∷◌, ◌++◌, refl}
 use Rattle.rtu_frame.specs.Crc.{bit_step, bit_steps, byte_step, crc}

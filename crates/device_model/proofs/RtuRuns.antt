@@ -318,7 +318,7 @@ pub counted-on : (quiet cut n next : ℕ) → quiet < cut
     → next ≡ (if nat_lt quiet cut then quiet + n else quiet) → next ≡ quiet + n
 counted-on quiet cut n next few is = is ∙ cond-true _ _ _ (lt-ltb quiet cut few)
 
--- what is read in the last of so many silent ticks
+-- what is read in the last of this many silent ticks
 pub read-last : (cut gap : ℕ) (old : RtuFamily) (line : List Tick) (n left : ℕ)
     (frames : List FrameRead) → n + 1 ≡ left → EndsNone cut gap old n
     → RtuFamilyStandsFor cut gap old line
@@ -329,7 +329,7 @@ read-last cut gap old line n left frames end ends heard reads =
     ap (rtu_family_reads cut gap) (sym (silent-behind line n 1 left end))
     ∙ (reads ∙ ap (λ x. x ++ frames) (silence-unread cut gap old line n ends heard))
 
--- the line was parted after so many silent ticks, and no frame was read
+-- the line was parted after this many silent ticks, and no frame was read
 module _ (cut gap : ℕ) (old parted : RtuFamily) (line : List Tick) (left : ℕ)
     (heard : RtuFamilyStandsFor cut gap old line)
     (left_is : old.silence.quiet + left ≡ old.silence.cut)

@@ -37,7 +37,7 @@ taken_by rules Good x = rules.size (header_in rules x)
 taken_by rules Short x = rules.header_len
 taken_by rules Bad x = rules.header_len
 
--- what is read of so many bytes, if they are there
+-- what is read of this many bytes, if they are there
 abbrev pub frame_of : Rules → ℕ → ℕ → List ℕ → List FrameRead
 frame_of rules start n x =
     if nat_le n (length x) && rules.is_frame (take n x)
@@ -67,7 +67,7 @@ module _ (first second : ℕ) (rules : Rules) where
   found start x =
       if begins first second x then found_by rules (head_of rules x) start x else []
 
-  -- of these bytes so many are passed over after the first one
+  -- of these bytes this many are passed over after the first one
   abbrev pub passed_over : List ℕ → ℕ
   passed_over x = bytes_taken x - 1
 
@@ -82,7 +82,7 @@ module _ (first second : ℕ) (rules : Rules) where
   abbrev pub hunt_line : List Tick → List FrameRead
   hunt_line line = hunt 0 (timed 0 line)
 
-  -- The frames that are read of ticks, the first of which is tick n of the line, where so many
+  -- The frames that are read of ticks, the first of which is tick n of the line, where this many
   -- silent ticks together end what was taken, and the hunt begins anew behind them.
   abbrev pub hunt_anew : ℕ → ℕ → List Tick → List FrameRead
   hunt_anew cut n line = flat_map (λ d. hunt 0 (timed d.start d.body)) (bursts_from cut n line)

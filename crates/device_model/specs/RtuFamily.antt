@@ -12,11 +12,11 @@ use Rattle.device_model.specs.Parted.{IsParted}
 use Rattle.device_model.specs.RtuReads.{has_silence, frames_read}
 
 -- What a device reads of a line that takes `cut` silent ticks together for the end of a burst, and
--- lets at most `gap` of them stand together inside a frame.
+-- lets at most `gap` of them are together inside a frame.
 abbrev pub rtu_family_reads : ℕ → ℕ → List Tick → List FrameRead
 rtu_family_reads cut gap line = frames_read cut (suc gap) (length line) (bursts_from cut 0 line)
 
--- These ticks are no frame, whatever their bytes are: too many silent ones stand together, or there
+-- These ticks are no frame, whatever their bytes are: too many silent ones are together, or there
 -- are more bytes than a frame has.
 abbrev pub is_broken : ℕ → List Tick → Bool
 is_broken gap body = has_silence (suc gap) body || nat_lt 256 (length (bytes_in body))

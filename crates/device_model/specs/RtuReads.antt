@@ -19,7 +19,7 @@ begins_silent (suc k) [] = false
 begins_silent (suc k) (Silent ∷ l) = begins_silent k l
 begins_silent (suc k) (Byte b ∷ l) = false
 
--- k silent ticks stand together somewhere
+-- k silent ticks are together somewhere
 unfoldable pub has_silence : ℕ → List Tick → Bool
 has_silence k [] = false
 has_silence k (t ∷ l) = begins_silent k (t ∷ l) || has_silence k l

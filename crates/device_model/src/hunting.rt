@@ -43,7 +43,7 @@ pub struct HuntingDevice<R> {
     frame: ArrayVec<u8, 292>,
 }
 
-// How many of these bytes stand before the first one that is `byte`.
+// How many of these bytes come before the first one that is `byte`.
 #[inline]
 fn bytes_before(byte: u8, bytes: &[u8]) -> usize
     ensures within { result ≤ length bytes.now }
@@ -127,8 +127,8 @@ impl<R: Hunted> HuntingDevice<R> {
         self.rules.restart();
     }
 
-    // The end of the bytes that are held: where their first one stands, if they are a frame. Those of a
-    // frame are put aside, to be lent, since the hunt goes on without them.
+    // The end of the bytes that are held: where their first one stands, if they are a frame. Those
+    // of a frame are put aside, to be lent, since the hunt goes on without them.
     #[inline]
     fn end(&mut self) -> Option<u64>
         ensures ticks { self.new.ticks ≡ self.old.ticks }

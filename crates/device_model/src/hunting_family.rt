@@ -6,7 +6,7 @@ use crate::lending::{LendingDevice, frame_copied};
 use crate::silence::Silence;
 use yasir_ticks::{MAX_TICKS, Tick};
 
-/// A device that hunts for frames by the rules `R` as `HuntingDevice` does, and to which so many
+/// A device that hunts for frames by the rules `R` as `HuntingDevice` does, and to which this many
 /// silent ticks together end what it has taken: then it hunts anew with the next byte.
 #[derive(Drop)]
 pub struct HuntingFamily<R> {
@@ -83,9 +83,9 @@ impl<R: Hunted> HuntingFamily<R> {
         self.device.frame_bytes()
     }
 
-    /// Takes the next tick of the line. Returns the tick of the first byte of the frame that is read
-    /// in this very tick, which is lent then, and `None` where none is. Fewer than `MAX_TICKS` ticks
-    /// were taken before.
+    /// Takes the next tick of the line. Returns the tick of the first byte of the frame that is
+    /// read in this very tick, which is lent then, and `None` where none is. Fewer than `MAX_TICKS`
+    /// ticks were taken before.
     #[inline]
     pub fn step_on(&mut self, t: Tick) -> Option<u64>
         requires { family_ticks self.old < MAX_TICKS }

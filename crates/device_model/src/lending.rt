@@ -36,8 +36,8 @@ pub trait LendingDevice: Device {
         ensures bytes { result.now ≡ lent self.now }
         ensures few { length result.now ≤ 292 };
 
-    /// Takes the next tick of the line. Returns the tick of the first byte of the frame that is read
-    /// in this very tick, whose bytes are lent then, and `None` where none is.
+    /// Takes the next tick of the line. Returns the tick of the first byte of the frame that is
+    /// read in this very tick, whose bytes are lent then, and `None` where none is.
     fn step_on(&mut self, t: Tick) -> Option<u64>
         requires { Self.taken self.old < MAX_TICKS }
         ensures taken { Self.taken self.new ≡ Self.taken self.old + 1 }

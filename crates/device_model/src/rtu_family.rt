@@ -10,7 +10,7 @@ use yasir_ticks::{MAX_TICKS, Tick};
 const LONGEST: usize = 256;
 
 /// A Modbus RTU device with silences of its own: it takes `cut` silent ticks together for the end
-/// of a burst, and reads the burst if at most `gap` silent ticks stand together in it and its bytes
+/// of a burst, and reads the burst if at most `gap` silent ticks are together in it and its bytes
 /// are a frame. The standard asks for 3.5 and 1.5 character times (Modbus over Serial Line V1.02),
 /// which are a cut of 4 and a gap of 1.
 #[derive(Drop)]
@@ -234,7 +234,7 @@ impl RtuFamily {
         self.silence.rest(ticks);
     }
 
-    // Bytes behind silence. It stands apart from those that go on with a burst, which are more.
+    // Bytes behind silence. It is kept separate from those that go on with a burst, which are more.
     #[inline(never)]
     fn hear_behind(&mut self, bytes: &[u8])
         requires { ticks_heard self.old + length bytes.now ≤ MAX_TICKS }
@@ -275,8 +275,8 @@ impl RtuFamily {
         self.hear_behind(bytes);
     }
 
-    /// Takes so many silent ticks, up to the first one in which a frame is read, which is lent then. At
-    /// most `MAX_TICKS` ticks were then taken.
+    /// Takes this many silent ticks, up to the first one in which a frame is read, which is lent
+    /// then. At most `MAX_TICKS` ticks were then taken.
     pub fn wait_on(&mut self, ticks: usize) -> Met
         requires { ticks_heard self.old + ticks ≤ MAX_TICKS }
         ensures some { 0 < ticks → 0 < result.taken }
@@ -323,8 +323,8 @@ impl RtuFamily {
         }
     }
 
-    /// The bytes of the frame that was read in the last tick taken: those that are kept of the burst
-    /// that is running or was the last.
+    /// The bytes of the frame that was read in the last tick taken: those that are kept of the
+    /// burst that is running or was the last.
     #[inline]
     pub fn frame_bytes(&self) -> &[u8]
         ensures bytes { result.now ≡ bytes_lent self.now }
@@ -333,9 +333,9 @@ impl RtuFamily {
         self.bytes.as_slice()
     }
 
-    /// Takes the next tick of the line. Returns the tick of the first byte of the frame that is read
-    /// in this very tick, which is lent then, and `None` where none is. Fewer than `MAX_TICKS` ticks
-    /// were taken before.
+    /// Takes the next tick of the line. Returns the tick of the first byte of the frame that is
+    /// read in this very tick, which is lent then, and `None` where none is. Fewer than `MAX_TICKS`
+    /// ticks were taken before.
     #[inline]
     pub fn step_on(&mut self, t: Tick) -> Option<u64>
         requires { ticks_heard self.old < MAX_TICKS }

@@ -31,8 +31,8 @@ pub fn hear_run<V: Device>(device: &mut V, run: TickRun<'_>) -> Heard
     }
 }
 
-/// A device that lends its frames takes the next ticks, which are those of this run, up to the first
-/// one in which a frame is read.
+/// A device that lends its frames takes the next ticks, which are those of this run, up to the
+/// first one in which a frame is read.
 #[inline(always)]
 pub fn hear_run_on<V: LendingDevice>(device: &mut V, run: TickRun<'_>) -> Met
     requires { V.taken device.old + length (run_ticks run) ≤ MAX_TICKS }

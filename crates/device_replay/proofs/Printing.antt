@@ -96,7 +96,7 @@ module _ {V O : Type 0} (device : Device V) (o : Sink O) (old new : FrameLines V
       lines = subst (GotPrefix start (o.held new.out.now)) line_then (push _ before.lines);
     }
 
--- The device has heard so many first ticks of a run, and read this in them.
+-- The device has heard this many first ticks of a run, and read this in them.
 module _ {V O : Type 0} (device : Device V) (o : Sink O) (old new : FrameLines V O)
     (run : TickRun) (n : ℕ) (more : List FrameRead)
     (some : 0 < n) (within : n ≤ length (run_ticks run))

@@ -16,7 +16,7 @@ use Rattle.replay_status.specs.declared.status.Status.{Status}
 use Rattle.replay_status.specs.declared.status.Status.TheVariants.{Done, BadTicks, ReadFault}
 use Rattle.replay_status.specs.declared.status.Status.TheVariants.{WriteFault, TooLong}
 
--- How many silent ticks stand behind a whole input, so that its last burst ends.
+-- How many silent ticks come after a whole input, so that its last burst ends.
 abbrev pub read_rest : ℕ
 read_rest = 4
 
@@ -28,7 +28,7 @@ module _ (reads : List Tick → List FrameRead)
     pub takes : Takes 0 read_rest in_before in_now items end
     pub printed : out_now ≡ append_known out_before (frame_lines (reads (ticks_in items)))
 
-  -- A write failed: `out` has got a front of the lines of what the device reads of so many of the
+  -- A write failed: `out` has got a front of the lines of what the device reads of this many of the
   -- items that were taken.
   pub record PrintsFront : Type 0 where
     pub items : List Item

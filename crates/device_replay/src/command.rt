@@ -14,7 +14,7 @@ use replay_status::{Status, flush_both, status_of};
 use tick_drive::{End, drive_to_rest};
 use yasir_io::{Failed, Sink, Source, TextBuffer};
 
-/// How many silent ticks stand behind a whole input, so that its last burst ends.
+/// How many silent ticks come after a whole input, so that its last burst ends.
 const REST: u32 = 4;
 
 // Drives the input into the device. The lines of its frames are on their way to `out`.

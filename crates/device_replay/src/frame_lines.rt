@@ -27,7 +27,7 @@ pub struct FrameLines<'a, V, O> {
     out: &'a mut O,
 }
 
-// Adds the line of a frame. It stands apart from a step, since few ticks end a frame.
+// Adds the line of a frame. It is kept separate from a step, since few ticks end a frame.
 #[inline(never)]
 fn push_frame<O: Sink>(
     lines: &mut TextBuffer,
@@ -111,8 +111,8 @@ impl<'a, V: LendingDevice, O: Sink> Consumer for FrameLines<'a, V, O> {
 
     ghost meaning = { printing V.Device O.Sink };
 
-    // Takes a run up to a tick in which a frame is read, and adds its line. Either kind has a part of
-    // its own, so that each is compiled for its kind.
+    // Takes a run up to a tick in which a frame is read, and adds its line. Either kind has a part
+    // of its own, so that each is compiled for its kind.
     #[inline(always)]
     fn take_some(&mut self, run: TickRun<'_>) -> Result<usize, Stop> {
         match run {

@@ -23,8 +23,8 @@ pub fn write_frame_line(line: &mut Line, words: &[u8], start: u64, bytes: &[u8])
     line.push(b'\n');
 }
 
-/// Writes `read at S HEX` into an empty line: the bytes of a frame that is read, and the tick of its
-/// first byte.
+/// Writes `read at S HEX` into an empty line: the bytes of a frame that is read, and the tick of
+/// its first byte.
 pub fn write_read_line(line: &mut Line, start: u64, bytes: &[u8])
     requires empty { line.old.items ≡ [] }
     requires frame { length bytes.now ≤ 292 }

@@ -566,7 +566,7 @@ blocks_judged x n right start whole len is =
     ∙ ap (λ k. right_in_blocks (blocks_for k) k (drop 10 x)) len) in
     ap (λ k. 10 + k) behind ∙ sym (right_in_frame-blocks x (omega arith) whole)
 
--- whether so many right bytes are a frame
+-- whether this many right bytes are a frame
 abbrev pub judged_whole : List ℕ → ℕ → Bool
 judged_whole x right = right == length x && length x == size_by (length_byte x)
 

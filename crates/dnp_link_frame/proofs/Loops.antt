@@ -148,7 +148,7 @@ user_in_blocks-room n blocks to x items fit whole left is before =
 abbrev pub place_of : ℕ → ℕ → ℕ
 place_of n user_len = min (16 * n) user_len + 2 * n
 
--- so many blocks are right
+-- this many blocks are right
 pub record AreRight (n user_len : ℕ) (x : List ℕ) : Type 0 where
   pub within : place_of n user_len ≤ length x
   pub is : right_in_blocks (blocks_for user_len) user_len x
@@ -226,9 +226,6 @@ module _ (n len right user_len : ℕ) (x : List ℕ) (left : n < blocks_for user
       let all = all_so_far in
       let h = here in
       omega arith
-
-  pub next_is_there : n * 18 ≤ length x
-  next_is_there = let within = before.within in omega arith
 
 pub all_are_right : (n blocks user_len : ℕ) (x : List ℕ) → blocks ≡ blocks_for user_len
     → n ≡ blocks → AreRight n user_len x

@@ -1,4 +1,4 @@
--- How many bytes of a part are right: of so many bytes of any sort and their CRC.
+-- How many bytes of a part are right: of this many bytes of any sort and their CRC.
 use Rattle.std.proofs.Common.{◌≡◌, ℕ, ◌+◌, ◌-◌, ◌/◌, ◌%◌, ◌<◌, ◌≤◌, nat_le, nat_lt, ◌&&◌}
 use Rattle.std.proofs.Common.{◌==◌, Bool, true, false, List, [], ◌∷◌, ◌++◌, length, take, get_or}
 use Rattle.std.proofs.Common.{arith, sym, ◌∙◌, ap, ⊎_elim, length-append, append_assoc, append-nil}

@@ -15,7 +15,7 @@ right_in_start x =
     (if get_or x 1 0 == 0x64 then (if nat_le 5 (length_byte x) then 3 else 2) else 1)
     else 0
 
--- of so many bytes of any sort and their CRC
+-- of this many bytes of any sort and their CRC
 unfoldable pub right_in_part : ℕ → List ℕ → ℕ
 right_in_part n x =
     if nat_le (length x) n then length x
@@ -24,7 +24,7 @@ right_in_part n x =
     then n + 2 else n + 1)
     else n
 
--- of so many blocks, in which are so many bytes of user data
+-- of this many blocks, in which are this many bytes of user data
 unfoldable pub right_in_blocks : ℕ → ℕ → List ℕ → ℕ
 right_in_blocks zero user_len x = 0
 right_in_blocks (suc n) user_len x =
@@ -41,7 +41,7 @@ right_in_frame x =
     (user_len_by (length_byte x)) (drop 10 x)
     else right_in_part 8 x
 
--- what the first bytes of each of so many blocks are, without their CRC
+-- what the first bytes of each of this many blocks are, without their CRC
 unfoldable pub user_in_blocks : ℕ → List ℕ → List ℕ
 user_in_blocks zero x = []
 user_in_blocks (suc n) x = take (min 18 (length x) - 2) x ++ user_in_blocks n (drop 18 x)

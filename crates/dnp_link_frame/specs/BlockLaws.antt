@@ -101,7 +101,7 @@ end_in_crcs-last (suc n) x =
     ∙ (sym (and_assoc (ends_in_crc (take 18 x)) (end_in_crcs n (drop 18 x)) _)
     ∙ ap (λ b. b && ends_in_crc (take 18 (drop (18 * suc n) x))) (sym (end_in_crcs-next n x))))
 
--- what follows so many whole blocks doesn't matter
+-- what follows this many whole blocks doesn't matter
 pub end_in_crcs-append : (n : ℕ) (x more : List ℕ) → 18 * n ≤ length x
     → end_in_crcs n (x ++ more) ≡ end_in_crcs n x
 end_in_crcs-append zero x more whole =
@@ -181,7 +181,7 @@ is_frame-header x framed header =
     ap ends_in_crc (running_block-header x header ∙ sym (take_all 10 x header))
     ∙ (is_good_header-begins (take 10 x) framed.header_is_good).2
 
--- and one with user data has so many blocks,
+-- and one with user data has this many blocks,
 pub blocks_for-last : (len : ℕ) → 10 < size_by len
     → blocks_for (user_len_by len) ≡ suc ((size_by len - 11) / 18)
 blocks_for-last len user = omega arith

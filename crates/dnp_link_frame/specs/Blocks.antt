@@ -45,7 +45,7 @@ unfoldable pub end_in_crcs : ℕ → List ℕ → Bool
 end_in_crcs zero x = true
 end_in_crcs (suc n) x = ends_in_crc (take 18 x) && end_in_crcs n (drop 18 x)
 
--- where the block begins, header or user data, that the last of so many bytes belongs to
+-- where the block begins, header or user data, that the last of this many bytes belongs to
 unfoldable pub block_start : ℕ → ℕ
 block_start n = if nat_le n 10 then 0 else 10 + 18 * ((n - 11) / 18)
 

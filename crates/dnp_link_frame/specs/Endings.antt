@@ -14,7 +14,7 @@ pub record IsGoodHeader (x : List ℕ) : Type 0 where
   pub user_fits : user_len ≤ 250
   pub is : x ≡ with_crc (header_fields header user_len)
 
--- of a frame with so many blocks of user data the last block, or the header where there is none
+-- of a frame with this many blocks of user data the last block, or the header where there is none
 abbrev pub last_part : ℕ → List ℕ → List ℕ
 last_part zero x = x
 last_part (suc n) x = drop (10 + 18 * n) x

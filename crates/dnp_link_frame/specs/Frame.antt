@@ -10,11 +10,11 @@ use Rattle.dnp_link_frame.specs.declared.header.Header.{Header}
 abbrev pub with_crc : List ℕ → List ℕ
 with_crc x = x ++ low_first (crc_dnp x)
 
--- how many blocks of 16 bytes so many bytes of user data fill, the last one shorter where need be
+-- how many blocks of 16 bytes this many bytes of user data fill, the last one shorter where need be
 abbrev pub blocks_for : ℕ → ℕ
 blocks_for user_len = (user_len + 15) / 16
 
--- user data in so many blocks, each with its CRC
+-- user data in this many blocks, each with its CRC
 unfoldable pub in_blocks : ℕ → List ℕ → List ℕ
 in_blocks zero user = []
 in_blocks (suc n) user = with_crc (take 16 user) ++ in_blocks n (drop 16 user)
@@ -30,7 +30,7 @@ abbrev pub frame_of : Header → List ℕ → List ℕ
 frame_of header user =
     with_crc (header_fields header (length user)) ++ in_blocks (blocks_for (length user)) user
 
--- the fields of a header as so many bits
+-- the fields of a header as this many bits
 pub record IsHeader (header : Header) : Type 0 where
   pub control_fits : header.control < 2 ^ 8
   pub destination_fits : header.destination < 2 ^ 16

@@ -11,11 +11,11 @@ use Rattle.dnp_link_frame.specs.Blocks.{size_by}
 abbrev pub residue : ℕ
 residue = 0x66C5
 
--- the byte after so many is the first of a block of user data
+-- the byte after this many is the first of a block of user data
 abbrev pub begins_block : ℕ → Bool
 begins_block n = nat_le 10 n && (n - 10) % 18 == 0
 
--- how many bytes more, after so many, belong to the block of user data that has begun
+-- how many bytes more, after this many, belong to the block of user data that has begun
 abbrev pub left_in_block : ℕ → ℕ
 left_in_block n = (18 - (n - 10) % 18) % 18
 
@@ -42,7 +42,7 @@ abbrev pub is_header : ℕ → ℕ → ℕ → ℕ → Bool
 is_header first second len register =
     first == 0x05 && second == 0x64 && nat_le 5 len && register == residue
 
--- what a header says of which so many bytes are there
+-- what a header says of which this many bytes are there
 abbrev pub head_by : ℕ → Bool → Head
 head_by n right = if nat_lt n 10 then Short else if right then Good else Bad
 
@@ -60,12 +60,12 @@ blocks_at_beginning n right register = if nat_lt 10 n then right && register == 
 abbrev pub len_byte_after : ℕ → ℕ → ℕ → ℕ
 len_byte_after n len byte = if n == 2 then byte else len
 
--- whether so many bytes, of which LEN is this, are a frame's, where this is known of its header, of
--- its blocks but the last, and of the last
+-- whether this many bytes, of which LEN is this, are a frame's, where this is known of its header,
+-- of its blocks but the last, and of the last
 abbrev pub is_whole : ℕ → ℕ → Bool → Bool → ℕ → Bool
 is_whole n len header_right blocks_right register =
     n == size_by len && header_right && blocks_right && register == residue
 
--- whether so many bytes have a right ending
+-- whether this many bytes have a right ending
 abbrev pub ends_right : ℕ → ℕ → ℕ → Bool
 ends_right n len register = nat_le 5 len && n == size_by len && register == residue

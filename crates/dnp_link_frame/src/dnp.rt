@@ -14,9 +14,9 @@ const WHOLE_HEADER: usize = 10;
 const WHOLE_BLOCK: usize = 18;
 
 /// The bytes of a burst so far, as the rules of the DNP3 link layer see them: how many there are,
-/// for how many there is room, LEN, the register of the last byte's block and what this block lacks,
-/// and whether what stands before it is right. A block is judged when the next one begins, so that
-/// the register is always that of the last byte's block.
+/// for how many there is room, LEN, the register of the last byte's block and what this block
+/// lacks, and whether what comes before it is right. A block is judged when the next one begins, so
+/// that the register is always that of the last byte's block.
 #[derive(Drop)]
 pub struct Dnp {
     len: u16,
@@ -114,7 +114,7 @@ impl Dnp {
         }
     }
 
-    // Appends the next bytes of a header: all of it, the next byte, or as many as stand between LEN
+    // Appends the next bytes of a header: all of it, the next byte, or as many as are between LEN
     // and its last byte; says how many.
     #[inline]
     fn take_of_header(&mut self, rest: &[u8]) -> usize

@@ -155,7 +155,7 @@ fn user_in(frame: &[u8]) -> UserBytes
     user_in_blocks(&frame[HEADER..], user_len.div_ceil(BLOCK))
 }
 
-// Whether so many right bytes are all, and none is lacking.
+// Whether this many right bytes are all, and none is lacking.
 fn is_whole(bytes: &[u8], right: usize) -> bool
     ensures { result
         ≡ (right == length bytes.now && length bytes.now == size_by (length_byte bytes.now)) }

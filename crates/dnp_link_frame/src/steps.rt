@@ -16,7 +16,7 @@ pub(crate) const START: [u8; 2] = [0x05, 0x64];
 // How many bytes a whole block of user data has, its CRC counted.
 pub(crate) const BLOCK_LEN: u16 = BLOCK_DATA_LEN + CRC_LEN;
 
-// Whether the byte after so many is the first of a block of user data.
+// Whether the byte after this many is the first of a block of user data.
 #[inline]
 fn begins_block(len: u16) -> bool
     ensures { result ≡ begins_block len }
@@ -43,7 +43,7 @@ pub(crate) fn register_after(len: u16, register: u16, byte: u8) -> u16
     after_byte(register_before(len, register), byte)
 }
 
-// Whether a header may have this byte after so many; the register is the one that it leaves.
+// Whether a header may have this byte after this many; the register is the one that it leaves.
 #[inline]
 fn fits_header(len: u16, register: u16, byte: u8) -> bool
     ensures { result ≡ fits_header len register byte }
@@ -83,8 +83,8 @@ pub(crate) fn head_by(len: u16, header_right: bool) -> Head
     if header_right { Head::Good } else { Head::Bad }
 }
 
-// Where the byte after so many begins a block: whether the blocks before it are right. The register
-// is that of the last of them.
+// Where the byte after this many begins a block: whether the blocks before it are right. The
+// register is that of the last of them.
 #[inline]
 pub(crate) fn blocks_at_beginning(len: u16, blocks_right: bool, register: u16) -> bool
     ensures { result ≡ blocks_at_beginning len blocks_right register }

@@ -9,7 +9,7 @@
 //!     while !from_device.is_empty() && !from_link.is_empty() {
 //!         let taken = duplex.pass_both(from_device, from_link, &mut to_link, &mut to_device);
 //!         if taken > 0 {
-//!             // the bytes in `to_link`, one a tick, or silence for so many ticks where it has none
+//!             // the bytes in `to_link`, one a tick, or silence for this many ticks
 //!             send_on_link(taken, to_link.as_slice());
 //!             send_to_device(taken, to_device.as_slice());
 //!             from_device = from_device.behind(taken);

@@ -253,8 +253,8 @@ fn both_directions_use_numbers_in_one_step(rt: HostRuntime) -> Result<(), Fail> 
     Ok(())
 }
 
-// The write of a first commit is the seventh call on a new journal's disk: four reads, a write and a
-// sync made it.
+// The write of a first commit is the seventh call on a new journal's disk: four reads, a write and
+// a sync made it.
 #[test]
 fn a_fault_of_the_outgoing_journal_keeps_the_incoming_one(rt: HostRuntime) -> Result<(), Fail> {
     let alloc = rt.alloc();

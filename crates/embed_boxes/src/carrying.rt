@@ -91,8 +91,8 @@ fn through<X: LinkBox>(
     }
 }
 
-/// Carries a device's line from a to b: a transmitter seals it, and a receiver checks the link. Both
-/// have this key, which may have any length, and a new journal.
+/// Carries a device's line from a to b: a transmitter seals it, and a receiver checks the link.
+/// Both have this key, which may have any length, and a new journal.
 pub fn carry(alloc: Global, key: &[u8], line: &[Tick]) -> Result<Carried, NotCarried>
     requires { length line.now ≤ MAX_TICKS }
     ensures { IfOk result (λ carried. Carries key.now line.now carried.link.items

@@ -25,7 +25,7 @@ use Rattle.frame_ending.proofs.Pauses.{up_to_byte-le}
 use Rattle.frame_ending.proofs.Rooms.{within_room-open, within_room-more, within_room-full}
 use Rattle.frame_ending.proofs.Rooms.{within_room-one, within_room-le}
 
--- so many silent ticks and a byte
+-- this many silent ticks and a byte
 abbrev gap_byte : ℕ → ℕ → List Tick
 gap_byte gap b = silent gap ++ Byte b ∷ []
 
@@ -158,7 +158,7 @@ module _ (m b : ℕ) (d : Burst) (within : IsWithin m d) where
         let le = live-le rules lawful d in
         lt-ltb (length (live_bytes rules longer)) (length (bytes_in longer.body)) (omega arith)
 
-    -- the last live byte stands in the burst
+    -- the last live byte is in the burst
     pub live_end-le : live_end rules d ≤ m
     live_end-le =
         let part = up_to_byte-le (length (live_bytes rules d)) d.body in

@@ -155,7 +155,7 @@ live_ticks-bytes rules d =
     bytes_up_to (length (live_bytes rules d)) d.body
     ∙ subst P first (first-of-first (rules.room (spelled d)) n x)
 
--- Ticks up to a byte before a pause are contiguous, and no two silent ones stand together in them.
+-- Ticks up to a byte before a pause are contiguous, and no two silent ones are together in them.
 before_pause-gap : (gap : ℕ) (y : List Tick) → 2 ≤ gap → before_pause (silent gap ++ y) ≡ []
 unfolding before_pause
 before_pause-gap zero y many = absurd (omega arith)

@@ -15,7 +15,7 @@ use Rattle.frame_ending.specs.SoFar.{last_of, start_so_far, last_live_so_far, li
 use Rattle.frame_ending.specs.SoFar.{has_extra_so_far, is_over_so_far}
 use Rattle.frame_ending.specs.Cuts.{cuts_after}
 
--- room for so many bytes, and no frames
+-- room for this many bytes, and no frames
 abbrev with_room : ℕ → Rules
 with_room n = headerless 1 n (λ x. false) (λ x. false)
 

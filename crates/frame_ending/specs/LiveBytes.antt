@@ -1,4 +1,4 @@
--- The live bytes of a burst: those before the first two silent ticks that stand together, cut to
+-- The live bytes of a burst: those before the first two silent ticks that are together, cut to
 -- the room of these bytes. Only they can be a frame.
 use Rattle.std.specs.Prelude.{ℕ, zero, suc, ◌+◌, nat_lt, Bool, true, false, List, [], ◌∷◌, length}
 use Rattle.std.specs.Prelude.{take}
@@ -8,7 +8,7 @@ use Rattle.yasir_ticks.specs.Bursts.{Burst}
 use Rattle.yasir_ticks.specs.declared.tick.Tick.{Tick}
 use Rattle.yasir_ticks.specs.declared.tick.Tick.TheVariants.{Silent, Byte}
 
--- the ticks before the first two silent ones that stand together; silence follows the end of the
+-- the ticks before the first two silent ones that are together; silence follows the end of the
 -- list
 unfoldable pub before_pause : List Tick → List Tick
 before_pause [] = []
@@ -17,7 +17,7 @@ before_pause (Silent ∷ []) = []
 before_pause (Silent ∷ Silent ∷ l) = []
 before_pause (Silent ∷ Byte b ∷ l) = Silent ∷ Byte b ∷ before_pause l
 
--- two silent ticks stand together in these ticks
+-- two silent ticks are together in these ticks
 unfoldable pub has_pause : List Tick → Bool
 has_pause [] = false
 has_pause (Byte b ∷ l) = has_pause l

@@ -35,7 +35,7 @@ abbrev pub has_extra_in : Rules → Option Burst → Bool
 has_extra_in rules None = false
 has_extra_in rules (Some d) = has_extra rules d
 
--- Two silent ticks stand together in the burst, or after it.
+-- Two silent ticks are together in the burst, or after it.
 abbrev pub has_paused_in : ℕ → Option Burst → Bool
 has_paused_in m None = false
 has_paused_in m (Some d) = has_pause d.body || nat_le T1_5_TICKS (m - end_of d)

@@ -4,7 +4,7 @@ use line_rules::LineRules;
 use yasir_ticks::{MAX_TICKS, T1_5_TICKS, T3_5_TICKS, Tick};
 
 /// Cuts a line into bursts, a tick at a time, and tells the live bytes of each by the rules `R`:
-/// those before the first two silent ticks that stand together, as many as there is room for.
+/// those before the first two silent ticks that are together, as many as there is room for.
 ///
 /// What it tells of a burst is that of the one that is running or was the last.
 #[derive(Drop)]
@@ -228,8 +228,8 @@ impl<R: LineRules> BurstCut<R> {
         self.paused || self.rules.full()
     }
 
-    /// Takes these bytes, one a tick, if a burst runs of which no further byte is live, and says how
-    /// many: all or none.
+    /// Takes these bytes, one a tick, if a burst runs of which no further byte is live, and says
+    /// how many: all or none.
     #[inline]
     pub fn pass_over_some(&mut self, bytes: &[u8]) -> usize
         requires { ticks_taken self.old + length bytes.now ≤ MAX_TICKS }
@@ -323,8 +323,8 @@ impl<R: LineRules> BurstCut<R> {
         self.is_over()
     }
 
-    /// The silent ticks since the last byte, counted up to `T3_5_TICKS`: a burst runs while there are
-    /// fewer.
+    /// The silent ticks since the last byte, counted up to `T3_5_TICKS`: a burst runs while there
+    /// are fewer.
     #[inline]
     pub fn quiet(&self) -> u8
         ensures { (line : List Tick) → StandsFor R.LineRules self.now line

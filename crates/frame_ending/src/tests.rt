@@ -246,7 +246,7 @@ fn a_byte_more_than_there_is_room_for(rt: HostRuntime) -> Result<(), Fail> {
     Ok(())
 }
 
-// Takes the same tick so many times, a step each.
+// Takes the same tick this many times, a step each.
 fn step_times(cut: &mut BurstCut<FourBytes>, tick: Tick, times: usize)
     requires { ticks_taken cut.old + times ≤ 1000 }
     ensures { ticks_taken cut.new ≡ ticks_taken cut.old + times }

@@ -14,7 +14,7 @@ filled key = key ++ replicate (64 - length key) 0
 unfoldable pub key_block : (List ℕ → List ℕ) → List ℕ → List ℕ
 key_block hash key = if nat_lt 64 (length key) then filled (hash key) else filled key
 
--- the code of a text under a key
+-- the MAC of a text under a key
 unfoldable pub hmac : (List ℕ → List ℕ) → List ℕ → List ℕ → List ℕ
 hmac hash key text =
     hash (xored 0x5C (key_block hash key) ++ hash (xored 0x36 (key_block hash key) ++ text))

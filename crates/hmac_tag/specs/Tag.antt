@@ -1,4 +1,4 @@
--- Tags: the first bytes of a code of a text, and the text that is coded for a numbered frame.
+-- Tags: the first bytes of a MAC of a text, and the text that is tagged for a numbered frame.
 use Rattle.std.specs.Prelude.{◌≡◌, ◌⊎◌, ℕ, List, ◌∷◌, ◌++◌, take}
 use Rattle.std.specs.Int.{w64, to_be_bytes}
 use Rattle.sha1.specs.Sha1.{sha1}
@@ -11,7 +11,7 @@ use Rattle.hmac_tag.specs.declared.dir.Dir.TheVariants.{Ab, Ba}
 abbrev pub IsTagSize : ℕ → Type 0
 IsTagSize size = (size ≡ 12) ⊎ (size ≡ 16)
 
--- a code cut to its first bytes
+-- a MAC cut to its first bytes
 abbrev pub hmac_cut : (List ℕ → List ℕ) → ℕ → List ℕ → List ℕ → List ℕ
 hmac_cut hash size key text = take size (hmac hash key text)
 
@@ -34,8 +34,8 @@ abbrev pub direction_number : Dir → ℕ
 direction_number Ab = 0
 direction_number Ba = 1
 
--- what a numbered frame is coded as: a byte for the protocol, a byte for the direction, the frame's
--- bytes and its whole number as 8 bytes, high byte first
+-- what a numbered frame is tagged as: a byte for the protocol, a byte for the direction, the
+-- frame's bytes and its whole number as 8 bytes, high byte first
 abbrev pub tag_text : ℕ → ℕ → List ℕ → ℕ → List ℕ
 tag_text label direction frame number = label ∷ direction ∷ frame ++ to_be_bytes w64 number
 

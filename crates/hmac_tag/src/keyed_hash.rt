@@ -78,7 +78,7 @@ fn xored(pad: u8, mut block: [u8; BLOCK_LEN]) -> [u8; BLOCK_LEN]
 }
 
 impl<D: Digest<N>, const N: usize> Hmac<D, N> {
-    /// The whole code of a text under a key of any length.
+    /// The whole MAC of a text under a key of any length.
     #[tactic(auto, unfolding(crate::specs::Hmac::hmac))]
     pub fn digest(key: &[u8], text: &[u8]) -> [u8; N]
         ensures { result ≡ hmac D.digest_of key.now text.now }
@@ -90,15 +90,15 @@ impl<D: Digest<N>, const N: usize> Hmac<D, N> {
     }
 }
 
-// The first bytes of a code.
-fn cut<const N: usize>(code: &[u8; N], size: usize) -> TagBytes
+// The first bytes of a MAC.
+fn cut<const N: usize>(whole: &[u8; N], size: usize) -> TagBytes
     requires within { size ≤ N }
     requires short { size ≤ 16 }
-    ensures items { result.items ≡ take size code.now }
+    ensures items { result.items ≡ take size whole.now }
     ensures len { array_vec_len result ≡ size }
 {
     let mut tag = ArrayVec::new();
-    let _ = tag.try_extend_from_slice(&code[..size]);
+    let _ = tag.try_extend_from_slice(&whole[..size]);
     tag
 }
 

@@ -1,4 +1,4 @@
-//! What a box asks of a keyed code, and the bytes of its tag.
+//! What a box asks of a MAC, and the bytes of its tag.
 ghost use Rattle.std.specs.Prelude.{◌≡◌, ℕ, ◌<◌, List, [], ◌++◌, length, All};
 ghost use Rattle.arrayvec.specs.ArrayVec.{array_vec_len};
 ghost use Rattle.hmac_tag.specs.Tag.{IsTagSize};
@@ -8,7 +8,7 @@ use arrayvec::ArrayVec;
 /// The bytes of a tag.
 pub type TagBytes = ArrayVec<u8, 16>;
 
-/// A keyed code of a text that comes in pieces, cut to its first `TAG` bytes. A value stands for a
+/// A MAC of a text that comes in pieces, cut to its first `TAG` bytes. A value stands for a
 /// key and the text so far.
 pub trait Mac: Drop {
     /// The tag of a text under a key.

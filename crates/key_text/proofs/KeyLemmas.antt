@@ -1,4 +1,4 @@
--- Key text by its digits and what stands behind them.
+-- Key text by its digits and what comes after them.
 use Rattle.std.proofs.Common.{◌≡◌, ℕ, zero, suc, ◌+◌, ◌-◌, ◌*◌, ◌/◌, ◌%◌, ◌<◌, ◌≤◌, ◌⊎◌, inl, inr}
 use Rattle.std.proofs.Common.{List, [], ◌∷◌, ◌++◌, length, length-append, take, drop, replicate}
 use Rattle.std.proofs.Common.{slice_index, true, false, Result, Ok, Err, refl, sym, ap, subst, ◌∙◌}
@@ -23,7 +23,7 @@ use Rattle.key_text.specs.KeyText.{IsKeyPlace, IsNoKey}
 pub hexdigit_same : (c : ℕ) → is_ascii_hexdigit c ≡ is_hex_digit c
 hexdigit_same c = grind arith
 
--- the room for the bytes of so many digits, before they are decoded
+-- the room for the bytes of this many digits, before they are decoded
 abbrev pub room_of : List ℕ → List ℕ
 room_of digits = take (length digits / 2) (replicate 64 0)
 
@@ -46,7 +46,7 @@ spelled digits out n r pass len h =
     let said = rw (decode_sized-twice digits n len, key.1) at h in
     (said.0, key.1 ∙ ap Ok (sym said.1))
 
--- the bytes of an ending that stand at the front
+-- the bytes of an ending that are at the front
 ending_cases : (n : ℕ) (rest : List ℕ) → n ≤ length rest → BeginsEnding (take n rest)
     → (n ≡ 0) ⊎ (((n ≡ 1) × ((slice_index rest 0 ≡ 10) ⊎ (slice_index rest 0 ≡ 13)))
     ⊎ ((n ≡ 2) × (slice_index rest 0 ≡ 13) × (slice_index rest 1 ≡ 10)))
@@ -67,49 +67,9 @@ ending_cases (suc (suc (suc n))) (a ∷ b ∷ c ∷ rest) le (more, inl e) = cc
 ending_cases (suc (suc (suc n))) (a ∷ b ∷ c ∷ rest) le (more, inr (inl e)) = cc
 ending_cases (suc (suc (suc n))) (a ∷ b ∷ c ∷ rest) le (more, inr (inr e)) = cc
 
-pub nothing_begun : (rest : List ℕ) → (length rest ≡ 0)
-    ⊎ ((slice_index rest 0 ≡ 10 → ⊥) × (slice_index rest 0 ≡ 13 → ⊥))
-    → IsLongestFront BeginsEnding rest 0
-nothing_begun rest other = record {
-  within = omega arith;
-  begins = ([], inl refl);
-  longest = λ n le h. elim (ending_cases n rest le h) [
-    | inl none ↦ omega arith
-    | inr (inl one) ↦ elim other [
-      | inl short ↦ omega arith
-      | inr none
-          ↦ elim one.1 [ inl lf ↦ absurd (none.0 lf) | inr cr ↦ absurd (none.1 cr) ]
-    ]
-    | inr (inr two) ↦ elim other [ inl short ↦ omega arith | inr none ↦ absurd (none.1 two.1) ]
-  ];
-}
-
-lf_first : (rest : List ℕ) → 0 < length rest → slice_index rest 0 ≡ 10 → BeginsEnding (take 1 rest)
-lf_first [] some e = absurd (omega arith)
-lf_first (a ∷ rest) some e = ([], inr (inl (ap (λ b. b ∷ []) e)))
-
 cr_first : (rest : List ℕ) → 0 < length rest → slice_index rest 0 ≡ 13 → BeginsEnding (take 1 rest)
 cr_first [] some e = absurd (omega arith)
 cr_first (a ∷ rest) some e = (10 ∷ [], inr (inr (ap (λ b. b ∷ 10 ∷ []) e)))
-
-cr_lf_first : (rest : List ℕ) → 1 < length rest → slice_index rest 0 ≡ 13 → slice_index rest 1 ≡ 10
-    → BeginsEnding (take 2 rest)
-cr_lf_first [] some e f = absurd (omega arith)
-cr_lf_first (a ∷ []) some e f = absurd (omega arith)
-cr_lf_first (a ∷ b ∷ rest) some e f = let whole : a ∷ b ∷ [] ≡ 13 ∷ 10 ∷ [] = cc in
-    ([], inr (inr whole))
-
-pub lf_begun : (rest : List ℕ) → 0 < length rest → slice_index rest 0 ≡ 10
-    → IsLongestFront BeginsEnding rest 1
-lf_begun rest some lf = record {
-  within = omega arith;
-  begins = lf_first rest some lf;
-  longest = λ n le h. elim (ending_cases n rest le h) [
-    | inl none ↦ omega arith
-    | inr (inl one) ↦ omega (arith, one.0)
-    | inr (inr two) ↦ omega (arith, two.1, lf)
-  ];
-}
 
 pub cr_begun : (rest : List ℕ) → 0 < length rest → slice_index rest 0 ≡ 13
     → (length rest ≡ 1) ⊎ (slice_index rest 1 ≡ 10 → ⊥) → IsLongestFront BeginsEnding rest 1
@@ -120,18 +80,6 @@ cr_begun rest some cr alone = record {
     | inl none ↦ omega arith
     | inr (inl one) ↦ omega (arith, one.0)
     | inr (inr two) ↦ elim alone [ inl short ↦ omega arith | inr other ↦ absurd (other two.2) ]
-  ];
-}
-
-pub cr_lf_begun : (rest : List ℕ) → 1 < length rest → slice_index rest 0 ≡ 13
-    → slice_index rest 1 ≡ 10 → IsLongestFront BeginsEnding rest 2
-cr_lf_begun rest some cr lf = record {
-  within = omega arith;
-  begins = cr_lf_first rest some cr lf;
-  longest = λ n le h. elim (ending_cases n rest le h) [
-    | inl none ↦ omega arith
-    | inr (inl one) ↦ omega (arith, one.0)
-    | inr (inr two) ↦ omega (arith, two.0)
   ];
 }
 
@@ -199,7 +147,7 @@ same_digits (suc n) (a ∷ ds) (b ∷ xs) rest ending d x few quiet stops e =
     let front : ds ≡ xs = ih.0 in
     (cc, ih.1)
 
--- so many digits are a key's
+-- this many digits are a key's
 abbrev pub IsKeySize : ℕ → Type 0
 IsKeySize n = (32 ≤ n) × (n % 2 ≡ 0)
 
@@ -223,7 +171,7 @@ key_text_of ds ending pass size few ends =
       },
     )
 
--- digits with so many more
+-- digits with this many more
 begins_with_more : (ds : List ℕ) (n : ℕ) → AllPass is_hex_digit ds → IsKeySize (length ds + n)
     → length ds + n ≤ 128 → BeginsKey ds
 begins_with_more ds n pass size few =
@@ -304,7 +252,7 @@ module _ (ds rest : List ℕ) (pass : AllPass is_hex_digit ds) (few : length ds 
     ];
   }
 
-  -- the digits are a key's, and what stands behind them is no ending
+  -- the digits are a key's, and what comes after them is no ending
   place_of_ending : (place : ℕ) → IsKeySize (length ds) → IsLongestFront BeginsEnding rest place
       → IsKeyPlace (ds ++ rest) (length ds + place)
   place_of_ending place size ending = record {
@@ -329,7 +277,7 @@ module _ (ds rest : List ℕ) (pass : AllPass is_hex_digit ds) (few : length ds 
     ];
   }
 
--- A text with so many digits at its front.
+-- A text with this many digits at its front.
 module _ (count : ℕ) (text : List ℕ) (within : count ≤ length text) (few : count ≤ 128)
     (pass : AllPass is_hex_digit (take count text))
     (stops : (count ≡ length text) ⊎ ((count ≡ 128)
@@ -414,7 +362,7 @@ front_read len n bytes more room rest within few =
     sym (take-take (len + n) (len + length more) (put_mid len (131 - len) bytes more) (omega arith))
     ∙ ap (take (len + n)) whole ∙ read_on len n bytes more few (omega arith)
 
--- so many bytes more were taken of a source
+-- this many bytes more were taken of a source
 pub taken_more : (first before now : Option (List ℕ)) (len n : ℕ) (bytes more : List ℕ)
     → length bytes ≡ 131 → length more ≡ 131 - len → len ≤ 131 → n ≤ length more
     → first ≡ prepend_known (take len bytes) before → before ≡ prepend_known (take n more) now

@@ -8,7 +8,7 @@ use Rattle.yasir_io.specs.Causes.{Rose}
 use Rattle.key_text.specs.declared.key_text.KeyError.{KeyError}
 use Rattle.key_text.specs.declared.key_text.KeyError.TheVariants.{Fault, Bad}
 
--- what may stand behind the digits: nothing, LF, or CR LF
+-- what may come behind the digits: nothing, LF, or CR LF
 abbrev pub IsKeyEnding : List ℕ → Type 0
 IsKeyEnding ending = (ending ≡ []) ⊎ ((ending ≡ codes "\n") ⊎ (ending ≡ codes "\r\n"))
 

@@ -64,7 +64,7 @@ fn read_text<K: Source>(source: &mut K) -> Result<KeyText, Failed>
     Ok(text_of(&bytes))
 }
 
-// How many hex digits stand at the front of a text, but no more than a key has.
+// How many hex digits are at the front of a text, but no more than a key has.
 fn digit_count(text: &[u8]) -> usize
     ensures within { result ≤ length text.now }
     ensures few { result ≤ 128 }
@@ -81,7 +81,7 @@ fn digit_count(text: &[u8]) -> usize
     most
 }
 
-// How many bytes of an ending stand at the front of these.
+// How many bytes of an ending are at the front of these.
 fn begun_ending(rest: &[u8]) -> usize
     ensures { IsLongestFront BeginsEnding rest.now result }
 {

@@ -11,7 +11,7 @@ const DIGITS: &[u8; 16] = b"0123456789aBcDEf";
 
 const BYTES: [u8; 8] = [0x01, 0x23, 0x45, 0x67, 0x89, 0xab, 0xcd, 0xef];
 
-// What is read of so many digits and what stands behind them, in pieces of this many bytes.
+// What is read of this many digits and what comes after them, in pieces of this many bytes.
 fn read(
     rt: &impl Abort,
     alloc: Global,
@@ -31,7 +31,7 @@ fn read(
 
 #[test]
 fn reads_the_key_of_a_right_text(rt: HostRuntime) -> Result<(), Fail> {
-    // digits, what stands behind them
+    // digits, what comes after them
     let rows: [(usize, &[u8]); 6] = [
         (32, b""),
         (32, b"\n"),
@@ -57,7 +57,7 @@ fn reads_the_key_of_a_right_text(rt: HostRuntime) -> Result<(), Fail> {
 
 #[test]
 fn refuses_what_is_no_key_text(rt: HostRuntime) -> Result<(), Fail> {
-    // digits, what stands behind them, place
+    // digits, what comes after them, place
     let rows: [(usize, &[u8], u32); 16] = [
         (0, b"", 0),
         (0, b"\n", 0),

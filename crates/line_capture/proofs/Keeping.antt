@@ -20,7 +20,7 @@ count_more such [] item = omega arith
 count_more such (x ∷ items) item =
     let h = count_more such items item in omega (arith, h)
 
--- a count that stands still at its last value, with one more or as it is
+-- a count that stays at its last value, with one more or as it is
 more_counted : (such : Seen → Bool) (items : List Seen) (item : Seen) (old new : ℕ)
     → such item ≡ true → old ≡ min (count_of such items) (2 ^ 64 - 1)
     → new ≡ min (old + 1) (2 ^ 64 - 1)

@@ -9,7 +9,7 @@ use Rattle.capture_pcap.specs.declared.fault.PcapFault.TheVariants as pcap
 use Rattle.capture_text.specs.declared.fault.TextFault.{TextFault}
 use Rattle.capture_text.specs.declared.fault.TextFault.TheVariants as text
 use Rattle.replay_status.specs.Causes.{GotLine, LogsFault}
-use Rattle.replay_status.specs.Statuses.{code_of as status_code, fault_line as status_line}
+use Rattle.replay_status.specs.Statuses.{exit_status_of as status_exit, fault_line as status_line}
 use Rattle.replay_status.specs.declared.status.Status.{Status}
 use Rattle.replay_status.specs.declared.status.Status.TheVariants.{Usage}
 use Rattle.line_capture.specs.declared.bad_capture.BadCapture.TheVariants.{Text, Pcap, ByteError}
@@ -17,10 +17,10 @@ use Rattle.line_capture.specs.declared.outcome.Outcome.{Outcome}
 use Rattle.line_capture.specs.declared.outcome.Outcome.TheVariants as outcomes
 use Rattle.line_capture.specs.declared.outcome.Outcome.TheVariants.{Ended, BadCapture}
 
-abbrev pub code_of : Outcome → ℕ
-code_of (Ended status) = status_code status
-code_of (BadCapture bad) = 4
-code_of (outcomes.Unplaced way place why) = 4
+abbrev pub exit_status_of : Outcome → ℕ
+exit_status_of (Ended status) = status_exit status
+exit_status_of (BadCapture bad) = 4
+exit_status_of (outcomes.Unplaced way place why) = 4
 
 abbrev pub text_word : TextFault → List ℕ
 text_word text.Char = codes "char"
@@ -47,7 +47,7 @@ unplaced_word Early = codes "early"
 unplaced_word Overlap = codes "overlap"
 unplaced_word Late = codes "late"
 
--- a fault line: what is counted, so many of it, and a word for the cause
+-- a fault line: what is counted, this many of it, and a word for the cause
 abbrev pub counted_line : List ℕ → ℕ → List ℕ → List ℕ
 counted_line what count word =
     codes "fault: " ++ what ++ decimal count ++ codes " " ++ word ++ codes "\n"

@@ -49,7 +49,7 @@ timing_for taking kept = record {
   origin = origin_of kept.a.items kept.b.items;
 }
 
--- what stands between the two lists
+-- what is between the two lists
 abbrev pub mark_of : Ways → List ℕ
 mark_of A = []
 mark_of B = []

@@ -11,6 +11,6 @@ pub enum BadCapture {
     /// The input is no pcap file of a serial line.
     Pcap(BadPcap),
     /// A byte of the line came with a framing or a parity error. `offset` bytes of the capture
-    /// stand before the one that told of it.
+    /// come before the one that told of it.
     ByteError { offset: u64 },
 }

@@ -36,7 +36,7 @@ pub enum CaptureEnd {
 }
 
 /// The bytes of the ways that are taken, in the order of the capture, and how many breaks and
-/// changes of control lines it has; a count stands still at 2^64 - 1.
+/// changes of control lines it has; a count stays at 2^64 - 1.
 #[derive(Drop)]
 pub struct Kept {
     pub a: Vec<CaptureByte>,

@@ -45,5 +45,5 @@ fn main(rt: HostRuntime) -> ExitCode {
         &mut StdoutSink::new(rt.stdout()),
         &mut StderrSink::new(rt.stderr()),
     );
-    ExitCode::from(outcome.code())
+    ExitCode::from(outcome.exit_status())
 }

@@ -2,7 +2,7 @@
 ghost use Rattle.std.specs.Prelude.{◌≡◌, ◌≤◌, ◌+◌, [], ◌++◌, ◌∷◌, length, codes, decimal};
 ghost use Rattle.replay_status.specs.Statuses.{fault_line as status_line};
 ghost use Rattle.replay_status.specs.declared.status.Status.{Status};
-ghost use Rattle.line_capture.specs.Outcomes.{code_of, fault_line, text_word, pcap_word};
+ghost use Rattle.line_capture.specs.Outcomes.{exit_status_of, fault_line, text_word, pcap_word};
 ghost use Rattle.line_capture.specs.Outcomes.{unplaced_word, LogsOutcome};
 
 use crate::bad_capture::BadCapture;
@@ -19,17 +19,17 @@ pub enum Outcome {
     Ended(Status),
     /// The input is no capture of its form.
     BadCapture(BadCapture),
-    /// A byte of a way isn't placed: `place` bytes of the way stand before it.
+    /// A byte of a way isn't placed: `place` bytes of the way come before it.
     Unplaced { way: Way, place: u64, why: Unplaced },
 }
 
 impl Outcome {
     /// The program's exit status: 4 where the input is no capture, or has a byte that isn't placed.
-    pub fn code(&self) -> u8
-        ensures { result ≡ code_of self.now }
+    pub fn exit_status(&self) -> u8
+        ensures { result ≡ exit_status_of self.now }
     {
         match self {
-            Outcome::Ended(status) => status.code(),
+            Outcome::Ended(status) => status.exit_status(),
             Outcome::BadCapture(_) | Outcome::Unplaced { .. } => 4,
         }
     }
@@ -78,7 +78,7 @@ fn unplaced_word(why: Unplaced) -> &'static [u8]
     }
 }
 
-// A fault line: what is counted, so many of it, and a word for the cause.
+// A fault line: what is counted, this many of it, and a word for the cause.
 fn counted_line(what: &[u8], count: u64, word: &[u8]) -> Line
     requires what { length what.now ≤ 20 }
     requires word { length word.now ≤ 10 }

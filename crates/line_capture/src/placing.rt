@@ -25,7 +25,7 @@ pub enum LineStop {
     AllPlaced,
     /// The next one can't be placed.
     Unplaced(Unplaced),
-    /// With the next one the line would have more ticks than are written: so many.
+    /// With the next one the line would have more ticks than are written: this many.
     TooLong(u64),
 }
 
@@ -154,7 +154,7 @@ fn count_next(placer: &mut Placer, byte: CaptureByte) -> bool
 }
 
 /// How many bytes of a way overlap the one before them, up to the first one that is early or late.
-/// The count stands still at 2^64 - 1.
+/// The count stays at 2^64 - 1.
 pub fn count_overlaps(timing: Timing, bytes: &[CaptureByte]) -> u64
     ensures { CountsOverlaps timing bytes.now result }
 {

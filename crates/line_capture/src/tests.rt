@@ -148,16 +148,16 @@ fn captures_that_are_refused(rt: HostRuntime) -> Result<(), Fail> {
     let alloc = rt.alloc();
     let ran = run_words(alloc, "take text 9600x11 a", b"1.0 0102\n2.0 010\n", 0, 0)?;
     let odd = b"counted: overlaps 0, errors 0, breaks 0, control lines 0\nfault: line 2 odd\n";
-    assert_eq!(rt; ran.outcome.code(), 4);
+    assert_eq!(rt; ran.outcome.exit_status(), 4);
     // the byte before the digit that is missing was there
     assert_eq!(rt; ran.out.held(), b"+0102\n-871\n+01\n".as_slice());
     assert_eq!(rt; ran.log.held(), odd.as_slice());
     let ran = run_words(alloc, "take pcap 9600x11 a", &EXCHANGE[..181], 0, 0)?;
-    assert_eq!(rt; ran.outcome.code(), 4);
+    assert_eq!(rt; ran.outcome.exit_status(), 4);
     assert_eq!(rt; ran.out.held(), POLL_TICKS);
     let ran = run_words(alloc, "take pcap 9600x11 a", &ERRORS, 0, 0)?;
     let error = b"counted: overlaps 0, errors 1, breaks 0, control lines 0\nfault: byte 82 error\n";
-    assert_eq!(rt; ran.outcome.code(), 4);
+    assert_eq!(rt; ran.outcome.exit_status(), 4);
     assert_eq!(rt; ran.out.held(), b"+010300\n".as_slice());
     assert_eq!(rt; ran.log.held(), error.as_slice());
     Ok(())
@@ -168,7 +168,7 @@ fn calls_that_fail(rt: HostRuntime) -> Result<(), Fail> {
     let alloc = rt.alloc();
     let ran = run_words(alloc, "take text 9600x11 a", POLLS, 6, 0)?;
     assert_eq!(rt; ran.outcome, Outcome::Ended(Status::ReadFault));
-    assert_eq!(rt; ran.outcome.code(), 5);
+    assert_eq!(rt; ran.outcome.exit_status(), 5);
     assert_eq!(rt; ran.out.held(), b"+01030000000ac5cd\n".as_slice());
     let ran = run_words(alloc, "take text 9600x11 a", POLLS, 0, 2)?;
     assert_eq!(rt; ran.outcome, Outcome::Ended(Status::WriteFault));

@@ -1,4 +1,4 @@
--- Lists that end in a check of 16 bits over what stands before it, low byte first.
+-- Lists that end in a check of 16 bits over what comes before it, low byte first.
 use Rattle.std.specs.Prelude.{◌≡◌, ℕ, ◌-◌, ◌/◌, ◌%◌, ◌==◌, ◌&&◌, nat_le, Bool, true, false}
 use Rattle.std.specs.Prelude.{List, [], ◌∷◌, ◌++◌, length, take, get_or, bit_xor}
 use Rattle.std.specs.Int.Bits.{xor_assoc, xor_self}

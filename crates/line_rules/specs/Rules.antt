@@ -11,13 +11,13 @@ pub record Rules : Type 0 where
   -- how many bytes of a burst can be a frame's, where the burst begins with these bytes
   pub room : List ℕ → ℕ
   pub is_frame : List ℕ → Bool
-  -- how many bytes a header has, and whether so many bytes are a good one; a protocol without
+  -- how many bytes a header has, and whether this many bytes are a good one; a protocol without
   -- headers has 0
   pub header_len : ℕ
   pub is_good_header : List ℕ → Bool
   -- how many bytes the frame has that begins with these bytes, where they begin with a good header
   pub size : List ℕ → ℕ
-  -- whether the bytes end as a frame's do, in the check of what stands before it
+  -- whether the bytes end as a frame's do, in the check of what comes before it
   pub has_right_ending : List ℕ → Bool
   -- what is sent, after these bytes, in place of a last byte where all of them are to be no frame
   pub spoil : List ℕ → ℕ → ℕ
@@ -39,7 +39,7 @@ head_of rules x =
     else if rules.is_good_header (take rules.header_len x) then Good
     else Bad
 
--- of so many bytes, as many as are left by this header
+-- of this many bytes, as many as are left by this header
 abbrev pub left_by : Head → ℕ → ℕ
 left_by Good n = n
 left_by Short n = 0

@@ -13,7 +13,7 @@ fn after_bit<const POLY: u16>(register: u16) -> u16
     (register >> 1) ^ (POLY & mask)
 }
 
-// What so many single-bit shifts make of the register.
+// What this many single-bit shifts make of the register.
 #[inline]
 pub(crate) fn after_bits<const POLY: u16>(register: u16, count: u8) -> u16
     ensures { result ≡ bit_steps POLY count register }

@@ -33,7 +33,7 @@ due-silent gap n (d ∷ ds) i due before =
     (due-silent gap (end_of d + gap) ds i due.1 later ∙ sym (tick_at-none i))
     ∙ tick_at-before d i early
 
--- so what stands in front of it is what is there
+-- so what comes before it is what is there
 pub due-hidden : (gap n : ℕ) (front ds : List Burst) (i : ℕ) → AreDue gap n ds → i < n
     → tick_at (front ++ ds) i ≡ tick_at front i
 due-hidden gap n front ds i due before =

@@ -17,8 +17,8 @@ SendsRunBy {V} {GAP} value m accepted answer =
     SendsRun GAP m accepted (drop value.sent value.sending.items) value.rest
     (frames_in value.queue.items) answer
 
--- In so many ticks only bytes of the frame that has begun leave, 64 at most, or only silence: that
--- behind it, or any where no frame waits.
+-- In this many ticks only bytes of the frame that has begun leave, 64 at most, or only silence:
+-- that behind it, or any where no frame waits.
 pub record StaysAlike {V : Type 0} {GAP : ℕ} (value : Spacer V GAP) (n : ℕ) : Type 0 where
   pub bytes : value.sent < length value.sending.items
       → (value.sent + n ≤ length value.sending.items) × (n ≤ 64)

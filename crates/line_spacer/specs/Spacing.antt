@@ -28,7 +28,8 @@ sent_from start frame = record { start = start; body = map (λ b. Byte b) frame 
 abbrev pub count_from : ℕ → List Burst → ℕ
 count_from m ds = length (filter (λ d. nat_le m d.start) ds)
 
--- the first tick, from tick n on, that stands so many silent ticks behind the last of these bursts
+-- the first tick, from tick n on, that stands this many silent ticks behind the last of these
+-- bursts
 abbrev pub free_from : ℕ → ℕ → List Burst → ℕ
 free_from gap n [] = n
 free_from gap n (d ∷ ds) = free_from gap (end_of d + gap) ds
@@ -46,8 +47,8 @@ take_in gap cap s a =
       lost = s.lost;
     }
 
--- By what a device reads of a line, so many silent ticks between frames, and so many frames that
--- may wait.
+-- By what a device reads of a line, this many silent ticks between frames, and this many frames
+-- that may wait.
 module _ (reads : List Tick → List FrameRead) (gap cap : ℕ) where
   -- what becomes of the frames of a line
   abbrev pub spaced : List Tick → Spaced

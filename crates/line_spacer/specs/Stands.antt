@@ -22,13 +22,13 @@ abbrev pub HaveBegun : ℕ → ℕ → List Burst → Type 0
 HaveBegun m n [] = Unit {0}
 HaveBegun m n (d ∷ ds) = (d.start < m) × (end_of d ≤ n) × HaveBegun m n ds
 
--- The first of these bursts begins in tick n, and each one so many ticks behind the one before.
+-- The first of these bursts begins in tick n, and each one this many ticks behind the one before.
 abbrev pub AreDue : ℕ → ℕ → List Burst → Type 0
 AreDue gap n [] = Unit {0}
 AreDue gap n (d ∷ ds) = (d.start ≡ n) × AreDue gap (end_of d + gap) ds
 
 -- Before tick m, of these accepted frames some have begun, of the last of which these bytes are
--- still to be sent, and behind them so many silent ticks are still to pass. The others wait.
+-- still to be sent, and behind them this many silent ticks are still to pass. The others wait.
 pub record HasSent (gap m : ℕ) (accepted : List Burst) (left : List ℕ) (rest : ℕ)
     (queued : List (List ℕ)) : Type 0 where
   pub wide : 0 < gap
@@ -73,7 +73,7 @@ SendsBy {V} {GAP} value m accepted t =
     (frames_in value.queue.items) t
 
 module _ {V : Type 0} (device : Device V) where
-  -- The spacer, with room for so many frames to wait, has taken this line.
+  -- The spacer, with room for this many frames to wait, has taken this line.
   pub record StandsFor {GAP : ℕ} (cap : ℕ) (value : Spacer V GAP) (line : List Tick) : Type 0 where
     pub heard : device.stands value.device line
     pub room : value.queue.capacity ≡ cap

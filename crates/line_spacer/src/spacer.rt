@@ -123,7 +123,7 @@ impl<V: LendingDevice, const GAP: usize> Spacer<V, GAP> {
     }
 
     // Queues the frame that begins here, which the device lends, and says so again where too many
-    // wait. It stands apart, since few ticks end a frame.
+    // wait. It is kept separate, since few ticks end a frame.
     #[inline(never)]
     fn keep_frame(&mut self, start: u64) -> Option<u64>
         ensures device { self.new.device ≡ self.old.device }
@@ -254,7 +254,8 @@ impl<V: LendingDevice, const GAP: usize> Spacer<V, GAP> {
         SpaceRun { taken, lost }
     }
 
-    // Takes one tick, and tells what leaves as of a run. It stands apart, since few ticks go alone.
+    // Takes one tick, and tells what leaves as of a run. It is kept separate, since few ticks go
+    // alone.
     #[inline(never)]
     fn take_one(&mut self, t: Tick, left: &mut RunBytes) -> SpaceRun
         requires room { ticks_taken V.Device self.old < MAX_TICKS }

@@ -135,7 +135,7 @@ module _ (t : Timing) (by-time : t.spacing ≡ ByTime) (cs : List CaptureByte) w
       (λ x c. keeps-time (character t.rate) (character-some t) x
       (placed_at (spot_of t (Some x.spot) c) c) (spot-is t by-time x.spot c)) cs
 
--- a tick that is so many behind the one before, drift taken up or not
+-- a tick that is this many behind the one before, drift taken up or not
 tick-five : (n before time one : ℕ) → 5 ≤ n → before + 5 ≤ tick_at n before time one
 tick-five n before time one h =
     ⊎_elim (λ (far : 321 < n). rw (tick-far n before time one far) (omega arith))
@@ -213,7 +213,7 @@ tick-behind n before time one h =
     (λ (near : n ≤ 321). rw (tick-near n before time one near) (omega arith))
     (cases_lt 321 n)
 
--- A byte stands behind the one before it.
+-- A byte comes after the one before it.
 pub later : (t : Timing) (last : Option Spot) (c : CaptureByte)
     → next_tick last ≤ (spot_of t last c).tick
 later t None c = omega arith
@@ -260,7 +260,7 @@ bytes-behind n (suc k) l =
     let e : suc n + k ≡ n + suc k = omega arith in
     bytes-behind (suc n) k l ∙ ap (λ i. bytes_from i l) e
 
--- Each byte stands in its tick of the line.
+-- Each byte is in its tick of the line.
 pub in-their-ticks : (t : Timing) (last : Option Spot) (cs : List CaptureByte)
     → bytes_from (next_tick last) (ticks_from (next_tick last) (placed_from t last cs))
     ≡ map at_tick (placed_from t last cs)

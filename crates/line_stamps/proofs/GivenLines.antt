@@ -54,7 +54,7 @@ module _ (rate : Rate) (unit epoch m : ℕ) (some : 0 < unit)
   least : (n : ℕ) → 2 * (n * character rate) ≤ 2 * start n + unit * rate.baud
   least n = let h = rounded-some (rate.baud * unit) unit-some (n * character rate) in omega arith
 
-  -- a byte stands in the tick of its own, k behind tick m, at the time of its record's start and of
+  -- a byte is in the tick of its own, k behind tick m, at the time of its record's start and of
   -- the characters since
   record Near (k : ℕ) (s : Spot) : Type 0 where
     r : ℕ
@@ -199,7 +199,7 @@ module _ (rate : Rate) (unit epoch m : ℕ) (some : 0 < unit)
         (λ further. (following further (gives.1 further), following-free further))
         (cases_Bool c.first)
 
-  -- the byte before stands in its own tick, before the next tick at k behind tick m
+  -- the byte before is in its own tick, before the next tick at k behind tick m
   abbrev Follows : ℕ → Option ℕ → Option Spot → Type 0
   Follows k None None = Unit {0}
   Follows k None (Some s) = ⊥

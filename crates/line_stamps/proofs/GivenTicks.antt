@@ -83,7 +83,7 @@ module _ (one off : ℕ) (some : 0 < one) (small : 2 * off < one) (start : ℕ �
     following-apart at =
         apart-is one some (later - time) 1 (omega arith) (omega arith) (omega arith)
 
-  -- The tick of a later byte, so many ticks after the one before, drift taken up or not.
+  -- The tick of a later byte, this many ticks after the one before, drift taken up or not.
   pub tick-later : (k next time : ℕ) → k < next → rounded time one ≡ next
       → tick_at (next - k) k time one ≡ next
   tick-later k next time behind is =

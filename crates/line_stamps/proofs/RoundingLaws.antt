@@ -10,7 +10,7 @@ module _ (unit : ℕ) (some : 0 < unit) where
   double : 0 < 2 * unit
   double = omega arith
 
-  -- so many or more, exactly from half a unit below on
+  -- this many or more, exactly from half a unit below on
   pub rounded-least : (time k : ℕ) → 2 * (k * unit) ≤ 2 * time + unit → k ≤ rounded time unit
   rounded-least time k h =
       let h' : k * (2 * unit) ≤ 2 * time + unit = omega arith in

@@ -20,7 +20,7 @@ time_between x y = y.spot.time - x.spot.time
 abbrev pub silent_ticks : PlacedByte → PlacedByte → ℕ
 silent_ticks x y = y.spot.tick - suc x.spot.tick
 
--- Four silent ticks or more stand before the first byte of a record, and none before the others.
+-- Four silent ticks or more come before the first byte of a record, and none before the others.
 pub record ArePartedRecords (x y : PlacedByte) : Type 0 where
   pub later : x.spot.tick < y.spot.tick
   pub begins : y.first ≡ true → T3_5_TICKS ≤ silent_ticks x y
@@ -39,7 +39,7 @@ module _ (character : ℕ) where
     pub inside : (silent_ticks x y ≤ 1) ↔ (2 * silence x y ≤ 3 * character)
     pub end : (4 ≤ silent_ticks x y) ↔ (7 * character ≤ 2 * silence x y)
 
-  -- so many ticks are at most half a tick more or less than a time
+  -- this many ticks are at most half a tick more or less than a time
   abbrev pub WithinHalf : ℕ → ℕ → Type 0
   WithinHalf ticks time =
       (2 * (ticks * character) ≤ 2 * time + character)

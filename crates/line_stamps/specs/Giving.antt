@@ -11,8 +11,8 @@ use Rattle.line_stamps.specs.declared.timing.Timing.{Timing}
 use Rattle.line_stamps.specs.Places.{PlacedByte, line_of}
 use Rattle.line_stamps.specs.Parts.{character, rounded}
 
--- When a tick starts, in nanoseconds since tick 0, where a capture counts time in units of so many
--- nanoseconds: the nearest whole number of units, a half up.
+-- When a tick starts, in nanoseconds since tick 0, where a capture counts time in units of this
+-- many nanoseconds: the nearest whole number of units, a half up.
 abbrev pub tick_start : Rate → ℕ → ℕ → ℕ
 tick_start rate unit tick = unit * rounded (tick * character rate) (rate.baud * unit)
 

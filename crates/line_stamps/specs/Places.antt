@@ -1,4 +1,4 @@
--- Where the bytes of one way of a capture stand on a line.
+-- Where the bytes of one way of a capture are on a line.
 use Rattle.std.specs.Prelude.{ℕ, suc, ◌+◌, ◌-◌, ◌*◌, nat_lt, if◌then◌else◌, max, Bool, true, false}
 use Rattle.std.specs.Prelude.{List, [], ◌∷◌, ◌++◌, Option, Some, None}
 use Rattle.yasir_ticks.specs.Ticks.{silent}
@@ -28,7 +28,7 @@ start_of t None c = stamp t c
 start_of t (Some before) c =
     if c.first then stamp t c else before.time + character t.rate
 
--- From the byte before to one with so much time between, so many ticks, if there is no drift. A
+-- From the byte before to one with so much time between, this many ticks, if there is no drift. A
 -- record that is taken for a frame has four silent ticks before it.
 abbrev pub steps_apart : Spacing → Bool → ℕ → ℕ → ℕ
 steps_apart ByTime first gap length_of_one = ticks_apart gap length_of_one
@@ -36,7 +36,7 @@ steps_apart ByRecord true gap length_of_one = max (ticks_apart gap length_of_one
 steps_apart ByRecord false gap length_of_one = ticks_apart gap length_of_one
 
 -- The tick of a byte that starts at this time. Drift is taken up in silences above 320 ticks: there
--- the byte stands in the tick that is nearest to its time, but leaves 320 silent ticks.
+-- the byte is in the tick that is nearest to its time, but leaves 320 silent ticks.
 abbrev pub tick_at : ℕ → ℕ → ℕ → ℕ → ℕ
 tick_at n before time length_of_one =
     if nat_lt (suc DRIFT_SILENCE) n
@@ -56,7 +56,7 @@ spot_of t last c = record {
   tick = tick_after t last c.first (start_of t last c);
 }
 
--- the tick behind a byte that stands there, or the first tick of all
+-- the tick behind a byte that is there, or the first tick of all
 abbrev pub next_tick : Option Spot → ℕ
 next_tick None = 0
 next_tick (Some spot) = suc spot.tick
@@ -70,7 +70,7 @@ pub record PlacedByte : Type 0 where
 abbrev pub placed_at : Spot → CaptureByte → PlacedByte
 placed_at spot c = record { spot = spot; byte = c.byte; first = c.first }
 
--- where bytes stand that come after one that stands there, if there is one
+-- where bytes stand that come after one that is there, if there is one
 abbrev pub placed_from : Timing → Option Spot → List CaptureByte → List PlacedByte
 placed_from t last [] = []
 placed_from t last (c ∷ cs) =

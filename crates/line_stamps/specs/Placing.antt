@@ -49,7 +49,7 @@ overlaps_from t last (c ∷ cs) =
 abbrev pub overlap_count : Timing → List CaptureByte → ℕ
 overlap_count t cs = overlaps_from t None cs
 
--- how many silent ticks stand before a byte
+-- how many silent ticks come before a byte
 abbrev pub silence_before : Option Spot → Spot → ℕ
 silence_before last spot = spot.tick - next_tick last
 
@@ -61,7 +61,7 @@ answer_at t last c =
     else if overlaps t last c then Err Overlap
     else Ok (silence_before last (spot_of t last c))
 
--- No byte that comes after one that stands there is early, and none overlaps the one before it.
+-- No byte that comes after one that is there is early, and none overlaps the one before it.
 abbrev pub NoneRefused : Timing → Option Spot → List CaptureByte → Type 0
 NoneRefused t last [] = Unit {0}
 NoneRefused t last (c ∷ cs) =

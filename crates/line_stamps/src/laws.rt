@@ -19,7 +19,7 @@ pub fn same_bytes_in_the_same_order()
         → bytes_in (line_of t cs) ≡ map (λ c. c.byte) cs }
 {}
 
-/// A law of the definitions: each byte of a capture stands in its tick of the line.
+/// A law of the definitions: each byte of a capture is in its tick of the line.
 pub fn bytes_stand_in_their_ticks()
     ensures { (t : Timing) (cs : List CaptureByte)
         → bytes_from 0 (line_of t cs) ≡ map at_tick (placed t cs) }
@@ -41,7 +41,7 @@ pub fn ticks_keep_to_the_times()
 {}
 
 /// A law of the definitions, for captures whose records are taken for frames: four silent ticks or
-/// more stand before the first byte of a record behind another one, and none before the others.
+/// more come before the first byte of a record behind another one, and none before the others.
 pub fn records_are_parted()
     ensures { (t : Timing) (cs : List CaptureByte) → t.spacing ≡ ByRecord
         → AllNext ArePartedRecords (placed t cs) }

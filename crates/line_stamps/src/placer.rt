@@ -178,7 +178,7 @@ impl Placer {
         }
     }
 
-    /// Places the next byte: the silent ticks that stand before it, behind the byte before it or
+    /// Places the next byte: the silent ticks that come before it, behind the byte before it or
     /// from tick 0 on. A byte that overlaps the one before is taken nevertheless, in the next tick,
     /// so that all that overlap can be counted; one that is early or late isn't taken.
     #[inline]
@@ -210,7 +210,7 @@ impl Placer {
         Ok(silence)
     }
 
-    /// How many bytes overlapped the one before them; the count stands still at 2^64 - 1.
+    /// How many bytes overlapped the one before them; the count stays at 2^64 - 1.
     #[inline]
     pub fn overlaps(&self) -> u64
         ensures { (cs : List CaptureByte) → HasTaken self.now cs

@@ -8,7 +8,7 @@ ghost use Rattle.line_stamps.specs.RateWords.{rate_word};
 
 use crate::rate::{FASTEST, Rate, SLOWEST};
 
-// What stands in front of the last letter of a word, where it is this one.
+// What comes before the last letter of a word, where it is this one.
 fn in_front_of(word: &str, letter: char) -> Option<&str>
     requires { letter < 128 }
     ensures some { IfSome result (λ x. word.now ≡ x.now ++ letter ∷ []) }
@@ -25,7 +25,7 @@ fn number_in(word: &str) -> Option<u32>
     let Ok(n) = word.parse::<u32>() else {
         return None;
     };
-    // other texts may stand for the number too
+    // other texts may come for the number too
     let mut digits = itoa::Buffer::new();
     if digits.format(n) == word {
         Some(n)

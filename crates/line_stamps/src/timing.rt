@@ -7,7 +7,7 @@ use crate::rate::Rate;
 pub enum Spacing {
     /// By their times alone.
     ByTime,
-    /// Each record is taken for a frame: four silent ticks or more stand before it, whatever its
+    /// Each record is taken for a frame: four silent ticks or more come before it, whatever its
     /// time says. For captures with the times of an operating system, whose records may begin
     /// before the one before could have ended.
     ByRecord,

@@ -47,7 +47,7 @@ pub record WritesTicks (waits : Waiting) (before now : Option (List ℕ)) (ticks
   pub written : HasWritten waits.writer ticks answered
   pub text : Buffered before now waits.ticks answered
 
--- Of the ticks that `out` has got a byte of, each note that falls into their steps stands in the
+-- Of the ticks that `out` has got a byte of, each note that falls into their steps is in the
 -- log: after some first ticks of the line, what `out` has got is of their text, and what the log
 -- has got begins with all their notes.
 pub record NotesFirst (made : LineAndNotes) (line : List Tick) (front note_front : List ℕ) : Type 0 where

@@ -49,7 +49,7 @@ module _ {O L : Type 0} (o : Sink O) (l : Sink L) where
         (texts_held new) run note result
     pub writes : Writes old new result
 
-  -- so many of these ticks were added, at least one
+  -- this many of these ticks were added, at least one
   pub record PushesFirst (old new : Writing O L) (run : List Tick) (count : ℕ) : Type 0 where
     pub some : 0 < count
     pub within : count ≤ length run

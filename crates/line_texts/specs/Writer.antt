@@ -26,7 +26,7 @@ abbrev pub Takes : LineWriter → LineWriter → List Tick → List ℕ → Type
 Takes old new run text = (ticks : List Tick) (answered : List ℕ) → HasWritten old ticks answered
     → HasWritten new (ticks ++ run) (answered ++ text)
 
--- It has, and the text that the run completes stands behind what was there.
+-- It has, and the text that the run completes comes after what was there.
 pub record TakesInto (old new : LineWriter) (run : List Tick) (before after : List ℕ) :
     Type 0 where
   pub line : List ℕ

@@ -64,7 +64,7 @@ impl LineRoom {
         self.len <= ROOM - LONGEST_LINE
     }
 
-    // Appends the first bytes of a piece, so many. All of it is copied: that takes no loop.
+    // Appends the first bytes of a piece, this many. All of it is copied: that takes no loop.
     #[inline(always)]
     fn extend_front<const N: usize>(&mut self, piece: &[u8; N], count: usize)
         requires within { count ≤ N }
@@ -87,7 +87,7 @@ impl LineRoom {
         self.len = after;
     }
 
-    /// Appends the line `+` of the first of these bytes, so many.
+    /// Appends the line `+` of the first `count` of these bytes.
     #[inline(always)]
     pub(crate) fn push_byte_line(&mut self, bytes: &[u8; 32], count: usize)
         requires within { count ≤ 32 }
@@ -102,8 +102,8 @@ impl LineRoom {
         self.extend_front(b"\n", 1);
     }
 
-    // Appends the line `-` of a hundred silent ticks or more. It stands apart, since most silence is
-    // shorter.
+    // Appends the line `-` of a hundred silent ticks or more. It is kept separate, since most
+    // silence is shorter.
     #[inline(never)]
     fn push_long_silence(&mut self, ticks: u32)
         requires { length self.old.items + 66 ≤ 65536 }

@@ -85,7 +85,7 @@ impl LineWriter {
         true
     }
 
-    // The line of silence that stands before these bytes, of which it takes the first.
+    // The line of silence that comes before these bytes, of which it takes the first.
     #[inline(always)]
     fn end_silence(&mut self, room: &mut LineRoom, bytes: &[u8]) -> usize
         requires begun { 0 < self.old.silence }
@@ -161,7 +161,7 @@ impl LineWriter {
         self.fill(room, bytes)
     }
 
-    // The line of bytes that stands before these silent ticks, of which it takes the first.
+    // The line of bytes that comes before these silent ticks, of which it takes the first.
     #[inline(always)]
     fn end_bytes(&mut self, room: &mut LineRoom, ticks: u32) -> u32
         requires begun { 0 < self.old.count }

@@ -38,8 +38,8 @@ impl Texts {
         }
     }
 
-    // The notes go to the log, and then the ticks go out. It stands apart, since few lines find no
-    // room.
+    // The notes go to the log, and then the ticks go out. It is kept separate, since few lines find
+    // no room.
     #[inline(never)]
     fn drain<O: Sink, L: Sink>(&mut self, out: &mut O, log: &mut L) -> Result<(), Failed>
         ensures { MakesRoom O.Sink L.Sink (writing self.old out.old log.old)
@@ -83,7 +83,7 @@ impl Texts {
     }
 
     /// Adds a line to the text of the notes, and behind it the ticks of a run in which it falls to
-    /// that of the other line. It stands apart, since few ticks have a note.
+    /// that of the other line. It is kept separate, since few ticks have a note.
     #[inline(never)]
     pub fn push_noted<O: Sink, L: Sink>(
         &mut self,

@@ -29,7 +29,7 @@ pub lent-bytes : (n : ℕ) (x lent : List ℕ) → n ≤ length x → lent ≡ t
 lent-bytes n x lent within is = take-map Byte n x
     ∙ answered-all n (take n x) lent (sym (length-take-le n x within)) is
 
--- the first of so many silent ticks, where nothing is lent
+-- the first of this many silent ticks, where nothing is lent
 pub lent-silence : (n ticks : ℕ) (lent : List ℕ) → n ≤ ticks → lent ≡ []
     → take n (silent ticks) ≡ answered n lent
 lent-silence n ticks lent within none = take-replicate n ticks Silent within

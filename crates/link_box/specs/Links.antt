@@ -7,14 +7,14 @@ use Rattle.hmac_tag.specs.declared.tag.Mac.{Ghosts as Mac}
 use Rattle.sequence_journal.specs.Links.{IsLink}
 use Rattle.sequence_journal.specs.declared.link.LinkId.{LinkId}
 
--- The link of a box by the rules of a protocol and a code, with words of so many bytes, and of the
+-- The link of a box by the rules of a protocol and a MAC, with words of this many bytes, and of the
 -- direction with this number: as its journals name it, by the protocol's label, the direction, and
 -- the receiver's delay in ticks. That is four ticks longer than the trailer, the word and the tag.
 abbrev pub link_by : {R M : Type 0} → LineRules R → Mac M → ℕ → ℕ → LinkId
-link_by proto code word_len direction = record {
+link_by proto macs word_len direction = record {
   label = proto.rules.label;
   dir = direction;
-  profile = 4 + word_len + code.TAG;
+  profile = 4 + word_len + macs.TAG;
 }
 
 -- Journals can be made for the links of both directions.

@@ -22,8 +22,8 @@ pub record ServesLink (link : LinkId) (journal : Journal) (told : Option Slots) 
   pub of_link : journal_link journal ≡ link
   pub fits : Fits journal told
 
--- A box of this link that has taken so many ticks may take one more: the journal is its own link's,
--- and the disk is the journal's.
+-- A box of this link that has taken this many ticks may take one more: the journal is its own
+-- link's, and the disk is the journal's.
 pub record MayStep (link : LinkId) (taken : ℕ) (journal : Journal) (told : Option Slots) :
     Type 0 where
   pub room : taken < MAX_TICKS

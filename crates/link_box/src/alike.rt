@@ -11,7 +11,7 @@ use yasir_ticks::{MAX_TICKS, TickRun};
 /// How many bytes are forwarded at once at most: as many as `RunBytes` has room for.
 const MAX_RUN: usize = 64;
 
-// Puts these bytes into `left` in place of what stands there.
+// Puts these bytes into `left` in place of what is there.
 #[inline]
 fn put(left: &mut RunBytes, bytes: &[u8])
     requires { length bytes.now ≤ 64 }

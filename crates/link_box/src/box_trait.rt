@@ -92,9 +92,9 @@ pub trait LinkBox: Drop {
     }
 
     /// Takes the first of these ticks, as far as the box answers all of them with silence or all of
-    /// them with bytes, without a note and without a number, and returns how many. Puts the bytes of
-    /// the answer into `left`, one for each tick, or none for silence. With 0 the caller goes on by
-    /// another call. At most `MAX_TICKS` ticks are taken then.
+    /// them with bytes, without a note and without a number, and returns how many. Puts the bytes
+    /// of the answer into `left`, one for each tick, or none for silence. With 0 the caller goes on
+    /// by another call. At most `MAX_TICKS` ticks are taken then.
     fn pass(&mut self, _run: TickRun<'_>, left: &mut RunBytes) -> usize
         requires { taken self.old + length (run_ticks _run) ≤ MAX_TICKS }
         ensures within { result ≤ length (run_ticks _run.entry) }

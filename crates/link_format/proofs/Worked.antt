@@ -1,4 +1,4 @@
--- What small worked lines are made of: frames of Modbus RTU, and a tag that stands in for HMAC.
+-- What small worked lines are made of: frames of Modbus RTU, and a tag that is in for HMAC.
 use Rattle.std.proofs.Common.{ℕ, ◌==◌, ◌&&◌, ◌%◌, nat_le, List, [], ◌∷◌, ◌++◌, length, map, take}
 use Rattle.std.proofs.Common.{replicate}
 use Rattle.yasir_ticks.specs.declared.tick.Tick.{Tick}
@@ -13,12 +13,12 @@ abbrev pub rtu : Rules
 rtu = headerless 1 256 (λ x. nat_le 4 (length x) && crc 0xA001 0xFFFF x == 0)
     (λ x. nat_le 2 (length x) && crc 0xA001 0xFFFF x == 0)
 
--- so many bytes of the number and the frame. The number goes in modulo a prime, so that numbers
+-- this many bytes of the number and the frame. The number goes in modulo a prime, so that numbers
 -- with the same word have different tags.
 abbrev pub stand_in : ℕ → ℕ → List ℕ → List ℕ
 stand_in size number frame = take size (number % 251 ∷ frame ++ replicate size 0xEE)
 
--- words and tags of so many bytes
+-- words and tags of this many bytes
 abbrev pub profile_with : ℕ → ℕ → Profile
 profile_with word_len tag_len = record {
   word_len = word_len;

@@ -19,13 +19,13 @@ pub record Profile : Type 0 where
   -- the greatest number
   pub limit : ℕ
 
--- the profile of a protocol and a code with words of so many bytes and numbers up to a limit, as a
+-- the profile of a protocol and a MAC with words of this many bytes and numbers up to a limit, as a
 -- box is set up
 abbrev pub profile_of : {R M : Type 0} → LineRules R → Mac M → ℕ → ℕ → Setup → Profile
-profile_of proto code word_len limit setup = record {
+profile_of proto macs word_len limit setup = record {
   word_len = word_len;
-  tag_len = code.TAG;
-  tag = λ number frame. tag code.tag_of setup.key proto.rules.label setup.direction frame number;
+  tag_len = macs.TAG;
+  tag = λ number frame. tag macs.tag_of setup.key proto.rules.label setup.direction frame number;
   limit = limit;
 }
 
@@ -52,7 +52,7 @@ trailer profile number frame = bytes_high_first profile.word_len number ++ profi
 abbrev pub trailer_len : Profile → ℕ
 trailer_len profile = profile.word_len + profile.tag_len
 
--- So many silent ticks stand between a frame and its trailer.
+-- So many silent ticks are between a frame and its trailer.
 abbrev pub pause_len : ℕ
 pause_len = 3
 

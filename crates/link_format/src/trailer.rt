@@ -12,7 +12,7 @@ const ROOM: usize = 20;
 const NUMBER_LEN: usize = 8;
 
 /// The trailer of the last sealed frame: its word of `B` bytes, high byte first, and its tag. The
-/// bytes that were sent stand in front of those that are left.
+/// bytes that were sent come before those that are left.
 #[derive(Drop)]
 pub struct Trailer<const B: usize> {
     bytes: ArrayVec<u8, ROOM>,
@@ -72,7 +72,7 @@ impl<const B: usize> Trailer<B> {
         &bytes[self.sent.min(bytes.len())..]
     }
 
-    /// Sends this many bytes, one a tick; there are as many.
+    /// Sends the next `count` bytes, one a tick. That many are left.
     #[inline]
     pub fn send_some(&mut self, count: usize) -> LineBytes
         requires { count ≤ length (bytes_left self.old) }

@@ -22,7 +22,7 @@ use Rattle.session_audit.specs.declared.session.Session.{Session}
 use Rattle.session_audit.specs.declared.verdict.Verdict.{Verdict}
 use Rattle.session_audit.proofs.Auditing.{kind-so}
 use Rattle.recordings_replay.specs.Recorded.{PrintsItems}
-use Rattle.link_replay.specs.Protocols.{rules_of, format_of, delay_of}
+use Rattle.link_replay.specs.Protocols.{rules_of, link_profile_of, delay_of}
 use Rattle.link_replay.specs.ReadCommand.{device_reads}
 use Rattle.link_replay.specs.SealCommand.{seal_rest}
 use Rattle.link_replay.specs.declared.words.Profile.{Profile}
@@ -43,9 +43,9 @@ profile-known Y24 n is = inr is
 -- the verdict on recordings of a session of this protocol and this profile
 abbrev verdict_by : Proto → Profile → Session → List Tick → List Tick → List Tick → Verdict
 verdict_by proto profile session device link received = verdict_on (delay_of profile)
-    (sealed (format_of profile (rules_of proto).label LIMIT (sent_setup session))
+    (sealed (link_profile_of profile (rules_of proto).label LIMIT (sent_setup session))
     (rules_of proto) session.sent_floor (device ++ silent (seal_rest profile)))
-    (passed (format_of profile (rules_of proto).label LIMIT (got_setup session))
+    (passed (link_profile_of profile (rules_of proto).label LIMIT (got_setup session))
     (rules_of proto) session.got_floor (link ++ silent link_rest))
     (device_reads proto (received ++ silent T3_5_TICKS))
 

@@ -59,28 +59,28 @@ enough-numbers items few =
 
 -- what is listed of both recordings, with a profile and a device
 abbrev tells_listing : LinkProfile → Rules → (List Tick → List FrameRead) → List Item → Listing
-tells_listing format rules reads items = record {
-  sealed = sealed format rules 0 (before_mark items ++ silent (device_rest format));
-  passed = passed format rules 0 (link_ticks items);
-  reads = reads (received_line format rules 0 (link_ticks items));
+tells_listing profile rules reads items = record {
+  sealed = sealed profile rules 0 (before_mark items ++ silent (device_rest profile));
+  passed = passed profile rules 0 (link_ticks items);
+  reads = reads (received_line profile rules 0 (link_ticks items));
 }
 
 -- the lists of both protocols, with any profile whose delay is short enough
-module _ (format : LinkProfile) (tags : HasTags format) (some : 1 ≤ format.word_len)
-    (enough : delay format + 4 ≤ 320) (limit : format.limit ≡ LIMIT) (items : List Item)
+module _ (profile : LinkProfile) (tags : HasTags profile) (some : 1 ≤ profile.word_len)
+    (enough : delay profile + 4 ≤ 320) (limit : profile.limit ≡ LIMIT) (items : List Item)
     (few : AreFew items) where
-  numbers : length (bursts (before_mark items)) ≤ format.limit
+  numbers : length (bursts (before_mark items)) ≤ profile.limit
   numbers = omega (arith, limit, enough-numbers items few)
 
-  rtu-tells : TellsOf format rtu_rules (before_mark items) (link_ticks items)
-      (tells_listing format rtu_rules rtu_reads items)
-  rtu-tells = tells-of format tags some rtu_rules rtu_lawful rtu_framed rtu_reads 4
-      (rtu-law format) (before_mark items) (behind_mark items) 320 enough numbers
+  rtu-tells : TellsOf profile rtu_rules (before_mark items) (link_ticks items)
+      (tells_listing profile rtu_rules rtu_reads items)
+  rtu-tells = tells-of profile tags some rtu_rules rtu_lawful rtu_framed rtu_reads 4
+      (rtu-law profile) (before_mark items) (behind_mark items) 320 enough numbers
 
-  dnp-tells : TellsOf format dnp_rules (before_mark items) (link_ticks items)
-      (tells_listing format dnp_rules dnp_reads items)
-  dnp-tells = tells-of format tags some dnp_rules dnp_lawful dnp_framed dnp_reads 0
-      (dnp-law format) (before_mark items) (behind_mark items) 320
+  dnp-tells : TellsOf profile dnp_rules (before_mark items) (link_ticks items)
+      (tells_listing profile dnp_rules dnp_reads items)
+  dnp-tells = tells-of profile tags some dnp_rules dnp_lawful dnp_framed dnp_reads 0
+      (dnp-law profile) (before_mark items) (behind_mark items) 320
       (omega (arith, enough)) numbers
 
 tells : (proto : Proto) (profile : Profile) (dir : Dir) (key : List ℕ) (items : List Item)

@@ -1,4 +1,5 @@
--- A right key and a right text with its marks give `Done` or `NoMemory`, where nothing outside fails.
+-- A right key and a right text with its marks give `Done` or `NoMemory`, where nothing outside
+-- fails.
 use Rattle.std.proofs.Common.{◌≡◌, ◌⊎◌, ℕ, List}
 use Rattle.yasir_ticks.specs.Ticks.{Item}
 use Rattle.yasir_io.specs.declared.source.Source.{Ghosts as Source}

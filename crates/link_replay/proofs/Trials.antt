@@ -5,7 +5,7 @@ use Rattle.sequence_journal.specs.declared.numbers.TheConstants.{LIMIT}
 use Rattle.trial_session.specs.Boxes.{trial_setup}
 use Rattle.trial_session.specs.Telling.{Tells}
 use Rattle.trial_session.proofs.Tellings.{rtu-tells, dnp-tells}
-use Rattle.link_replay.specs.TrialCommand.{trial_format, trial_counts}
+use Rattle.link_replay.specs.TrialCommand.{trial_link_profile, trial_counts}
 use Rattle.link_replay.specs.declared.words.Profile.{Profile}
 use Rattle.link_replay.specs.declared.words.Profile.TheVariants.{Y18, Y24}
 use Rattle.link_replay.specs.declared.words.Proto.{Proto}
@@ -13,13 +13,13 @@ use Rattle.link_replay.specs.declared.words.Proto.TheVariants.{Rtu, Dnp3}
 
 pub counts-tell : (proto : Proto) (profile : Profile) (seed count : ℕ) → count < 2 ^ 32
     → Tells (trial_counts proto profile seed count) count
-counts-tell Rtu Y18 seed count few = rtu-tells (trial_format Rtu Y18) (y18-tags 1 LIMIT trial_setup)
+counts-tell Rtu Y18 seed count few = rtu-tells (trial_link_profile Rtu Y18) (y18-tags 1 LIMIT trial_setup)
     (omega arith) (omega arith) seed count (omega (arith, few))
 counts-tell Dnp3 Y18 seed count few =
-    dnp-tells (trial_format Dnp3 Y18) (y18-tags 2 LIMIT trial_setup) (omega arith) (omega arith)
+    dnp-tells (trial_link_profile Dnp3 Y18) (y18-tags 2 LIMIT trial_setup) (omega arith) (omega arith)
     seed count (omega (arith, few))
-counts-tell Rtu Y24 seed count few = rtu-tells (trial_format Rtu Y24) (y24-tags 1 LIMIT trial_setup)
+counts-tell Rtu Y24 seed count few = rtu-tells (trial_link_profile Rtu Y24) (y24-tags 1 LIMIT trial_setup)
     (omega arith) (omega arith) seed count (omega (arith, few))
 counts-tell Dnp3 Y24 seed count few =
-    dnp-tells (trial_format Dnp3 Y24) (y24-tags 2 LIMIT trial_setup) (omega arith) (omega arith)
+    dnp-tells (trial_link_profile Dnp3 Y24) (y24-tags 2 LIMIT trial_setup) (omega arith) (omega arith)
     seed count (omega (arith, few))

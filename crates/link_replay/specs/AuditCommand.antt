@@ -21,7 +21,7 @@ use Rattle.session_audit.specs.declared.verdict.Verdict.{Verdict}
 use Rattle.session_audit.specs.declared.verdict.Verdict.TheVariants.{Clean, Forged, Differs}
 use Rattle.recordings_replay.specs.Keyed.{ReadsKeyFirst, LeavesAll}
 use Rattle.recordings_replay.specs.Recorded.{PrintsItems}
-use Rattle.link_replay.specs.Protocols.{rules_of, format_of, delay_of}
+use Rattle.link_replay.specs.Protocols.{rules_of, link_profile_of, delay_of}
 use Rattle.link_replay.specs.ReadCommand.{device_reads}
 use Rattle.link_replay.specs.SealCommand.{seal_rest}
 use Rattle.link_replay.specs.declared.commands.audit.Audited.{Audited}
@@ -50,7 +50,7 @@ verdict_line (Differs place) = codes "audit differs " ++ decimal place ++ codes 
 module _ (asked : Audited) (key : List ℕ) where
   -- the profile of the link with this key, and journals that go on behind a floor
   abbrev pub audited_profile : ℕ → LinkProfile
-  audited_profile floor = format_of asked.profile (rules_of asked.proto).label LIMIT
+  audited_profile floor = link_profile_of asked.profile (rules_of asked.proto).label LIMIT
       (setup_of key asked.dir floor)
 
   -- the verdict on what the transmitter seals of the first recording, the receiver passes of the

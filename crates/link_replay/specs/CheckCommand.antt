@@ -13,9 +13,9 @@ use Rattle.box_command.specs.ReplaysBox.{ReplaysBox}
 use Rattle.box_command.specs.CheckBoxed.{checking}
 use Rattle.link_replay.specs.declared.words.Profile.{Profile}
 use Rattle.link_replay.specs.declared.words.Proto.{Proto}
-use Rattle.link_replay.specs.Protocols.{rules_of, format_of, link_of}
+use Rattle.link_replay.specs.Protocols.{rules_of, link_profile_of, link_of}
 
--- How many silent ticks stand behind a whole input: the last verdict falls in them, and all that is
+-- How many silent ticks come after a whole input: the last verdict falls in them, and all that is
 -- held back leaves.
 abbrev pub check_rest : ℕ
 check_rest = 320
@@ -23,7 +23,7 @@ check_rest = 320
 -- what the receiver of a protocol and a profile makes of a link, as it is set up
 abbrev pub check_boxed : Proto → Profile → Setup → Boxed
 check_boxed proto profile setup =
-    checking (format_of profile (rules_of proto).label LIMIT setup) (rules_of proto) setup.floor
+    checking (link_profile_of profile (rules_of proto).label LIMIT setup) (rules_of proto) setup.floor
 
 -- What `check` does.
 abbrev pub Checks : {K S O L D : Type 0} → Source K → Source S → Sink O → Sink L → SlotDisk D

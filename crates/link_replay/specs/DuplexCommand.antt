@@ -29,13 +29,13 @@ use Rattle.box_command.specs.SealLines.{seal_line}
 use Rattle.box_command.specs.KeptBox.{TimedBox}
 use Rattle.box_command.specs.TimedLines.{timed_lines}
 use Rattle.box_command.specs.Recording.{BothTexts, both_with, PrintsBoth}
-use Rattle.link_replay.specs.Protocols.{rules_of, format_of}
+use Rattle.link_replay.specs.Protocols.{rules_of, link_profile_of}
 use Rattle.link_replay.specs.declared.words.Profile.{Profile}
 use Rattle.link_replay.specs.declared.words.Proto.{Proto}
 
 -- the profile of a box that is set up so
 abbrev pub duplex_profile : Proto → Profile → Setup → LinkProfile
-duplex_profile proto profile setup = format_of profile (rules_of proto).label LIMIT setup
+duplex_profile proto profile setup = link_profile_of profile (rules_of proto).label LIMIT setup
 
 -- what the transmitter makes of the line of a device: the link, and the lines of its notes
 abbrev pub duplex_sealer : Proto → Profile → Setup → TimedBox
@@ -55,8 +55,8 @@ duplex_checker proto profile setup = record {
       (check_notes (duplex_profile proto profile setup) (rules_of proto) setup.floor link));
 }
 
--- The texts of both recordings by two boxes with a key: the first has this direction, and the second
--- the other one.
+-- The texts of both recordings by two boxes with a key: the first has this direction, and the
+-- second the other one.
 abbrev pub both_in : (Setup → TimedBox) → (Setup → TimedBox) → Dir → List ℕ → List Tick
     → List Tick → BothTexts
 both_in outgoing incoming dir key = both_with outgoing incoming key dir
@@ -68,7 +68,7 @@ duplex_texts proto profile dir =
 
 module _ (texts : List Tick → List Tick → BothTexts)
     (in_before in_now out_before out_now log_before log_now : Option (List ℕ)) where
-  -- All of the input was taken. It is a text with one mark: the ticks of a device stand before it,
+  -- All of the input was taken. It is a text with one mark: the ticks of a device come before it,
   -- and those of a link behind it. The sinks have got the texts of both, as the status says.
   pub record PrintsDuplex (status : Status) : Type 0 where
     pub items : List Item

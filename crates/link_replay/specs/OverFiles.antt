@@ -16,7 +16,7 @@ use Rattle.yasir_io.specs.Edge.{file_of, file_path, file_options, file_faults}
 use Rattle.yasir_io.specs.Edge.{slots_file, slots_path, slots_kind, slots_options, slots_faults}
 use Rattle.yasir_io.specs.SlotFiles.{for_reading, for_slots}
 use Rattle.replay_status.specs.Outside.{Outside, outside}
-use Rattle.replay_status.specs.Statuses.{code_of}
+use Rattle.replay_status.specs.Statuses.{exit_status_of}
 use Rattle.replay_status.specs.declared.status.Status.{Status}
 use Rattle.replay_status.specs.declared.status.Status.TheVariants.{Usage, NoMemory}
 use Rattle.link_replay.specs.declared.words.Command.{Command}
@@ -95,6 +95,6 @@ module _ {R F D S O L : Type 0} (k : Source (FileSource R F D)) (s : Source S) (
   -- needs, or there was no memory for a path.
   abbrev pub EndsOverFiles : List (List ℕ) → Option Command → Streams S O L → Streams S O L → ℕ
       → Type 0
-  EndsOverFiles words asked before after code =
-      ((status : Status) × (code ≡ code_of status) × RunsOverFiles words asked before after status)
-      ⊎ ((after ≡ before) × ((code ≡ NOT_GIVEN) ⊎ (code ≡ code_of NoMemory)))
+  EndsOverFiles words asked before after exit_status =
+      ((status : Status) × (exit_status ≡ exit_status_of status) × RunsOverFiles words asked before after status)
+      ⊎ ((after ≡ before) × ((exit_status ≡ NOT_GIVEN) ⊎ (exit_status ≡ exit_status_of NoMemory)))

@@ -21,9 +21,9 @@ rules_of Rtu = rtu_rules
 rules_of Dnp3 = dnp_rules
 
 -- what a profile is for the number of a protocol, with numbers up to a limit, as a box is set up
-abbrev pub format_of : Profile → ℕ → ℕ → Setup → LinkProfile
-format_of Y18 = y18
-format_of Y24 = y24
+abbrev pub link_profile_of : Profile → ℕ → ℕ → Setup → LinkProfile
+link_profile_of Y18 = y18
+link_profile_of Y24 = y24
 
 -- how many ticks the receiver of a profile holds a byte back
 abbrev pub delay_of : Profile → ℕ

@@ -32,12 +32,12 @@ use Rattle.link_replay.specs.ReadCommand.{device_reads}
 use Rattle.link_replay.specs.SealCommand.{seal_rest}
 use Rattle.link_replay.specs.declared.words.Profile.{Profile}
 use Rattle.link_replay.specs.declared.words.Proto.{Proto}
-use Rattle.link_replay.specs.Protocols.{rules_of, format_of}
+use Rattle.link_replay.specs.Protocols.{rules_of, link_profile_of}
 
 -- the profile of a link with this key and direction, from new journals on
 abbrev pub replay_profile : Proto → Profile → Dir → List ℕ → LinkProfile
 replay_profile proto profile dir key =
-    format_of profile (rules_of proto).label LIMIT (setup_of key dir 0)
+    link_profile_of profile (rules_of proto).label LIMIT (setup_of key dir 0)
 
 -- what the transmitter seals of a line, the receiver passes of a link, and the stated device reads
 -- behind the receiver
@@ -52,7 +52,7 @@ replay_listing proto profile dir key line link = record {
 -- The headline.
 pub record Headline (proto : Proto) (profile : Profile) (dir : Dir) (key : List ℕ)
     (in_before in_now out_before out_now : Option (List ℕ)) : Type 0 where
-  -- All of the input was taken. It is a text with one mark: the ticks of a device stand before it,
+  -- All of the input was taken. It is a text with one mark: the ticks of a device come before it,
   -- and those of a link behind it.
   pub items : List Item
   pub recorded : IsRecorded in_before in_now items
@@ -89,7 +89,7 @@ module _ {K S O L D : Type 0} (k : Source K) (s : Source S) (o : Sink O) (l : Si
     pub log : l.held after.log ≡ l.held before.log
     pub disk : after.disk ≡ before.disk
 
--- All that a command of recordings is given is right: a key text, and a text with so many marks
+-- All that a command of recordings is given is right: a key text, and a text with this many marks
 -- within the limits.
 pub record IsListable (marks : ℕ) (key_before in_before : Option (List ℕ)) : Type 0 where
   pub text : List ℕ

@@ -13,9 +13,9 @@ use Rattle.box_command.specs.ReplaysBox.{ReplaysBox}
 use Rattle.box_command.specs.SealBoxed.{sealing}
 use Rattle.link_replay.specs.declared.words.Profile.{Profile}
 use Rattle.link_replay.specs.declared.words.Proto.{Proto}
-use Rattle.link_replay.specs.Protocols.{rules_of, format_of, delay_of, link_of}
+use Rattle.link_replay.specs.Protocols.{rules_of, link_profile_of, delay_of, link_of}
 
--- How many silent ticks stand behind a whole input: they close its last burst and carry the
+-- How many silent ticks come after a whole input: they close its last burst and carry the
 -- trailer.
 abbrev pub seal_rest : Profile → ℕ
 seal_rest profile = delay_of profile + 6
@@ -23,7 +23,7 @@ seal_rest profile = delay_of profile + 6
 -- what the transmitter of a protocol and a profile makes of a line, as it is set up
 abbrev pub seal_boxed : Proto → Profile → Setup → Boxed
 seal_boxed proto profile setup =
-    sealing (format_of profile (rules_of proto).label LIMIT setup) (rules_of proto) setup.floor
+    sealing (link_profile_of profile (rules_of proto).label LIMIT setup) (rules_of proto) setup.floor
 
 -- What `seal` does.
 abbrev pub Seals : {K S O L D : Type 0} → Source K → Source S → Sink O → Sink L → SlotDisk D

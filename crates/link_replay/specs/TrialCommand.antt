@@ -1,7 +1,7 @@
 -- The command `trial`: the line of a session that is made from a number.
 use Rattle.std.specs.Prelude.{◌≡◌, ℕ}
 use Rattle.yasir_io.specs.declared.sink.Sink.{Ghosts as Sink}
-use Rattle.link_format.specs.Profile.{Profile as FormatProfile}
+use Rattle.link_format.specs.Profile.{Profile as LinkProfile}
 use Rattle.sequence_journal.specs.declared.numbers.TheConstants.{LIMIT}
 use Rattle.replay_status.specs.Outside.{Outside}
 use Rattle.replay_status.specs.PrintsText.{PrintsText}
@@ -14,7 +14,7 @@ use Rattle.trial_session.specs.Summaries.{trial_summary}
 use Rattle.trial_session.specs.Telling.{Tells}
 use Rattle.trial_session.specs.TrialLine.{trial_line}
 use Rattle.trial_session.specs.declared.summary.Summary.{Summary}
-use Rattle.link_replay.specs.Protocols.{rules_of, format_of}
+use Rattle.link_replay.specs.Protocols.{rules_of, link_profile_of}
 use Rattle.link_replay.specs.ReadCommand.{device_reads}
 use Rattle.link_replay.specs.Words.{link_word}
 use Rattle.link_replay.specs.declared.words.Profile.{Profile}
@@ -28,13 +28,13 @@ drawing_of Dnp3 = dnp_drawing
 
 -- what follows a frame on the link, where both boxes have the key of sixteen bytes 0, the direction
 -- `ab` and new journals
-abbrev pub trial_format : Proto → Profile → FormatProfile
-trial_format proto profile = format_of profile (rules_of proto).label LIMIT trial_setup
+abbrev pub trial_link_profile : Proto → Profile → LinkProfile
+trial_link_profile proto profile = link_profile_of profile (rules_of proto).label LIMIT trial_setup
 
--- what is counted of the session of so many frames from a seed
+-- what is counted of the session of this many frames from a seed
 abbrev pub trial_counts : Proto → Profile → ℕ → ℕ → Summary
 trial_counts proto profile seed count = trial_summary (drawing_of proto)
-    (trial_format proto profile) (rules_of proto) (device_reads proto) seed count
+    (trial_link_profile proto profile) (rules_of proto) (device_reads proto) seed count
 
 -- What `trial` does: it prints one line, in which all frames are sealed, and as many are read as
 -- passed. Nothing is read, and the disk is as it was.

@@ -21,8 +21,8 @@ struct Row {
 
 const CLEAN_LINE: &[u8] = b"audit clean sealed 1 passed 1 read 1\n";
 
-/// A request, its link as it is sealed, and what the receiver makes of it. All tags of this file are
-/// those of Python's `hmac`.
+/// A request, its link as it is sealed, and what the receiver makes of it. All tags of this file
+/// are those of Python's `hmac`.
 const CLEAN: Row = Row {
     words: "audit rtu ab key 0 0",
     text: b"+01030000000ac5cd\n-40\n%\n\

@@ -13,7 +13,8 @@ use yasir_ticks::{BadTicks, TickFault};
 /// A query of Modbus RTU, and no tick of a link.
 const QUERY: &[u8] = b"+01030000000ac5cd\n%\n";
 
-/// The query, whose packet in the outgoing direction comes back 40 ticks later. Number and tag are those of number 1, the tag by openssl:
+/// The query, whose packet in the outgoing direction comes back 40 ticks later. Number and tag are
+/// those of number 1, the tag by openssl:
 ///   printf 010001030000000ac5cd0000000000000001 | xxd -r -p
 ///     | openssl dgst -sha1 -mac HMAC -macopt hexkey:000102030405060708090a0b0c0d0e0f | cut -c1-24
 const REFLECTED: &[u8] =

@@ -46,8 +46,8 @@ struct Left {
 struct Case {
     row: Row,
     keyed: bool,
-    /// After so many bytes of the input a read failed. The last one that fits counts; there is none
-    /// where no input is read.
+    /// After this many bytes of the input a read failed. The last one that fits counts; there is
+    /// none where no input is read.
     reads: &'static [(usize, Left)],
     /// This call of the disk failed.
     disk_calls: &'static [Left],
@@ -175,8 +175,8 @@ fn moved_before(call: u32) -> usize {
     (call.saturating_sub(1) as usize).saturating_mul(PIECE)
 }
 
-// Whether so many bytes were moved by the calls before one that is still made: one call follows the
-// last one that moves bytes, a read at the end or a flush.
+// Whether this many bytes were moved by the calls before one that is still made: one call follows
+// the last one that moves bytes, a read at the end or a flush.
 fn is_made(moved: usize, len: usize) -> bool {
     moved < PIECE || moved - PIECE < len
 }

@@ -28,7 +28,7 @@ pub fn link_of(proto: Proto, profile: Profile, dir: Dir) -> LinkId
     }
 }
 
-/// Does a command with what a protocol and a profile are made of, each row of which stands here and
+/// Does a command with what a protocol and a profile are made of, each row of which is here and
 /// nowhere else: the rules of the protocol and its device, the MAC, the bytes of a number on the
 /// link, the receiver's delay in ticks, and the silent ticks that a spacer leaves between frames.
 /// The command is a macro that takes such a row, and behind it what it is given here.

@@ -71,8 +71,8 @@ fn all_arrive(alloc: Global) -> Result<Vec<u8>, Fail> {
     Ok(lines)
 }
 
-// No clause says that there is memory for so many frames. The link is what the transmitter makes of
-// the device's line.
+// No clause says that there is memory for this many frames. The link is what the transmitter makes
+// of the device's line.
 #[test]
 fn replays_two_thousand_frames(rt: HostRuntime) -> Result<(), Fail> {
     let mut text = requests(rt.alloc())?;

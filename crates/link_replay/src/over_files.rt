@@ -143,7 +143,7 @@ where
         return NOT_GIVEN;
     };
     match run_words(system, words.as_slice(), input, out, log) {
-        Ok(status) => status.code(),
-        Err(AllocError) => Status::NoMemory.code(),
+        Ok(status) => status.exit_status(),
+        Err(AllocError) => Status::NoMemory.exit_status(),
     }
 }

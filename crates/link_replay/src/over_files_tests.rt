@@ -16,7 +16,7 @@ use yasir_io::{Lock, MemSink, MemSource, Plan};
 
 const ROOM: usize = 80;
 
-/// How many handles of the root stand open while a run opens its files.
+/// How many handles of the root are open while a run opens its files.
 const PLACES: u32 = 3;
 
 // A file, which is missing where it has no length.
@@ -245,7 +245,7 @@ struct Row {
     args: &'static str,
     key: Option<&'static [u8]>,
     journal: Option<&'static [u8]>,
-    code: u8,
+    exit_status: u8,
     out: &'static [u8],
     log: &'static [u8],
     journal_now: Option<&'static [u8]>,
@@ -272,7 +272,7 @@ const INIT: Row = Row {
     args: "link_replay init rtu ab journals/ab",
     key: None,
     journal: None,
-    code: 0,
+    exit_status: 0,
     out: b"",
     log: b"",
     journal_now: Some(NEW_JOURNAL),
@@ -283,7 +283,7 @@ const SEAL: Row = Row {
     args: "link_replay seal rtu ab keys/ab journals/ab",
     key: Some(KEY),
     journal: Some(NEW_JOURNAL),
-    code: 0,
+    exit_status: 0,
     out: b"+01030000000ac5cd\n-3\n+0001014c5b8d33c6d29a347013b0\n-11\n",
     log: b"sealed 1 at 0 len 8\n",
     journal_now: Some(USED_JOURNAL),
@@ -291,7 +291,7 @@ const SEAL: Row = Row {
 
 const NO_COMMAND: Row = Row {
     args: "link_replay seal rtu ab keys/ab journals/ab x",
-    code: 2,
+    exit_status: 2,
     out: b"",
     log: b"fault: usage\n",
     journal_now: Some(NEW_JOURNAL),
@@ -306,7 +306,7 @@ const ROWS: [Row; 11] = [
     },
     Row {
         journal: Some(USED_JOURNAL),
-        code: 11,
+        exit_status: 11,
         log: b"fault: journal stands at 1\n",
         journal_now: Some(USED_JOURNAL),
         ..INIT
@@ -315,7 +315,7 @@ const ROWS: [Row; 11] = [
     // A journal that is missing isn't made.
     Row {
         journal: None,
-        code: 7,
+        exit_status: 7,
         out: b"",
         log: b"fault: journal\n",
         journal_now: None,
@@ -323,7 +323,7 @@ const ROWS: [Row; 11] = [
     },
     Row {
         key: None,
-        code: 5,
+        exit_status: 5,
         out: b"",
         log: b"fault: read\n",
         journal_now: Some(NEW_JOURNAL),
@@ -372,8 +372,8 @@ fn compare(
     let mut input = MemSource::new(REQUEST, 512, Plan::new());
     let mut out = MemSink::with_room(alloc, 100, 512, plan(0))?;
     let mut log = MemSink::with_room(alloc, 100, 512, plan(0))?;
-    let code = run_over_files(&system, args, &mut input, &mut out, &mut log);
-    assert_eq!(rt; code, row.code);
+    let exit_status = run_over_files(&system, args, &mut input, &mut out, &mut log);
+    assert_eq!(rt; exit_status, row.exit_status);
     assert_eq!(rt; out.held(), row.out);
     assert_eq!(rt; log.held(), row.log);
     let bytes = disk.journal.bytes.get();
@@ -393,7 +393,7 @@ fn the_program_runs_over_files(rt: HostRuntime) -> Result<(), Fail> {
 
 /// What a run leaves that the runtime refuses what it needs.
 const NOTHING: Row = Row {
-    code: 13,
+    exit_status: 13,
     out: b"",
     log: b"",
     journal_now: None,

@@ -1,4 +1,4 @@
-//! Runs of `space`: frames that stand close go out apart, one that can't wait is named, and each
+//! Runs of `space`: frames that are close go out apart, one that can't wait is named, and each
 //! status but that of no memory, which `scripts/refused_memory.py` tries.
 use crate::running::{Ran, ended, words_of};
 use crate::tests::run_over;

@@ -102,7 +102,7 @@ fn refuse(rt: &impl Abort, alloc: Global, words: &str) -> Result<(), Fail> {
     let mut disk = SteadySlots::new([0; 24], [0; 24]);
     let mut ran = run_over(alloc, words, KEY, REQUEST, 1, &mut disk)?;
     ended(rt, &ran, Status::Usage, b"", b"fault: usage\n");
-    assert_eq!(rt; ran.status.code(), 2);
+    assert_eq!(rt; ran.status.exit_status(), 2);
     // No call was made on the output, so the next one is its first, which fails.
     assert!(rt; ran.out.flush().is_err());
     Ok(())
@@ -253,7 +253,7 @@ pub struct Row {
     pub out_fails: u32,
     pub disk_fails: u32,
     pub status: Status,
-    pub code: u8,
+    pub exit_status: u8,
     pub out: &'static [u8],
     pub log: &'static [u8],
     pub slots_now: (Option<u64>, Option<u64>),
@@ -268,7 +268,7 @@ pub const READ: Row = Row {
     out_fails: 0,
     disk_fails: 0,
     status: Status::Done,
-    code: 0,
+    exit_status: 0,
     out: REQUEST_LINE,
     log: b"",
     slots_now: (None, None),
@@ -289,14 +289,14 @@ pub const INIT: Row = Row {
 
 const STANDS: Row = Row {
     status: Status::HasJournal { floor: 0 },
-    code: 11,
+    exit_status: 11,
     log: b"fault: journal stands at 0\n",
     ..INIT
 };
 
 const DISK_FAULT: Row = Row {
     status: Status::JournalFault,
-    code: 7,
+    exit_status: 7,
     log: b"fault: journal\n",
     slots_now: (None, None),
     ..INIT
@@ -319,14 +319,14 @@ const ROWS: [Row; 16] = [
             line: 3,
             why: TickFault::Char,
         }),
-        code: 4,
+        exit_status: 4,
         log: b"fault: line 3 char\n",
         ..READ
     },
     Row {
         out_fails: 1,
         status: Status::WriteFault,
-        code: 6,
+        exit_status: 6,
         out: b"",
         ..READ
     },
@@ -334,14 +334,14 @@ const ROWS: [Row; 16] = [
     Row {
         out_fails: 1,
         status: Status::WriteFault,
-        code: 6,
+        exit_status: 6,
         out: b"",
         ..VECTORS
     },
     Row {
         out_fails: 2,
         status: Status::WriteFault,
-        code: 6,
+        exit_status: 6,
         ..VECTORS
     },
     INIT,
@@ -511,7 +511,7 @@ const WRONG_LINK: Row = Row {
     is_old: true,
     slots: (Some(5), Some(6)),
     status: Status::WrongLink { slot: NUMBER_6 },
-    code: 12,
+    exit_status: 12,
     out: b"",
     log: b"fault: wrong link 000000000000000601001202fffffffffffffff9feffedfd\n",
     slots_now: (Some(5), Some(6)),
@@ -546,7 +546,7 @@ const BOXES: [Row; 14] = [
             a: NO_NUMBER,
             b: NO_NUMBER,
         },
-        code: 8,
+        exit_status: 8,
         out: b"",
         log: b"fault: bad journal 111111111111111111111111111111111111111111111111 11111111111111\
             1111111111111111111111111111111111\n",
@@ -567,7 +567,7 @@ const BOXES: [Row; 14] = [
     Row {
         disk_fails: 6,
         status: Status::JournalFault,
-        code: 7,
+        exit_status: 7,
         out: b"-18\n+01030000000a\n",
         log: b"fault: journal\n",
         ..CHECK
@@ -579,7 +579,7 @@ fn compare(rt: &impl Abort, alloc: Global, row: &Row) -> Result<(), Fail> {
     let mut disk = disk_of(alloc, row, plan(row.disk_fails))?;
     let ran = run_over(alloc, row.words, KEY, row.text, row.out_fails, &mut disk)?;
     ended(rt, &ran, row.status, row.out, row.log);
-    assert_eq!(rt; ran.status.code(), row.code);
+    assert_eq!(rt; ran.status.exit_status(), row.exit_status);
     has_slots(rt, &disk, slots_at(row.slots_now, &row.link));
     Ok(())
 }

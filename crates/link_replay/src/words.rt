@@ -167,7 +167,7 @@ fn read_wide(word: &str) -> Result<u64, Usage>
     let Ok(n) = word.parse::<u64>() else {
         return Err(Usage);
     };
-    // other texts may stand for the number too
+    // other texts may come for the number too
     let mut digits = itoa::Buffer::new();
     if digits.format(n) == word {
         Ok(n)

@@ -290,7 +290,7 @@ module _ {R : Type 0} {proto : LineRules R} {profile : Profile} {floor : ℕ} {s
           let fits_more : Fits (live_bytes rules d ++ b ∷ []) = omega arith in
           subst Fits (sym live-adds) fits_more
 
-      -- so many silent ticks came before it
+      -- this many silent ticks came before it
       pub live-gap : m - end_of d ≡ m - live_end rules d
       live-gap =
           let size = ap length

@@ -82,7 +82,7 @@ byte-breaks (suc j) n (Silent ∷ x) g b keeps few =
     let rest = byte-breaks j n x g b (omega arith) (omega arith) in omega arith
 byte-breaks (suc j) n (Byte c ∷ x) g b keeps few = absurd (omega arith)
 
--- a pause in ticks is longer than what stands before it
+-- a pause in ticks is longer than what comes before it
 pub pause-longer : (x : List Tick) → has_pause x ≡ true → length (before_pause x) + 2 ≤ length x
 unfolding has_pause before_pause
 pause-longer [] is = absurd cc

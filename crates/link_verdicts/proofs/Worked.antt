@@ -1,4 +1,4 @@
--- The definitions of the receiver on small links of Modbus RTU frames, with a tag that stands in
+-- The definitions of the receiver on small links of Modbus RTU frames, with a tag that is in
 -- for HMAC.
 use Rattle.std.proofs.Common.{◌≡◌, List, [], ◌∷◌, ◌++◌, map, refl, ℕ}
 use Rattle.yasir_ticks.specs.Ticks.{silent}

@@ -74,7 +74,7 @@ wrong_form = row 0
     ++ silent 8) (noted_at 9 (refused_note 0 Form) ∷ [])
     (silent 7 ++ on_line (0x05 ∷ 0x04 ∷ 0x09 ∷ 0x02 ∷ []) ++ silent 7)
 
--- a byte more than the header says stands where the pause is to be
+-- a byte more than the header says stands where the pause must be
 abbrev one_more : Row FullNote
 one_more = row 0 (on_line (0x05 ∷ 0x04 ∷ 0x09 ∷ 0x00 ∷ 0x00 ∷ []) ++ silent 8)
     (noted_at 4 (refused_note 0 Trailer) ∷ [])

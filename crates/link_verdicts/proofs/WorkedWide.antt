@@ -1,5 +1,5 @@
 -- The definitions of the receiver with words of four bytes and tags of sixteen, on small links of
--- Modbus RTU frames, with a tag that stands in for HMAC.
+-- Modbus RTU frames, with a tag that is in for HMAC.
 use Rattle.std.proofs.Common.{◌≡◌, ℕ, List, [], ◌∷◌, ◌++◌, refl}
 use Rattle.yasir_ticks.specs.Ticks.{silent}
 use Rattle.yasir_ticks.specs.Bursts.{bursts_from, with_byte}

@@ -48,7 +48,7 @@ pub record Rests (rules : Rules) (passes : Bool) (m earliest : ℕ) (left : List
       → m + length (leaves rules passes left live owed) ≤ earliest
 
 -- Before tick m, the walk over these bursts has come so far, and of what they emit these bytes have
--- left, and these live ticks and a fill of so many bytes are still to leave.
+-- left, and these live ticks and a fill of this many bytes are still to leave.
 pub record HasWalked (profile : Profile) (rules : Rules) (floor m : ℕ) (ds : List Burst)
     (s : CheckState) (passes : Bool) (left : List ℕ) (live : List Tick) (owed : ℕ)
     (waiting : Option Burst) : Type 0 where

@@ -9,8 +9,8 @@ use yasir_ticks::{BadTicks, Content, FedLine, Run, TickReader};
 /// The most bytes that a line may have. No right line has as many.
 const MAX_LINE: u32 = 2_147_483_648;
 
-/// What of some bytes was read: so many first ones, up to the end of a line at most, and what the
-/// line stands for that ended with them.
+/// How many bytes were read, up to the end of a line at most, and what the line stands for that
+/// ended with them.
 #[derive(Drop)]
 pub struct ReadBytes {
     pub taken: usize,
@@ -18,7 +18,7 @@ pub struct ReadBytes {
 }
 
 /// A reader of tick text without marks, for a text of any length: each line is read anew, and lines
-/// are counted beside. The count stands still at its last value.
+/// are counted beside. The count stays at its last value.
 #[derive(Drop)]
 pub struct LineReader {
     reader: TickReader,

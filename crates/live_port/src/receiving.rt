@@ -12,8 +12,9 @@ ghost use Rattle.live_port.specs.declared.port.Output.{Output};
 use crate::Port;
 use yasir_io::Failed;
 
-/// Reads the next bytes of a line into the front of `buf`, where what is made of all lines that have
-/// ended is written and flushed. Returns how many; 0 only at the end, or where `buf` has no room.
+/// Reads the next bytes of a line into the front of `buf`, where what is made of all lines that
+/// have ended is written and flushed. Returns how many; 0 only at the end, or where `buf` has no
+/// room.
 pub fn read_on<P: Port>(port: &mut P, buf: &mut [u8]) -> Result<usize, Failed>
     ensures within { IfOk result (λ n. n ≤ length buf.new) }
     ensures bytes { IfOk result (λ n. (made : LineAndNotes) (start : Option (List Event))

@@ -38,7 +38,8 @@ fn push_silence(text: &mut AnswerText, ticks: u32)
     text.push(b'\n');
 }
 
-/// The text of what is answered to a run: these bytes, or so many silent ticks where there is none.
+/// The text of what is answered to a run: these bytes, or this many silent ticks where there is
+/// none.
 pub fn text_of_answer(count: u32, left: &[u8]) -> AnswerText
     requires some { 0 < count }
     requires short { count ≤ 1000000 }

@@ -39,7 +39,7 @@ use Rattle.receiver_laws.specs.Untouched.{AreSpaced, numbered}
 use Rattle.receiver_laws.proofs.Notes.{frames_in}
 use Rattle.receiver_laws.proofs.Packing.{packet, packets, length-trailing}
 
--- ---- what stands before a pause stays, whatever comes behind it
+-- ---- what comes before a pause stays, whatever comes behind it
 
 before_pause-trailing : (w : List Tick) (a : ℕ) (y : List Tick)
     → before_pause (ended w a ++ (Silent ∷ Silent ∷ y)) ≡ before_pause (ended w a)

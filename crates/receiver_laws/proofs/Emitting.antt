@@ -1,4 +1,4 @@
--- What the transmitter puts on the link stands apart, so that each packet that ends within the link
+-- What the transmitter puts on the link is apart, so that each packet that ends within the link
 -- is a burst of it.
 use Rattle.std.proofs.Common.{◌≡◌, ◌∙◌, ℕ, ◌+◌, ◌<◌, ◌≤◌, false, List, [], ◌∷◌, ◌++◌}
 use Rattle.std.proofs.Common.{length, refl, sym, ap, subst, arith, ⊎_elim, append_assoc}
@@ -83,7 +83,7 @@ body-parts body live t more same = ap (λ x. (x ++ t) ++ more) same ∙ append_a
 
 module _ (profile : Profile) (tags : HasTags profile) (some : 1 ≤ profile.word_len)
     (rules : Rules) (lawful : IsLawful rules) where
-  -- ---- emissions stand apart
+  -- ---- emissions are apart
 
   -- a burst that isn't sealed, before others
   plain-spread : (d : Burst) (m : ℕ) (es : List Burst) → IsContiguous 4 d.body → m ≤ d.start
@@ -215,7 +215,7 @@ module _ (profile : Profile) (tags : HasTags profile) (some : 1 ≤ profile.word
         let front = are-front 4 0 link longer-is.0 P e Q whole (omega arith) in
         (front.0, bursts_from-only 4 0 link (P ++ e ∷ front.0) front.1)
 
-    -- ---- a packet that stands on the link ends within it
+    -- ---- a packet that is on the link ends within it
 
     on-at : (l : List Tick) (P : List Burst) (e : Burst) (Q : List Burst) → AreOn l (P ++ e ∷ Q)
         → (front : List Tick) × (back : List Tick) × (l ≡ front ++ (e.body ++ back))

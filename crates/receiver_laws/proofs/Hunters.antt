@@ -184,7 +184,7 @@ module _ (first second : ℕ) (rules : Rules) (headed : IsHeaded rules) (framed 
       take-silence (suc k) (suc m) =
           let less = take-silence k m in (suc less.0, ap (λ x. Silent ∷ x) less.1)
 
-      -- so many ticks of a line that carries these bursts
+      -- this many ticks of a line that carries these bursts
       hunter-walk : (ds : List Burst) (n k m : ℕ) (line : List Tick) → n + k ≡ m
           → AreBursts 2 n line ds → AreSpread 2 n ds → AreTaken first second rules ds
           → read n (take k line) ≡ frames_ended 0 is_whole m ds

@@ -1,4 +1,4 @@
--- A whole packet that stands on a link is among the frames that pass.
+-- A whole packet that is on a link is among the frames that pass.
 use Rattle.std.proofs.Common.{◌≡◌, ◌∙◌, ℕ, ◌+◌, ◌<◌, ◌≤◌}
 use Rattle.std.proofs.Common.{List, [], ◌∷◌, ◌++◌, length}
 use Rattle.std.proofs.Common.{refl, sym, ap, subst, arith}

@@ -186,7 +186,7 @@ module _ (cut : ℕ) where
         ),
       )
 
-  -- What stands before a burst has the bursts before it.
+  -- What comes before a burst has the bursts before it.
   pub are-before : (n k : ℕ) (line : List Tick) (G : List Burst) (e : Burst) (Q : List Burst)
       → AreBursts cut n line (G ++ e ∷ Q) → n + k ≡ e.start → AreBursts cut n (take k line) G
   are-before n k line [] e Q are here =

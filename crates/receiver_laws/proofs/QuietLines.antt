@@ -54,7 +54,7 @@ module _ (tick : ℕ) where
       silent-first count (drop from l) (omega arith)
       (λ i below. get_or-drop from l i Silent ∙ dark (from + i) (omega arith) (omega arith))
 
-  -- silent ticks stand in a line up to this one, and these ticks behind them
+  -- silent ticks are in a line up to this one, and these ticks behind them
   module _ (l y : List Tick) (quiet : drop from l ≡ silent count ++ y) where
     abbrev front : List Tick
     front = take from l

@@ -95,8 +95,8 @@ module _ (profile : Profile) (rules : Rules) where
   abbrev pub wrong : Burst → Burst
   wrong d = delayed profile d (spoiled rules [] (filled_ticks rules d))
 
-  -- A device reads what is whole by this test, so many ticks after its end: what leaves of a passed
-  -- burst is whole, and what leaves of a refused one isn't.
+  -- A device reads what is whole by this test, this many ticks after its end: what leaves of a
+  -- passed burst is whole, and what leaves of a refused one isn't.
   module _ (lawful : IsLawful rules) (ends : ℕ) (near : ends ≤ delay profile)
       (is_whole : Burst → Bool)
       (passes : (s : CheckState) (d : Burst) (n : ℕ) → IsContiguous 4 d.body

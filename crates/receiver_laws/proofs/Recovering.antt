@@ -112,7 +112,7 @@ module _ (profile : Profile) (tags : HasTags profile) (some : 1 ≤ profile.word
   abbrev from : ℕ
   from = first_quiet tick
 
-  -- what stands on the link behind the silent ticks
+  -- what is on the link behind the silent ticks
   abbrev back : List Tick
   back = drop (count tick) (drop from link)
 

@@ -1,4 +1,4 @@
--- What the transmitter puts on the link, burst by burst: its packets stand apart, and which of the
+-- What the transmitter puts on the link, burst by burst: its packets are apart, and which of the
 -- device's bursts are sealed.
 use Rattle.std.proofs.Common.{◌≡◌, ◌∙◌, ◌==◌, ◌⊎◌, inl, inr, ℕ, zero, suc, ◌+◌, ◌≤◌, nat_lt}
 use Rattle.std.proofs.Common.{Bool, true, false, not, ◌||◌, List, [], ◌∷◌, ◌++◌, drop}

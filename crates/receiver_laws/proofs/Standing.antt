@@ -1,4 +1,4 @@
--- A burst that passes is a packet that stands on the link.
+-- A burst that passes is a packet that is on the link.
 use Rattle.std.proofs.Common.{◌≡◌, ◌∙◌, ℕ, zero, suc, ◌+◌, ◌%◌, ◌<◌, ◌≤◌, true, false}
 use Rattle.std.proofs.Common.{List, [], ◌∷◌, ◌++◌, length, map, take, drop, replicate, refl, sym}
 use Rattle.std.proofs.Common.{ap}
@@ -172,7 +172,7 @@ module _ (profile : Profile) (some : 1 ≤ profile.word_len) (rules : Rules) (s 
 
 -- ---- bursts on a link
 
--- each of these bursts stands on the link
+-- each of these bursts is on the link
 abbrev pub AreOn : List Tick → List Burst → Type 0
 AreOn link [] = Unit {0}
 AreOn link (d ∷ ds) =

@@ -1,4 +1,4 @@
--- What devices read of small lines of the receiver, with a tag that stands in for HMAC.
+-- What devices read of small lines of the receiver, with a tag that is in for HMAC.
 use Rattle.std.proofs.Common.{◌≡◌, ℕ, List, [], ◌∷◌, ◌++◌, map, take, replicate, refl}
 use Rattle.yasir_ticks.specs.Ticks.{silent}
 use Rattle.yasir_ticks.specs.Bursts.{bursts_from, with_byte}
@@ -41,7 +41,7 @@ packet_ending last =
     ∷ 0xEE ∷ last ∷ [])
 
 -- what the device is sent of a whole packet, and of one whose tag is wrong in its last bit, with
--- so many ticks of the link
+-- this many ticks of the link
 abbrev of_packet : ℕ → List Tick
 of_packet more = received_line profile rtu_rules 0 (packet_ending 0xEE ++ silent more)
 

@@ -1,4 +1,4 @@
--- What a DNP3 device reads of small lines of the receiver, with a tag that stands in for HMAC.
+-- What a DNP3 device reads of small lines of the receiver, with a tag that is in for HMAC.
 use Rattle.std.proofs.Common.{◌≡◌, ℕ, List, [], ◌∷◌, ◌++◌, map, take, replicate, refl}
 use Rattle.yasir_ticks.specs.Ticks.{silent}
 use Rattle.yasir_ticks.specs.Bursts.{bursts_from, with_byte}

@@ -25,7 +25,7 @@ use Rattle.link_verdicts.specs.Verdicts.{verdict_of, checked}
 use Rattle.link_verdicts.specs.Emissions.{spoiled}
 use Rattle.link_verdicts.specs.Checking.{passed, received_line}
 
--- words and tags as of y18; no tag stands on these links
+-- words and tags as of y18; no tag is on these links
 abbrev profile : Profile
 profile = record { word_len = 2; tag_len = 12; tag = λ n x. []; limit = 281474976710655 }
 

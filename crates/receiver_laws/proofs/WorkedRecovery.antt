@@ -1,4 +1,4 @@
--- When a receiver works again, on links of DNP3 with a tag that stands in for HMAC. A burst can
+-- When a receiver works again, on links of DNP3 with a tag that is in for HMAC. A burst can
 -- lack 282 bytes, so packets are due 300 ticks after the first of the silent ticks where the link
 -- is left alone. For each thing that the law asks there is a line where it alone is missing, and
 -- the packet doesn't pass.

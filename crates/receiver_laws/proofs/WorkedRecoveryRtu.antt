@@ -1,4 +1,4 @@
--- When a receiver works again, on links of Modbus RTU with a tag that stands in for HMAC. A burst
+-- When a receiver works again, on links of Modbus RTU with a tag that is in for HMAC. A burst
 -- lacks nothing there, so packets are due 18 ticks after the first of the silent ticks where the
 -- link is left alone.
 use Rattle.std.proofs.Common.{◌≡◌, ◌≤◌, ◌<◌, ℕ, List, [], ◌∷◌, ◌++◌, map, take, drop, replicate}

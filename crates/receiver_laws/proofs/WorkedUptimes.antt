@@ -1,4 +1,4 @@
--- Frames of two uptimes of a transmitter, on one link to a receiver, with a tag that stands in for
+-- Frames of two uptimes of a transmitter, on one link to a receiver, with a tag that is in for
 -- HMAC.
 use Rattle.std.proofs.Common.{◌≡◌, ℕ, ◌<◌, ◌≤◌, List, [], ◌∷◌, ◌++◌, Some, IsSomeAnd, take}
 use Rattle.std.proofs.Common.{◌∙◌, None, refl, sym, ap, subst, arith}
@@ -188,9 +188,9 @@ set_back go_on =
     let above : 1 ≤ 0 = subst (λ l. last_number 0 l ≤ 0) first-sealed again in
     absurd (omega (arith, above))
 
--- ---- Why the device must be at rest as an uptime of the receiver begins: a frame with a byte right
--- behind it and no trailer doesn't pass, and the byte leaves with another value. Where the receiver
--- stops just before it does, the device hears silence there, and reads the frame.
+-- ---- Why the device must be at rest as an uptime of the receiver begins: a frame with a byte
+-- right behind it and no trailer doesn't pass, and the byte leaves with another value. Where the
+-- receiver stops just before it does, the device hears silence there, and reads the frame.
 
 abbrev with_byte_behind : List Tick
 with_byte_behind = on_line (READ_TEN_REGISTERS ++ 0x00 ∷ []) ++ silent 40

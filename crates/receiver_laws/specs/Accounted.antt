@@ -5,7 +5,7 @@ use Rattle.std.specs.List.{filter}
 use Rattle.sequence_journal.specs.Uptimes.{RiseFrom}
 use Rattle.link_format.specs.NumberedFrame.{NumberedFrame, numbers_of}
 
--- a number and the bytes of its frame, wherever it stands on a line
+-- a number and the bytes of its frame, wherever it is on a line
 pub record Pair : Type 0 where
   pub number : ℕ
   pub frame : List ℕ

@@ -50,12 +50,12 @@ pub record IsLeftAlone (profile : Profile) (rules : Rules) (seal_floor check_flo
       → floor_after profile rules check_floor (take (tick + 1) link) < f.number)
       (all_sealed profile rules seal_floor line)
 
--- No bytes for which there is room lack more than so many that their header says.
+-- No bytes for which there is room lack more than this many that their header says.
 pub record LackAtMost (rules : Rules) (most : ℕ) : Type 0 where
   pub lack : (x : List ℕ) → AreBytes x → length x ≤ rules.room x → left_of rules x ≤ most
 
 -- A packet is due: it starts when all has left of a burst that was cut off before the first of the
--- silent ticks, it stands on the link whole, and its number is near enough to the receiver's floor
+-- silent ticks, it is on the link whole, and its number is near enough to the receiver's floor
 -- before it.
 pub record IsDue (profile : Profile) (rules : Rules) (seal_floor check_floor : ℕ)
     (line link : List Tick) (tick most : ℕ) (f : NumberedFrame) : Type 0 where

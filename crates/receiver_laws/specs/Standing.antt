@@ -20,7 +20,7 @@ numbered_frame rules d number = record {
   frame = live_bytes rules d;
 }
 
--- A packet stands on the link: from its start on the ticks of the frame, no two silent ones
+-- A packet is on the link: from its start on the ticks of the frame, no two silent ones
 -- together, then a pause, and then the word of the number and the tag of number and frame.
 pub record StandsOn (profile : Profile) (link : List Tick) (f : NumberedFrame) : Type 0 where
   pub front : List Tick
@@ -33,7 +33,7 @@ pub record StandsOn (profile : Profile) (link : List Tick) (f : NumberedFrame) :
   pub contiguous : IsContiguous T1_5_TICKS body
 
 -- These frames of a link have passed: their numbers rise from the floor, none is above the limit,
--- they are frames of the protocol, and the packet of each stands on the link.
+-- they are frames of the protocol, and the packet of each is on the link.
 pub record HavePassed (profile : Profile) (rules : Rules) (floor : ℕ) (link : List Tick)
     (frames : List NumberedFrame) : Type 0 where
   pub rise : RiseFrom floor (numbers_of frames)

@@ -27,14 +27,15 @@ abbrev pub numbered : Rules → ℕ → List Burst → List NumberedFrame
 numbered rules floor [] = []
 numbered rules floor (d ∷ ds) = numbered_frame rules d (suc floor) ∷ numbered rules (suc floor) ds
 
--- what the transmitter makes of this line and so many silent ticks after it, and then so many more
+-- what the transmitter makes of this line and this many silent ticks after it, and then this many
+-- more
 abbrev pub untouched : Profile → Rules → ℕ → List Tick → ℕ → ℕ → List Tick
 untouched profile rules floor line more rest =
     link_line profile rules floor (line ++ silent more) ++ silent rest
 
--- A line whose frames are spaced, with numbers enough for all of them up to the limit, and so many
--- silent ticks after it that the last trailer is sent; and a receiver whose floor isn't above the
--- transmitter's, nor so far below it that words don't tell.
+-- A line whose frames are spaced, with numbers enough for all of them up to the limit, and this
+-- many silent ticks after it that the last trailer is sent; and a receiver whose floor isn't above
+-- the transmitter's, nor so far below it that words don't tell.
 pub record IsUntouched (profile : Profile) (rules : Rules) (floor behind : ℕ) (line : List Tick)
     (more : ℕ) : Type 0 where
   pub spaced : AreSpaced profile rules 0 (bursts line)

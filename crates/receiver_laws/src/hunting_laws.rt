@@ -12,7 +12,7 @@ ghost use Rattle.receiver_laws.specs.Reading.{ReadsWhatPassed};
 use device_model::Hunted;
 
 /// A law of the receiver's definitions, for the rules of each protocol whose devices hunt for
-/// frames, and each profile, floor and link: a device that hunts so, and stands on the receiver's
+/// frames, and each profile, floor and link: a device that hunts so, and is on the receiver's
 /// line, reads only frames that have passed, at every moment, and all of them once silence follows.
 /// So does each device to which two or more silent ticks together, as many as it has for a limit,
 /// end what was taken, and which hunts anew behind them; and so does any device that takes a burst

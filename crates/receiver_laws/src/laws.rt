@@ -26,7 +26,7 @@ ghost use Rattle.receiver_laws.specs.Standing.{HavePassed, numbered_frame};
 use line_rules::LineRules;
 
 /// A law of the receiver's definitions, for each profile, floor and link: a Modbus RTU device that
-/// stands on the receiver's line reads only frames that have passed, at every moment, and all of
+/// is on the receiver's line reads only frames that have passed, at every moment, and all of
 /// them once silence follows, and so does a DNP3 device. So does each member of their families: a
 /// Modbus RTU device for which a burst ends by some other number of silent ticks together, two up
 /// to the receiver's delay, and which lets some number of them, one or more, stand inside a frame;
@@ -59,7 +59,7 @@ pub fn longer_links<R: LineRules>()
 
 /// A law of the receiver's definitions, for the rules of each protocol and each profile, floor and
 /// link: the numbers of the passed frames rise from the floor and are within the limit, so that
-/// none passes twice; and each is a frame whose packet, with this number's word and tag, stands on
+/// none passes twice; and each is a frame whose packet, with this number's word and tag, is on
 /// the link.
 pub fn passed_frames_stand_on_the_link<R: LineRules>()
     ensures { (profile : Profile) (floor : ℕ) (link : List Tick)

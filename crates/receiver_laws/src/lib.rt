@@ -1,4 +1,4 @@
-//! Laws of the receiver's definitions, for each link, whatever stands on it: what a device behind
+//! Laws of the receiver's definitions, for each link, whatever is on it: what a device behind
 //! the receiver reads of its line, what passes, what an untouched link delivers, and how notes,
 //! frames and line go on as the link does.
 //!

@@ -17,8 +17,8 @@ use line_rules::LineRules;
 /// receiver of the line's other direction takes it under the same key, passes nothing, unless tags
 /// of the two directions match by chance. Each frame that passes there is one that was sealed, with
 /// its packet on the link; its number in the other direction has the same word, and the other
-/// direction's tag for that number and frame is the packet's. What is coded for a tag of the one
-/// direction is never what is coded for one of the other. Where the far box has sealed nothing,
+/// direction's tag for that number and frame is the packet's. The text of which a tag of the one
+/// direction is made is never the text of one of the other. Where the far box has sealed nothing,
 /// each frame that passes counts as forged.
 pub fn reflected_links_pass_nothing<R: LineRules>()
     ensures reflected { (profile : Profile) (other : ℕ → List ℕ → List ℕ) → IsFit profile R.rules

@@ -17,7 +17,7 @@ use Rattle.replay_status.specs.declared.status.Status.TheVariants.{Done, BadTick
 use Rattle.replay_status.specs.declared.status.Status.TheVariants.{WriteFault, TooLong, NoMemory}
 use Rattle.recordings_replay.specs.Listing.{Listing, listing_text}
 
--- The whole input was met and is a right text with so many marks. It has these items, and all of
+-- The whole input was met and is a right text with this many marks. It has these items, and all of
 -- them were taken.
 pub record IsRecordedWith (marks : ℕ) (before now : Option (List ℕ)) (items : List Item) : Type 0
   where
@@ -30,7 +30,7 @@ pub record IsRecordedWith (marks : ℕ) (before now : Option (List ℕ)) (items 
 abbrev pub IsRecorded : Option (List ℕ) → Option (List ℕ) → List Item → Type 0
 IsRecorded before now items = IsRecordedWith 1 before now items
 
--- the line of the device, which is recorded before the mark, and so many silent ticks behind it
+-- the line of the device, which is recorded before the mark, and this many silent ticks behind it
 abbrev pub device_line : ℕ → List Item → List Tick
 device_line device_rest items = before_mark items ++ silent device_rest
 
@@ -39,7 +39,8 @@ device_line device_rest items = before_mark items ++ silent device_rest
 abbrev pub link_ticks : List Item → List Tick
 link_ticks items = behind_mark items ++ silent link_rest
 
--- `text_of` is what is printed of the items. Behind the last recording stand so many silent ticks.
+-- `text_of` is what is printed of the items. Behind the last recording stand this many silent
+-- ticks.
 module _ (marks rest : ℕ) (text_of : List Item → List ℕ)
     (in_before in_now out_before out_now : Option (List ℕ)) where
   -- `out` has got the text of the recordings, and nothing else.

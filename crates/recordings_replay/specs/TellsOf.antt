@@ -16,7 +16,7 @@ use Rattle.receiver_laws.specs.Reading.{delivered}
 use Rattle.receiver_laws.specs.Untouched.{AreSpaced, numbered}
 use Rattle.recordings_replay.specs.Listing.{Listing, forged_in}
 
--- how many silent ticks stand behind the line of a device, so that its last burst is closed and its
+-- how many silent ticks come after the line of a device, so that its last burst is closed and its
 -- trailer sent
 abbrev pub device_rest : Profile → ℕ
 device_rest profile = delay profile + 6
@@ -57,7 +57,7 @@ pub record TellsOf (profile : Profile) (rules : Rules) (device link : List Tick)
   pub sealed_once : HasNoNumberTwice (numbers_of listing.sealed)
   pub passed_rise : RiseFrom 0 (numbers_of listing.passed)
   pub passed_once : HasNoNumberTwice (numbers_of listing.passed)
-  -- An untouched link, whatever silence stands behind it, brings all of a line whose frames are
+  -- An untouched link, whatever silence comes after it, brings all of a line whose frames are
   -- spaced.
   pub untouched : (rest : ℕ)
       → link ≡ link_line profile rules 0 (device ++ silent (device_rest profile)) ++ silent rest

@@ -52,7 +52,7 @@ pub hears-nothing : {V : Type 0} (device : Device V) (value : V) (list : FrameLi
 hears-nothing device value list line listens =
     subst (Listens device value list) (sym (append-nil line)) listens
 
--- what is heard of the answer to a run of so many ticks: its bytes, and then silence
+-- what is heard of the answer to a run of this many ticks: its bytes, and then silence
 pub answered-heard : (line : List Tick) (count : ℕ) (left : List ℕ) (heard : ℕ)
     → heard ≡ min (length left) count → length (answered count left) ≡ count
     → (line ++ map Byte (take heard left)) ++ silent (count - heard) ≡ line ++ answered count left
@@ -71,7 +71,7 @@ answered-heard line count (b ∷ x) heard is long =
 
 -- ---- ticks in their order
 
--- what stands behind a place of a list, as a slice has it
+-- what comes after a place of a list, as a slice has it
 pub slice_rest : (bytes : List ℕ) (i : ℕ)
     → take (length bytes - i) (drop i bytes) ≡ drop i bytes
 slice_rest bytes i =

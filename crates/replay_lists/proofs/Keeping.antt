@@ -50,24 +50,6 @@ module _ {B : Type 0} (box : FrameBox B) (old new : B) (before after : FrameList
         answers = answers.tick_is;
       }
 
-  -- without one
-  pub steps-none : step.frame ≡ None → KeepsFrames box old before setup line
-      → box.stands new setup now
-      → AnswersFrame (box.numbering setup) line t step (box.shown new)
-      → StepsInto box new before setup line t step.tick
-  steps-none is keeps stands answers =
-      let frames = (box.numbering setup).frames in
-      let told : frame_told step.frame (box.shown new) ≡ [] = rw is refl in
-      let same : frames line ≡ frames now =
-      sym (answers.frame_is ∙ ap (λ l. frames line ++ l) told ∙ append-nil (frames line)) in
-      record {
-        keeps = record {
-          steps = stands;
-          holds = subst (λ l. Holds before (kept_frames l)) same keeps.holds;
-        };
-        answers = answers.tick_is;
-      }
-
 -- ---- a tick at a device
 
 module _ {V : Type 0} (device : Device V) (old new : V) (before after : FrameList ℕ) (t : Tick)

@@ -131,13 +131,6 @@ module _ {K : Type 0} where
 
   -- ---- by two entries
 
-  -- the first frame
-  pub holds-first : (list : FrameList K) (e : Entry K) (frames : List (Kept K)) (other : Kept K)
-      → 0 < length list.entries.items → Holds list frames
-      → take ((slice_index_or list.entries.items 0 e).end - 0) (drop 0 list.bytes.items)
-      ≡ (slice_index_or frames 0 other).frame
-  holds-first list e frames other within holds = holds-frame list 0 e frames other within holds
-
   -- a later one
   pub holds-later : (list : FrameList K) (i before : ℕ) (e : Entry K) (frames : List (Kept K))
       (other : Kept K) → before + 1 ≡ i → i < length list.entries.items → Holds list frames

@@ -20,7 +20,7 @@ first_difference (f ∷ x) [] = Some 0
 first_difference (f ∷ x) (g ∷ y) =
     if is_same_read f g then option_map suc (first_difference x y) else Some 0
 
--- a frame that passed, as it is read so many ticks later
+-- a frame that passed, as it is read this many ticks later
 abbrev pub read_later : ℕ → NumberedFrame → FrameRead
 read_later late f = record { start = late + f.start; frame = f.frame }
 

@@ -11,7 +11,7 @@ use Rattle.replay_lists.specs.ReplayLists.{HasListed, IsReady, lists_taken}
 use Rattle.replay_lists.specs.declared.frame_box.FrameBox.{Ghosts as FrameBox}
 use Rattle.replay_lists.specs.declared.replay_lists.ReplayLists.{ReplayLists}
 
--- So many silent ticks stand behind the recording behind the mark: the last verdict falls in them,
+-- So many silent ticks come after the recording behind the mark: the last verdict falls in them,
 -- and all that the receiver holds back leaves and is read.
 abbrev pub link_rest : ℕ
 link_rest = 320
@@ -26,7 +26,7 @@ module _ {S C V : Type 0} (s : FrameBox S) (c : FrameBox C) (v : Device V) where
     pub listed : HasListed s c v lists setup [] []
 
   -- The input is a whole text with one mark. The lists are those of the recording before it, with
-  -- so many silent ticks behind it, and of the one behind it, with the silence of a link.
+  -- this many silent ticks behind it, and of the one behind it, with the silence of a link.
   pub record ListsBoth (device_rest : ℕ) (old new : ReplayLists S C V)
       (before now : Option (List ℕ)) : Type 0 where
     pub items : List Item

@@ -28,7 +28,7 @@ pub record Setups : Type 0 where
 abbrev pub all_rests : Timing → ℕ
 all_rests timing = timing.sent_rest + timing.link_rest + timing.received_rest
 
--- The link is ended by the second mark, and its silence stands behind it from there on.
+-- The link is ended by the second mark, and its silence comes after it from there on.
 abbrev pub rest_after : ℕ → ℕ → List Tick
 rest_after rest zero = []
 rest_after rest (suc zero) = []

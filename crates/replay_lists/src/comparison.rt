@@ -32,7 +32,8 @@ pub(crate) struct Read<'a> {
     pub(crate) bytes: &'a [u8],
 }
 
-// Whether this frame is read so much later as the frame that has passed at a place, if there is one.
+// Whether this frame is read so much later as the frame that has passed at a place, if there is
+// one.
 fn is_next(passed: Passed<'_>, place: u64, read: Read<'_>) -> bool
     requires { IsWhole passed.frames.now }
     ensures { (passed_ones : List NumberedFrame)
@@ -108,8 +109,8 @@ impl Comparison {
         self.read
     }
 
-    /// The first place, counted from 0, at which the frames that were read aren't those that passed,
-    /// or one of the two has ended.
+    /// The first place, counted from 0, at which the frames that were read aren't those that
+    /// passed, or one of the two has ended.
     pub fn difference(&self, passed: &FrameList<Numbered>) -> Option<u64>
         ensures within { (expected reads : List FrameRead) → Found self.now expected reads
             → IfSome result (λ place. place ≤ self.now.read) }

@@ -92,9 +92,10 @@ pub trait FrameBox: Drop {
         0
     }
 
-    /// Takes the first of this many silent ticks, as far as the box answers all of them with silence
-    /// or all of them with bytes, and seals or passes no frame; returns how many it took. Puts the
-    /// bytes of the answer into `left`, or none for silence. With 0 the caller goes on by `step`.
+    /// Takes the first of this many silent ticks, as far as the box answers all of them with
+    /// silence or all of them with bytes, and seals or passes no frame; returns how many it took.
+    /// Puts the bytes of the answer into `left`, or none for silence. With 0 the caller goes on by
+    /// `step`.
     fn pass_silence(&mut self, _ticks: u32, left: &mut RunBytes) -> u32
         requires room { taken self.old + _ticks ≤ MAX_TICKS }
         requires able { able self.old }

@@ -20,7 +20,7 @@ struct Bounds {
 }
 
 /// Frames in memory, in the order in which they came, each with a head of its own. The bytes of all
-/// stand in one buffer, one frame after the other. Where there was no memory for a frame, the list
+/// are in one buffer, one frame after the other. Where there was no memory for a frame, the list
 /// is not used again.
 #[derive(Drop)]
 pub struct FrameList<K> {

@@ -111,8 +111,8 @@ pub(crate) fn hear_silence<V: Device>(
     Ok(())
 }
 
-// A device hears what a box answers to a run of so many ticks. It stands apart from silence, which
-// is answered more often and comes without a call.
+// A device hears what a box answers to a run of this many ticks. It is kept separate from silence,
+// which is answered more often and comes without a call.
 #[inline(never)]
 fn hear_run<V: Device>(
     device: &mut V,

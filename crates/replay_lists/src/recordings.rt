@@ -10,7 +10,7 @@ use device_model::Device;
 use tick_drive::{End, Stop, drive_to_rest};
 use yasir_io::{NoMemory, Sink, Source};
 
-/// How many silent ticks stand behind the recording behind the mark, so that what passes is sent
+/// How many silent ticks come after the recording behind the mark, so that what passes is sent
 /// and read.
 const LINK_REST: u32 = 320;
 

@@ -43,7 +43,7 @@ pub struct Floors {
     pub got: u64,
 }
 
-/// How late a receiver is, and how many silent ticks stand behind each of three recordings.
+/// How late a receiver is, and how many silent ticks come after each of three recordings.
 #[derive(Clone, Copy, Debug, PartialEq, Eq)]
 pub struct Timing {
     /// How many ticks later a frame is read than it passed.

@@ -59,13 +59,3 @@ pub sink_cause_of_whole : (out0 out1 out2 log0 log1 log2 : ℕ) → (out1 ≡ ou
 sink_cause_of_whole out0 out1 out2 log0 log1 log2 out log status h =
     subst (λ n. SinkCause n out2 log0 log2 status) out
     (subst (λ n. SinkCause out1 out2 n log2 status) log h)
-
--- no end has the status of a journal that isn't loaded
-pub no_bad_journal : (end : End) (a b : List ℕ) → status_of end ≡ BadJournal a b → ⊥
-no_bad_journal Whole a b is = cc
-no_bad_journal (Refused bad) a b is = cc
-no_bad_journal (TooLong what count) a b is = cc
-no_bad_journal ReadFault a b is = cc
-no_bad_journal (Stopped stops.WriteFault) a b is = cc
-no_bad_journal (Stopped stops.JournalFault) a b is = cc
-no_bad_journal (Stopped stops.NoMemory) a b is = cc

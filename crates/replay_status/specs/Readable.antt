@@ -4,7 +4,7 @@ use Rattle.yasir_ticks.specs.Ticks.{Item, ticks_in}
 use Rattle.yasir_ticks.specs.TickText.{IsTickText}
 use Rattle.tick_drive.specs.Input.{max_ticks, max_bytes}
 
--- The input tells a right text with so many marks, within the limits.
+-- The input tells a right text with this many marks, within the limits.
 pub record IsReadableWith (marks : ℕ) (input : Option (List ℕ)) : Type 0 where
   pub text : List ℕ
   pub items : List Item

@@ -12,19 +12,19 @@ use Rattle.replay_status.specs.declared.status.Status.TheVariants.{WriteFault, J
 use Rattle.replay_status.specs.declared.status.Status.TheVariants.{TooLong, HasJournal, BadKey}
 use Rattle.replay_status.specs.declared.status.Status.TheVariants.{BadJournal, WrongLink, NoMemory}
 
-abbrev pub code_of : Status → ℕ
-code_of Done = 0
-code_of Usage = 2
-code_of (BadTicks bad) = 4
-code_of ReadFault = 5
-code_of WriteFault = 6
-code_of JournalFault = 7
-code_of (TooLong what count) = 10
-code_of (HasJournal floor) = 11
-code_of (BadKey place) = 3
-code_of (BadJournal a b) = 8
-code_of (WrongLink slot) = 12
-code_of NoMemory = 9
+abbrev pub exit_status_of : Status → ℕ
+exit_status_of Done = 0
+exit_status_of Usage = 2
+exit_status_of (BadTicks bad) = 4
+exit_status_of ReadFault = 5
+exit_status_of WriteFault = 6
+exit_status_of JournalFault = 7
+exit_status_of (TooLong what count) = 10
+exit_status_of (HasJournal floor) = 11
+exit_status_of (BadKey place) = 3
+exit_status_of (BadJournal a b) = 8
+exit_status_of (WrongLink slot) = 12
+exit_status_of NoMemory = 9
 
 abbrev pub fault_word : TickFault → List ℕ
 fault_word Char = codes "char"

@@ -5,7 +5,7 @@
 //!
 //!     let status = print_text(b"link_replay 0.7.0\n", &mut out, &mut log);
 //!     write_fault(&mut log, &status);
-//!     ExitCode::from(status.code())
+//!     ExitCode::from(status.exit_status())
 #![tactic(auto)]
 
 mod ending;

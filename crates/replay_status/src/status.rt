@@ -38,11 +38,11 @@ pub enum Status {
 }
 
 impl Status {
-    ghost use Rattle.replay_status.specs.Statuses.{code_of};
+    ghost use Rattle.replay_status.specs.Statuses.{exit_status_of};
 
     /// The program's exit status.
-    pub fn code(&self) -> u8
-        ensures { result ≡ code_of self.now }
+    pub fn exit_status(&self) -> u8
+        ensures { result ≡ exit_status_of self.now }
     {
         match self {
             Status::Done => 0,

@@ -33,7 +33,7 @@ const WHOLE: Row = Row {
     text: PACKET,
     failing: STEADY,
     status: Status::Done,
-    code: 0,
+    exit_status: 0,
     out: PASSED_LINE,
     log: b"passed 1 at 0 len 8\n",
     slots_now: (AT_0, AT_1),
@@ -385,7 +385,7 @@ fn a_failed_call_of_the_disk_passes_no_number_twice(rt: HostRuntime) -> Result<(
 /// Nothing is written but the fault line.
 const UNTOUCHED: Row = Row {
     status: Status::ReadFault,
-    code: 5,
+    exit_status: 5,
     out: b"",
     log: b"fault: read\n",
     slots_now: FRESH,
@@ -395,7 +395,7 @@ const UNTOUCHED: Row = Row {
 /// The packet passes, without the silence of a whole input, and then something fails.
 const CUT_SHORT: Row = Row {
     status: Status::ReadFault,
-    code: 5,
+    exit_status: 5,
     out: b"-18\n+01030000000ac5cd\n-46\n",
     log: b"passed 1 at 0 len 8\nfault: read\n",
     ..WHOLE
@@ -403,7 +403,7 @@ const CUT_SHORT: Row = Row {
 
 const WRITE_FAULT: Row = Row {
     status: Status::WriteFault,
-    code: 6,
+    exit_status: 6,
     out: b"",
     ..WHOLE
 };
@@ -412,7 +412,7 @@ const NOT_DONE: [Row; 7] = [
     Row {
         key: b"000102030405060708090a0b0c0d0e",
         status: Status::BadKey { place: 30 },
-        code: 3,
+        exit_status: 3,
         log: b"fault: key at 30\n",
         ..UNTOUCHED
     },
@@ -422,7 +422,7 @@ const NOT_DONE: [Row; 7] = [
             a: [0x11; 24],
             b: [0x11; 24],
         },
-        code: 8,
+        exit_status: 8,
         log: b"fault: bad journal 111111111111111111111111111111111111111111111111 11111111111111\
             1111111111111111111111111111111111\n",
         slots_now: (NO_NUMBER, NO_NUMBER),
@@ -434,7 +434,7 @@ const NOT_DONE: [Row; 7] = [
             line: 5,
             why: TickFault::Char,
         }),
-        code: 4,
+        exit_status: 4,
         log: b"passed 1 at 0 len 8\nfault: line 5 char\n",
         ..CUT_SHORT
     },

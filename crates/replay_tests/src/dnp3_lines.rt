@@ -21,7 +21,7 @@ const SEALED: Row = Row {
     text: b"+056405c001000004e921\n-40\n",
     failing: STEADY,
     status: Status::Done,
-    code: 0,
+    exit_status: 0,
     out: PACKET,
     log: b"sealed 1 at 0 len 10\n",
     slots_now: (AT_0, AT_1),
@@ -165,8 +165,8 @@ const CHECKS: [Row; 10] = [
         log: b"dropped at 0 head\n",
         ..REFUSED
     },
-    // The bad header with a silent tick behind each byte: the first byte would leave in the very step in
-    // which the tenth comes.
+    // The bad header with a silent tick behind each byte: the first byte would leave in the very
+    // step in which the tenth comes.
     Row {
         text: b"+05\n-1\n+64\n-1\n+05\n-1\n+c0\n-1\n+01\n-1\n+00\n-1\n+00\n-1\n+04\n-1\n+e9\n-1\n\
             +20\n-5\n",

@@ -210,7 +210,7 @@ fn turns<X: Turning>(rt: &impl Abort, line_box: &mut X, line: &[u8]) -> Result<u
 }
 
 // These ticks and as much silence as a trailer or the receiver's delay needs, and more, take a box
-// so many turns at most.
+// this many turns at most.
 fn takes<X: Turning>(
     rt: &impl Abort,
     alloc: Global,
@@ -236,7 +236,7 @@ const EARLY_BURST: &[u8] = b"\x01\x03\x00\x00\x00\x0a\xc5\xcd......AAAAAAAAAAAAA
 
 const DNP_FRAME: &[u8] = b"\x05\x64\x05\xc0\x01\x00\x00\x04\xe9\x21";
 
-// A transmitter takes these ticks in so many turns at most.
+// A transmitter takes these ticks in this many turns at most.
 fn seals(
     rt: &impl Abort,
     alloc: Global,
@@ -264,7 +264,7 @@ fn seals(
     }
 }
 
-// A receiver takes these ticks in so many turns at most.
+// A receiver takes these ticks in this many turns at most.
 fn checks(
     rt: &impl Abort,
     alloc: Global,
@@ -382,8 +382,8 @@ fn packets_are_checked_in_few_turns(rt: HostRuntime) -> Result<(), Fail> {
     Ok(())
 }
 
-// Silence comes in place of the trailer, in as many turns. A burst that comes too soon goes with its
-// first byte alone, for its note, and is a run.
+// Silence comes in place of the trailer, in as many turns. A burst that comes too soon goes with
+// its first byte alone, for its note, and is a run.
 #[test]
 fn bursts_that_do_not_pass_take_few_turns(rt: HostRuntime) -> Result<(), Fail> {
     for link in LINKS {

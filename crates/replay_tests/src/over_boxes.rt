@@ -121,7 +121,7 @@ pub struct Row {
     pub text: &'static [u8],
     pub failing: Failing,
     pub status: Status,
-    pub code: u8,
+    pub exit_status: u8,
     pub out: &'static [u8],
     pub log: &'static [u8],
     pub slots_now: Numbers,
@@ -242,7 +242,7 @@ pub fn compare(rt: &impl Abort, alloc: Global, kind: BoxKind, row: &Row) -> Resu
         &row.failing,
     )?;
     assert_eq!(rt; ran.status, row.status);
-    assert!(rt; ran.status.code() == row.code);
+    assert!(rt; ran.status.exit_status() == row.exit_status);
     holds(rt, &ran.out, row.out);
     holds(rt, &ran.log, row.log);
     has_slots(rt, &ran.disk, row.slots_now, kind, row.dir);
@@ -333,7 +333,7 @@ fn fail_call(
     let ran = replay(alloc, kind, Dir::Ab, KEY, FRESH, text, &failing)?;
     if noted < 3 {
         assert!(rt; ran.status == Status::JournalFault);
-        assert!(rt; ran.status.code() == 7);
+        assert!(rt; ran.status.exit_status() == 7);
     } else {
         assert!(rt; ran.status == Status::Done);
     }

@@ -65,7 +65,7 @@ struct Row {
     text: &'static [u8],
     outside: Failing,
     status: Status,
-    code: u8,
+    exit_status: u8,
     out: &'static [u8],
     log: &'static [u8],
 }
@@ -73,7 +73,7 @@ struct Row {
 fn check(rt: &impl Abort, alloc: Global, row: &Row, outside: &Failing) -> Result<(), Fail> {
     let ran = read(rt, alloc, row.text, outside)?;
     assert_eq!(rt; ran.status, row.status);
-    assert!(rt; ran.status.code() == row.code);
+    assert!(rt; ran.status.exit_status() == row.exit_status);
     holds(rt, &ran.out, row.out);
     holds(rt, &ran.log, row.log);
     Ok(())
@@ -93,7 +93,7 @@ const fn whole(text: &'static [u8], out: &'static [u8]) -> Row {
         text,
         outside: STEADY,
         status: Status::Done,
-        code: 0,
+        exit_status: 0,
         out,
         log: b"",
     }
@@ -134,7 +134,7 @@ const fn refused(
         text,
         outside: STEADY,
         status: Status::BadTicks(BadTicks { line, why }),
-        code: 4,
+        exit_status: 4,
         out,
         log,
     }
@@ -197,7 +197,7 @@ fn is_too_long(
     let ran = read(rt, alloc, text, &STEADY)?;
     let what = TooMuch::Ticks;
     assert!(rt; ran.status == Status::TooLong { what, count });
-    assert!(rt; ran.status.code() == 10);
+    assert!(rt; ran.status.exit_status() == 10);
     holds(rt, &ran.out, lines);
     holds(rt, &ran.log, fault);
     Ok(())
@@ -253,7 +253,7 @@ const fn read_fault(outside: Failing, out: &'static [u8]) -> Row {
         text: REQUEST,
         outside,
         status: Status::ReadFault,
-        code: 5,
+        exit_status: 5,
         out,
         log: b"fault: read\n",
     }
@@ -264,7 +264,7 @@ const fn write_fault_of(text: &'static [u8], outside: Failing, out: &'static [u8
         text,
         outside,
         status: Status::WriteFault,
-        code: 6,
+        exit_status: 6,
         out,
         log: b"",
     }

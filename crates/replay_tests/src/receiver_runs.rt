@@ -26,7 +26,7 @@ type DnpChecker = Checker<Dnp, HmacSha1, 2, 18>;
 
 type WideRtuChecker = Checker<Rtu, HmacSha256, 4, 24>;
 
-// How many of the first letters are all silence or all bytes, and so many at most.
+// How many of the first letters are all silence or all bytes, and this many at most.
 pub fn alike(link: &[u8], most: usize) -> usize
     ensures { result ≤ length link.now }
 {
@@ -300,8 +300,8 @@ fn add(link: &mut Vec<u8>, letter: u8, times: usize) -> Result<(), AllocError> {
     Ok(())
 }
 
-// The first ticks of the packet, so many and one of them wrong, then so many silent ticks, a burst
-// of this many bytes, and silence.
+// The first ticks of the packet, this many and one of them wrong, then this many silent ticks, a
+// burst of this many bytes, and silence.
 pub fn link_of(
     alloc: Global,
     packet: &[u8],

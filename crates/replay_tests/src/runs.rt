@@ -1,4 +1,4 @@
-//! A line comes to the same however many of its bytes stand in one line of text.
+//! A line comes to the same however many of its bytes are in one line of text.
 ghost use Rattle.std.specs.Prelude.{◌<◌};
 
 use crate::outside::STEADY;
@@ -8,7 +8,7 @@ use replay_status::Status;
 use std::alloc::Global;
 use std::test::Fail;
 
-// Adds a burst of this many bytes, in lines of at most so many.
+// Adds a burst of this many bytes, in lines of at most this many.
 fn push_burst(text: &mut Vec<u8>, len: usize, most: usize) -> Result<(), Fail>
     requires { 0 < most }
 {

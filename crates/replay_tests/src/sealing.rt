@@ -25,7 +25,7 @@ const WHOLE: Row = Row {
     text: b"+01030000000ac5cd\n-40\n",
     failing: STEADY,
     status: Status::Done,
-    code: 0,
+    exit_status: 0,
     out: SEALED_WHOLE,
     log: b"sealed 1 at 0 len 8\n",
     slots_now: (AT_0, AT_1),
@@ -111,7 +111,7 @@ fn seals_the_frames_of_a_line(rt: HostRuntime) -> Result<(), Fail> {
     compare_all(&rt, rt.alloc(), BoxKind::SealRtu, &SEALED)
 }
 
-// 254 bytes 00 and their CRC, and what stands behind them.
+// 254 bytes 00 and their CRC, and what comes after them.
 fn longest_frame(alloc: Global, behind: &[u8]) -> Result<Vec<u8>, Fail> {
     let mut text = Vec::new(alloc);
     for _ in 0..7 {
@@ -197,7 +197,7 @@ fn a_failed_call_of_the_disk_loses_no_number(rt: HostRuntime) -> Result<(), Fail
 /// Nothing is written but the fault line.
 const REFUSED: Row = Row {
     status: Status::ReadFault,
-    code: 5,
+    exit_status: 5,
     out: b"",
     log: b"fault: read\n",
     slots_now: FRESH,
@@ -207,7 +207,7 @@ const REFUSED: Row = Row {
 /// The request is sealed, without the silence of a whole input, and then something fails.
 const CUT_SHORT: Row = Row {
     status: Status::ReadFault,
-    code: 5,
+    exit_status: 5,
     out: b"+01030000000ac5cd\n-3\n+0001014c5b8d33c6d29a347013b0\n-23\n",
     log: b"sealed 1 at 0 len 8\nfault: read\n",
     ..WHOLE
@@ -215,7 +215,7 @@ const CUT_SHORT: Row = Row {
 
 const WRITE_FAULT: Row = Row {
     status: Status::WriteFault,
-    code: 6,
+    exit_status: 6,
     out: b"",
     log: b"sealed 1 at 0 len 8\n",
     ..WHOLE
@@ -229,14 +229,14 @@ const NOT_DONE: [Row; 9] = [
     Row {
         key: b"000102030405060708090a0b0c0d0e",
         status: Status::BadKey { place: 30 },
-        code: 3,
+        exit_status: 3,
         log: b"fault: key at 30\n",
         ..REFUSED
     },
     Row {
         key: b"000102030405060708090a0b0c0d0e0f ",
         status: Status::BadKey { place: 32 },
-        code: 3,
+        exit_status: 3,
         log: b"fault: key at 32\n",
         ..REFUSED
     },
@@ -246,7 +246,7 @@ const NOT_DONE: [Row; 9] = [
             a: [0x11; 24],
             b: [0x11; 24],
         },
-        code: 8,
+        exit_status: 8,
         log: b"fault: bad journal 111111111111111111111111111111111111111111111111 11111111111111\
             1111111111111111111111111111111111\n",
         slots_now: (NO_NUMBER, NO_NUMBER),
@@ -258,7 +258,7 @@ const NOT_DONE: [Row; 9] = [
             line: 3,
             why: TickFault::Char,
         }),
-        code: 4,
+        exit_status: 4,
         log: b"sealed 1 at 0 len 8\nfault: line 3 char\n",
         ..CUT_SHORT
     },

@@ -33,7 +33,7 @@ const SEALED: Row = Row {
     text: b"+01030000000ac5cd\n-40\n",
     failing: STEADY,
     status: Status::Done,
-    code: 0,
+    exit_status: 0,
     out: PACKET,
     log: b"sealed 1 at 0 len 8\n",
     slots_now: (AT_0, AT_1),
@@ -112,8 +112,8 @@ const REFUSED: Row = Row {
     ..PASSED
 };
 
-// A link, and what a device behind the receiver reads of it. Ticks and notes here were computed from
-// the rules of `docs/LINK.md` by a program in another language, over whole lines.
+// A link, and what a device behind the receiver reads of it. Ticks and notes here were computed
+// from the rules of `docs/LINK.md` by a program in another language, over whole lines.
 const CHECKS: [Row; 9] = [
     PASSED,
     // The last byte of the tag is wrong.

@@ -70,7 +70,7 @@ fn old_slots_are_taken_over(rt: HostRuntime) -> Result<(), Fail> {
 fn slots_of_another_link_are_refused(rt: HostRuntime) -> Result<(), Fail> {
     let ran = seal_over(rt.alloc(), Dir::Ba, NUMBER_5, NUMBER_6, &STEADY)?;
     assert!(rt; ran.status == Status::WrongLink { slot: NUMBER_6 });
-    assert!(rt; ran.status.code() == 12);
+    assert!(rt; ran.status.exit_status() == 12);
     holds(&rt, &ran.out, b"");
     holds(
         &rt,
@@ -96,7 +96,7 @@ fn a_taking_over_that_fails_loses_no_number(rt: HostRuntime) -> Result<(), Fail>
         };
         let mut ran = seal_over(rt.alloc(), Dir::Ab, BLANK, BLANK, &failing)?;
         assert!(rt; ran.status == Status::JournalFault);
-        assert!(rt; ran.status.code() == 7);
+        assert!(rt; ran.status.exit_status() == 7);
         holds(&rt, &ran.out, b"");
         holds(&rt, &ran.log, b"fault: journal\n");
         has_slots(&rt, &ran.disk, a, BLANK);

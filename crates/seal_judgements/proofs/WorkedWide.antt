@@ -1,5 +1,5 @@
 -- The definitions of the transmitter with words of four bytes and tags of sixteen, on small lines
--- of a Modbus RTU device, with a tag that stands in for HMAC.
+-- of a Modbus RTU device, with a tag that is in for HMAC.
 use Rattle.std.proofs.Common.{◌≡◌, List, [], ◌∷◌, ◌++◌, refl}
 use Rattle.yasir_ticks.specs.Ticks.{silent}
 use Rattle.yasir_ticks.specs.Bursts.{bursts_from, with_byte}

@@ -43,16 +43,16 @@ use Rattle.seal_transmitter.proofs.Steps.{walks-unsealed, walks-sealed, walks-ea
 use Rattle.seal_transmitter.proofs.Steps.{walks-extra, seals-late, seals-whole, walked-number}
 
 -- The walk over a line goes on by a tick, with this answer.
-pub record WalksOn {R M : Type 0} (proto : LineRules R) (code : Mac M) (word_len : ℕ)
+pub record WalksOn {R M : Type 0} (proto : LineRules R) (macs : Mac M) (word_len : ℕ)
     (setup : Setup) (last earliest : ℕ)
     (left : List ℕ) (mac : M) (line : List Tick) (t : Tick) (step : BoxStep SealNote) : Type 0 where
-  pub walks : Walks proto code word_len last earliest left mac setup (line ++ t ∷ [])
-  pub answers : AnswersTick (profile_of proto code word_len LIMIT setup) proto.rules setup.floor
+  pub walks : Walks proto macs word_len last earliest left mac setup (line ++ t ∷ [])
+  pub answers : AnswersTick (profile_of proto macs word_len LIMIT setup) proto.rules setup.floor
       line t step
 
-module _ {R M : Type 0} (proto : LineRules R) (code : Mac M) (word_len : ℕ) (setup : Setup) where
+module _ {R M : Type 0} (proto : LineRules R) (macs : Mac M) (word_len : ℕ) (setup : Setup) where
   abbrev profile : Profile
-  profile = profile_of proto code word_len LIMIT setup
+  profile = profile_of proto macs word_len LIMIT setup
 
   abbrev rules : Rules
   rules = proto.rules
@@ -60,21 +60,21 @@ module _ {R M : Type 0} (proto : LineRules R) (code : Mac M) (word_len : ℕ) (s
   tags : HasTags profile
   tags = record {
     sized = λ number frame.
-        code.tag_len setup.key (tag_text rules.label setup.direction frame number);
+        macs.tag_len setup.key (tag_text rules.label setup.direction frame number);
   }
 
-  pub walks-begun : (mac : M) (none : code.stands mac setup.key [])
-      → Walks proto code word_len setup.floor 0 [] mac setup []
+  pub walks-begun : (mac : M) (none : macs.stands mac setup.key [])
+      → Walks proto macs word_len setup.floor 0 [] mac setup []
   walks-begun mac none = record {
     running = None;
     walked = walked-begun profile rules setup.floor;
     text = [];
-    codes = none;
+    mac_is = none;
     text_is = tt;
   }
 
   module _ (line : List Tick) (last earliest : ℕ) (left : List ℕ) (mac : M)
-      (old : Walks proto code word_len last earliest left mac setup line) where
+      (old : Walks proto macs word_len last earliest left mac setup line) where
     abbrev state : SealState
     state = record { floor = last; earliest_start = earliest }
 
@@ -83,7 +83,7 @@ module _ {R M : Type 0} (proto : LineRules R) (code : Mac M) (word_len : ℕ) (s
 
     abbrev On : ℕ → ℕ → List ℕ → M → Tick → BoxStep SealNote → Type 0
     On number next to_send new t step =
-        WalksOn proto code word_len setup number next to_send new line t step
+        WalksOn proto macs word_len setup number next to_send new line t step
 
     abbrev WalkedBy : Option Burst → Type 0
     WalkedBy running = HasWalked profile rules setup.floor m (bursts line) state left running
@@ -117,7 +117,7 @@ module _ {R M : Type 0} (proto : LineRules R) (code : Mac M) (word_len : ℕ) (s
             running = old.running;
             walked = step.0;
             text = old.text;
-            codes = old.codes;
+            mac_is = old.mac_is;
             text_is = old.text_is;
           };
           answers = step.1;
@@ -173,7 +173,7 @@ module _ {R M : Type 0} (proto : LineRules R) (code : Mac M) (word_len : ℕ) (s
             running = None;
             walked = step.0;
             text = old.text;
-            codes = old.codes;
+            mac_is = old.mac_is;
             text_is = tt;
           };
           answers = subst P start step.1;
@@ -220,11 +220,11 @@ module _ {R M : Type 0} (proto : LineRules R) (code : Mac M) (word_len : ℕ) (s
     pub advance-sealed : (number next : ℕ) (bytes : List ℕ) (new : M)
         → cut_of rules line Silent ≡ Closed
         → IsJudged profile rules last earliest (line ++ Silent ∷ []) (sealed_with number)
-        → next ≡ length line + 1 + (word_len + code.TAG) + 3
-        → ((text : List ℕ) → code.stands mac setup.key text
+        → next ≡ length line + 1 + (word_len + macs.TAG) + 3
+        → ((text : List ℕ) → macs.stands mac setup.key text
         → bytes ≡ bytes_high_first word_len number
-        ++ code.tag_of setup.key (text ++ to_be_bytes w64 number))
-        → ((text : List ℕ) → code.stands mac setup.key text → code.stands new setup.key [])
+        ++ macs.tag_of setup.key (text ++ to_be_bytes w64 number))
+        → ((text : List ℕ) → macs.stands mac setup.key text → macs.stands new setup.key [])
         → On number next (drop 1 bytes) new Silent
         (record {
           tick = first_of bytes;
@@ -240,14 +240,14 @@ module _ {R M : Type 0} (proto : LineRules R) (code : Mac M) (word_len : ℕ) (s
         is_sealed in
         let text = text-of d (closes closed).is late in
         let is : bytes ≡ trailer profile number (live_bytes rules d) =
-        tagged old.text old.codes
+        tagged old.text old.mac_is
         ∙ ap (λ x. bytes_high_first word_len number
-        ++ code.tag_of setup.key (x ++ to_be_bytes w64 number)) text in
+        ++ macs.tag_of setup.key (x ++ to_be_bytes w64 number)) text in
         let step = sealing number closed judge bytes is in
         let end : live_end rules d ≡ end_of d =
         live_end-whole rules proto.lawful d (closed-contiguous closed) whole in
         let at = (closes closed).at in
-        let earliest_is : live_end rules d + 3 + (word_len + code.TAG) + 4 ≡ next = omega arith in
+        let earliest_is : live_end rules d + 3 + (word_len + macs.TAG) + 4 ≡ next = omega arith in
         let P : ℕ → Type 0 = λ f. WalkedThen Silent (record { floor = number; earliest_start = f })
         (drop 1 bytes) None in
         let Q : Option Burst → Type 0 = λ o. AnswersTick profile rules setup.floor line Silent
@@ -260,7 +260,7 @@ module _ {R M : Type 0} (proto : LineRules R) (code : Mac M) (word_len : ℕ) (s
             running = None;
             walked = subst P earliest_is step.0;
             text = [];
-            codes = begun old.text old.codes;
+            mac_is = begun old.text old.mac_is;
             text_is = tt;
           };
           answers = subst Q (sym (closed-last closed)) step.1;
@@ -294,7 +294,7 @@ module _ {R M : Type 0} (proto : LineRules R) (code : Mac M) (word_len : ℕ) (s
             running = Some (next_burst b);
             walked = step.0;
             text = old.text;
-            codes = old.codes;
+            mac_is = old.mac_is;
             text_is = λ late. absurd (omega arith);
           };
           answers = step.1;
@@ -303,10 +303,10 @@ module _ {R M : Type 0} (proto : LineRules R) (code : Mac M) (word_len : ℕ) (s
     -- a live byte of any other burst
     live-on : (b : ℕ) (new : M) (text : List ℕ) → earliest ≤ start_so_far (line ++ Byte b ∷ [])
         → live_end rules (next_burst b) ≡ m + 1
-        → code.stands new setup.key text
+        → macs.stands new setup.key text
         → text ≡ rules.label ∷ setup.direction ∷ live_bytes rules (next_burst b)
         → On last earliest left new (Byte b) (noteless (Byte b))
-    live-on b new text late end codes is =
+    live-on b new text late end mac_is is =
         let start = next-start b in
         let step = walks-live profile rules proto.lawful tags setup.floor line state left
         old.running b old.walked (omega arith) end in
@@ -316,7 +316,7 @@ module _ {R M : Type 0} (proto : LineRules R) (code : Mac M) (word_len : ℕ) (s
             running = Some (next_burst b);
             walked = subst P (sym step.0) step.1;
             text = text;
-            codes = codes;
+            mac_is = mac_is;
             text_is = λ h. is;
           };
           answers = step.2;
@@ -324,22 +324,22 @@ module _ {R M : Type 0} (proto : LineRules R) (code : Mac M) (word_len : ℕ) (s
 
     pub advance-begin : (b : ℕ) (new : M) → cut_of rules line (Byte b) ≡ Start b
         → earliest ≤ start_so_far (line ++ Byte b ∷ [])
-        → code.stands new setup.key (rules.label ∷ setup.direction ∷ b ∷ [])
+        → macs.stands new setup.key (rules.label ∷ setup.direction ∷ b ∷ [])
         → On last earliest left new (Byte b) (noteless (Byte b))
-    advance-begin b new starts late codes =
+    advance-begin b new starts late mac_is =
         let none = byte-starts rules proto.lawful line b old.running runs starts in
         let is : next_burst b ≡ alone m b = ap (λ o. with_byte_at m b o) none in
         let end : live_end rules (next_burst b) ≡ m + 1 =
         ap (λ d. live_end rules d) is ∙ start-end rules proto.lawful line b in
         let bytes : live_bytes rules (next_burst b) ≡ b ∷ [] =
         ap (λ d. live_bytes rules d) is ∙ start-bytes rules proto.lawful line b in
-        live-on b new (rules.label ∷ setup.direction ∷ b ∷ []) late end codes
+        live-on b new (rules.label ∷ setup.direction ∷ b ∷ []) late end mac_is
         (ap (λ h. rules.label ∷ setup.direction ∷ h) (sym bytes))
 
     pub advance-live : (b : ℕ) (new : M) → cut_of rules line (Byte b) ≡ Live b
         → earliest ≤ start_so_far (line ++ Byte b ∷ [])
-        → ((text : List ℕ) → code.stands mac setup.key text
-        → code.stands new setup.key (text ++ b ∷ []))
+        → ((text : List ℕ) → macs.stands mac setup.key text
+        → macs.stands new setup.key (text ++ b ∷ []))
         → On last earliest left new (Byte b) (noteless (Byte b))
     advance-live b new lives late more =
         let on = byte-lives rules proto.lawful line b old.running runs lives in
@@ -348,7 +348,7 @@ module _ {R M : Type 0} (proto : LineRules R) (code : Mac M) (word_len : ℕ) (s
         next-start b ∙ ap (λ (d : Burst). d.start) is in
         let text = text-of on.burst on.is (omega arith) in
         live-on b new (old.text ++ b ∷ []) late (ap (λ d. live_end rules d) is ∙ on.end)
-        (more old.text old.codes)
+        (more old.text old.mac_is)
         (ap (λ x. x ++ b ∷ []) text ∙ ap (λ h. rules.label ∷ setup.direction ∷ h)
         (sym on.bytes ∙ sym (ap (λ d. live_bytes rules d) is)))
 
@@ -375,7 +375,7 @@ module _ {R M : Type 0} (proto : LineRules R) (code : Mac M) (word_len : ℕ) (s
             running = Some (next_burst b);
             walked = subst P (sym step.0) step.1;
             text = old.text;
-            codes = old.codes;
+            mac_is = old.mac_is;
             text_is = λ h. text ∙ ap (λ h. rules.label ∷ setup.direction ∷ h)
                 (sym on.bytes ∙ sym (ap (λ d. live_bytes rules d) is));
           };

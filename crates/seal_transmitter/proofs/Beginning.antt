@@ -31,33 +31,33 @@ pub first-of : (x : List ℕ) (b : ℕ) → Some b ≡ slice_get x 0 → take 1 
 first-of [] b is = cc
 first-of (a ∷ x) b is = cc
 
-pub begun-taken : {R M : Type 0} (proto : LineRules R) (code : Mac M) {B : ℕ} (old : Sealer R M B)
-    (last : ℕ) (setup : Setup) (line : List Tick) → StandsAt proto code old last setup line
+pub begun-taken : {R M : Type 0} (proto : LineRules R) (macs : Mac M) {B : ℕ} (old : Sealer R M B)
+    (last : ℕ) (setup : Setup) (line : List Tick) → StandsAt proto macs old last setup line
     → (cut : BurstCut R) (mac : M) (b : ℕ) → 4 ≤ quiet_so_far line
     → old.earliest_start ≤ length line → CutStandsFor proto cut (line ++ Byte b ∷ [])
-    → ((text : List ℕ) → code.stands old.mac setup.key text
-    → code.stands mac setup.key (proto.rules.label ∷ setup.direction ∷ b ∷ []))
-    → HasTakenRun proto code (record old { cut = cut; mac = mac }) last setup line
+    → ((text : List ℕ) → macs.stands old.mac setup.key text
+    → macs.stands mac setup.key (proto.rules.label ∷ setup.direction ∷ b ∷ []))
+    → HasTakenRun proto macs (record old { cut = cut; mac = mac }) last setup line
     (Byte b ∷ []) (Byte b ∷ [])
-begun-taken proto code {B} old last setup line stands cut mac b quiet late cuts codes =
+begun-taken proto macs {B} old last setup line stands cut mac b quiet late cuts mac_is =
     let quiet_is = stands.cuts.quiet_is in
     let starts : cut_of proto.rules line (Byte b) ≡ Start b =
     sym (cut-begin proto old.cut line stands.cuts b (omega arith)) in
     let now : start_so_far (line ++ Byte b ∷ []) ≡ length line =
-    starts-now proto code B setup line last old.earliest_start (bytes_left old.trailer) old.mac
+    starts-now proto macs B setup line last old.earliest_start (bytes_left old.trailer) old.mac
     stands.walks b starts in
-    let between : IsBetween proto code (record old { cut = cut }) last setup line (Byte b)
+    let between : IsBetween proto macs (record old { cut = cut }) last setup line (Byte b)
     (Start b) = record {
       direction_is = stands.direction_is;
       cuts = cuts;
       is_cut = starts;
       walks = stands.walks;
     } in
-    let one = begin-late proto code (record old { cut = cut }) last setup line mac (Byte b) b
-    between (omega arith) (codes stands.walks.text stands.walks.codes) in
+    let one = begin-late proto macs (record old { cut = cut }) last setup line mac (Byte b) b
+    between (omega arith) (mac_is stands.walks.text stands.walks.mac_is) in
     record {
       stands = one.stands;
       floor = one.floor;
-      answers = run-tick (sealer (profile_of proto code B LIMIT setup) proto.rules) brief_note
+      answers = run-tick (sealer (profile_of proto macs B LIMIT setup) proto.rules) brief_note
           (at_floor setup.floor) line (Byte b) (Byte b) one.answers;
     }

@@ -60,19 +60,19 @@ drop-none zero l is = refl
 drop-none (suc n) [] is = refl
 drop-none (suc n) (b ∷ l) is = cc
 
-module _ {R M : Type 0} (proto : LineRules R) (code : Mac M) (word_len : ℕ) (setup : Setup) where
+module _ {R M : Type 0} (proto : LineRules R) (macs : Mac M) (word_len : ℕ) (setup : Setup) where
   abbrev rules : Rules
   rules = proto.rules
 
-  -- the code, with the texts themselves as its values
+  -- the MAC, with the texts themselves as its values
   abbrev as_text : Mac (List ℕ)
   as_text = record {
-    tag_of = code.tag_of;
+    tag_of = macs.tag_of;
     stands = λ value key text. value ≡ text;
-    TAG = code.TAG;
-    tag_size = code.tag_size;
-    tag_len = code.tag_len;
-    tag_bytes = code.tag_bytes;
+    TAG = macs.TAG;
+    tag_size = macs.tag_size;
+    tag_len = macs.tag_len;
+    tag_bytes = macs.tag_bytes;
   }
 
   abbrev TextWalks : ℕ → ℕ → List ℕ → List ℕ → List Tick → Type 0
@@ -80,26 +80,26 @@ module _ {R M : Type 0} (proto : LineRules R) (code : Mac M) (word_len : ℕ) (s
       Walks proto as_text word_len last earliest left text setup line
 
   pub to-text : (last earliest : ℕ) (left : List ℕ) (mac : M) (line : List Tick)
-      (w : Walks proto code word_len last earliest left mac setup line)
+      (w : Walks proto macs word_len last earliest left mac setup line)
       → TextWalks last earliest left w.text line
   to-text last earliest left mac line w = record {
     running = w.running;
     walked = w.walked;
     text = w.text;
-    codes = refl;
+    mac_is = refl;
     text_is = w.text_is;
   }
 
   pub of-text : (last earliest : ℕ) (left text : List ℕ) (mac : M) (line : List Tick)
-      → code.stands mac setup.key text → TextWalks last earliest left text line
-      → Walks proto code word_len last earliest left mac setup line
-  of-text last earliest left text mac line codes w =
-      let P : List ℕ → Type 0 = λ x. code.stands mac setup.key x in
+      → macs.stands mac setup.key text → TextWalks last earliest left text line
+      → Walks proto macs word_len last earliest left mac setup line
+  of-text last earliest left text mac line mac_is w =
+      let P : List ℕ → Type 0 = λ x. macs.stands mac setup.key x in
       record {
         running = w.running;
         walked = w.walked;
         text = w.text;
-        codes = subst P w.codes codes;
+        mac_is = subst P w.mac_is mac_is;
         text_is = w.text_is;
       }
 
@@ -107,7 +107,7 @@ module _ {R M : Type 0} (proto : LineRules R) (code : Mac M) (word_len : ℕ) (s
   pub record RunsOn (last earliest : ℕ) (left text : List ℕ) (line run answer : List Tick) :
       Type 0 where
     pub walks : TextWalks last earliest left text (line ++ run)
-    pub answers : AnswersRun (sealer (profile_of proto code word_len LIMIT setup) rules) brief_note
+    pub answers : AnswersRun (sealer (profile_of proto macs word_len LIMIT setup) rules) brief_note
         (at_floor setup.floor) line run answer
 
   module _ (last earliest : ℕ) where
@@ -117,7 +117,7 @@ module _ {R M : Type 0} (proto : LineRules R) (code : Mac M) (word_len : ℕ) (s
         let P : List Tick → Type 0 = λ l. TextWalks last earliest left text l in
         record {
           walks = subst P (sym (append-nil line)) w;
-          answers = run-none (sealer (profile_of proto code word_len LIMIT setup) rules) brief_note
+          answers = run-none (sealer (profile_of proto macs word_len LIMIT setup) rules) brief_note
               (at_floor setup.floor) line;
         }
 
@@ -130,9 +130,9 @@ module _ {R M : Type 0} (proto : LineRules R) (code : Mac M) (word_len : ℕ) (s
         let P : List Tick → Type 0 = λ l. TextWalks last earliest left text l in
         record {
           walks = subst P (append_assoc line (t ∷ []) run) rest.walks;
-          answers = run-joined (sealer (profile_of proto code word_len LIMIT setup) rules)
+          answers = run-joined (sealer (profile_of proto macs word_len LIMIT setup) rules)
               brief_note (at_floor setup.floor) line (t ∷ []) run (u ∷ []) answer
-              (run-tick (sealer (profile_of proto code word_len LIMIT setup) rules) brief_note
+              (run-tick (sealer (profile_of proto macs word_len LIMIT setup) rules) brief_note
               (at_floor setup.floor) line t u on.answers) rest.answers;
         }
 
@@ -217,30 +217,30 @@ module _ {R M : Type 0} (proto : LineRules R) (code : Mac M) (word_len : ℕ) (s
 
 -- ---- the transmitter after a run
 
-module _ {R M : Type 0} (proto : LineRules R) (code : Mac M) {B : ℕ} (old : Sealer R M B) (last : ℕ)
-    (setup : Setup) (line : List Tick) (stands : StandsAt proto code old last setup line) where
+module _ {R M : Type 0} (proto : LineRules R) (macs : Mac M) {B : ℕ} (old : Sealer R M B) (last : ℕ)
+    (setup : Setup) (line : List Tick) (stands : StandsAt proto macs old last setup line) where
   abbrev Takes : Sealer R M B → List Tick → List Tick → Type 0
-  Takes new run answer = HasTakenRun proto code new last setup line run answer
+  Takes new run answer = HasTakenRun proto macs new last setup line run answer
 
   abbrev left : List ℕ
   left = bytes_left old.trailer
 
-  walks-text : Walks proto (as_text proto code B setup) B last old.earliest_start left
+  walks-text : Walks proto (as_text proto macs B setup) B last old.earliest_start left
       stands.walks.text setup line
-  walks-text = to-text proto code B setup last old.earliest_start left old.mac line stands.walks
+  walks-text = to-text proto macs B setup last old.earliest_start left old.mac line stands.walks
 
   taken : (cut : BurstCut R) (mac : M) (trailer : Trailer B) (text : List ℕ)
       (run answer : List Tick) → CutStandsFor proto cut (line ++ run)
-      → code.stands mac setup.key text
-      → RunsOn proto code B setup last old.earliest_start (bytes_left trailer) text line run answer
+      → macs.stands mac setup.key text
+      → RunsOn proto macs B setup last old.earliest_start (bytes_left trailer) text line run answer
       → Takes (record old { cut = cut; mac = mac; trailer = trailer }) run answer
-  taken cut mac trailer text run answer cuts codes on =
-      let walks : Walks proto code B last old.earliest_start (bytes_left trailer) mac setup
-      (line ++ run) = of-text proto code B setup last old.earliest_start (bytes_left trailer) text
-      mac (line ++ run) codes on.walks in
+  taken cut mac trailer text run answer cuts mac_is on =
+      let walks : Walks proto macs B last old.earliest_start (bytes_left trailer) mac setup
+      (line ++ run) = of-text proto macs B setup last old.earliest_start (bytes_left trailer) text
+      mac (line ++ run) mac_is on.walks in
       record {
         stands = record { direction_is = stands.direction_is; cuts = cuts; walks = walks };
-        floor = number-is proto code B setup (line ++ run) last old.earliest_start
+        floor = number-is proto macs B setup (line ++ run) last old.earliest_start
             (bytes_left trailer) mac walks;
         answers = on.answers;
       }
@@ -249,35 +249,35 @@ module _ {R M : Type 0} (proto : LineRules R) (code : Mac M) {B : ℕ} (old : Se
   nothing-taken =
       let P : List Tick → Type 0 = λ l. CutStandsFor proto old.cut l in
       taken old.cut old.mac old.trailer stands.walks.text [] []
-      (subst P (sym (append-nil line)) stands.cuts) stands.walks.codes
-      (none-on proto code B setup last old.earliest_start left stands.walks.text line walks-text)
+      (subst P (sym (append-nil line)) stands.cuts) stands.walks.mac_is
+      (none-on proto macs B setup last old.earliest_start left stands.walks.text line walks-text)
 
   pub forward-taken : (cut : BurstCut R) (mac : M) (x : List ℕ)
       → CutStandsFor proto cut (line ++ map Byte x)
       → cuts_after proto.rules line (map Byte x) ≡ map Live x
       → old.earliest_start ≤ start_so_far line
-      → ((text : List ℕ) → code.stands old.mac setup.key text
-      → code.stands mac setup.key (text ++ x))
+      → ((text : List ℕ) → macs.stands old.mac setup.key text
+      → macs.stands mac setup.key (text ++ x))
       → Takes (record old { cut = cut; mac = mac }) (map Byte x) (map Byte x)
   forward-taken cut mac x cuts live late more =
       taken cut mac old.trailer (stands.walks.text ++ x) (map Byte x) (map Byte x) cuts
-      (more stands.walks.text stands.walks.codes)
-      (forwards proto code B setup last old.earliest_start x left stands.walks.text line walks-text
+      (more stands.walks.text stands.walks.mac_is)
+      (forwards proto macs B setup last old.earliest_start x left stands.walks.text line walks-text
       live late)
 
   -- what goes out is told by the bytes that were left
   module _ (cut : BurstCut R) (trailer : Trailer B) where
     sends : (n : ℕ) (run answer : List Tick) → CutStandsFor proto cut (line ++ run)
         → bytes_left trailer ≡ drop n left → sent n left ≡ answer
-        → RunsOn proto code B setup last old.earliest_start (drop n left) stands.walks.text line
+        → RunsOn proto macs B setup last old.earliest_start (drop n left) stands.walks.text line
         run (sent n left)
         → Takes (record old { cut = cut; trailer = trailer }) run answer
     sends n run answer cuts left_is answer_is on =
-        let P : List ℕ → Type 0 = λ y. RunsOn proto code B setup last old.earliest_start y
+        let P : List ℕ → Type 0 = λ y. RunsOn proto macs B setup last old.earliest_start y
         stands.walks.text line run answer in
-        let Q : List Tick → Type 0 = λ y. RunsOn proto code B setup last old.earliest_start
+        let Q : List Tick → Type 0 = λ y. RunsOn proto macs B setup last old.earliest_start
         (drop n left) stands.walks.text line run y in
-        taken cut old.mac trailer stands.walks.text run answer cuts stands.walks.codes
+        taken cut old.mac trailer stands.walks.text run answer cuts stands.walks.mac_is
         (subst P (sym left_is) (subst Q answer_is on))
 
     pub open-taken : (n : ℕ) (answer : List Tick) → CutStandsFor proto cut (line ++ silent n)
@@ -286,7 +286,7 @@ module _ {R M : Type 0} (proto : LineRules R) (code : Mac M) {B : ℕ} (old : Se
         → Takes (record old { cut = cut; trailer = trailer }) (silent n) answer
     open-taken n answer cuts open' left_is answer_is =
         sends n (silent n) answer cuts left_is answer_is
-        (sends-open proto code B setup last old.earliest_start n left stands.walks.text line
+        (sends-open proto macs B setup last old.earliest_start n left stands.walks.text line
         walks-text open')
 
     pub early-taken : (n : ℕ) (x : List ℕ) (answer : List Tick) → length x ≡ n
@@ -298,7 +298,7 @@ module _ {R M : Type 0} (proto : LineRules R) (code : Mac M) {B : ℕ} (old : Se
     early-taken n x answer long cuts live early left_is answer_is =
         sends (length x) (map Byte x) answer cuts (left_is ∙ ap (λ k. drop k left) (sym long))
         (ap (λ k. sent k left) long ∙ answer_is)
-        (sends-early proto code B setup last old.earliest_start x left stands.walks.text line
+        (sends-early proto macs B setup last old.earliest_start x left stands.walks.text line
         walks-text live early)
 
     pub extra-taken : (n : ℕ) (x : List ℕ) (answer : List Tick) → length x ≡ n
@@ -309,25 +309,25 @@ module _ {R M : Type 0} (proto : LineRules R) (code : Mac M) {B : ℕ} (old : Se
     extra-taken n x answer long cuts extra left_is answer_is =
         sends (length x) (map Byte x) answer cuts (left_is ∙ ap (λ k. drop k left) (sym long))
         (ap (λ k. sent k left) long ∙ answer_is)
-        (sends-extra proto code B setup last old.earliest_start x left stands.walks.text line
+        (sends-extra proto macs B setup last old.earliest_start x left stands.walks.text line
         walks-text extra)
 
 -- ---- runs that follow one another
 
-pub run-then : {R M : Type 0} (proto : LineRules R) (code : Mac M) {B : ℕ} (last : ℕ)
+pub run-then : {R M : Type 0} (proto : LineRules R) (macs : Mac M) {B : ℕ} (last : ℕ)
     (mid new : Sealer R M B) (setup : Setup) (line run answer more next : List Tick)
-    → HasTakenRun proto code mid last setup line run answer
-    → HasTakenRun proto code new last setup (line ++ run) more next
-    → HasTakenRun proto code new last setup line (run ++ more) (answer ++ next)
-run-then proto code {B} last mid new setup line run answer more next first then =
+    → HasTakenRun proto macs mid last setup line run answer
+    → HasTakenRun proto macs new last setup (line ++ run) more next
+    → HasTakenRun proto macs new last setup line (run ++ more) (answer ++ next)
+run-then proto macs {B} last mid new setup line run answer more next first then =
     let whole : (line ++ run) ++ more ≡ line ++ (run ++ more) = append_assoc line run more in
-    let P : List Tick → Type 0 = λ l. StandsAt proto code new last setup l in
+    let P : List Tick → Type 0 = λ l. StandsAt proto macs new last setup l in
     let Q : List Tick → Type 0 = λ l. last ≡ last_number setup.floor
-    (sealed (profile_of proto code B LIMIT setup) proto.rules setup.floor l) in
+    (sealed (profile_of proto macs B LIMIT setup) proto.rules setup.floor l) in
     record {
       stands = subst P whole then.stands;
       floor = subst Q whole then.floor;
-      answers = run-joined (sealer (profile_of proto code B LIMIT setup) proto.rules) brief_note
+      answers = run-joined (sealer (profile_of proto macs B LIMIT setup) proto.rules) brief_note
           (at_floor setup.floor) line run more answer next first.answers then.answers;
     }
 
@@ -344,12 +344,12 @@ bytes-then n k x =
     sym (map-append Byte (take n x) (take k (drop n x))) ∙ ap (λ y. map Byte y) whole
 
 -- a run behind one of no tick
-pub run-behind : {R M : Type 0} (proto : LineRules R) (code : Mac M) {B : ℕ} (last : ℕ)
+pub run-behind : {R M : Type 0} (proto : LineRules R) (macs : Mac M) {B : ℕ} (last : ℕ)
     (mid new : Sealer R M B) (setup : Setup) (line none run nothing answer : List Tick)
-    → none ≡ [] → HasTakenRun proto code mid last setup line none nothing
-    → (StandsAt proto code mid last setup line
-    → HasTakenRun proto code new last setup line run answer)
-    → HasTakenRun proto code new last setup line run answer
-run-behind proto code last mid new setup line none run nothing answer is first then =
-    then (subst (λ l. StandsAt proto code mid last setup l)
+    → none ≡ [] → HasTakenRun proto macs mid last setup line none nothing
+    → (StandsAt proto macs mid last setup line
+    → HasTakenRun proto macs new last setup line run answer)
+    → HasTakenRun proto macs new last setup line run answer
+run-behind proto macs last mid new setup line none run nothing answer is first then =
+    then (subst (λ l. StandsAt proto macs mid last setup l)
     (ap (λ r. line ++ r) is ∙ append-nil line) first.stands)

@@ -1,4 +1,4 @@
--- What stands on the link where the line of the device goes on.
+-- What is on the link where the line of the device goes on.
 use Rattle.std.proofs.Common.{◌≡◌, ◌∙◌, ◌&&◌, ℕ, suc, ◌+◌, ◌-◌, ◌<◌, ◌≤◌, nat_lt, nat_le, true}
 use Rattle.std.proofs.Common.{false, List, [], ◌∷◌, ◌++◌, length, map, drop, refl, sym, ap, arith}
 use Rattle.std.proofs.Common.{append_assoc, length-append, get_or, ◌⊎◌, inl, inr, ⊎_elim}

@@ -35,17 +35,17 @@ pub record HasSent {R M : Type 0} {B : ℕ} (old new : Sealer R M B) (step : Box
   pub left : bytes_left new.trailer ≡ drop 1 (bytes_left old.trailer)
   pub answer : step ≡ noteless (first_of (bytes_left old.trailer))
 
-module _ {R M : Type 0} (proto : LineRules R) (code : Mac M) {B : ℕ} (old : Sealer R M B) (last : ℕ)
+module _ {R M : Type 0} (proto : LineRules R) (macs : Mac M) {B : ℕ} (old : Sealer R M B) (last : ℕ)
     (setup : Setup)
     (line : List Tick) where
   abbrev Between : Tick → Cut → Type 0
-  Between t cut = IsBetween proto code old last setup line t cut
+  Between t cut = IsBetween proto macs old last setup line t cut
 
   abbrev Taken : Sealer R M B → ℕ → Tick → BoxStep SealNote → Type 0
-  Taken new number t step = HasTaken proto code new number setup line t step
+  Taken new number t step = HasTaken proto macs new number setup line t step
 
   abbrev On : ℕ → ℕ → List ℕ → M → Tick → BoxStep SealNote → Type 0
-  On number earliest left mac t step = WalksOn proto code B setup number earliest left mac line t
+  On number earliest left mac t step = WalksOn proto macs B setup number earliest left mac line t
       step
 
   -- the walk goes on, and all else has taken the tick
@@ -56,7 +56,7 @@ module _ {R M : Type 0} (proto : LineRules R) (code : Mac M) {B : ℕ} (old : Se
       → Taken new number t step
   taken new number t step direction_is cuts on = record {
     stands = record { direction_is = direction_is; cuts = cuts; walks = on.walks };
-    floor = number-is proto code B setup (line ++ t ∷ []) number new.earliest_start
+    floor = number-is proto macs B setup (line ++ t ∷ []) number new.earliest_start
         (bytes_left new.trailer) new.mac on.walks;
     answers = on.answers;
   }
@@ -80,7 +80,7 @@ module _ {R M : Type 0} (proto : LineRules R) (code : Mac M) {B : ℕ} (old : Se
       → (t : Tick) (cut : Cut) → IsPassing cut → Between t cut → Taken new last t step
   pass-taken new step has t cut passing between =
       sent new step t cut has between
-      (advance-passing proto code B setup line last old.earliest_start (bytes_left old.trailer)
+      (advance-passing proto macs B setup line last old.earliest_start (bytes_left old.trailer)
       old.mac between.walks
       t cut between.is_cut passing)
 
@@ -93,7 +93,7 @@ module _ {R M : Type 0} (proto : LineRules R) (code : Mac M) {B : ℕ} (old : Se
       (noteless (first_of (bytes_left old.trailer))) in
       sent new step t cut has between
       (subst P (sym is)
-      (λ soon. advance-early proto code B setup line last old.earliest_start
+      (λ soon. advance-early proto macs B setup line last old.earliest_start
       (bytes_left old.trailer) old.mac between.walks b soon)
       early)
 
@@ -115,23 +115,23 @@ module _ {R M : Type 0} (proto : LineRules R) (code : Mac M) {B : ℕ} (old : Se
 
   pub begin-late : (mac : M) (t : Tick) (b : ℕ) → Between t (Start b)
       → old.earliest_start ≤ start_so_far (line ++ t ∷ [])
-      → code.stands mac setup.key (proto.rules.label ∷ setup.direction ∷ b ∷ [])
+      → macs.stands mac setup.key (proto.rules.label ∷ setup.direction ∷ b ∷ [])
       → Taken (record old { mac = mac }) last t (noteless (Byte b))
-  begin-late mac t b between late codes =
+  begin-late mac t b between late mac_is =
       let P : Tick → Type 0 = λ u. cut_of proto.rules line u ≡ Start b
       → old.earliest_start ≤ start_so_far (line ++ u ∷ [])
       → On last old.earliest_start (bytes_left old.trailer) mac u (noteless (Byte b)) in
       taken (record old { mac = mac }) last t (noteless (Byte b)) between.direction_is between.cuts
       (subst P (sym (start-tick proto.rules line t b between.is_cut))
-      (λ starts from. advance-begin proto code B setup line last old.earliest_start
+      (λ starts from. advance-begin proto macs B setup line last old.earliest_start
       (bytes_left old.trailer) old.mac
-      between.walks b mac starts from codes)
+      between.walks b mac starts from mac_is)
       between.is_cut late)
 
   pub go_on-late : (mac : M) (t : Tick) (b : ℕ) → Between t (Live b)
       → old.earliest_start ≤ start_so_far (line ++ t ∷ [])
-      → ((text : List ℕ) → code.stands old.mac setup.key text
-      → code.stands mac setup.key (text ++ b ∷ []))
+      → ((text : List ℕ) → macs.stands old.mac setup.key text
+      → macs.stands mac setup.key (text ++ b ∷ []))
       → Taken (record old { mac = mac }) last t (noteless (Byte b))
   go_on-late mac t b between late more =
       let P : Tick → Type 0 = λ u. cut_of proto.rules line u ≡ Live b
@@ -139,7 +139,7 @@ module _ {R M : Type 0} (proto : LineRules R) (code : Mac M) {B : ℕ} (old : Se
       → On last old.earliest_start (bytes_left old.trailer) mac u (noteless (Byte b)) in
       taken (record old { mac = mac }) last t (noteless (Byte b)) between.direction_is between.cuts
       (subst P (sym (live-tick proto.rules line t b between.is_cut))
-      (λ lives from. advance-live proto code B setup line last old.earliest_start
+      (λ lives from. advance-live proto macs B setup line last old.earliest_start
       (bytes_left old.trailer) old.mac
       between.walks b mac lives from more)
       between.is_cut late)
@@ -150,7 +150,7 @@ module _ {R M : Type 0} (proto : LineRules R) (code : Mac M) {B : ℕ} (old : Se
       → bytes_left trailer ≡ drop 1 (bytes_left old.trailer)
       → tick ≡ first_of (bytes_left old.trailer)
       → Between Silent Closed → start ≡ start_so_far (line ++ Silent ∷ [])
-      → Judges proto code old last setup (line ++ Silent ∷ []) (unsealed why)
+      → Judges proto macs old last setup (line ++ Silent ∷ []) (unsealed why)
       → Taken (record old { trailer = trailer }) last Silent
       (record { tick = tick; note = Some (Unsealed start why) })
   leave-taken trailer tick start why left answer between start_is judge =
@@ -165,7 +165,7 @@ module _ {R M : Type 0} (proto : LineRules R) (code : Mac M) {B : ℕ} (old : Se
       (record { tick = tick; note = Some (Unsealed start why) })
       between.direction_is between.cuts
       (subst L (sym left) (subst T (sym answer) (subst N (sym start_is)
-      (advance-unsealed proto code B setup line last earliest (bytes_left old.trailer) old.mac
+      (advance-unsealed proto macs B setup line last earliest (bytes_left old.trailer) old.mac
       between.walks
       why between.is_cut judge))))
 
@@ -174,11 +174,11 @@ module _ {R M : Type 0} (proto : LineRules R) (code : Mac M) {B : ℕ} (old : Se
       → bytes_left trailer ≡ drop 1 bytes → tick ≡ first_of bytes
       → Between Silent Closed → start ≡ start_so_far (line ++ Silent ∷ [])
       → len ≡ length (live_bytes_so_far proto.rules (line ++ Silent ∷ []))
-      → Judges proto code old last setup (line ++ Silent ∷ []) (sealed_with number)
-      → earliest ≡ length line + 1 + (B + code.TAG) + 3
-      → ((text : List ℕ) → code.stands old.mac setup.key text
-      → bytes ≡ bytes_high_first B number ++ code.tag_of setup.key (text ++ to_be_bytes w64 number))
-      → ((text : List ℕ) → code.stands old.mac setup.key text → code.stands mac setup.key [])
+      → Judges proto macs old last setup (line ++ Silent ∷ []) (sealed_with number)
+      → earliest ≡ length line + 1 + (B + macs.TAG) + 3
+      → ((text : List ℕ) → macs.stands old.mac setup.key text
+      → bytes ≡ bytes_high_first B number ++ macs.tag_of setup.key (text ++ to_be_bytes w64 number))
+      → ((text : List ℕ) → macs.stands old.mac setup.key text → macs.stands mac setup.key [])
       → Taken (record old { mac = mac; earliest_start = earliest; trailer = trailer }) number Silent
       (record { tick = tick; note = Some (Sealed number start len) })
   seal-taken mac trailer tick earliest number start len bytes left answer between start_is len_is
@@ -196,6 +196,6 @@ module _ {R M : Type 0} (proto : LineRules R) (code : Mac M) {B : ℕ} (old : Se
       (record { tick = tick; note = Some (Sealed number start len) }) between.direction_is
       between.cuts
       (subst L (sym left) (subst T (sym answer) (subst N (sym start_is) (subst K (sym len_is)
-      (advance-sealed proto code B setup line last old.earliest_start (bytes_left old.trailer)
+      (advance-sealed proto macs B setup line last old.earliest_start (bytes_left old.trailer)
       old.mac between.walks
       number earliest bytes mac between.is_cut judge earliest_is tagged begun)))))

@@ -129,7 +129,7 @@ module _ (profile : Profile) (rules : Rules) (lawful : IsLawful rules) (tags : H
       HasWalked profile rules floor (length (line ++ t ∷ [])) (bursts (line ++ t ∷ [])) next to_send
       running
 
-  -- the tick is taken, and the burst that runs is to be judged
+  -- the tick is taken, and the burst that runs must be judged
   abbrev Taken : (running now : Option Burst) → Walked running → Tick → Type 0
   Taken running now so_far t =
       HasCome walker (at_floor floor) m (bursts (line ++ t ∷ [])) s so_far.emissions now

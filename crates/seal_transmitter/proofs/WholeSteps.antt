@@ -23,7 +23,7 @@ use Rattle.burst_walk.specs.declared.box_step.BoxStep.{BoxStep}
 use Rattle.seal_judgements.specs.declared.note.SealNote.{SealNote}
 use Rattle.seal_transmitter.specs.declared.sealer.Sealer.{Sealer}
 
-module _ {R M : Type 0} (proto : LineRules R) (code : Mac M) {B : ℕ} (old : Sealer R M B) (last : ℕ)
+module _ {R M : Type 0} (proto : LineRules R) (macs : Mac M) {B : ℕ} (old : Sealer R M B) (last : ℕ)
     (cut : BurstCut R)
     (t : Tick) (told : Cut)
     (answers : (line : List Tick) → CutStandsFor proto old.cut line
@@ -31,10 +31,10 @@ module _ {R M : Type 0} (proto : LineRules R) (code : Mac M) {B : ℕ} (old : Se
     (takes : (line : List Tick) → CutStandsFor proto old.cut line
     → CutStandsFor proto cut (line ++ t ∷ [])) where
   abbrev Before : Setup → List Tick → Type 0
-  Before setup line = StandsAt proto code old last setup line
+  Before setup line = StandsAt proto macs old last setup line
 
   abbrev Between : Cut → Setup → List Tick → Tick → Type 0
-  Between what setup line u = IsBetween proto code (record old { cut = cut }) last setup line u what
+  Between what setup line u = IsBetween proto macs (record old { cut = cut }) last setup line u what
 
   between : (what : Cut) → told ≡ what → (setup : Setup) (line : List Tick) → Before setup line
       → Between what setup line t
@@ -49,9 +49,9 @@ module _ {R M : Type 0} (proto : LineRules R) (code : Mac M) {B : ℕ} (old : Se
   pub taken-then : (what : Cut) → told ≡ what → (new : Sealer R M B) (number : ℕ)
       (step : BoxStep SealNote)
       → ((setup : Setup) (line : List Tick) → Between what setup line t
-      → HasTaken proto code new number setup line t step)
+      → HasTaken proto macs new number setup line t step)
       → (setup : Setup) (line : List Tick) → Before setup line
-      → HasTaken proto code new number setup line t step
+      → HasTaken proto macs new number setup line t step
   taken-then what is new number step takes_rest setup line stands =
       takes_rest setup line (between what is setup line stands)
 
@@ -60,21 +60,21 @@ module _ {R M : Type 0} (proto : LineRules R) (code : Mac M) {B : ℕ} (old : Se
   module _ (is : told ≡ Closed) (new : Sealer R M B) (number : ℕ) where
     abbrev Closes : BoxStep SealNote → Type 0
     Closes step = (setup : Setup) (line : List Tick)
-        → Between Closed setup line Silent → HasTaken proto code new number setup line Silent step
+        → Between Closed setup line Silent → HasTaken proto macs new number setup line Silent step
 
     pub taken-closed : (result : Result (BoxStep SealNote) JournalFault) → IfOk result Closes
         → IfOk result (λ step. (setup : Setup) (line : List Tick) → Before setup line
-        → HasTaken proto code new number setup line t step)
+        → HasTaken proto macs new number setup line t step)
     taken-closed (Ok step) closes = λ setup line stands.
         let at = between Closed is setup line stands in
         let P : Tick → Type 0 = λ u. Between Closed setup line u
-        → HasTaken proto code new number setup line u step in
+        → HasTaken proto macs new number setup line u step in
         subst P (sym (closed-tick proto.rules line t at.is_cut)) (closes setup line) at
     taken-closed (Err fault) closes = tt
 
     abbrev SealsThen : Tick → Setup → List Tick → Type 0
     SealsThen u setup line =
-        SealsWith (profile_of proto code B LIMIT setup) proto.rules setup.floor line u (last + 1)
+        SealsWith (profile_of proto macs B LIMIT setup) proto.rules setup.floor line u (last + 1)
 
     pub seals-closed : (result : Result (BoxStep SealNote) JournalFault)
         → OnErr result ((setup : Setup) (line : List Tick) → Between Closed setup line Silent

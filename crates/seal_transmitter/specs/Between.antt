@@ -29,7 +29,7 @@ IsJudged profile rules last earliest line j =
     IfSome (last_burst line)
     (λ d. judged profile rules (record { floor = last; earliest_start = earliest }) d ≡ j)
 
-module _ {R M : Type 0} (proto : LineRules R) (code : Mac M) {B : ℕ} (value : Sealer R M B)
+module _ {R M : Type 0} (proto : LineRules R) (macs : Mac M) {B : ℕ} (value : Sealer R M B)
     (last : ℕ)
     (setup : Setup) (line : List Tick) where
   -- Only the value that cuts the line has taken the tick, and has told what it is; the last number
@@ -38,12 +38,12 @@ module _ {R M : Type 0} (proto : LineRules R) (code : Mac M) {B : ℕ} (value : 
     pub direction_is : direction_number value.direction ≡ setup.direction
     pub cuts : CutStandsFor proto value.cut (line ++ t ∷ [])
     pub is_cut : cut_of proto.rules line t ≡ cut
-    pub walks : Walks proto code B last value.earliest_start (bytes_left value.trailer) value.mac
+    pub walks : Walks proto macs B last value.earliest_start (bytes_left value.trailer) value.mac
         setup line
 
   -- so is the last burst judged, as far as the value knows
   abbrev pub Judges : Judgement → Type 0
-  Judges j = IsJudged (profile_of proto code B LIMIT setup) proto.rules last value.earliest_start
+  Judges j = IsJudged (profile_of proto macs B LIMIT setup) proto.rules last value.earliest_start
       line j
 
 -- the judgement by why a burst isn't sealed, if it isn't, and the number that it has else

@@ -9,12 +9,12 @@ use Rattle.seal_transmitter.specs.Answers.{brief_note}
 use Rattle.seal_judgements.specs.Sealing.{SealState, FullNote, sealer, at_floor, sealed_in}
 use Rattle.seal_judgements.specs.declared.note.SealNote.{SealNote}
 
--- its walk, by the rules of a protocol and a code, with words of so many bytes
+-- its walk, by the rules of a protocol and a MAC, with words of this many bytes
 abbrev pub seal_walking : {R M : Type 0} → LineRules R → Mac M → ℕ → Walking SealNote
-seal_walking proto code word_len = record {
+seal_walking proto macs word_len = record {
   State = SealState;
   Full = FullNote;
-  walker = λ setup. sealer (profile_of proto code word_len LIMIT setup) proto.rules;
+  walker = λ setup. sealer (profile_of proto macs word_len LIMIT setup) proto.rules;
   begun = λ setup. at_floor setup.floor;
   brief = brief_note;
   frame_in = sealed_in;

@@ -15,10 +15,10 @@ use Rattle.seal_transmitter.specs.declared.sealer.Sealer.{Sealer}
 
 -- After this line the transmitter has taken this run too: it then stands for both, the last number
 -- used is that of the last sealed frame, and the link's ticks are these, without a note.
-pub record HasTakenRun {R M : Type 0} (proto : LineRules R) (code : Mac M) {B : ℕ}
+pub record HasTakenRun {R M : Type 0} (proto : LineRules R) (macs : Mac M) {B : ℕ}
     (value : Sealer R M B) (last : ℕ) (setup : Setup) (line run answer : List Tick) : Type 0 where
-  pub stands : StandsAt proto code value last setup (line ++ run)
+  pub stands : StandsAt proto macs value last setup (line ++ run)
   pub floor : last ≡ last_number setup.floor
-      (sealed (profile_of proto code B LIMIT setup) proto.rules setup.floor (line ++ run))
-  pub answers : AnswersRun (sealer (profile_of proto code B LIMIT setup) proto.rules) brief_note
+      (sealed (profile_of proto macs B LIMIT setup) proto.rules setup.floor (line ++ run))
+  pub answers : AnswersRun (sealer (profile_of proto macs B LIMIT setup) proto.rules) brief_note
       (at_floor setup.floor) line run answer

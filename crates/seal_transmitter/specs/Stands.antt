@@ -40,19 +40,19 @@ pub record HasWalked (profile : Profile) (rules : Rules) (floor m : ℕ) (ds : L
   pub sends : (i : ℕ) → m ≤ i → tick_at emissions i ≡ sent_at m left i
   pub in_time : 0 < length left → m + length left + T3_5_TICKS ≤ s.earliest_start
 
-module _ {R M : Type 0} (proto : LineRules R) (code : Mac M) where
-  -- A transmitter with words of so many bytes has come so far over a line: the last number that it
-  -- used, the first tick at which a burst isn't early, the bytes that are still to be sent, and the
-  -- code of the running burst.
+module _ {R M : Type 0} (proto : LineRules R) (macs : Mac M) where
+  -- A transmitter with words of this many bytes has come so far over a line: the last number that
+  -- it used, the first tick at which a burst isn't early, the bytes that are still to be sent, and
+  -- the MAC of the running burst.
   pub record Walks (word_len last earliest : ℕ) (left : List ℕ) (mac : M) (setup : Setup)
       (line : List Tick) : Type 0 where
     pub running : Option Burst
-    pub walked : HasWalked (profile_of proto code word_len LIMIT setup) proto.rules setup.floor
+    pub walked : HasWalked (profile_of proto macs word_len LIMIT setup) proto.rules setup.floor
         (length line) (bursts line) (record { floor = last; earliest_start = earliest }) left
         running
     -- the text of the tag so far, where the running burst may be sealed
     pub text : List ℕ
-    pub codes : code.stands mac setup.key text
+    pub mac_is : macs.stands mac setup.key text
     pub text_is : IfSome running (λ d. earliest ≤ d.start
         → text ≡ proto.rules.label ∷ setup.direction ∷ live_bytes proto.rules d)
 
@@ -74,8 +74,8 @@ module _ {R M : Type 0} (proto : LineRules R) (code : Mac M) where
       (step : BoxStep SealNote) : Type 0 where
     pub stands : StandsAt value last setup (line ++ t ∷ [])
     pub floor : last ≡ last_number setup.floor
-        (sealed (profile_of proto code B LIMIT setup) proto.rules setup.floor (line ++ t ∷ []))
-    pub answers : AnswersTick (profile_of proto code B LIMIT setup) proto.rules setup.floor line t
+        (sealed (profile_of proto macs B LIMIT setup) proto.rules setup.floor (line ++ t ∷ []))
+    pub answers : AnswersTick (profile_of proto macs B LIMIT setup) proto.rules setup.floor line t
         step
 
 -- how many ticks it has taken

@@ -36,7 +36,7 @@ fn add_answered(link: &mut Vec<Tick>, count: usize, left: &[u8]) -> Result<(), A
     Ok(())
 }
 
-// Takes the same tick so many times, a step each.
+// Takes the same tick this many times, a step each.
 fn step_times<D: SlotDisk>(
     sealer: &mut FourSealer,
     journal: &mut Journal,
@@ -145,8 +145,8 @@ fn hear<D: SlotDisk>(
     step_times(sealer, journal, disk, Tick::Byte(BYTE), others, link)
 }
 
-// The link of a frame, so many silent ticks, so many bytes and then silence, each of the two cut in
-// two, and the last number used.
+// The link of a frame, this many silent ticks, this many bytes and then silence, each of the two
+// cut in two, and the last number used.
 fn link_of(
     alloc: Global,
     by_runs: bool,

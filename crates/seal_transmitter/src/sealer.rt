@@ -29,7 +29,7 @@ pub struct Sealer<R, M, const B: usize> {
     trailer: Trailer<B>,
 }
 
-// Puts these bytes into `left` in place of what stands there, and says how many they are.
+// Puts these bytes into `left` in place of what is there, and says how many they are.
 #[inline]
 fn put(left: &mut RunBytes, sent: &LineBytes) -> usize
     ensures items { left.new.items ≡ sent.now.items }
@@ -87,8 +87,8 @@ impl<R: LineRules, M: Mac, const B: usize> Sealer<R, M, B> {
 
     /// Takes the next tick of the device, and returns the tick of the link at the same place, with
     /// the note that falls into this step. The journal is that of the steps before and serves the
-    /// transmitter's own link, and the disk is the journal's. Fewer than `MAX_TICKS` ticks were taken
-    /// before.
+    /// transmitter's own link, and the disk is the journal's. Fewer than `MAX_TICKS` ticks were
+    /// taken before.
     ///
     /// It fails where the number of a frame isn't committed. The frame isn't sealed then, and no
     /// step follows.
@@ -177,8 +177,8 @@ impl<R: LineRules, M: Mac, const B: usize> Sealer<R, M, B> {
     }
 
     /// Forwards the first of these bytes, one a tick, as far as each is a live byte of a burst that
-    /// isn't early, and says how many. The ticks of the link are these bytes. With 0 the caller goes
-    /// on by another call. At most `MAX_TICKS` ticks are taken then.
+    /// isn't early, and says how many. The ticks of the link are these bytes. With 0 the caller
+    /// goes on by another call. At most `MAX_TICKS` ticks are taken then.
     #[inline]
     pub fn forward(&mut self, bytes: &[u8]) -> usize
         requires { ticks_taken self.old + length bytes.now ≤ MAX_TICKS }
@@ -260,9 +260,9 @@ impl<R: LineRules, M: Mac, const B: usize> Sealer<R, M, B> {
         self.trailer.send_some(count)
     }
 
-    /// Takes the first of so many silent ticks, as far as none closes a burst, if nothing is left of
-    /// the trailer, and says how many. The link is silent too. At most `MAX_TICKS` ticks are taken
-    /// then.
+    /// Takes the first of this many silent ticks, as far as none closes a burst, if nothing is left
+    /// of the trailer, and says how many. The link is silent too. At most `MAX_TICKS` ticks are
+    /// taken then.
     #[inline]
     pub fn rest(&mut self, ticks: u32) -> u32
         requires { ticks_taken self.old + ticks ≤ MAX_TICKS }
@@ -280,9 +280,9 @@ impl<R: LineRules, M: Mac, const B: usize> Sealer<R, M, B> {
         wait_open(&mut self.cut, ticks)
     }
 
-    /// Takes of so many silent ticks as many as something is left of the trailer for, as far as none
-    /// closes a burst. Returns what is sent of it, a byte for each. At most `MAX_TICKS` ticks are
-    /// taken then.
+    /// Takes of this many silent ticks as many as something is left of the trailer for, as far as
+    /// none closes a burst. Returns what is sent of it, a byte for each. At most `MAX_TICKS` ticks
+    /// are taken then.
     #[inline]
     pub fn send_some(&mut self, ticks: u32) -> LineBytes
         requires { ticks_taken self.old + ticks ≤ MAX_TICKS }
@@ -320,8 +320,8 @@ impl<R: LineRules, M: Mac, const B: usize> Sealer<R, M, B> {
 
     /// Takes the first of these bytes, as far as none is forwarded, and says how many: while an
     /// early burst goes on, or bytes come that aren't live. Puts into `left` what is sent meanwhile
-    /// of a trailer, a byte for each, or nothing where the link is silent. With 0 the caller goes on
-    /// by another call. At most `MAX_TICKS` ticks are taken then.
+    /// of a trailer, a byte for each, or nothing where the link is silent. With 0 the caller goes
+    /// on by another call. At most `MAX_TICKS` ticks are taken then.
     #[inline]
     pub fn pass_bytes(&mut self, bytes: &[u8], left: &mut RunBytes) -> usize
         requires { ticks_taken self.old + length bytes.now ≤ MAX_TICKS }

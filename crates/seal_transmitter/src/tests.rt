@@ -95,8 +95,8 @@ fn a_word_may_have_four_bytes(rt: HostRuntime) -> Result<(), Fail> {
     let line: &[u8] = b"\x01\x02\x03\x00..........................\x05\x06\x07\x00....";
     let steps = steps(rt.alloc(), &mut sealer, &mut journal, &mut disk, line)?;
 
-    // The tag is by openssl, as above but with -sha256 and cut -c1-32, and the burst behind it starts
-    // a tick too early.
+    // The tag is by openssl, as above but with -sha256 and cut -c1-32, and the burst behind it
+    // starts a tick too early.
     let link: &[u8] = b"\x01\x02\x03\x00...\x00\x01\x02\x03\xb2\xf8\x4e\x1e\xe1\xc0\xa0\x34\x62\xd9\
             \x26\x6f\xd7\xde\x14\x05...........";
     assert_eq!(rt; steps.len(), link.len());
@@ -106,7 +106,7 @@ fn a_word_may_have_four_bytes(rt: HostRuntime) -> Result<(), Fail> {
     Ok(())
 }
 
-// A transmitter holds at most 280 bytes beside its rules and its code.
+// A transmitter holds at most 280 bytes beside its rules and its MAC.
 const _: () = prove!(
     size_of::<Sealer<FourBytes, HmacSha1, 2>>()
         <= size_of::<FourBytes>() + size_of::<HmacSha1>() + 280

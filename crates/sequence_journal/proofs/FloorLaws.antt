@@ -14,7 +14,7 @@ use Rattle.sequence_journal.specs.Journal.{journal_link, journal_floor, kept_slo
 use Rattle.sequence_journal.specs.Journal.{AreSameBut, IsKept, HasFloorAtLeast, HasFloorFrom}
 use Rattle.sequence_journal.specs.Journal.{IsCrashSafe}
 
--- the one of two that stands in a slot
+-- the one of two that is in a slot
 abbrev pub chosen : Option ℕ → Option ℕ → Slot → Option ℕ
 chosen a b A = a
 chosen a b B = b
@@ -22,7 +22,7 @@ chosen a b B = b
 slot_found : (place slot : Slot) → Some place ≡ Some slot → place ≡ slot
 slot_found place slot is = ap (λ o. unwrap_or o place) is
 
--- where the greater of two stands in a slot, it is the one of this slot
+-- where the greater of two is in a slot, it is the one of this slot
 pub greater_is_there : (a b : Option ℕ) (slot : Slot) → place_of_greater a b ≡ Some slot
     → (m : ℕ) × (greater a b ≡ Some m) × (chosen a b slot ≡ Some m)
 greater_is_there None None slot is = absurd cc

@@ -43,18 +43,6 @@ may_begin_anew link told read right are none =
     if_some_weaker (λ slots. slots ≡ read) (MayBegin link 0) told
     (λ slots same. subst (MayBegin link 0) (sym same) may) are
 
--- where old slots alone hold a number, a journal may begin at it
-pub may_take_over : (link : LinkId) (n : ℕ) (told : Option Slots) (read : Slots)
-    → AreRead told read → IsOld n read → own_floor link read ≡ None → IfSome told (MayBegin link n)
-may_take_over link n told read are is_old none =
-    let same : max n n ≡ n = omega arith in
-    let may : MayBegin link n read = record {
-      none = none;
-      greatest = ap (λ o. greater (Some n) o) is_old.number ∙ ap Some same;
-    } in
-    if_some_weaker (λ slots. slots ≡ read) (MayBegin link n) told
-    (λ slots same. subst (MayBegin link n) (sym same) may) are
-
 by_what_it_holds : (link : LinkId) (n : ℕ) (slots c : Slots) (own any : Option ℕ) → IsOld n slots
     → floor_of link c ≡ floor_by (greater own None) (greater any None) (Some n)
     → wrong_slot link c ≡ wrong_by (greater own None) (place_of_greater any None)

@@ -6,7 +6,7 @@ use Rattle.sequence_journal.specs.Slots.{slot_bytes}
 use Rattle.sequence_journal.specs.Journal.{journal_link, journal_floor, kept_slot, is_broken}
 use Rattle.sequence_journal.specs.Journal.{told_with, MaySet, IsEitherFloor}
 
--- A number above the floor was committed: it is the floor now, it stands in the slot that didn't
+-- A number above the floor was committed: it is the floor now, it is in the slot that didn't
 -- keep the floor, for the journal's link, and a crash leaves just the slots as they read.
 pub record HasCommitted (old new : Journal) (told_old told_new : Option Slots)
     (may_leave : Slots → Type 0) (number : ℕ) : Type 0 where

@@ -134,7 +134,8 @@ impl Journal {
     }
 
     /// Loads the journal of a link that the disk holds. Where old slots alone hold a number it is
-    /// taken over: their greatest number is written into slot A and synced. Else nothing is written.
+    /// taken over: their greatest number is written into slot A and synced. Else nothing is
+    /// written.
     pub fn load<D: SlotDisk>(disk: &mut D, link: &LinkId) -> Result<Journal, LoadError>
         requires link { IsLink link.now }
 

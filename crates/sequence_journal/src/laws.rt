@@ -56,9 +56,9 @@ pub fn floor_is_refused_for_a_fault_alone()
         → RefusesLoad link (Some slots) after before now error → Rose before now }
 {}
 
-/// Calls of a disk that fail take no image away. So what a crash at a moment of a run may leave, the
-/// end of a run may leave whose disk fails from that moment on: what is proved of the images at the
-/// end of each run, with any disk, holds of a crash at any moment inside.
+/// Calls of a disk that fail take no image away. So what a crash at a moment of a run may leave,
+/// the end of a run may leave whose disk fails from that moment on: what is proved of the images at
+/// the end of each run, with any disk, holds of a crash at any moment inside.
 pub fn failed_calls_keep_images<D: SlotDisk>()
     ensures write { (before after : D) (slot : Slot) (image : Slots)
         → Reaches (Torn slot) (D.may_leave before) (D.may_leave after)

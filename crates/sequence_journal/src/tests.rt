@@ -303,7 +303,7 @@ fn a_new_journal_stands_at_zero(rt: HostRuntime) -> Result<(), Fail> {
     let mut disk = disk_of(&rt, &(OLD_ONES, OLD_BLANK, ONES, ONES), 0)?;
     assert_eq!(rt; Journal::init(&mut disk, &RTU_AB)?.floor(), 0);
     assert!(rt; slots_of(&disk) == (OLD_ONES, OLD_BLANK, own(0), ONES));
-    // The greatest number stands there, for whatever link.
+    // The greatest number is there, for whatever link.
     let rows: [(AllBytes, u64); 4] = [
         (slots_of(&disk), 0),
         ((OLD_BLANK, OLD_BLANK, own(5), another(6)), 6),

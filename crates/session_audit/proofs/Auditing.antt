@@ -32,7 +32,7 @@ use Rattle.replay_lists.specs.Comparison.{is_same_read, first_difference, read_l
 use Rattle.tick_drive.specs.declared.end.End.{End}
 use Rattle.session_audit.specs.AuditedInput.{AuditsInput}
 use Rattle.session_audit.specs.Clean.{IsClean}
-use Rattle.session_audit.specs.Sessions.{LinkKind, format_of, kind_of, sent_profile, got_profile}
+use Rattle.session_audit.specs.Sessions.{LinkKind, link_profile_of, kind_of, sent_profile, got_profile}
 use Rattle.session_audit.specs.Sessions.{sealed_in, passed_in, read_in, line_received}
 use Rattle.session_audit.specs.Sessions.{verdict_with, verdict_of}
 use Rattle.session_audit.specs.Verdicts.{verdict_by}
@@ -168,8 +168,8 @@ pub each-kind : (P : LinkKind → Type 0)
     → (session : Session) → P (kind_of session)
 each-kind P rtu18 rtu24 dnp18 dnp24 session =
     cond_both (session.label == 1)
-    (record { profile = format_of session.profile 1; rules = rtu_rules; reads = rtu_reads })
-    (record { profile = format_of session.profile 2; rules = dnp_rules; reads = dnp_reads }) P
+    (record { profile = link_profile_of session.profile 1; rules = rtu_rules; reads = rtu_reads })
+    (record { profile = link_profile_of session.profile 2; rules = dnp_rules; reads = dnp_reads }) P
     (λ rtu. cond_both (session.profile == 18) (y18 1 LIMIT) (y24 1 LIMIT)
     (λ format. P (record { profile = format; rules = rtu_rules; reads = rtu_reads }))
     (λ e. rtu18) (λ e. rtu24))

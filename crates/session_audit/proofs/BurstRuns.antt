@@ -168,7 +168,7 @@ none-bytes = ap burst_bytes_in last_burst-nil
 
 -- ---- what keeps them
 
--- what doesn't stand among the first n doesn't come to stand there
+-- what doesn't stand among the first n doesn't come to are there
 take-front : (n : ℕ) (x y : List ℕ) → take n (take n x ++ y) ≡ take n (x ++ y)
 take-front zero x y = refl
 take-front (suc n) [] y = refl

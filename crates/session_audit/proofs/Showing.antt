@@ -1,4 +1,4 @@
--- The live bytes stand at the front of what is kept of a burst.
+-- The live bytes are at the front of what is kept of a burst.
 use Rattle.std.proofs.Common.{◌≡◌, ◌∙◌, ℕ, ◌≤◌, List, length, ap, arith, take}
 use Rattle.std.proofs.lemmas.List.{take-take}
 use Rattle.line_rules.specs.declared.line_rules.LineRules.{Ghosts as LineRules}

@@ -56,14 +56,14 @@ pub record LinkKind : Type 0 where
   pub rules : Rules
   pub reads : List Tick → List FrameRead
 
-abbrev pub format_of : ℕ → ℕ → Setup → Profile
-format_of profile label = if profile == 18 then y18 label LIMIT else y24 label LIMIT
+abbrev pub link_profile_of : ℕ → ℕ → Setup → Profile
+link_profile_of profile label = if profile == 18 then y18 label LIMIT else y24 label LIMIT
 
 abbrev pub kind_by : ℕ → ℕ → LinkKind
 kind_by label profile =
     if label == 1
-    then record { profile = format_of profile 1; rules = rtu_rules; reads = rtu_reads }
-    else record { profile = format_of profile 2; rules = dnp_rules; reads = dnp_reads }
+    then record { profile = link_profile_of profile 1; rules = rtu_rules; reads = rtu_reads }
+    else record { profile = link_profile_of profile 2; rules = dnp_rules; reads = dnp_reads }
 
 abbrev pub kind_of : Session → LinkKind
 kind_of session = kind_by session.label session.profile

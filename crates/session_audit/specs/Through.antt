@@ -14,7 +14,7 @@ use Rattle.session_audit.specs.Verdicts.{verdict_on}
 use Rattle.session_audit.specs.declared.session.Session.{Session}
 use Rattle.session_audit.specs.declared.verdict.Verdict.{Verdict}
 
--- how much silence stands behind each recording, where a receiver is so late
+-- how much silence comes after each recording, where a receiver is so late
 abbrev pub timing_of : ℕ → Timing
 timing_of late = record {
   late = late;

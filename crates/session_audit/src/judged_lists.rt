@@ -17,7 +17,7 @@ use replay_lists::{Floors, FrameBox, SessionLists, Timing};
 use std::alloc::Global;
 use yasir_ticks::T3_5_TICKS;
 
-// How much silence stands behind each recording, where a receiver is so late.
+// How much silence comes after each recording, where a receiver is so late.
 fn timing_of(late: u8) -> Timing
     ensures { result ≡ timing_of late }
 {

@@ -1,9 +1,9 @@
 //! An audit of a session that has ended, by three recordings of it: which frames were sealed, which
 //! passed, and what a device read.
 //!
-//! Transmitter and receiver are run anew as boxes that show the frames that they number. A box keeps
-//! no frame; the bytes are those of the burst that is running or was the last, which are kept beside
-//! it. These boxes stand here, below the commands that show frames.
+//! Transmitter and receiver are run anew as boxes that show the frames that they number. A box
+//! keeps no frame; the bytes are those of the burst that is running or was the last, which are kept
+//! beside it. These boxes are here, below the commands that show frames.
 //!
 //! The verdict on a session of Modbus RTU with the profile y18, whose boxes had new journals:
 //!

@@ -52,8 +52,8 @@ fn audit_by<S: FrameBox, C: FrameBox, V: LendingDevice + Drop>(
 /// read anew, each with silence behind it until all has come. Nothing is said of who made the
 /// recordings.
 ///
-/// The frames that are sealed and those that pass are kept in memory. Where there is none, the answer
-/// is `NoMemory`.
+/// The frames that are sealed and those that pass are kept in memory. Where there is none, the
+/// answer is `NoMemory`.
 pub fn audit(
     alloc: Global,
     session: &Session<'_>,

@@ -97,7 +97,7 @@ fronts_of_all made before now line sent = record {
       (sym (append-nil _));
 }
 
--- What a run left as its input ended, and where the sinks stand behind it.
+-- What a run left as its input ended, and where the sinks come after it.
 module _ (made : LineAndNotes) (in_before in_now : Option (List ℕ)) (before now last : SinkTexts)
     (waits : Waiting) where
   -- the texts of an end that is no stop are on their way

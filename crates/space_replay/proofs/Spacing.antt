@@ -56,7 +56,7 @@ spaces_at_mark b o l lines start items before = record {
   sends = rw (ticks_in-mark items) before.sends;
 }
 
--- The spacer has taken so many first ticks of a run, and answers this.
+-- The spacer has taken this many first ticks of a run, and answers this.
 module _ {B O L : Type 0} (b : LineSpacer B) (o : Sink O) (l : Sink L) (old new : SpacedLines B O L)
     (run : TickRun) (n : ℕ) (answer : List Tick) (note : List ℕ)
     (some : 0 < n) (within : n ≤ length (run_ticks run))

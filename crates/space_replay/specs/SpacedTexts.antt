@@ -23,7 +23,7 @@ lost_lines reads = flat_map lost_line reads
 abbrev pub arrival_lines : List Arrival → List ℕ
 arrival_lines lost = flat_map (λ a. lost_line a.frame) lost
 
--- By what a device reads of a line, and so many silent ticks between frames.
+-- By what a device reads of a line, and this many silent ticks between frames.
 abbrev pub spaced_texts : (List Tick → List FrameRead) → ℕ → LineAndNotes
 spaced_texts reads gap = record {
   other_line = λ line. spaced_line reads gap most_waiting line;

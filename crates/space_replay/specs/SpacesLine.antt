@@ -13,7 +13,7 @@ use Rattle.replay_status.specs.declared.status.Status.{Status}
 use Rattle.replay_status.specs.declared.status.Status.TheVariants.{Done, BadTicks, ReadFault}
 use Rattle.replay_status.specs.declared.status.Status.TheVariants.{WriteFault, TooLong, NoMemory}
 
--- How many silent ticks stand behind a whole input, so that all frames leave.
+-- How many silent ticks come after a whole input, so that all frames leave.
 abbrev pub space_rest : ℕ
 space_rest = 21000
 
@@ -25,7 +25,7 @@ module _ (made : LineAndNotes) (in_before in_now : Option (List ℕ)) (before no
     pub takes : Takes 0 space_rest in_before in_now items end
     pub sent : HasSent made before now (ticks_in items)
 
-  -- A write failed: the sinks have got a front of each text of so many of the items that were
+  -- A write failed: the sinks have got a front of each text of this many of the items that were
   -- taken.
   pub record SpacesFront : Type 0 where
     pub items : List Item

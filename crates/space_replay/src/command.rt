@@ -20,7 +20,7 @@ use std::alloc::Global;
 use tick_drive::{End, drive_to_rest};
 use yasir_io::{Failed, Sink, Source};
 
-/// How many silent ticks stand behind a whole input, so that all frames leave: 65 of the longest
+/// How many silent ticks come after a whole input, so that all frames leave: 65 of the longest
 /// with their gaps.
 const REST: u32 = 21_000;
 

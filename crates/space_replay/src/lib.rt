@@ -1,5 +1,5 @@
-//! A spacer over a recorded line: the text of the spaced line, and a line of text for each frame that
-//! is lost.
+//! A spacer over a recorded line: the text of the spaced line, and a line of text for each frame
+//! that is lost.
 //!
 //!     let status = space_frames::<Spacer<RtuDevice, 21>, _, _, _>(
 //!         alloc, &mut input, &mut out, &mut log,

@@ -32,7 +32,7 @@ pub struct SpacedLines<'a, B, O, L> {
 }
 
 // Adds the line of a frame that is lost, and behind it the ticks of the run in which it is read. It
-// stands apart, since few frames are lost.
+// is kept separate, since few frames are lost.
 #[inline(never)]
 fn push_lost<O: Sink, L: Sink>(
     texts: &mut Texts,

@@ -24,7 +24,7 @@ pub trait LineSpacer: Drop {
     /// What the device reads that it hears as.
     ghost reads: { List Tick → List FrameRead };
 
-    /// How many silent ticks stand between frames at least.
+    /// How many silent ticks are between frames at least.
     ghost gap: { ℕ };
 
     /// There are some.

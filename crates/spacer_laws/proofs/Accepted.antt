@@ -25,7 +25,7 @@ pub all-cons : {X : Type 0} (P : X → Type 0) (x : X) (xs : List X) → P x →
 all-cons P x xs first others zero d within = first
 all-cons P x xs first others (suc k) d within = others k d (omega arith)
 
--- what holds of each burst that is sent holds of all of those that stand apart
+-- what holds of each burst that is sent holds of all of those that are apart
 pub all-sent : (P : Burst → Type 0) (rules : Rules) (gap n : ℕ) (ds : List Burst)
     → ((d : Burst) → IsSent rules d → P d) → AreApart rules gap n ds → All P ds
 all-sent P rules gap n [] each apart = λ k d none. absurd (omega arith)
@@ -134,7 +134,7 @@ module _ (rules : Rules) (reads : List Tick → List FrameRead)
         apart)
         (all-others IsRight a more right)
 
-    -- Accepted frames are frames of the protocol, and stand apart.
+    -- Accepted frames are frames of the protocol, and are apart.
     pub accepted-apart : (line : List Tick) → AreApart rules gap 0 (accepted_of reads gap cap line)
     accepted-apart line =
         all-apart (record { accepted = []; lost = [] }) (arrivals reads line) tt

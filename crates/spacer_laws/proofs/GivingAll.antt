@@ -27,7 +27,7 @@ bytes-few (Silent ∷ x) = let few = bytes-few x in omega arith
 bytes-few (Byte b ∷ x) = let few = bytes-few x in omega arith
 
 module _ (gap ends most cap : ℕ) (room : most ≤ cap * (gap + 1)) where
-  -- These bursts have so many ticks at most, the first begins in tick n or later, and each of the
+  -- These bursts have this many ticks at most, the first begins in tick n or later, and each of the
   -- others at least the gap behind the one before.
   abbrev pub ComeApart : ℕ → List Burst → Type 0
   ComeApart n [] = Unit {0}

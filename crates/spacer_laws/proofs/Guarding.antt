@@ -193,7 +193,7 @@ module _ (rules : Rules) (framed : IsFramed rules) (gap : ℕ) (wide : 4 ≤ gap
 -- ---- behind the receiver
 
 -- What is heard behind the receiver is frames that have passed: of the receiver's emissions those
--- that are whole, so many ticks after their end.
+-- that are whole, this many ticks after their end.
 pub record HearsEmissions (rules : Rules) (heard : List Tick → List FrameRead) (ends : ℕ)
     (profile : Profile) : Type 0 where
   pub sound : ReadsFrames rules heard

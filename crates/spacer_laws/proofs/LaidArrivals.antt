@@ -22,12 +22,12 @@ pub contiguous-some : (cut : ℕ) (x : List Tick) → IsContiguous cut x → 0 <
 contiguous-some cut x (one b) = omega arith
 contiguous-some cut x (more b gap rest few contiguous) = omega arith
 
--- a burst as it is read so many ticks after its end
+-- a burst as it is read this many ticks after its end
 abbrev pub arrival_of : ℕ → Burst → Arrival
 arrival_of ends d = record { step = end_of d + ends - 1; frame = frame_in d }
 
 module _ (ends : ℕ) (whole : Burst → Bool) where
-  -- those of these bursts that are whole and have ended so many ticks before tick m
+  -- those of these bursts that are whole and have ended this many ticks before tick m
   abbrev pub ended : ℕ → List Burst → List Burst
   ended m ds = filter (λ d. nat_le (end_of d + ends) m && whole d) ds
 

@@ -1,4 +1,4 @@
--- All that was accepted has left after as many ticks as so many frames of the longest kind take.
+-- All that was accepted has left after as many ticks as this many frames of the longest kind take.
 use Rattle.std.proofs.Common.{◌≡◌, ◌∙◌, ℕ, zero, suc, ◌+◌, ◌-◌, ◌*◌, ◌<◌, ◌≤◌, List, []}
 use Rattle.std.proofs.Common.{◌∷◌, ◌++◌, length, map, take, max, fold, refl, sym, ap, subst, arith}
 use Rattle.std.proofs.Common.{nat_le, true, cond, Bool, ⊎_elim, append_assoc, length-append}
@@ -167,7 +167,7 @@ module _ (gap m b : ℕ) where
 
 -- ---- behind a line on which nothing is read any more
 
--- nothing is read in so many silent ticks behind a line
+-- nothing is read in this many silent ticks behind a line
 abbrev pub ReadsNothing : (List Tick → List FrameRead) → List Tick → Type 0
 ReadsNothing heard line = (n : ℕ) → heard (line ++ silent n) ≡ heard line
 

@@ -1,4 +1,4 @@
--- What stands on a spaced line, and what a device reads of it.
+-- What is on a spaced line, and what a device reads of it.
 use Rattle.std.proofs.Common.{◌≡◌, ◌∙◌, ℕ, zero, suc, ◌+◌, ◌≤◌, ◌⊎◌, inl, inr, List, []}
 use Rattle.std.proofs.Common.{◌∷◌, length, map, sym, ap, subst, arith, true, not, ◌&&◌}
 use Rattle.yasir_ticks.specs.Ticks.{bytes_in}

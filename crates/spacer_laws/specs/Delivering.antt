@@ -14,7 +14,7 @@ use Rattle.line_spacer.specs.Spacing.{accepted_of, spaced_line}
 use Rattle.spacer_laws.specs.Leaving.{HaveLeft}
 
 -- The gap is that of the profile: the silence that ends a frame's burst, a pause, and a trailer fit
--- into it. All accepted frames have left, so many silent ticks follow that the last trailer is
+-- into it. All accepted frames have left, this many silent ticks follow that the last trailer is
 -- sent, and there are numbers enough; the receiver's floor isn't above the transmitter's, nor so
 -- far below it that words don't tell.
 pub record IsSpacedForSealing (profile : Profile) (gap floor behind m : ℕ) (accepted : List Burst)

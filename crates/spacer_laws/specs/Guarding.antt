@@ -15,7 +15,7 @@ use Rattle.receiver_laws.specs.Accounted.{IsSubsequence, IsAccountedFor, forged}
 use Rattle.receiver_laws.specs.Headline.{bytes_sealed}
 use Rattle.line_spacer.specs.Spacing.{spaced_line}
 
--- a frame, and the silent ticks that stand in front of it
+-- a frame, and the silent ticks that come before it
 pub record Placed : Type 0 where
   pub quiet : ℕ
   pub frame : NumberedFrame
@@ -29,15 +29,15 @@ placed_ticks [] = []
 placed_ticks (p ∷ ps) =
     silent p.quiet ++ (map (λ b. Byte b) p.frame.frame ++ placed_ticks ps)
 
--- So many silent ticks at least stand in front of the first of them, and `gap` of them or more in
+-- So many silent ticks at least come before the first of them, and `gap` of them or more in
 -- front of each of the others.
 abbrev pub StandApart : ℕ → ℕ → List Placed → Type 0
 StandApart gap least [] = Unit {0}
 StandApart gap least (p ∷ ps) = (least ≤ p.quiet) × StandApart gap gap ps
 
--- All that stands on this line is silence and frames of these, whole, in their order, and at least
--- so many silent ticks apart; the line may break off inside the last of them. Their numbers rise
--- from the floor, so that none stands there twice.
+-- All that is on this line is silence and frames of these, whole, in their order, and at least
+-- this many silent ticks apart; the line may break off inside the last of them. Their numbers rise
+-- from the floor, so that none is there twice.
 pub record CarriesOnly (gap floor : ℕ) (frames : List NumberedFrame) (line : List Tick) : Type 0
   where
     pub placed : List Placed

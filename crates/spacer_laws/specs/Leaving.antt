@@ -11,7 +11,7 @@ abbrev pub HaveLeft : ℕ → List Burst → Type 0
 HaveLeft m [] = Unit {0}
 HaveLeft m (d ∷ ds) = (end_of d ≤ m) × HaveLeft m ds
 
--- All that is accepted of a line that goes on with so many silent ticks has left by its end.
+-- All that is accepted of a line that goes on with this many silent ticks has left by its end.
 abbrev pub AllLeave : (List Tick → List FrameRead) → ℕ → ℕ → List Tick → ℕ → Type 0
 AllLeave heard gap cap line rest =
     HaveLeft (length (line ++ silent rest)) (accepted_of heard gap cap (line ++ silent rest))

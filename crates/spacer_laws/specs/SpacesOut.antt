@@ -1,4 +1,4 @@
--- What stands on a spaced line, at every moment.
+-- What is on a spaced line, at every moment.
 use Rattle.std.specs.Prelude.{◌≡◌, ℕ, ◌+◌, ◌-◌, ◌≤◌, nat_le, nat_lt, true, List, [], ◌∷◌, length}
 use Rattle.std.specs.Prelude.{map}
 use Rattle.std.specs.Prelude.{take, All, if◌then◌else◌}
@@ -23,7 +23,7 @@ pub record IsSent (rules : Rules) (d : Burst) : Type 0 where
   pub framed : rules.is_frame frame ≡ true
 
 -- Each of these bursts is a frame, the first one begins in tick n or later, and each of the others
--- at least so many silent ticks behind the one before.
+-- at least this many silent ticks behind the one before.
 abbrev pub AreApart : Rules → ℕ → ℕ → List Burst → Type 0
 AreApart rules gap n [] = Unit {0}
 AreApart rules gap n (d ∷ ds) =
@@ -37,14 +37,14 @@ within m (d ∷ ds) =
     then record { start = d.start; body = take (m - d.start) d.body } ∷ within m ds
     else []
 
--- the frames of those of these bursts behind whose end so many ticks stand before tick m
+-- the frames of those of these bursts behind whose end this many ticks come before tick m
 abbrev pub frames_by : ℕ → ℕ → List Burst → List FrameRead
 frames_by ends m ds = map frame_in (filter (λ d. nat_le (end_of d + ends) m) ds)
 
 -- The spaced line of a line carries the accepted frames, and nothing else: they are frames of the
--- protocol, at least so many silent ticks apart; the bursts of the spaced line are they, as far as
--- they have been sent; and a device behind the spacer reads each of them so many ticks after its
--- end, and nothing else.
+-- protocol, at least this many silent ticks apart; the bursts of the spaced line are they, as far
+-- as they have been sent; and a device behind the spacer reads each of them this many ticks after
+-- its end, and nothing else.
 pub record SpacesOut (rules : Rules) (heard reads : List Tick → List FrameRead)
     (ends gap cap : ℕ) (line : List Tick) : Type 0 where
   pub apart : AreApart rules gap 0 (accepted_of heard gap cap line)

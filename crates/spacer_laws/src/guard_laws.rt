@@ -17,7 +17,7 @@ use device_model::Hunted;
 
 /// A law of the definitions of spacer, transmitter and receiver, for each profile, floors, line of
 /// a device and link, at every moment, and each gap of at least the silence that parts bursts:
-/// however the link was altered, cut, repeated or reordered, all that a spacer gives that stands on
+/// however the link was altered, cut, repeated or reordered, all that a spacer gives that is on
 /// the receiver's line is silence and frames that have passed, whole, in order, at least the gap
 /// apart and each number at most once; the last of them may not have been given as a whole yet. If
 /// none of those that passed is forged, they are frames that were sealed, in their order.

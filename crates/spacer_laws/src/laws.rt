@@ -37,9 +37,9 @@ pub fn frames_are_spaced()
         → SpacesOut dnp_rules (dnp_family_reads cut) (dnp_family_reads cut) 0 gap cap line }
 {}
 
-/// The law `frames_are_spaced` for the rules of each protocol whose devices hunt for frames, and each
-/// device that hunts so: one that takes no notice of silence, with a cut of 0, and one to which two or more
-/// silent ticks together end what was taken.
+/// The law `frames_are_spaced` for the rules of each protocol whose devices hunt for frames, and
+/// each device that hunts so: one that takes no notice of silence, with a cut of 0, and one to
+/// which two or more silent ticks together end what was taken.
 pub fn hunted_frames_are_spaced<R: Hunted>()
     ensures { (cut gap cap : ℕ) (line : List Tick) → T3_5_TICKS ≤ gap → (cut ≡ 0) ⊎ (2 ≤ cut)
         → SpacesOut R.rules (hunt_family R.FIRST R.SECOND R.rules cut)
@@ -62,8 +62,8 @@ pub fn accepted_frames_leave()
         → (cap + 1) * (292 + gap) ≤ rest → AllLeave (dnp_family_reads cut) gap cap line rest }
 {}
 
-/// The law `accepted_frames_leave` for the rules of each protocol whose devices hunt for frames, and
-/// each device that hunts so.
+/// The law `accepted_frames_leave` for the rules of each protocol whose devices hunt for frames,
+/// and each device that hunts so.
 pub fn hunted_accepted_frames_leave<R: Hunted>()
     ensures { (cut gap cap : ℕ) (line : List Tick) (rest : ℕ) → AreTicks line
         → (cap + 1) * (R.rules.longest + gap) ≤ rest

@@ -1,4 +1,4 @@
-//! Laws of the spacer's definitions, for each line, whatever stands on it: what a spaced line
+//! Laws of the spacer's definitions, for each line, whatever is on it: what a spaced line
 //! carries, and what a device reads of it.
 //!
 //! Each law is the contract of a function that does nothing. `specs/` has the statements, over

@@ -35,7 +35,7 @@ abbrev pub owed_after : Rules → List ℕ → ℕ → Bool → Bool → ℕ
 owed_after rules x b last passed =
     if last && not passed then left_of rules (x ++ b ∷ []) else 0
 
--- the next byte of a fill that has so many bytes left, after these: 00, and the last one spoiled
+-- the next byte of a fill that has this many bytes left, after these: 00, and the last one spoiled
 abbrev pub filled : Rules → List ℕ → ℕ → Option ℕ
 filled rules x owed =
     if owed == 0 then None

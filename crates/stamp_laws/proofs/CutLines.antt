@@ -1,4 +1,4 @@
--- The bursts of a line of ticks are its bytes, cut wherever four silent ticks or more stand between
+-- The bursts of a line of ticks are its bytes, cut wherever four silent ticks or more are between
 -- two of them.
 use Rattle.std.proofs.Common.{◌≡◌, ◌∙◌, ℕ, suc, ◌+◌, ◌-◌, ◌<◌, ◌≤◌, ◌⊎◌, ⊎_elim, inl, sym, ap}
 use Rattle.std.proofs.Common.{List, [], ◌∷◌, ◌++◌, Bool, true, false, arith, refl, subst, map, cond}
@@ -101,7 +101,7 @@ module _ (parted apart : PlacedByte → PlacedByte → Bool) where
       ≡ map burst_of (join parted x parts)) y (cut_where parted ys)
       (λ zs more. before-part x y zs more told.0))
 
-  -- Inside each part the second test tells whether two silent ticks or more stand between two
+  -- Inside each part the second test tells whether two silent ticks or more are between two
   -- bytes.
   abbrev pub IsPart : List PlacedByte → Type 0
   IsPart xs = AllNext (λ x y. nat_lt 1 (silent_ticks x y) ≡ apart x y) xs

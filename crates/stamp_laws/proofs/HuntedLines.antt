@@ -32,7 +32,7 @@ timed-silence n k (Silent ∷ l) = timed-silence (suc n) k l
 timed-silence n k (Byte b ∷ l) =
     ap (λ x. (let t : Timed = record { tick = n; byte = b } in t) ∷ x) (timed-silence (suc n) k l)
 
--- the bytes of a line whose bytes stand in the ticks of these
+-- the bytes of a line whose bytes are in the ticks of these
 pub hunted-line : (l : List Tick) (k : ℕ) (xs : List PlacedByte)
     → bytes_from 0 l ≡ map at_tick xs → timed 0 (l ++ silent k) ≡ map timed_byte xs
 hunted-line l k xs stand =

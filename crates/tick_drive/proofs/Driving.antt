@@ -103,7 +103,7 @@ read_same in0 in1 is_cause e unless = record {
 }
 
 module _ {C : Type 0} (meaning : Consuming C) where
-  -- So far: the text that was met, whose ended lines the consumer was given, and so many ticks in
+  -- So far: the text that was met, whose ended lines the consumer was given, and this many ticks in
   -- them.
   pub record Progress (marks : ℕ) (before now : Option (List ℕ)) (intake : Intake)
       (start state : C) (ticks : ℕ) : Type 0 where

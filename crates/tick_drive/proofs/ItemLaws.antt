@@ -54,7 +54,7 @@ ticks_in-front run n =
     ap (λ l. ticks_in (take n l)) (items_of_ticks run) ∙ ap ticks_in (take-map tick n (run_ticks run))
     ∙ ticks_in-ticks (take n (run_ticks run))
 
--- so many they are
+-- this many they are
 pub length-front : (run : TickRun) (n : ℕ) → n ≤ length (run_ticks run)
     → length (ticks_in (take n (run_items run))) ≡ n
 length-front run n within =

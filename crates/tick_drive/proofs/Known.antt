@@ -16,13 +16,13 @@ met_some before (Some xs) text kept n p =
     ∙ ap (λ l. text ++ l) (sym (append_assoc (take n kept) (drop n kept) xs)
     ∙ ap (λ l. l ++ xs) (take-append-drop n kept))))
 
--- so many bytes and one more
+-- this many bytes and one more
 pub text_more : (text bytes : List ℕ) (n : ℕ) → n < length bytes
     → (text ++ take n bytes) ++ get_or bytes n 0 ∷ [] ≡ text ++ take (n + 1) bytes
 text_more text bytes n h = append_assoc text (take n bytes) (get_or bytes n 0 ∷ [])
     ∙ ap (λ x. text ++ x) (sym (take_more bytes n 0 h))
 
--- so many bytes, the last of them apart
+-- this many bytes, the last of them apart
 pub text_last : (text bytes : List ℕ) (n : ℕ) → n ≤ length bytes → 0 < n
     → (text ++ take (n - 1) bytes) ++ get_or bytes (n - 1) 0 ∷ [] ≡ text ++ take n bytes
 text_last text bytes n h some =

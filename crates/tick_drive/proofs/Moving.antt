@@ -81,7 +81,7 @@ module _ {C : Type 0} (meaning : Consuming C) where
     went = given.went;
   }
 
-  -- As far as these items are left of all that a consumer is to be given, it was given them.
+  -- As far as these items are left of all that a consumer must be given, it was given them.
   pub record HasGiven (start now : C) (all left : List Item) : Type 0 where
     pub done : List Item
     pub all_are : all ≡ done ++ left

@@ -78,8 +78,8 @@ module _ {C : Type 0} (meaning : Consuming C) where
     pub at : (origin : meaning.Origin) (items : List Item) → meaning.stands old origin items
         → meaning.stopped new stop origin (items ++ take (place + 1) more)
 
-  -- What calls do that give a consumer these items. The last one answers that all were taken, or why
-  -- the consumer stopped at one of them.
+  -- What calls do that give a consumer these items. The last one answers that all were taken, or
+  -- why the consumer stopped at one of them.
   pub record Gives (old new : C) (items : List Item) (result : Result (Unit {0}) Stop) :
       Type 0 where
     pub moved : OnOk result (Moves old new items)
@@ -88,7 +88,7 @@ module _ {C : Type 0} (meaning : Consuming C) where
     pub is_able : OnOk result (meaning.able new)
     pub went : meaning.went old new result
 
-  -- so many of these items were given to it, at least one
+  -- this many of these items were given to it, at least one
   pub record GivesFirst (old new : C) (items : List Item) (count : ℕ) : Type 0 where
     pub some : 0 < count
     pub within : count ≤ length items
@@ -99,7 +99,7 @@ module _ {C : Type 0} (meaning : Consuming C) where
   GivesSome old new items (Ok count) = GivesFirst old new items count
   GivesSome old new items (Err stop) = Gives old new items (Err stop)
 
-  -- so many of these items were given to it, or none
+  -- this many of these items were given to it, or none
   pub record GivesUpTo (old new : C) (items : List Item) (count : ℕ) : Type 0 where
     pub within : count ≤ length items
     pub gives : Gives old new (take count items) (Ok tt)

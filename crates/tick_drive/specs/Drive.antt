@@ -50,7 +50,7 @@ module _ {C : Type 0} (meaning : Consuming C) where
     pub gives : Gives meaning old new items (Err stop)
     pub few : ticks + length (ticks_in items) ≤ max_ticks
 
-  -- what the answer says where one line's items were to be handed over after so many ticks
+  -- what the answer says where one line's items were to be handed over after this many ticks
   abbrev pub HandAnswer : C → C → ℕ → List Item → Result ℕ End → Type 0
   HandAnswer old new ticks items (Ok sum) = HandsOver old new ticks items sum
   HandAnswer old new ticks items (Err (TooLong Ticks count)) = HoldsBack old new ticks items count

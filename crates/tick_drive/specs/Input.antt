@@ -79,7 +79,7 @@ pub record EndsLast (marks : ℕ) (before now : Option (List ℕ)) (text : List 
   pub met : IsMetWhole before now text
   pub ended : IsTickText marks text (items ++ line)
 
--- The whole input was met and is a right text; behind its items stand so many silent ticks.
+-- The whole input was met and is a right text; behind its items stand this many silent ticks.
 pub record IsWhole (marks rest : ℕ) (before now : Option (List ℕ)) (items : List Item) :
     Type 0 where
   pub text : List ℕ
@@ -138,7 +138,7 @@ pub record StopsInLine (marks : ℕ) (before : Option (List ℕ)) (items : List 
   pub few : AreFew items
   pub are : items ≡ ended_items text ++ line
 
--- These items were taken of an input, and of so many silent ticks behind it, as the drive over it
+-- These items were taken of an input, and of this many silent ticks behind it, as the drive over it
 -- ended so. A consumer that stopped did so at one of them: in the last of the lines that were met,
 -- all whole, or behind an input that was met to its end.
 abbrev pub Takes : ℕ → ℕ → Option (List ℕ) → Option (List ℕ) → List Item → End → Type 0

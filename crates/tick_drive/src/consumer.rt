@@ -16,8 +16,8 @@ pub enum Stop {
     NoMemory,
 }
 
-/// Takes the ticks of an input, a run at a time, and its marks, and holds what it writes to. After a
-/// stop it is not used again.
+/// Takes the ticks of an input, a run at a time, and its marks, and holds what it writes to. After
+/// a stop it is not used again.
 pub trait Consumer {
     ghost use Rattle.tick_drive.specs.Consumers.{Consuming, MayTake, Gives, GivesSome};
     ghost use Rattle.tick_drive.specs.Consumers.{IsNoneDone, AreJoined};

@@ -47,7 +47,7 @@ fn give_run<C: Consumer>(run: TickRun<'_>, consumer: &mut C) -> Result<(), Stop>
     Ok(())
 }
 
-// Gives silent ticks to the consumer. It stands apart, so that each kind of run is compiled for
+// Gives silent ticks to the consumer. It is kept separate, so that each kind of run is compiled for
 // itself.
 #[inline(never)]
 fn give_silence<C: Consumer>(ticks: u32, consumer: &mut C) -> Result<(), Stop>
@@ -115,9 +115,9 @@ fn hand_last<C: Consumer>(ticks: u32, run: &Run, consumer: &mut C) -> Result<u32
     }
 }
 
-/// Drives an input, as tick text with exactly so many marks, into a consumer, until one of the two
-/// stops. The consumer may have counted ticks before, as long as it may count as many more as an
-/// input may have.
+/// Drives an input, as tick text with exactly this many marks, into a consumer, until one of the
+/// two stops. The consumer may have counted ticks before, as long as it may count as many more as
+/// an input may have.
 pub fn drive_with_room<S: Source, C: Consumer>(marks: u8, input: &mut S, consumer: &mut C) -> End
     requires { HasRoom C.meaning consumer.old }
     ensures driven { Drives C.meaning marks 0 (S.left input.old) (S.left input.new) consumer.old
@@ -151,8 +151,8 @@ pub fn drive_with_room<S: Source, C: Consumer>(marks: u8, input: &mut S, consume
     }
 }
 
-/// Drives an input, as tick text with exactly so many marks, into a consumer that has taken nothing
-/// yet, until one of the two stops.
+/// Drives an input, as tick text with exactly this many marks, into a consumer that has taken
+/// nothing yet, until one of the two stops.
 pub fn drive<S: Source, C: Consumer>(marks: u8, input: &mut S, consumer: &mut C) -> End
     requires fresh { IsFresh C.meaning consumer.old }
     ensures driven { Drives C.meaning marks 0 (S.left input.old) (S.left input.new) consumer.old

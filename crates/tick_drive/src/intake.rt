@@ -67,8 +67,8 @@ impl Intake {
         self.feed_read(source)
     }
 
-    // Reads from the source, and feeds what was read. It is a function of its own, since few lines need
-    // a read.
+    // Reads from the source, and feeds what was read. It is a function of its own, since few lines
+    // need a read.
     #[inline(never)]
     fn feed_read<S: Source>(&mut self, source: &mut S) -> Result<Option<Content>, End>
         ensures answer { (marks : ℕ) (before : Option (List ℕ)) (text : List ℕ)

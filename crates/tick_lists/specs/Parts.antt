@@ -4,7 +4,7 @@ use Rattle.yasir_ticks.specs.Ticks.{Item}
 use Rattle.yasir_ticks.specs.Ticks.Item.{tick, mark}
 use Rattle.yasir_ticks.specs.declared.tick.Tick.{Tick}
 
--- the ticks behind so many marks, up to the next one
+-- the ticks behind this many marks, up to the next one
 abbrev pub part : ℕ → List Item → List Tick
 part n [] = []
 part zero (tick t ∷ items) = t ∷ part zero items

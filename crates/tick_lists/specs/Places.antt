@@ -10,7 +10,7 @@ place_behind place.Second = place.Third
 place_behind place.Third = place.None
 place_behind place.None = place.None
 
--- behind so many marks
+-- behind this many marks
 abbrev pub place_after : ℕ → Place
 place_after zero = place.First
 place_after (suc n) = place_behind (place_after n)

@@ -122,7 +122,7 @@ module _ (rules : Rules) where
 -- ---- the frames of a session
 
 module _ (drawing : Drawing) (seed : ℕ) where
-  -- the frames of so many periods
+  -- the frames of this many periods
   abbrev pub frames_drawn : ℕ → List (List ℕ)
   frames_drawn zero = []
   frames_drawn (suc n) = frames_drawn n ++ drawing.frame (state_at drawing seed n) ∷ []

@@ -25,9 +25,9 @@ use Rattle.trial_session.specs.declared.fate.Fate.TheVariants.{Through, Refused,
 abbrev pub trial_setup : Setup
 trial_setup = record { key = replicate 16 0; direction = 0; floor = 0 }
 
--- the profile of a protocol and a code with words of so many bytes, with that setup
+-- the profile of a protocol and a MAC with words of this many bytes, with that setup
 abbrev pub trial_profile : {R M : Type 0} → LineRules R → Mac M → ℕ → Profile
-trial_profile proto code word_len = profile_of proto code word_len LIMIT trial_setup
+trial_profile proto macs word_len = profile_of proto macs word_len LIMIT trial_setup
 
 -- what a box tells of the note of a step, if there is one
 abbrev pub told_by : {A : Type 0} → (A → Fate) → Option A → Option Fate
@@ -57,7 +57,7 @@ seal_counting profile rules = record {
 }
 
 abbrev pub sealing : {R M : Type 0} → LineRules R → Mac M → ℕ → Counting
-sealing proto code word_len = seal_counting (trial_profile proto code word_len) proto.rules
+sealing proto macs word_len = seal_counting (trial_profile proto macs word_len) proto.rules
 
 -- ---- the receiver
 
@@ -92,4 +92,4 @@ check_counting profile rules = record {
 }
 
 abbrev pub checking : {R M : Type 0} → LineRules R → Mac M → ℕ → Counting
-checking proto code word_len = check_counting (trial_profile proto code word_len) proto.rules
+checking proto macs word_len = check_counting (trial_profile proto macs word_len) proto.rules

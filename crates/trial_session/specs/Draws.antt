@@ -11,7 +11,7 @@ next_state x = (6364136223846793005 * x + 1442695040888963407) % 2 ^ 64
 abbrev pub drawn : ℕ → ℕ
 drawn x = x / 2 ^ 32
 
--- the state after so many draws
+-- the state after this many draws
 unfoldable pub state_after : ℕ → ℕ → ℕ
 state_after zero x = x
 state_after (suc n) x = state_after n (next_state x)
@@ -20,12 +20,12 @@ state_after (suc n) x = state_after n (next_state x)
 abbrev pub nth_drawn : ℕ → ℕ → ℕ
 nth_drawn n x = drawn (state_after n x)
 
--- so many draws from a state on
+-- this many draws from a state on
 unfoldable pub draws : ℕ → ℕ → List ℕ
 draws zero x = []
 draws (suc n) x = drawn (next_state x) ∷ draws n (next_state x)
 
--- so many draws from a state on, as bytes
+-- this many draws from a state on, as bytes
 abbrev pub bytes_drawn : ℕ → ℕ → List ℕ
 bytes_drawn n x = map (λ d. d % 256) (draws n x)
 

@@ -88,29 +88,29 @@ dropped-alike (passed_note number start frame) = refl
 dropped-alike (refused_note start why) = refl
 dropped-alike (dropped_note start why) = refl
 
-module _ {R M : Type 0} (proto : LineRules R) (code : Mac M) (word_len : ℕ) where
-  pub seals-fates : CountsFates (seal_walking proto code word_len) fate_sealed
-      (sealing proto code word_len)
+module _ {R M : Type 0} (proto : LineRules R) (macs : Mac M) (word_len : ℕ) where
+  pub seals-fates : CountsFates (seal_walking proto macs word_len) fate_sealed
+      (sealing proto macs word_len)
   seals-fates = record {
     other_is = λ line. refl;
     through_is = λ line. length-filter_map sealed_in _ sealed-alike
-        (full_notes (seal_walking proto code word_len) trial_setup line);
+        (full_notes (seal_walking proto macs word_len) trial_setup line);
     refused_is = λ line. tally-alike is_unsealed _ unsealed-alike
-        (full_notes (seal_walking proto code word_len) trial_setup line);
+        (full_notes (seal_walking proto macs word_len) trial_setup line);
     dropped_is = λ line.
-        tally-none (full_notes (seal_walking proto code word_len) trial_setup line)
+        tally-none (full_notes (seal_walking proto macs word_len) trial_setup line)
         ∙ tally-alike (λ n. false) _ none-dropped
-        (full_notes (seal_walking proto code word_len) trial_setup line);
+        (full_notes (seal_walking proto macs word_len) trial_setup line);
   }
 
-  pub checks-fates : CountsFates (check_walking proto code word_len) fate_checked
-      (checking proto code word_len)
+  pub checks-fates : CountsFates (check_walking proto macs word_len) fate_checked
+      (checking proto macs word_len)
   checks-fates = record {
     other_is = λ link. refl;
     through_is = λ link. length-filter_map passed_in _ passed-alike
-        (full_notes (check_walking proto code word_len) trial_setup link);
+        (full_notes (check_walking proto macs word_len) trial_setup link);
     refused_is = λ link. tally-alike notes_refused _ refused-alike
-        (full_notes (check_walking proto code word_len) trial_setup link);
+        (full_notes (check_walking proto macs word_len) trial_setup link);
     dropped_is = λ link. tally-alike notes_dropped _ dropped-alike
-        (full_notes (check_walking proto code word_len) trial_setup link);
+        (full_notes (check_walking proto macs word_len) trial_setup link);
   }

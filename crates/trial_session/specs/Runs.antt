@@ -9,7 +9,7 @@ use Rattle.trial_session.specs.Session.{period_len, state_at, session_line, alte
 use Rattle.trial_session.specs.Sides.{MayTake, HasTaken, MayReceive, HasReceived}
 use Rattle.trial_session.specs.declared.session.Session.{Session}
 
--- Both boxes and the device have taken so many ticks, and may take more.
+-- Both boxes and the device have taken this many ticks, and may take more.
 pub record MayGoOn {S C V N K : Type 0} (seals : LinkBox S N) (checks : LinkBox C K)
     (device : Device V) (session : Session S C V) (ticks : ℕ) : Type 0 where
   pub may_seal : MayTake seals session.sealing

@@ -31,7 +31,7 @@ module _ (drawing : Drawing) where
   state_at seed zero = seed
   state_at seed (suc n) = after_period (state_at seed n)
 
-  -- What becomes of the link in the period that begins in this state, where so many ticks follow
+  -- What becomes of the link in the period that begins in this state, where this many ticks follow
   -- a frame in its packet: a kind, a place within the packet, and a value from 1 to 255.
   abbrev pub alteration_in : ℕ → ℕ → Alteration
   alteration_in behind x =
@@ -39,7 +39,7 @@ module _ (drawing : Drawing) where
       (nth_drawn 2 (after_frame x) % (length (drawing.frame x) + behind))
       (1 + nth_drawn 3 (after_frame x) % 255)
 
-  -- the device's line of so many periods
+  -- the device's line of this many periods
   unfoldable pub session_line : ℕ → ℕ → List Tick
   session_line seed zero = []
   session_line seed (suc n) = session_line seed n ++ period_line (drawing.frame (state_at seed n))

@@ -13,8 +13,8 @@ use Rattle.trial_session.specs.declared.receiving.Receiving.{Receiving}
 use Rattle.trial_session.specs.declared.side.Side.{Side}
 
 module _ {X N : Type 0} (line_box : LinkBox X N) where
-  -- The box may take a tick: the journal is that of the box's link, the disk is the journal's, and no
-  -- more is counted than there were ticks.
+  -- The box may take a tick: the journal is that of the box's link, the disk is the journal's, and
+  -- no more is counted than there were ticks.
   pub record MayTake (side : Side X) : Type 0 where
     pub of_link : journal_link side.journal ≡ line_box.link_of side.line_box
     pub fits : Fits side.journal (Some (steady_slots side.disk))

@@ -11,7 +11,7 @@ use Rattle.trial_session.specs.DrawnFrames.{Drawing}
 use Rattle.trial_session.specs.Session.{session_line, altered_link}
 use Rattle.trial_session.specs.declared.summary.Summary.{Summary}
 
--- so many silent ticks follow the link, so that all that has passed is read
+-- this many silent ticks follow the link, so that all that has passed is read
 abbrev pub trial_rest : ℕ
 trial_rest = 320
 
@@ -28,8 +28,8 @@ summary_of sealing checking reads line link = record {
   read = length (reads (checking.other_line link));
 }
 
--- the link of the session of so many frames from a seed: that of the transmitter, altered, where so
--- many ticks follow a frame in its packet, and then silence
+-- the link of the session of this many frames from a seed: that of the transmitter, altered, where
+-- so many ticks follow a frame in its packet, and then silence
 abbrev pub session_link : Drawing → ℕ → Counting → ℕ → ℕ → List Tick
 session_link drawing behind sealing seed count =
     altered_link drawing behind seed count

@@ -137,7 +137,7 @@ impl<V: Device + Drop> Listening<V> {
         }
     }
 
-    // The next ticks are so many silent ones.
+    // The next ticks are this many silent ones.
     fn rest(&mut self, ticks: usize, waiting: &mut Waiting)
         requires few { self.old.read ≤ V.taken self.old.device }
         requires room { V.taken self.old.device + length waiting.old.items + ticks ≤ MAX_TICKS }
@@ -152,8 +152,8 @@ impl<V: Device + Drop> Listening<V> {
         self.wait(ticks);
     }
 
-    /// Hears an answer to so many ticks: as many bytes, or silence where there is none. Bytes wait
-    /// for the end of their run, since a run costs the device little more than a single byte.
+    /// Hears an answer to this many ticks: as many bytes, or silence where there is none. Bytes
+    /// wait for the end of their run, since a run costs the device little more than a single byte.
     #[inline]
     pub fn hear(&mut self, count: usize, left: &[u8], waiting: &mut Waiting)
         requires few { self.old.read ≤ V.taken self.old.device }

@@ -35,7 +35,7 @@ truth holds = (if holds then 1 else 0) ∷ []
 abbrev pub user_of : List ℕ → Option (List ℕ)
 user_of text = if dnp.is_frame text then Some (user_in text) else None
 
--- what the definitions give: a CRC high byte first, a code, a code cut to 12 bytes, a code by the
+-- what the definitions give: a CRC high byte first, a MAC, a MAC cut to 12 bytes, a MAC by the
 -- other hash function, 1 or 0 for a frame or none, and the user data of a frame
 abbrev pub value_by : CaseKind → List ℕ → List ℕ → Option (List ℕ)
 value_by Crc16 key text = Some (to_be_bytes w16 (crc_rtu text))

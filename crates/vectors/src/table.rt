@@ -63,7 +63,7 @@ pub fn crc_table() -> (u32, Result<(), Miss>)
     }
 }
 
-/// The number of rows of the table of keyed codes, and the answer to it.
+/// The number of rows of the table of MACs, and the answer to it.
 #[tactic(auto, unfolding(crate::specs::Tables::hmac_cases))]
 pub fn hmac_table() -> (u32, Result<(), Miss>)
     ensures rows { result.0 ≡ length hmac_cases }

@@ -3,5 +3,4 @@ pub mod FlushLaws
 pub mod Images
 pub mod Moments
 pub mod OutputLemmas
-pub mod PiecesLemmas
 pub mod Telling

@@ -4,25 +4,6 @@ use Rattle.std.proofs.Common.{inl, inr, arith}
 use Rattle.yasir_io.specs.Disks.{Slots, Elapses, LeavesOnly}
 
 module _ {D : Type 0} (moment : D → ℕ) (left_since : D → ℕ → Slots → Type 0) where
-  -- one call: each image from before it and from after it has P
-  pub leaves_of_call : (old new : D) (before after P : Slots → Type 0)
-      → Elapses (moment old) (moment new) (left_since old) (left_since new) after
-      → ((c : Slots) → left_since old (moment old) c → before c)
-      → ((c : Slots) → before c → P c) → ((c : Slots) → after c → P c)
-      → LeavesOnly moment left_since old new P
-  leaves_of_call old new before after P time only_now from_before from_after = record {
-    later = time.later;
-    each = λ c left. elim (time.nothing_else (moment old) c (omega arith) left) as (λ _. P c) [
-      | inl past ↦ from_before c (only_now c past)
-      | inr now ↦ from_after c now
-    ];
-    before = λ t c le left. elim (time.nothing_else t c le left)
-        as (λ _. left_since old t c ⊎ P c) [
-          | inl past ↦ inl past
-          | inr now ↦ inr (from_after c now)
-        ];
-  }
-
   -- some calls, and then some more
   pub leaves_then : (old mid new : D) (P : Slots → Type 0)
       → LeavesOnly moment left_since old mid P → LeavesOnly moment left_since mid new P

@@ -43,7 +43,7 @@ some_written start now after n waits text so_far written =
     part_written start now after (take n waits) (drop n waits) waits text so_far
     (sym (take-append-drop n waits)) written
 
--- the same, where the rest of a slice is spelled as code spells it
+-- the same, where the rest of a slice is spelled as the program spells it
 pub some_written_of_slice : (start now after : Option (List ℕ)) (n : ℕ) (waits text : List ℕ)
     → Buffered start now waits text → after ≡ append_known now (take n waits)
     → Buffered start after (take (length waits - n) (drop n waits)) text

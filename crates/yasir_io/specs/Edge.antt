@@ -34,7 +34,7 @@ writer_flushes sink = sink.flushes.count
 abbrev pub writer_unflushed : {W : Type 0} → WriterSink W → Bool
 writer_unflushed sink = sink.flushes.unflushed
 
--- the file, once it stands open
+-- the file, once it is open
 abbrev pub file_of : {R F D : Type 0} → FileSource R F D → Option F
 file_of source = source.file.file
 
@@ -50,7 +50,7 @@ file_options source = source.file.options
 abbrev pub file_faults : {R F D : Type 0} → FileSource R F D → ℕ
 file_faults source = source.faults.count
 
--- the file of slots, once it stands open
+-- the file of slots, once it is open
 abbrev pub slots_file : {R F D : Type 0} → FileSlots R F D → Option F
 slots_file disk = disk.file.file
 

@@ -1,7 +1,7 @@
 -- How a flush is counted.
 use Rattle.std.specs.Prelude.{◌≡◌, ℕ, ◌+◌, ◌-◌, ◌^◌, min, Bool, false, Result, OnOk, OnErr}
 
--- one more than this count, which stands still at its last value
+-- one more than this count, which stays at its last value
 abbrev pub one_more : ℕ → ℕ
 one_more count = min (count + 1) (2 ^ 64 - 1)
 

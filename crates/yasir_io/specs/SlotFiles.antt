@@ -44,8 +44,8 @@ slot_end slot = slot_place slot + SLOT_LEN
 abbrev pub slots_end : ℕ
 slots_end = 80
 
--- What a call does to a file, P. Where none stands open the call opens one, which Begins and goes
--- on from there, or it fails; a file that stands open stays so.
+-- What a call does to a file, P. Where none is open the call opens one, which Begins and goes
+-- on from there, or it fails; a file that is open stays so.
 abbrev pub OnOpen : {F T E : Type 0} → (F → Type 0) → Option F → Option F → Result T E
     → (F → F → Type 0) → Type 0
 OnOpen Begins None None result P = IsErr result

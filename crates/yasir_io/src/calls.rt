@@ -14,7 +14,7 @@ pub type Plan = ArrayVec<u32, 8>;
 #[derive(Clone, Copy, Debug, PartialEq, Eq)]
 pub struct NoMemory;
 
-/// The calls made on an object in memory, of which a plan fails. The count stands still at its last
+/// The calls made on an object in memory, of which a plan fails. The count stays at its last
 /// value.
 #[derive(Drop)]
 pub(crate) struct Calls {

@@ -259,7 +259,8 @@ fn name(alloc: Global) -> Result<Option<String>, Fail> {
     Ok(Some(String::from_str(alloc, PATH)?))
 }
 
-// Whether the first of these bytes, so many of them, count up from this one, and the others are 0.
+// Whether the first of these bytes, this many of them, count up from this one, and the others are
+// 0.
 fn counts_up(bytes: &[u8], first: u8, len: usize) -> bool {
     let mut next = first;
     let mut left = len;
@@ -274,7 +275,7 @@ fn counts_up(bytes: &[u8], first: u8, len: usize) -> bool {
     true
 }
 
-// Whether an answer is a slot's front of so many of its bytes, or a failure.
+// Whether an answer is a slot's front of this many of its bytes, or a failure.
 fn is_front<const N: usize>(
     answer: Result<[u8; N], Failed>,
     first: u8,

@@ -1,4 +1,4 @@
-//! Real files as a source and as a disk, opened at the first call. What stands in them isn't told;
+//! Real files as a source and as a disk, opened at the first call. What is in them isn't told;
 //! faults are counted.
 ghost use Rattle.std.specs.Prelude.{◌≡◌, ◌<◌, ◌≤◌, length, take, Some, None, IsSome, OnOk, OnErr};
 ghost use Rattle.std.specs.Prelude.{IfOk, IfSome, replicate, nat_lt};
@@ -73,7 +73,7 @@ impl<'a, R: Files> LazyFile<'a, R> {
         self.options.open(self.rt, path.as_str())
     }
 
-    // Opens the file, unless it stands open.
+    // Opens the file, unless it is open.
     #[inline(always)]
     fn open(&mut self) -> io::Result<()>
         ensures opened { OnOk result (IsSome self.new.file) }
@@ -105,7 +105,7 @@ impl<'a, R: Files> LazyFile<'a, R>
 where
     R::File: Lock,
 {
-    // Opens the file for this run alone, unless it stands open. A run that was killed may have left
+    // Opens the file for this run alone, unless it is open. A run that was killed may have left
     // writes that no sync has confirmed: they are synced before anything is read, since this run
     // goes on from what it reads.
     fn open_alone(&mut self) -> io::Result<()>

@@ -2,7 +2,7 @@
 ghost use Rattle.std.specs.Prelude.{◌≡◌, ◌<◌, true, false};
 ghost use Rattle.yasir_io.specs.Flushing.{one_more};
 
-/// How often a sink was flushed, and whether bytes were written since. The count stands still at
+/// How often a sink was flushed, and whether bytes were written since. The count stays at
 /// its last value.
 #[derive(Drop)]
 pub(crate) struct Flushes {

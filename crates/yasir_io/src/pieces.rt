@@ -113,7 +113,7 @@ impl Pieces {
         &self.bytes[self.place..self.end]
     }
 
-    /// Passes over so many of the bytes that are kept.
+    /// Passes over this many of the bytes that are kept.
     #[inline]
     pub fn skip(&mut self, n: usize)
         requires { n ≤ length (kept_bytes self.old) }

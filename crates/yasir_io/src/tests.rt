@@ -70,7 +70,7 @@ fn drained<S: Source>(pieces: &mut Pieces, source: &mut S, out: &mut Vec<u8>) ->
     Ok(failed)
 }
 
-// A source gives its text, of whose calls so many fail.
+// A source gives its text, of whose calls this many fail.
 fn gives<S: Source>(
     rt: &impl Abort,
     alloc: Global,
@@ -339,8 +339,8 @@ fn slots_in_memory_are_read(rt: HostRuntime) -> Result<(), Fail> {
     Ok(())
 }
 
-// Which calls are done, of a write of bytes 3 to a slot B of bytes 2, a sync, and a read of it, on a
-// disk with room for so many of them. The slot has such bytes then, and slot A those of before.
+// Which calls are done, of a write of bytes 3 to a slot B of bytes 2, a sync, and a read of it, on
+// a disk with room for this many of them. The slot has such bytes then, and slot A those of before.
 fn done_of(
     rt: &impl Abort,
     alloc: Global,

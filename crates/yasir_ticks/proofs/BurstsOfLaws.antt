@@ -29,7 +29,7 @@ module _ (cut : ℕ) where
       let e : suc n + gap ≡ n + suc gap = omega arith in
       bursts_from-silence (suc n) gap l ∙ ap (λ i. bursts_from cut i l) e
 
-  -- a byte that stands alone
+  -- a byte that is alone
   with_byte-alone : (n b : ℕ) (ds : List Burst) → StartsFrom (suc n + cut) ds
       → with_byte cut n b ds ≡ alone n b ∷ ds
   with_byte-alone n b [] far = with_byte-nil n b
@@ -77,7 +77,7 @@ module _ (cut : ℕ) where
       → AreBursts cut m l ds
   AreBursts-at n m l ds e are = let P : ℕ → Type 0 = λ i. AreBursts cut i l ds in subst P e are
 
-  -- a byte that stands alone before the other bursts
+  -- a byte that is alone before the other bursts
   AreBursts-alone : (n b : ℕ) (l : List Tick) (ds : List Burst) → StartsFrom (suc n + cut) ds
       → AreBursts cut (suc n) l ds
       → AreBursts cut n (Byte b ∷ l) (alone n b ∷ ds)

@@ -19,7 +19,7 @@ use Rattle.yasir_ticks.proofs.Items.{all_items_both, all_items_cons, all_items-m
 use Rattle.yasir_ticks.proofs.Steps.{closes_start, closes_comment, closes_pairs, closes_number}
 use Rattle.yasir_ticks.proofs.Steps.{closes_percent, closes_returned, accepts_high, accepts_low}
 
--- how a line goes on to one of a right form, with so many marks
+-- how a line goes on to one of a right form, with this many marks
 pub record Completion (marks : ℕ) (line : List ℕ) : Type 0 where
   pub more : List ℕ
   pub items : List Item

@@ -1,4 +1,4 @@
--- Lines apart from comments: a CR at the end, bytes that may not stand in a content.
+-- Lines apart from comments: a CR at the end, bytes that may not come in a content.
 use Rattle.std.proofs.Common.{◌≡◌, ◌≢◌, ◌∙◌, ◌==◌, ℕ, suc, Bool, true, false, List, [], ◌∷◌, ◌++◌}
 use Rattle.std.proofs.Common.{length, Option, Some, None, refl, ap, cond, arith, append-nil}
 use Rattle.yasir_ticks.specs.Ticks.{Item}
@@ -22,7 +22,7 @@ without_return-same [] h = refl
 without_return-same (c ∷ []) h = rw h refl
 without_return-same (c ∷ d ∷ x) h = ap (λ l. c ∷ l) (without_return-same (d ∷ x) h)
 
--- what stands before a byte stays
+-- what comes before a byte stays
 pub without_return-append : (p : List ℕ) (b : ℕ) (l : List ℕ)
     → without_return (p ++ b ∷ l) ≡ p ++ without_return (b ∷ l)
 without_return-append [] b l = refl
@@ -39,7 +39,7 @@ pub starts_comment-append : (x : List ℕ) (b : ℕ) (l : List ℕ) → starts_c
 starts_comment-append [] b l h n = test_of b 35 n
 starts_comment-append (c ∷ x) b l h n = h
 
--- a byte that isn't CR, in a line that is no comment: what stands before it, the byte, and what
+-- a byte that isn't CR, in a line that is no comment: what comes before it, the byte, and what
 -- follows without a CR at its end
 pub line_items-byte : (x : List ℕ) (b : ℕ) (l : List ℕ) → starts_comment (x ++ b ∷ l) ≡ false
     → b ≢ 13

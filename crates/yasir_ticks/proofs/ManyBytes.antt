@@ -18,14 +18,6 @@ use Rattle.yasir_ticks.proofs.Lines.{IsFree, lines_of-more, lines_of-free}
 use Rattle.yasir_ticks.proofs.Feeding.{at_more}
 use Rattle.yasir_ticks.proofs.Steps.{accepts_high, accepts_low, hex_not_lf}
 
--- no byte
-pub goes_on_nothing : (a : TickReader) → GoesOn a [] a
-goes_on_nothing a = record {
-  stands = λ marks text s. rw (append-nil text) s;
-  quiet = λ marks text s. rw (append-nil text) refl;
-  lines = omega arith;
-}
-
 -- and then some more
 pub goes_on_then : (a b c : TickReader) (x y : List ℕ) → GoesOn a x b → GoesOn b y c
     → GoesOn a (x ++ y) c

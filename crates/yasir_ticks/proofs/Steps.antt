@@ -104,7 +104,7 @@ foreign_plain Percent b bytes line h r = rw r (record { apart = refl; whole = re
 foreign_plain (Returned content) b bytes line h r = cc
 foreign_plain (Refused why) b bytes line h r = absurd r
 
--- such a line stands for what stands on it
+-- such a line stands for what is on it
 pub plain_items : (line : List ℕ) → IsPlain line → line_items line ≡ content_items line
 plain_items line p = line_items-plain line p.apart
     ∙ ap content_items (without_return-same line p.whole)
@@ -248,12 +248,6 @@ open_minus bytes = record {
   cause = λ line next e r. rw (r, e) refl;
 }
 
-pub open_refused : (why : TickFault) (bytes : List ℕ) → IsOpen (Refused why) bytes why
-open_refused why bytes = record {
-  wrong = λ line r. absurd r;
-  cause = λ line next e r. absurd r;
-}
-
 -- ---- a byte that goes on with the line
 
 -- the form of such a step
@@ -274,12 +268,6 @@ unfolding decode_pairs
 accepts_plus bytes left =
     accepts (λ e. absurd (omega arith)) (omega arith)
     (λ line r. rw r (record { digits = []; is = refl; decoded = refl; fits = omega arith }))
-
--- the mark of a line, one of those that are left
-pub accepts_percent : (bytes : List ℕ) (left new_left : ℕ) → new_left + 1 ≡ left
-    → Accepts Start bytes left 37 [] Percent bytes new_left
-accepts_percent bytes left new_left e =
-    accepts (λ e. absurd (omega arith)) (omega arith) (λ line r. rw r refl)
 
 pub accepts_high : (bytes : List ℕ) (left b high : ℕ) → hex_digit_value b ≡ Some high
     → length bytes < 32
@@ -340,7 +328,7 @@ accepts_lf place bytes new_bytes left content c = record {
   marked = omega (arith, marks_in-content content bytes, c.marked);
 }
 
--- ---- a byte that may not stand where it stands
+-- ---- a byte that may not come where it stands
 
 refuses : {place : Place} {bytes : List ℕ} {left b : ℕ} {why : TickFault} → b ≢ 10
     → ((line : List ℕ) → Reads place bytes line → (more : List ℕ)

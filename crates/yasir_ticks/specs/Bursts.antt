@@ -1,4 +1,4 @@
--- Bursts of a line: the line is cut wherever `cut` or more silent ticks stand together. The start
+-- Bursts of a line: the line is cut wherever `cut` or more silent ticks are together. The start
 -- of the line counts as quiet.
 use Rattle.std.specs.Prelude.{ℕ, suc, ◌+◌, ◌-◌, ◌≤◌, nat_lt, List, [], ◌∷◌, ◌++◌, length}
 use Rattle.std.specs.Prelude.{if◌then◌else◌}

@@ -25,7 +25,7 @@ ended_has_ticks None bytes = true
 ended_has_ticks (Some content) bytes = has_ticks content bytes
 
 -- Between the two digits of a pair the first one is a digit, and there is room for the byte. A
--- number of silent ticks isn't 0, and what stands before a CR has ticks, or is a mark, or the
+-- number of silent ticks isn't 0, and what comes before a CR has ticks, or is a mark, or the
 -- content of a line without any.
 abbrev pub is_sound : Place → List ℕ → Bool
 is_sound (HalfPair high) bytes = nat_lt high 16 && nat_lt (length bytes) 32

@@ -49,7 +49,7 @@ abbrev pub starts_comment : List ℕ → Bool
 starts_comment [] = false
 starts_comment (c ∷ x) = c == number_sign
 
--- `#` and so many bytes
+-- `#` and this many bytes
 pub record IsComment (n : ℕ) (line : List ℕ) : Type 0 where
   pub after : List ℕ
   pub is : line ≡ number_sign ∷ after
@@ -99,7 +99,7 @@ Reads Percent bytes line = line ≡ percent_sign ∷ []
 Reads (Returned content) bytes line = IsReturned content bytes line
 Reads (Refused why) bytes line = ⊥
 
--- A text with so many marks, of which these are left behind the line so far, brings a reader to
+-- A text with this many marks, of which these are left behind the line so far, brings a reader to
 -- this place.
 pub record IsAt (place : Place) (bytes : List ℕ) (line left marks : ℕ) (text : List ℕ) :
     Type 0 where
@@ -108,11 +108,11 @@ pub record IsAt (place : Place) (bytes : List ℕ) (line left marks : ℕ) (text
   pub counted : line ≡ line_after text
   pub last : Reads place bytes (lines_of text).last
 
--- The reader of a text with so many marks has taken this much, and no byte of it is refused.
+-- The reader of a text with this many marks has taken this much, and no byte of it is refused.
 pub record StandsFor (reader : TickReader) (marks : ℕ) (text : List ℕ) : Type 0 where
   pub at : IsAt reader.place reader.bytes.items reader.line reader.left marks text
 
--- the line in which the reader stands
+-- the line in which the reader is
 abbrev pub reader_line : TickReader → ℕ
 reader_line reader = reader.line
 

@@ -43,7 +43,7 @@ pub record TakesWhole (old : TickReader) (sign : ℕ) (bytes : List ℕ) (new : 
   pub ends : slice_index bytes whole.len ≡ line_feed
   pub takes : TakesLine old (sign ∷ take whole.len bytes) whole.content new
 
--- A reader has taken so many of these bytes, and the last of them, an LF, ended a line of this
+-- A reader has taken this many of these bytes, and the last of them, an LF, ended a line of this
 -- content; before it no line with ticks or a mark ended.
 pub record EndsLine (old : TickReader) (bytes : List ℕ) (taken : ℕ) (content : Content)
     (new : TickReader) : Type 0 where
@@ -60,8 +60,8 @@ pub record EndsLine (old : TickReader) (bytes : List ℕ) (taken : ℕ) (content
   pub nothing : items_of_content content new.bytes.items ≡ [] → content ≡ NoTick
   pub lines : new.line ≤ old.line + taken
 
--- A reader has taken so many of these bytes, none of which is refused: up to the end of the line in
--- which it stood, or all of them. The line stands for this content.
+-- A reader has taken this many of these bytes, none of which is refused: up to the end of the line
+-- in which it stood, or all of them. The line stands for this content.
 pub record TakesUpTo (old : TickReader) (bytes : List ℕ) (taken : ℕ) (content : Content)
     (new : TickReader) : Type 0 where
   pub within : taken ≤ length bytes
@@ -82,7 +82,7 @@ pub record TakesUpTo (old : TickReader) (bytes : List ℕ) (taken : ℕ) (conten
   pub progress : 0 < length bytes → 0 < taken
   pub lines : new.line ≤ old.line + taken
 
--- It has taken so many of them, in which no line with ticks or a mark ended, and refuses the next
+-- It has taken this many of them, in which no line with ticks or a mark ended, and refuses the next
 -- one.
 pub record StopsAt (old : TickReader) (bytes : List ℕ) (taken : ℕ) (bad : BadTicks)
     (new : TickReader) : Type 0 where

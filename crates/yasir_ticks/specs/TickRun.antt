@@ -7,7 +7,7 @@ use Rattle.yasir_ticks.specs.declared.tick.Tick.TheVariants.{Silent, Byte}
 use Rattle.yasir_ticks.specs.declared.tick_run.TickRun.{TickRun}
 use Rattle.yasir_ticks.specs.declared.tick_run.TickRun.TheVariants.{Bytes, Silence}
 
--- these bytes, one a tick, or so many silent ticks
+-- these bytes, one a tick, or this many silent ticks
 abbrev pub run_ticks : TickRun → List Tick
 run_ticks (Bytes bytes) = map Byte bytes.now
 run_ticks (Silence n) = silent n

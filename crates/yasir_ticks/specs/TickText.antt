@@ -70,7 +70,7 @@ content_items (c ∷ x) =
     else if c == percent_sign then (if length x == 0 then Some (mark ∷ []) else None)
     else None
 
--- a line without the CR that may stand as its last byte
+-- a line without the CR that may come as its last byte
 abbrev pub without_return : List ℕ → List ℕ
 without_return [] = []
 without_return (c ∷ []) = if c == carriage_return then [] else c ∷ []
@@ -91,12 +91,12 @@ all_items [] = Some []
 all_items (l ∷ ls) = option_and_then (λ items. option_map (λ more. items ++ more) (all_items ls))
     (line_items l)
 
--- The text stands for these items, and has exactly so many marks.
+-- The text stands for these items, and has exactly this many marks.
 pub record IsTickText (marks : ℕ) (text : List ℕ) (items : List Item) : Type 0 where
   pub lines : all_items ((lines_of text).ended ++ (lines_of text).last ∷ []) ≡ Some items
   pub marked : marks_in items ≡ marks
 
--- The text is the beginning of a right text with so many marks.
+-- The text is the beginning of a right text with this many marks.
 abbrev pub BeginsTickText : ℕ → List ℕ → Type 0
 BeginsTickText marks text = (more : List ℕ) × (items : List Item)
     × IsTickText marks (text ++ more) items

@@ -3,7 +3,7 @@
 /// Why a tick text is refused.
 #[derive(Clone, Copy, Debug, PartialEq, Eq)]
 pub enum TickFault {
-    /// A byte that may not stand at its place.
+    /// A byte that may not come at its place.
     Char,
     /// The end of a `+` line after an odd number of hex digits.
     Odd,

@@ -3,7 +3,7 @@ ghost use Rattle.std.specs.Prelude.{◌≡◌, [], true};
 
 use crate::{LineBytes, Run, TickFault};
 
-/// What a line stands for that ends where its reader stands.
+/// What a line stands for that ends where its reader is.
 #[derive(Clone, Copy, Debug, PartialEq, Eq)]
 pub enum Content {
     /// Nothing: the line is empty or a comment.
@@ -36,7 +36,7 @@ impl Content {
     }
 }
 
-/// Where in a line of tick text its reader stands.
+/// Where in a line of tick text its reader is.
 #[derive(Clone, Copy, Debug, PartialEq, Eq)]
 pub enum Place {
     /// Before its first byte.

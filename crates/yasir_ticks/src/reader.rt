@@ -54,7 +54,7 @@ impl TickReader {
         }
     }
 
-    /// The line, counted from 1, in which the reader stands.
+    /// The line, counted from 1, in which the reader is.
     pub fn line(&self) -> u32
         ensures { result ≡ reader_line self.now }
     {
@@ -137,7 +137,7 @@ impl TickReader {
         }
     }
 
-    /// A byte that is no part of a content: an LF, a CR, or one that may not stand here.
+    /// A byte that is no part of a content: an LF, a CR, or one that may not come here.
     fn after_content(&mut self, b: u8) -> Advance
         requires foreign { is_foreign self.old.place b ≡ true }
         requires line { reader_line self.old < 2 ^ 32 - 1 }

@@ -38,7 +38,7 @@ impl TickReader {
         taken
     }
 
-    // Takes what stands before the next LF, as long as the comment may go on. Returns how many
+    // Takes what comes before the next LF, as long as the comment may go on. Returns how many
     // bytes these are.
     #[inline]
     fn take_comment(&mut self, behind: u8, bytes: &[u8]) -> usize

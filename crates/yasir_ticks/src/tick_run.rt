@@ -34,7 +34,7 @@ impl<'a> TickRun<'a> {
         self.len() == 0
     }
 
-    /// The first of these ticks, so many.
+    /// The first `count` of these ticks.
     #[inline]
     pub fn front(self, count: usize) -> TickRun<'a>
         requires { count ≤ length (run_ticks self) }
@@ -46,7 +46,7 @@ impl<'a> TickRun<'a> {
         }
     }
 
-    /// These ticks without the first ones, so many.
+    /// These ticks without the first `count`.
     #[inline]
     pub fn behind(self, count: usize) -> TickRun<'a>
         requires { count ≤ length (run_ticks self) }

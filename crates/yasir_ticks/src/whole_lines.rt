@@ -20,10 +20,10 @@ pub struct FedLine {
     pub line: Result<Content, BadTicks>,
 }
 
-// What stands behind the first byte of a line, up to its LF.
+// What comes after the first byte of a line, up to its LF.
 #[derive(Clone, Copy)]
 struct Whole {
-    // how many bytes stand before the LF
+    // how many bytes come before the LF
     len: usize,
     content: Content,
 }
@@ -59,7 +59,7 @@ fn spelled_number(bytes: &[u8]) -> Option<Spelled>
     }
 }
 
-// The bytes of the one to three pairs of digits that a slice begins with, where an LF stands behind
+// The bytes of the one to three pairs of digits that a slice begins with, where an LF comes after
 // them.
 #[inline(always)]
 fn few_pairs(bytes: &[u8]) -> Option<LineBytes>
@@ -269,7 +269,7 @@ impl TickReader {
         }
     }
 
-    // Bytes up to the end of the line in which the reader stands.
+    // Bytes up to the end of the line in which the reader is.
     #[inline(never)]
     fn feed_rest(&mut self, bytes: &[u8]) -> FedLine
         requires { reader_line self.old + length bytes.now < 2 ^ 32 }
@@ -304,7 +304,7 @@ impl TickReader {
         }
     }
 
-    /// Takes bytes of the text up to and with the LF of the line in which the reader stands, or up
+    /// Takes bytes of the text up to and with the LF of the line in which the reader is, or up
     /// to a refused one, or all of them. It is as if they were fed one by one; the bytes of a `+`
     /// line are lent by `line_bytes`.
     #[inline(always)]

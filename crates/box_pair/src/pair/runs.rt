@@ -57,12 +57,12 @@ impl<S: RestingBox, C: RestingBox> BoxPair<S, C> {
     ghost use Rattle.box_pair.specs.Pairs.{HasPassed};
     ghost use Rattle.box_pair.specs.Pairs.{outgoing_direction, outgoing_box, incoming_box};
 
-    /// Takes the first ticks of the device and as many of the link at once, and returns how many: as
-    /// far as one of the two boxes is at rest over silence, and the other one sends all silence or
-    /// all bytes, without a note and without a number in either direction. Puts the bytes of the
-    /// link into `to_link` and those for the device into `to_device`, one for each tick, or none for
-    /// silence. With 0 nothing is taken, and the caller goes on by `step`. At most `MAX_TICKS` ticks
-    /// are taken then in each direction.
+    /// Takes the first ticks of the device and as many of the link at once, and returns how many:
+    /// as far as one of the two boxes is at rest over silence, and the other one sends all silence
+    /// or all bytes, without a note and without a number in either direction. Puts the bytes of the
+    /// link into `to_link` and those for the device into `to_device`, one for each tick, or none
+    /// for silence. With 0 nothing is taken, and the caller goes on by `step`. At most `MAX_TICKS`
+    /// ticks are taken then in each direction.
     #[inline]
     pub fn pass_both(
         &mut self,

@@ -34,7 +34,7 @@ impl<R: LineRules, M: Mac, const B: usize, const D: usize> Checker<R, M, B, D> {
     ghost use Rattle.link_verdicts.specs.declared.note.DroppedWhy.TheVariants.{Head as NoHead};
     ghost use Rattle.link_verdicts.specs.Verdicts.{whole_verdict};
     ghost use Rattle.check_receiver.specs.Arrivals.{bytes_come};
-    ghost use Rattle.check_receiver.specs.Stands.{Codes};
+    ghost use Rattle.check_receiver.specs.Stands.{MacHolds};
     ghost use Rattle.std.specs.Prelude.{drop, bytes_eq};
     ghost use Rattle.std.specs.Int.{w64, to_be_bytes};
     ghost use Rattle.link_verdicts.specs.Holding.{trailer_so_far};
@@ -76,14 +76,14 @@ impl<R: LineRules, M: Mac, const B: usize, const D: usize> Checker<R, M, B, D> {
     // The number with which the burst with a whole trailer passes, or why it is refused.
     fn verdict(&mut self, journal: &Journal) -> Result<u64, RefusedWhy>
         ensures rest { self.new ≡ record self.old { mac = self.new.mac } }
-        ensures codes { (key text : List ℕ) → M.stands self.old.mac key text
+        ensures mac_is { (key text : List ℕ) → M.stands self.old.mac key text
             → (rest : List ℕ) × M.stands self.new.mac key rest }
         ensures above { IfOk result (λ number. journal_floor journal.now < number) }
         ensures within { IfOk result (λ number. number ≤ LIMIT) }
         ensures judged { (setup : Setup) (line : List Tick) (d : Burst)
             → CutStandsFor R.LineRules self.old.cut line
             → last_burst line ≡ Some d
-            → Codes R.LineRules M.Mac setup self.old.mac self.old.arriving d
+            → MacHolds R.LineRules M.Mac setup self.old.mac self.old.arriving d
             → length (trailer_so_far R.rules d) ≡ B + M.TAG
             → verdict_told result
             ≡ whole_verdict (profile_of R.LineRules M.Mac B LIMIT setup) R.rules
@@ -112,7 +112,7 @@ impl<R: LineRules, M: Mac, const B: usize, const D: usize> Checker<R, M, B, D> {
     // Whether the trailer has the tag of this number and the burst.
     fn has_tag_of(&mut self, number: u64) -> bool
         ensures rest { self.new ≡ record self.old { mac = self.new.mac } }
-        ensures codes { (key text : List ℕ) → M.stands self.old.mac key text
+        ensures mac_is { (key text : List ℕ) → M.stands self.old.mac key text
             → (rest : List ℕ) × M.stands self.new.mac key rest }
         ensures compared { (key text : List ℕ) → M.stands self.old.mac key text
             → B ≤ length (bytes_come self.old.arriving)

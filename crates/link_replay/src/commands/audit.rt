@@ -140,8 +140,8 @@ fn audit_keyed<K: Source, S: Source, O: Sink, L: Sink, D: SlotDisk>(
     print_verdict(verdict, out, log)
 }
 
-/// Judges a session that has ended by three recordings of it, which two marks part in the input, and
-/// prints the verdict.
+/// Judges a session that has ended by three recordings of it, which two marks part in the input,
+/// and prints the verdict.
 pub fn audit<K: Source, S: Source, O: Sink, L: Sink, D: SlotDisk>(
     alloc: Global,
     asked: Audited,

@@ -15,7 +15,7 @@ use hmac_tag::Dir;
 use replay_status::{Ends, Status};
 use yasir_io::{Sink, SlotDisk, Source};
 
-/// How many silent ticks stand behind a whole input, so that the verdict on its last burst falls
+/// How many silent ticks come after a whole input, so that the verdict on its last burst falls
 /// and all that the receiver holds back leaves.
 const REST: u32 = 320;
 

@@ -16,7 +16,7 @@ use session_audit::ShownFrames;
 use std::alloc::Global;
 use yasir_io::{Sink, SlotDisk, Source, SteadySlots};
 
-/// How many silent ticks stand behind the line of the device beyond the receiver's delay, so that
+/// How many silent ticks come after the line of the device beyond the receiver's delay, so that
 /// its last burst is closed and its trailer sent.
 const REST: u32 = 6;
 

@@ -15,7 +15,7 @@ use replay_status::{Ends, Status};
 use seal_transmitter::Sealer;
 use yasir_io::{Sink, SlotDisk, Source};
 
-/// How many silent ticks stand behind a whole input beyond the receiver's delay, so that its last
+/// How many silent ticks come after a whole input beyond the receiver's delay, so that its last
 /// burst is closed and its trailer leaves.
 const REST: u32 = 6;
 

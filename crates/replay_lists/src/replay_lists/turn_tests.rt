@@ -191,7 +191,7 @@ fn listed(alloc: Global) -> Result<ReplayLists<Wire, Wire, Deaf>, Fail> {
 }
 
 // Each line of a recording goes to its box at once, and what the receiver answers to the device.
-// The silence behind a link is one run more, and what stands behind the device's line goes alone.
+// The silence behind a link is one run more, and what comes after the device's line goes alone.
 #[test]
 fn a_line_of_text_costs_a_call_of_its_box(rt: HostRuntime) -> Result<(), Fail> {
     let lists = listed(rt.alloc())?;

@@ -53,7 +53,7 @@ fn steps_over(source: &mut CountedSource<'_>) -> Result<u32, Fail> {
 }
 
 // The input has 132,000 bytes, and comes by reads of 65,536, 65,536, 928 and none. It takes a step
-// for each line, and one more for each of the two lines that stand in two pieces.
+// for each line, and one more for each of the two lines that are in two pieces.
 #[test]
 fn a_line_costs_a_step_and_a_piece_a_read(rt: HostRuntime) -> Result<(), Fail> {
     let text = full_lines(rt.alloc())?;

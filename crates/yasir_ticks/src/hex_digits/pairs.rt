@@ -10,9 +10,9 @@ use std::simd::prelude::*;
 
 /// The bytes that pairs of digits spell.
 pub(crate) struct Decoded {
-    /// How many pairs stand at the front.
+    /// How many pairs are at the front.
     pub(crate) pairs: usize,
-    /// Their bytes; what stands behind them means nothing.
+    /// Their bytes; what comes after them means nothing.
     pub(crate) bytes: [u8; 32],
 }
 

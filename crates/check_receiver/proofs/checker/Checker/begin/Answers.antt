@@ -7,7 +7,7 @@ use Rattle.link_verdicts.specs.declared.note.CheckNote.{CheckNote}
 use Rattle.check_receiver.specs.Between.{IsNoPass, IsBetween}
 use Rattle.check_receiver.specs.Stands.{HasTaken, direction_of}
 use Rattle.line_rules.specs.Rules.{head_of}
-use Rattle.check_receiver.proofs.Starting.{start-is, start-busy, start-bad, start-open, start-coded}
+use Rattle.check_receiver.proofs.Starting.{start-is, start-busy, start-bad, start-open, start-mac_holds}
 use Rattle.check_receiver.proofs.Starting.{start-live, start-quiet, start-still}
 use Rattle.check_receiver.proofs.checker.Checker.begin.Goals as goal
 
@@ -37,7 +37,7 @@ returns-in-Bad-clause-step g c = λ last setup line t between.
     let start = c.start.ensures (line ++ Byte c.args.byte ∷ []) at.cuts in
     let here = start-is g.R.LineRules g.M.Mac c.args.self.now last setup line c.args.byte at in
     let free = c.if-start-self.false in
-    let text = at.walks.code_is in
+    let text = at.walks.mac_stands in
     start-bad g.R.LineRules g.M.Mac c.args.self.now last setup line c.args.byte at
     c.update.new.self c.begin.new.self c.begin-2.new.self c.begin-2.ensures.stands
     c.begin-2.ensures.owed (omega arith) c.drop_headless.new.self c.drop_headless.result
@@ -66,7 +66,7 @@ returns-in-Short g c = record {
       let start = c.start.ensures (line ++ Byte c.args.byte ∷ []) at.cuts in
       let here = start-is g.R.LineRules g.M.Mac c.args.self.now last setup line c.args.byte at in
       let free = c.if-start-self.false in
-      let text = at.walks.code_is in
+      let text = at.walks.mac_stands in
       let begun = c.update.ensures setup.key [] (c.begin-3.ensures setup.key text.0 text.1) in
       let label : c.LABEL.result ≡ g.R.LineRules.rules.label =
       c.LABEL.ensures ∙ sym g.R.LineRules.numbers.label_is in
@@ -81,7 +81,7 @@ returns-in-Short g c = record {
       c.enter.ensures.turned c.enter.ensures.until c.enter.ensures.note
       (λ bad. let head = c.head.ensures (line ++ Byte c.args.byte ∷ []) at.cuts in
       ⊎_elim (λ short. absurd cc) (λ good. absurd cc) c.in-Short.is)
-      (start-coded g.R.LineRules g.M.Mac c.args.self.now last setup line c.args.byte at
+      (start-mac_holds g.R.LineRules g.M.Mac c.args.self.now last setup line c.args.byte at
       c.update.new.self c.begin.new.self c.begin.ensures
       (subst D to (subst L label begun))) in
       subst P (sym is) taken between;

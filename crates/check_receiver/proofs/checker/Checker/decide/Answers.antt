@@ -22,7 +22,7 @@ pub returns-in-Err-clause-step : goal.returns-in-Err-clause-step
 returns-in-Err-clause-step g c = λ setup line t whole.
     decide-refuses g.R.LineRules g.M.Mac c.args.self.now (journal_floor c.args.journal.now) setup
     line t whole c.verdict.new.self c.verdict.ensures.rest
-    (c.verdict.ensures.codes setup.key whole.key_text whole.codes) c.in-Err.why
+    (c.verdict.ensures.mac_is setup.key whole.key_text whole.mac_is) c.in-Err.why
     c.in-Err.ensures.judged c.refuse.new.self c.refuse.result c.refuse.ensures.turned
     c.refuse.ensures.earliest c.refuse.ensures.told
 
@@ -40,7 +40,7 @@ returns-in_default-clause-err_passes g c = (
   c.in_default.ensures.failed,
   λ setup line t whole. decide-fails g.R.LineRules g.M.Mac c.args.self.now
       (journal_floor c.args.journal.now) setup line t whole c.verdict.new.self
-      c.verdict.ensures.rest (c.verdict.ensures.codes setup.key whole.key_text whole.codes)
+      c.verdict.ensures.rest (c.verdict.ensures.mac_is setup.key whole.key_text whole.mac_is)
       c.in-Ok.number c.in-Ok.ensures.judged,
 )
 
@@ -72,7 +72,7 @@ returns-clause-step g c = λ setup line t whole.
     subst S (sym c.in-Ok-commit.ensures.committed.floor)
     (decide-passes g.R.LineRules g.M.Mac c.args.self.now (journal_floor c.args.journal.now) setup
     line t whole c.verdict.new.self c.verdict.ensures.rest
-    (c.verdict.ensures.codes setup.key whole.key_text whole.codes) c.in-Ok.number
+    (c.verdict.ensures.mac_is setup.key whole.key_text whole.mac_is) c.in-Ok.number
     c.in-Ok.ensures.judged c.pass.new.self c.pass.result c.pass.ensures.turned
     c.pass.ensures.earliest c.pass.ensures.told)
 

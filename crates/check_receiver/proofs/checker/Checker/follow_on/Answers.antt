@@ -75,7 +75,7 @@ returns-clause-run g c = λ last setup line stands waits keeps.
     keeps-entering
     (c.go_on_some-taken.ensures.stands line stands.cuts)
     (c.go_on_some-taken.ensures.live line stands.cuts)
-    (λ key text codes. c.update.ensures key text codes)
+    (λ key text mac_is. c.update.ensures key text mac_is)
     (subst F (sym size) c.lend_along.ensures.front) c.pass_bytes.ensures refl))
 
 pub returns-clause-silent : goal.returns-clause-silent

@@ -11,7 +11,7 @@ use Rattle.frame_ending.proofs.Running.{live-tick}
 use Rattle.frame_ending.specs.LiveBytes.{live_bytes}
 use Rattle.burst_walk.specs.Causal.{going_on}
 use Rattle.check_receiver.proofs.Resting.{begins-none, rest-taken}
-use Rattle.check_receiver.proofs.Entering.{live-taken, live-coded}
+use Rattle.check_receiver.proofs.Entering.{live-taken, live-mac_holds}
 use Rattle.check_receiver.proofs.Dropping.{drop-live}
 use Rattle.check_receiver.proofs.checker.Checker.go_on.Goals as goal
 
@@ -39,14 +39,14 @@ returns-in-Short g c = record {
       let d = waiting-some at.walks.waiting (sym at.walks.waits_is ∙ c.if-not-self.false) in
       let text : List ℕ = g.R.LineRules.rules.label ∷ setup.direction
       ∷ live_bytes g.R.LineRules.rules (going_on d.0 (length line) c.args.byte) in
-      let coded = live-coded g.R.LineRules g.M.Mac c.args.self.now last setup line c.args.byte at
-      c.update.new.self d.0 d.1 (λ key text codes. c.update.ensures key text codes) in
+      let mac_holds = live-mac_holds g.R.LineRules g.M.Mac c.args.self.now last setup line c.args.byte at
+      c.update.new.self d.0 d.1 (λ key text mac_is. c.update.ensures key text mac_is) in
       live-taken g.R.LineRules g.M.Mac c.args.self.now last setup line c.args.byte at
       c.update.new.self c.enter.new.self.until c.enter.new.self c.enter.result
       c.enter.ensures.turned c.enter.ensures.until c.enter.ensures.note
       (λ bad. let head = c.head.ensures (line ++ Byte c.args.byte ∷ []) at.cuts in
       ⊎_elim (λ short. absurd cc) (λ good. absurd cc) c.in-Short.is)
-      d.0 d.1 (text, coded.codes) coded c.if-not-self.false in
+      d.0 d.1 (text, mac_holds.mac_is) mac_holds c.if-not-self.false in
       subst P (sym is) taken between;
 }
 
@@ -59,7 +59,7 @@ returns-in-Bad-clause-step g c = λ last setup line t between.
     c.drop_headless.result in
     let taken : P (Byte c.args.byte) = λ at.
     let d = waiting-some at.walks.waiting (sym at.walks.waits_is ∙ c.if-not-self.false) in
-    let text = at.walks.code_is in
+    let text = at.walks.mac_stands in
     drop-live g.R.LineRules g.M.Mac c.args.self.now last setup line c.args.byte at c.update.new.self
     c.drop_headless.new.self c.drop_headless.result c.drop_headless.ensures.turned
     (c.drop_headless.ensures.told (line ++ Byte c.args.byte ∷ []) at.cuts)

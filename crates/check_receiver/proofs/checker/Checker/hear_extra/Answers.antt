@@ -36,7 +36,7 @@ pub returns-then-from-clause-step : goal.returns-then-from-clause-step
 returns-then-from-clause-step g c = λ setup line t between.
     let hears = hears-between g.R.LineRules g.M.Mac c.args.self.now
     (journal_floor c.args.journal.now) setup line t c.args.byte between c.if-not-self.false
-    c.args.self.now.arriving c.args.self.now.mac between.walks.code_is in
+    c.args.self.now.arriving c.args.self.now.mac between.walks.mac_stands in
     let long = until-long g.R.LineRules g.M.Mac c.args.self.now (journal_floor c.args.journal.now)
     setup line t c.args.byte hears in
     let until = c.from.ensures in

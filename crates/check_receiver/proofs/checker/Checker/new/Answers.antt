@@ -35,7 +35,7 @@ returns-clause-stands g c = λ floor.
         few = omega arith;
         until_is = refl;
         waits_is = refl;
-        code_is = ([], c.with_key.ensures);
-        coded = tt;
+        mac_stands = ([], c.with_key.ensures);
+        mac_holds = tt;
       };
     }

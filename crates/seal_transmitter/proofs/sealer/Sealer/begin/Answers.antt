@@ -19,7 +19,7 @@ returns-then-is_early-clause-step g c = λ last setup line t between.
 pub returns-clause-step : goal.returns-clause-step
 returns-clause-step g c = λ last setup line t between.
     let begun = c.update.ensures setup.key []
-    (c.begin.ensures setup.key between.walks.text between.walks.codes) in
+    (c.begin.ensures setup.key between.walks.text between.walks.mac_is) in
     let label : c.LABEL.result ≡ g.R.LineRules.rules.label =
     c.LABEL.ensures ∙ sym g.R.LineRules.numbers.label_is in
     let to : c.number.result ≡ setup.direction = c.number.ensures ∙ between.direction_is in

@@ -25,7 +25,7 @@ returns-clause-run g c = λ last setup line stands.
     let is = c.quiet.ensures line stands.cuts in
     let count = c.ticks.ensures.count line stands.cuts in
     let begun = c.update.ensures setup.key []
-    (c.begin.ensures setup.key stands.walks.text stands.walks.codes) in
+    (c.begin.ensures setup.key stands.walks.text stands.walks.mac_is) in
     let label : c.LABEL.result ≡ g.R.LineRules.rules.label =
     c.LABEL.ensures ∙ sym g.R.LineRules.numbers.label_is in
     let to : c.number.result ≡ setup.direction = c.number.ensures ∙ stands.direction_is in
@@ -39,4 +39,4 @@ returns-clause-run g c = λ last setup line stands.
     subst P (sym first)
     (begun-taken g.R.LineRules g.M.Mac c.args.self.now last setup line stands
     c.step.new.self c.update.new.self b (omega arith) (omega arith)
-    (c.step.ensures.stands line stands.cuts) (λ text codes. subst D to (subst L label begun)))
+    (c.step.ensures.stands line stands.cuts) (λ text mac_is. subst D to (subst L label begun)))

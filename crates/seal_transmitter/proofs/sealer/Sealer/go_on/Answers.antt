@@ -22,4 +22,4 @@ returns-clause-step g c = λ last setup line t between.
     between
     (ltb-false (start_so_far (line ++ t ∷ [])) c.args.self.now.earliest_start
     (sym (c.is_early.ensures (line ++ t ∷ []) between.cuts) ∙ c.if-is_early.false))
-    (λ text codes. c.update.ensures setup.key text codes)
+    (λ text mac_is. c.update.ensures setup.key text mac_is)

@@ -25,8 +25,8 @@ returns-then-count-eq0-clause-run g c = λ last setup line stands.
     (c.go_on_some-count.ensures.live line stands.cuts)
     (ltb-false (start_so_far line) c.args.self.now.earliest_start
     (sym (c.is_early.ensures line stands.cuts) ∙ c.if-is_early.false))
-    (λ text codes. subst (λ (y : List ℕ). g.M.Mac.stands c.args.self.now.mac setup.key y)
-    (sym (ap (λ k. text ++ take k x) zero ∙ append-nil text)) codes))
+    (λ text mac_is. subst (λ (y : List ℕ). g.M.Mac.stands c.args.self.now.mac setup.key y)
+    (sym (ap (λ k. text ++ take k x) zero ∙ append-nil text)) mac_is))
 
 pub returns-clause-run : goal.returns-clause-run
 returns-clause-run g c = λ last setup line stands.
@@ -36,4 +36,4 @@ returns-clause-run g c = λ last setup line stands.
     (c.go_on_some-count.ensures.live line stands.cuts)
     (ltb-false (start_so_far line) c.args.self.now.earliest_start
     (sym (c.is_early.ensures line stands.cuts) ∙ c.if-is_early.false))
-    (λ text codes. c.update.ensures setup.key text codes)
+    (λ text mac_is. c.update.ensures setup.key text mac_is)

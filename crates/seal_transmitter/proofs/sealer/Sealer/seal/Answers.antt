@@ -24,11 +24,11 @@ returns-clause-step g c = λ last setup line between judge.
     c.len.result (bytes_left c.load.new.self)
     c.next_tick.ensures.left c.next_tick.ensures.tick between (c.start.ensures line' between.cuts)
     (c.len.ensures (live_bytes_so_far g.R.LineRules.rules line') live) judge earliest
-    (λ text codes.
+    (λ text mac_is.
     let tagged = c.finish-tag.ensures.tag setup.key (text ++ c.to_be_bytes.result)
-    (c.update.ensures setup.key text codes) in
+    (c.update.ensures setup.key text mac_is) in
     c.load.ensures ∙ (ap (λ x. bytes_high_first g.row.B c.args.number ++ x) tagged
     ∙ ap (λ x. bytes_high_first g.row.B c.args.number ++ g.M.Mac.tag_of setup.key (text ++ x))
     number))
-    (λ text codes. c.finish-tag.ensures.begun setup.key (text ++ c.to_be_bytes.result)
-    (c.update.ensures setup.key text codes))
+    (λ text mac_is. c.finish-tag.ensures.begun setup.key (text ++ c.to_be_bytes.result)
+    (c.update.ensures setup.key text mac_is))
