@@ -40,5 +40,3 @@ pub use summary::Summary;
 
 #[cfg(test)]
 mod tests;
-#[cfg(test)]
-mod turn_tests;

@@ -13,6 +13,9 @@ use crate::{CountingBox, DrawnFrames, Draws, Summary};
 use device_model::Device;
 use yasir_ticks::{MAX_TICKS, TickRun};
 
+#[cfg(test)]
+mod turn_tests;
+
 /// This many silent ticks follow the link of a session, so that all that has passed is read.
 const REST: u32 = 320;
 

@@ -2,6 +2,7 @@
 //! is taken at once.
 ghost use Rattle.std.specs.Prelude.{◌≡◌};
 
+use super::Session;
 use crate::link::Link;
 use crate::receiving::Receiving;
 use crate::side::Side;
@@ -152,5 +153,23 @@ fn a_frame_takes_few_turns(rt: HostRuntime) {
     receiving.take(&link);
     assert!(rt; receiving.read() == 1);
     assert!(rt; receiving.checking().line_box().turns <= 7);
+    assert!(rt; receiving.listening().device().turns <= 6);
+}
+
+// The first frame of this seed has 42 bytes, and its period isn't altered (computed by the
+// generator's formula). A session hands the frame and the silence behind it to the transmitter as
+// two runs, and the link to the receiver by its runs: so a period takes as many turns.
+#[test]
+fn a_period_takes_few_turns(rt: HostRuntime) {
+    let mut session: Session<
+        Counted<Sealer<Rtu, HmacSha1, 2>>,
+        Counted<Checker<Rtu, HmacSha1, 2, 18>>,
+        Counted<RtuDevice>,
+    > = Session::new(936);
+    session.run_period::<Rtu>(17);
+    let receiving = &session.receiving;
+    assert!(rt; receiving.read() == 1);
+    assert!(rt; session.sealing.line_box().turns <= 5);
+    assert!(rt; receiving.checking().line_box().turns <= 9);
     assert!(rt; receiving.listening().device().turns <= 6);
 }
