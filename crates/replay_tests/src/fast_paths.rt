@@ -413,6 +413,35 @@ fn frames_and_packets_take_the_boxes_of_replay_few_turns(rt: HostRuntime) -> Res
     takes(rt, alloc, line_box, DNP_PACKET, TURNS_OF_A_PACKET)
 }
 
+/// How many boxes of a kind wait through a run of silence, one after the other. It is as long as a
+/// run can be, some 4,000,000,000 ticks, so that a body that takes it tick by tick inside one call
+/// doesn't come to an end in the time that a test has.
+const WAITING: u32 = 25;
+
+// A box that has taken nothing takes a run of silence at once.
+fn waits<X: Turning>(rt: &impl Abort, mut line_box: X) -> Result<(), Fail>
+    requires able { X.able line_box }
+    requires begun { X.taken line_box ≡ 0 }
+{
+    assert!(rt; line_box.turn_silence(u32::MAX)? == u32::MAX);
+    Ok(())
+}
+
+#[test]
+fn silence_takes_no_longer_than_a_tick(rt: HostRuntime) -> Result<(), Fail> {
+    for _ in 0..WAITING {
+        let line_box: Journaled<Sealer<Rtu, HmacSha1, 2>> = Journaled::new()?;
+        waits(&rt, line_box)?;
+        let line_box: Journaled<Checker<Dnp, HmacSha1, 2, 18>> = Journaled::new()?;
+        waits(&rt, line_box)?;
+        let line_box: Shown<ShownSealer<Rtu>> = Shown::new();
+        waits(&rt, line_box)?;
+        let line_box: Shown<ShownChecker<Rtu>> = Shown::new();
+        waits(&rt, line_box)?;
+    }
+    Ok(())
+}
+
 /// A sink that takes all of each piece, and counts the pieces and their bytes.
 #[derive(Drop)]
 struct CountedSink {
