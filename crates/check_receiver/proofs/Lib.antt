@@ -24,3 +24,4 @@ pub mod Lending
 pub mod Beginnings
 pub mod Uptimes
 pub mod Keeping
+pub mod Noteless

@@ -36,7 +36,7 @@ silence-is cut which =
     (λ others. ⊎_elim (λ closed. subst P (sym closed) tt) (λ quiet. subst P (sym quiet) tt) others)
     which
 
-silence-tick : (rules : Rules) (line : List Tick) (t : Tick) (cut : Cut)
+pub silence-tick : (rules : Rules) (line : List Tick) (t : Tick) (cut : Cut)
     → cut_of rules line t ≡ cut → IsSilence cut → t ≡ Silent
 silence-tick rules line Silent cut is silence = refl
 silence-tick rules line (Byte b) (Start c) is silence = absurd silence
@@ -62,7 +62,7 @@ module _ {R M : Type 0} (proto : LineRules R) (macs : Mac M) {B D : ℕ} (old : 
   Between what setup line u = IsBetween proto macs (record old { cut = cut; until = fewer }) last
       setup line u what
 
-  between : (what : Cut) → told ≡ what → (setup : Setup) (line : List Tick) → Before setup line
+  pub between : (what : Cut) → told ≡ what → (setup : Setup) (line : List Tick) → Before setup line
       → Between what setup line t
   between what is setup line stands = record {
     word_is = stands.word_is;

@@ -6,3 +6,4 @@ pub mod Between
 pub mod Runs
 pub mod Boxed
 pub mod Resting
+pub mod Noteless

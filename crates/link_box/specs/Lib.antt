@@ -3,3 +3,4 @@ pub mod Walking
 pub mod Stepping
 pub mod Runs
 pub mod Resting
+pub mod Noteless

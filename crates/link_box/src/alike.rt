@@ -1,12 +1,12 @@
 //! A run of ticks by both of a box's calls for runs.
-ghost use Rattle.std.specs.Prelude.{◌≡◌, ◌+◌, ◌≤◌, length, take};
+ghost use Rattle.std.specs.Prelude.{◌≡◌, ◌+◌, ◌≤◌, [], ◌∷◌, length, take};
 ghost use Rattle.yasir_ticks.specs.TickRun.{run_ticks};
 ghost use Rattle.burst_walk.specs.Answered.{answered};
 ghost use Rattle.link_box.specs.Runs.{TakesRun};
 
 use crate::LinkBox;
 use burst_walk::RunBytes;
-use yasir_ticks::{MAX_TICKS, TickRun};
+use yasir_ticks::{MAX_TICKS, Tick, TickRun};
 
 /// How many bytes are forwarded at once at most: as many as `RunBytes` has room for.
 const MAX_RUN: usize = 64;
@@ -19,6 +19,18 @@ fn put(left: &mut RunBytes, bytes: &[u8])
 {
     left.clear();
     let _ = left.try_extend_from_slice(bytes);
+}
+
+/// Puts the answer to a single tick into `left`, in place of what is there: its byte, or nothing
+/// where it is silent.
+#[inline]
+pub fn put_tick(left: &mut RunBytes, tick: Tick)
+    ensures { answered 1 left.new.items ≡ tick ∷ [] }
+{
+    left.clear();
+    if let Tick::Byte(byte) = tick {
+        let _ = left.try_push(byte);
+    }
 }
 
 // Takes what the box forwards of the first of these ticks, and puts the bytes among them into

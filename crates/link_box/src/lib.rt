@@ -12,8 +12,10 @@
 
 mod alike;
 mod box_trait;
+mod noteless;
 mod resting;
 
-pub use alike::take_alike;
+pub use alike::{put_tick, take_alike};
 pub use box_trait::LinkBox;
+pub use noteless::{ForetellingBox, NotelessBox};
 pub use resting::RestingBox;

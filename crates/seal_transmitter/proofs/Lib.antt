@@ -9,3 +9,4 @@ pub mod OpenSilence
 pub mod Beginning
 pub mod Uptimes
 pub mod Keeping
+pub mod Foretelling

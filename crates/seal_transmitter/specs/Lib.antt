@@ -4,3 +4,4 @@ pub mod Boxed
 pub mod Between
 pub mod Runs
 pub mod Resting
+pub mod Foretold

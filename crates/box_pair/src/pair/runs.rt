@@ -1,5 +1,6 @@
 //! Runs of both directions at once.
 ghost use Rattle.std.specs.Prelude.{◌≡◌, ◌+◌, ◌<◌, ◌≤◌, ◌^◌, true, length, take};
+ghost use Rattle.link_box.specs.Noteless.{MayNoteAt};
 ghost use Rattle.yasir_ticks.specs.Ticks.{silent};
 ghost use Rattle.yasir_ticks.specs.TickRun.{run_ticks};
 ghost use Rattle.burst_walk.specs.Answered.{answered};
@@ -8,7 +9,7 @@ ghost use Rattle.box_pair.specs.Pairs.{HasPassed};
 
 use super::BoxPair;
 use burst_walk::RunBytes;
-use link_box::{LinkBox, RestingBox, take_alike};
+use link_box::{ForetellingBox, NotelessBox, RestingBox, put_tick, take_alike};
 use yasir_ticks::{MAX_TICKS, TickRun};
 
 // Whether these are silent ticks.
@@ -23,11 +24,38 @@ fn is_silence(run: TickRun<'_>) -> bool
     }
 }
 
-// Takes the first of these ticks with the one box, as far as it takes them at once, and as many
-// silent ticks with the other one, which is at rest. Returns how many. Puts what the one sends into
-// `left`, and nothing into `silence`.
+// Takes the first of these ticks, as far as the box takes them at once, or else the first one
+// alone, if the box is sure that it has no note. Returns how many, and puts the bytes of the answer
+// into `left`. With 0 there is no tick, or the box isn't sure of the first one.
 #[inline]
-fn pass_beside<A: LinkBox, B: RestingBox>(
+fn pass_some<A: NotelessBox>(line_box: &mut A, run: TickRun<'_>, left: &mut RunBytes) -> usize
+    requires { A.taken line_box.old + length (run_ticks run) ≤ MAX_TICKS }
+    ensures within { result ≤ length (run_ticks run.entry) }
+    ensures passed { HasPassed A.LinkBox line_box.old line_box.new
+        (take result (run_ticks run.entry)) (answered result left.new.items) }
+    ensures stops { result ≡ 0
+        → MayNoteAt A.stands A.noteless line_box.new (run_ticks run.entry) }
+{
+    let taken = take_alike(line_box, run, left);
+    if taken > 0 {
+        return taken;
+    }
+    if run.is_empty() {
+        return 0;
+    }
+    let tick = run.first();
+    if !line_box.is_noteless(tick) {
+        return 0;
+    }
+    put_tick(left, line_box.take_noteless(tick));
+    1
+}
+
+// Takes the first of these ticks with the one box, as far as it takes them without a note, and as
+// many silent ticks with the other one, which is at rest. Returns how many. Puts what the one sends
+// into `left`, and nothing into `silence`.
+#[inline]
+fn pass_beside<A: NotelessBox, B: RestingBox>(
     line_box: &mut A,
     run: TickRun<'_>,
     left: &mut RunBytes,
@@ -43,26 +71,70 @@ fn pass_beside<A: LinkBox, B: RestingBox>(
         (take result (run_ticks run.entry)) (answered result left.new.items) }
     ensures rested { HasPassed B.LinkBox resting.old resting.new (silent result)
         (answered result silence.new.items) }
+    ensures stops { result ≡ 0
+        → MayNoteAt A.stands A.noteless line_box.new (run_ticks run.entry) }
 {
-    let count = take_alike(line_box, run, left);
+    let count = pass_some(line_box, run, left);
     resting.rest_through(count as u32);
     silence.clear();
     count
 }
 
-impl<S: RestingBox, C: RestingBox> BoxPair<S, C> {
-    ghost use Rattle.std.specs.Prelude.{◌≡◌, ◌+◌, ◌≤◌, length, take};
+impl<S: RestingBox + ForetellingBox, C: RestingBox + NotelessBox> BoxPair<S, C> {
+    ghost use Rattle.std.specs.Prelude.{◌≡◌, ◌⊎◌, ◌+◌, ◌≤◌, length, take};
     ghost use Rattle.yasir_ticks.specs.TickRun.{run_ticks};
     ghost use Rattle.burst_walk.specs.Answered.{answered};
+    ghost use Rattle.link_box.specs.Noteless.{MayNoteAt};
     ghost use Rattle.box_pair.specs.Pairs.{HasPassed};
     ghost use Rattle.box_pair.specs.Pairs.{outgoing_direction, outgoing_box, incoming_box};
 
+    // Takes the first of these ticks, as many of both lines, with boxes that may both be busy: the
+    // receiver takes of as many as the sender foretells what it takes at once, and the sender
+    // follows.
+    #[inline]
+    fn pass_together(
+        &mut self,
+        from_device: TickRun<'_>,
+        from_link: TickRun<'_>,
+        to_link: &mut RunBytes,
+        to_device: &mut RunBytes,
+    ) -> usize
+        requires outgoing_room { S.taken self.old.sender + length (run_ticks from_device)
+            ≤ MAX_TICKS }
+        requires incoming_room { C.taken self.old.receiver + length (run_ticks from_link)
+            ≤ MAX_TICKS }
+        requires level { length (run_ticks from_device) ≡ length (run_ticks from_link) }
+
+        ensures direction { outgoing_direction self.new ≡ outgoing_direction self.old }
+        ensures within { result ≤ length (run_ticks from_device.entry) }
+        ensures outgoing { HasPassed S.LinkBox self.old.sender self.new.sender
+            (take result (run_ticks from_device.entry)) (answered result to_link.new.items) }
+        ensures incoming { HasPassed C.LinkBox self.old.receiver self.new.receiver
+            (take result (run_ticks from_link.entry)) (answered result to_device.new.items) }
+        ensures stops { result ≡ 0
+            → MayNoteAt S.stands S.noteless self.new.sender (run_ticks from_device.entry)
+            ⊎ MayNoteAt C.stands C.noteless self.new.receiver (run_ticks from_link.entry) }
+    {
+        let foretold = self.sender.foretell(from_device);
+        if foretold == 0 {
+            to_link.clear();
+            to_device.clear();
+            return 0;
+        }
+        let heard = from_link.front(foretold);
+        let count = pass_some(&mut self.receiver, heard, to_device);
+        self.sender.follow(from_device.front(count), to_link);
+        count
+    }
+
     /// Takes the first ticks of the device and as many of the link at once, and returns how many:
-    /// as far as one of the two boxes is at rest over silence, and the other one sends all silence
-    /// or all bytes, without a note and without a number in either direction. Puts the bytes of the
-    /// link into `to_link` and those for the device into `to_device`, one for each tick, or none
-    /// for silence. With 0 nothing is taken, and the caller goes on by `step`. At most `MAX_TICKS`
-    /// ticks are taken then in each direction.
+    /// as far as each box sends all silence or all bytes, without a note and without a number in
+    /// either direction. Puts the bytes of the link into `to_link` and those for the device into
+    /// `to_device`, one for each tick, or none for silence. At most `MAX_TICKS` ticks are taken
+    /// then in each direction.
+    ///
+    /// With 0 nothing is taken: there is no tick, or one of the boxes isn't sure that no note falls
+    /// into its next step. The caller goes on by `step`.
     #[inline]
     pub fn pass_both(
         &mut self,
@@ -83,6 +155,9 @@ impl<S: RestingBox, C: RestingBox> BoxPair<S, C> {
             (take result (run_ticks from_device.entry)) (answered result to_link.new.items) }
         ensures incoming { HasPassed C.LinkBox (incoming_box self.old) (incoming_box self.new)
             (take result (run_ticks from_link.entry)) (answered result to_device.new.items) }
+        ensures stops { result ≡ 0
+            → MayNoteAt S.stands S.noteless (outgoing_box self.new) (run_ticks from_device.entry)
+            ⊎ MayNoteAt C.stands C.noteless (incoming_box self.new) (run_ticks from_link.entry) }
     {
         let most = from_device.len().min(from_link.len());
         let device = from_device.front(most);
@@ -109,8 +184,6 @@ impl<S: RestingBox, C: RestingBox> BoxPair<S, C> {
                 );
             }
         }
-        to_link.clear();
-        to_device.clear();
-        0
+        self.pass_together(device, link, to_link, to_device)
     }
 }

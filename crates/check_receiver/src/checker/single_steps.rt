@@ -27,7 +27,9 @@ impl<R: LineRules, M: Mac, const B: usize, const D: usize> Checker<R, M, B, D> {
     ghost use Rattle.check_receiver.specs.Checkings.{PassesWith, KeepsJournal};
     ghost use Rattle.check_receiver.specs.Stands.{HasTaken, direction_of};
     ghost use Rattle.line_rules.specs.Rules.{head_of};
-    ghost use Rattle.line_rules.specs.declared.head.Head.TheVariants.{Bad};
+    ghost use Rattle.line_rules.specs.declared.head.Head.TheVariants.{Bad, Short};
+    ghost use Rattle.frame_ending.specs.SoFar.{live_bytes_so_far};
+    ghost use Rattle.frame_ending.specs.Stands.{StandsFor as CutStandsFor};
     ghost use Rattle.std.specs.Prelude.{slice_index_or};
     ghost use Rattle.check_receiver.specs.Turning.{Turned, with_until};
     ghost use Rattle.check_receiver.specs.Between.{IsBetween, IsSilence, IsNoPass};
@@ -70,6 +72,9 @@ impl<R: LineRules, M: Mac, const B: usize, const D: usize> Checker<R, M, B, D> {
     pub(super) fn go_on(&mut self, byte: u8) -> BoxStep<CheckNote>
         ensures cut { self.new.cut ≡ self.old.cut }
         ensures note { IsNoPass result.note }
+        ensures goes_on { (line : List Tick) → CutStandsFor R.LineRules self.old.cut line
+            → (self.old.waits ≡ true → head_of R.rules (live_bytes_so_far R.rules line) ≡ Bad → ⊥)
+            → result.note ≡ None }
         ensures step { (last : ℕ) (setup : Setup) (line : List Tick) (t : Tick)
             → IsBetween R.LineRules M.Mac self.old last setup line t (Live byte)
             → HasTaken R.LineRules M.Mac self.new last setup line t result }
@@ -106,6 +111,11 @@ impl<R: LineRules, M: Mac, const B: usize, const D: usize> Checker<R, M, B, D> {
         requires room { ticks_cut self.old.cut ≤ MAX_TICKS }
         ensures cut { self.new.cut ≡ self.old.cut }
         ensures note { IsNoPass result.note }
+        ensures goes_on { (line : List Tick) → CutStandsFor R.LineRules self.old.cut line
+            → (self.old.waits ≡ true → D ≤ self.old.until + 3)
+            → (self.old.waits ≡ true → self.old.until + 2 ≡ D
+            → head_of R.rules (live_bytes_so_far R.rules line) ≡ Short → ⊥)
+            → result.note ≡ None }
         ensures step { (last : ℕ) (setup : Setup) (line : List Tick) (cut : Cut)
             → IsSilence cut
             → IsBetween R.LineRules M.Mac self.old last setup line Silent cut
@@ -131,6 +141,9 @@ impl<R: LineRules, M: Mac, const B: usize, const D: usize> Checker<R, M, B, D> {
         requires room { ticks_cut self.old.cut ≤ MAX_TICKS }
         ensures cut { self.new.cut ≡ self.old.cut }
         ensures note { IsNoPass result.note }
+        ensures goes_on { (line : List Tick) → CutStandsFor R.LineRules self.old.cut line
+            → (head_of R.rules (live_bytes_so_far R.rules line) ≡ Short → ⊥)
+            → result.note ≡ None }
         ensures step { (last : ℕ) (setup : Setup) (line : List Tick) (cut : Cut)
             → IsSilence cut → self.old.waits ≡ true → self.old.until + 2 ≡ D
             → IsBetween R.LineRules M.Mac self.old last setup line Silent cut
@@ -141,6 +154,26 @@ impl<R: LineRules, M: Mac, const B: usize, const D: usize> Checker<R, M, B, D> {
             Head::Short => self.drop_headless(),
             Head::Bad | Head::Good => self.pass_by(None),
         }
+    }
+
+    // A byte that isn't live, while no verdict is open, or one of the trailer that isn't its last
+    // one.
+    #[inline]
+    pub(super) fn hear_more(&mut self, extra: u8) -> BoxStep<CheckNote>
+        ensures cut { self.new.cut ≡ self.old.cut }
+        ensures note { result.note ≡ None }
+        ensures step { (last : ℕ) (setup : Setup) (line : List Tick) (t : Tick)
+            → (self.old.waits ≡ true → self.old.until + 3 < D)
+            → (self.old.waits ≡ true → 1 < self.old.until)
+            → IsBetween R.LineRules M.Mac self.old last setup line t (Extra extra)
+            → HasTaken R.LineRules M.Mac self.new last setup line t result }
+        ensures direction { direction_of self.new ≡ direction_of self.old }
+    {
+        if !self.waits {
+            return self.pass_by(None);
+        }
+        self.arriving.take(extra);
+        self.pass_by(None)
     }
 
     // A byte that isn't live.

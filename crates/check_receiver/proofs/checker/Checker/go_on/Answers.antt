@@ -26,6 +26,7 @@ returns-then-not-self-clause-step g c = λ last setup line t between.
 pub returns-in-Short : goal.returns-in-Short
 returns-in-Short g c = record {
   cut = ap (λ v. v.cut) c.enter.ensures.turned.rest;
+  goes_on = λ line cuts good. c.enter.ensures.note;
   direction = ap direction_of c.enter.ensures.turned.rest;
   note =
       let P : Option CheckNote → Type 0 = λ n. IsNoPass n in
@@ -66,3 +67,10 @@ returns-in-Bad-clause-step g c = λ last setup line t between.
     (sym (c.head.ensures (line ++ Byte c.args.byte ∷ []) at.cuts) ∙ c.in-Bad.is)
     (text.0 ++ c.args.byte ∷ [], c.update.ensures setup.key text.0 text.1) d.0 d.1 in
     subst P (sym is) taken between
+
+pub returns-then-not-self-clause-goes_on : goal.returns-then-not-self-clause-goes_on
+returns-then-not-self-clause-goes_on g c = λ line cuts good. c.pass_by.ensures.note
+
+pub returns-in-Bad-clause-goes_on : goal.returns-in-Bad-clause-goes_on
+returns-in-Bad-clause-goes_on g c = λ line cuts good.
+    absurd (good c.if-not-self.false (sym (c.head.ensures line cuts) ∙ c.in-Bad.is))

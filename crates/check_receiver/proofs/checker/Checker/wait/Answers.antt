@@ -53,3 +53,22 @@ returns-clause-step g c = λ last setup line cut silence between.
     (λ from. waits-header g.R.LineRules g.M.Mac c.args.self.now last setup line cut between d.0 d.1
     (omega arith))
     c.if-not-self.false
+
+pub returns-then-not-self-clause-goes_on : goal.returns-then-not-self-clause-goes_on
+returns-then-not-self-clause-goes_on g c = λ line cuts early whole. c.pass_by.ensures.note
+
+pub returns-then-from-clause-goes_on : goal.returns-then-from-clause-goes_on
+returns-then-from-clause-goes_on g c = λ line cuts early whole.
+    let until = c.from.ensures in
+    let few = c.if-from.true in
+    let many = early c.if-not-self.false in
+    absurd (omega arith)
+
+pub returns-then-from-2-clause-goes_on : goal.returns-then-from-2-clause-goes_on
+returns-then-from-2-clause-goes_on g c = λ line cuts early whole.
+    let same = c.from-2.ensures in
+    let second = c.if-from-2.true in
+    c.pause.ensures.goes_on line cuts (whole c.if-not-self.false (omega arith))
+
+pub returns-clause-goes_on : goal.returns-clause-goes_on
+returns-clause-goes_on g c = λ line cuts early whole. c.pass_by-2.ensures.note

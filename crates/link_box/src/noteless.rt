@@ -1,0 +1,62 @@
+//! Boxes that say whether a note may fall into their next step, and how many ticks they surely take
+//! at once.
+ghost use Rattle.std.specs.Prelude.{◌≡◌, ℕ, ◌+◌, ◌<◌, ◌≤◌, Bool, List, [], ◌∷◌, length, take};
+ghost use Rattle.yasir_ticks.specs.TickRun.{run_ticks};
+ghost use Rattle.yasir_ticks.specs.declared.tick.Tick.{Tick};
+ghost use Rattle.burst_walk.specs.Answered.{answered};
+ghost use Rattle.link_format.specs.Setup.{Setup};
+ghost use Rattle.link_box.specs.Noteless.{IsNoteless, MayNoteAt};
+ghost use Rattle.link_box.specs.Runs.{TakesRun};
+
+use crate::LinkBox;
+use burst_walk::RunBytes;
+use yasir_ticks::{MAX_TICKS, Tick, TickRun};
+
+/// A box that says of a tick, before it takes it, whether it is sure that no note falls into its
+/// step. A number is used in no other step than one with a note, so such a tick needs no journal.
+pub trait NotelessBox: LinkBox {
+    /// Whether the box is sure, after this line, that no note falls into the step of this tick.
+    ghost noteless: { Self → List Tick → Tick → Bool };
+
+    /// Whether the box is sure that no note falls into the step of this tick, if it comes next.
+    fn is_noteless(&self, t: Tick) -> bool
+        ensures { (last : ℕ) (setup : Setup) (line : List Tick)
+            → Self.stands self.now last setup line → result ≡ noteless self.now line t };
+
+    /// Takes the next tick, of which the box is sure, and returns that of the other line. No note
+    /// falls into the step, and no number is used. Fewer than `MAX_TICKS` ticks were taken before.
+    fn take_noteless(&mut self, t: Tick) -> Tick
+        requires noteless { IsNoteless Self.stands noteless self.old t }
+        requires room { Self.taken self.old < MAX_TICKS }
+        ensures taken { Self.taken self.new ≡ Self.taken self.old + 1 }
+        ensures link { Self.link_of self.new ≡ Self.link_of self.old }
+        ensures run { TakesRun Self.walking Self.stands self.old self.new (t ∷ [])
+            (result ∷ []) };
+}
+
+/// A box that says of a run of ticks how many of them it surely takes at once, so that it can go
+/// along with another box which stops where it will.
+pub trait ForetellingBox: NotelessBox {
+    /// The box takes these ticks at once, all of them.
+    ghost foretold: { Self → List Tick → Type 0 };
+
+    /// How many of the first of these ticks the box surely takes at once, and any fewer of them
+    /// too: it answers all of them with silence or all of them with bytes, without a note. It is
+    /// one at least where the box is sure of the first tick.
+    fn foretell(&self, run: TickRun<'_>) -> usize
+        ensures within { result ≤ length (run_ticks run.entry) }
+        ensures each { (n : ℕ) → n ≤ result → foretold self.now (take n (run_ticks run.entry)) }
+        ensures stops { result ≡ 0
+            → MayNoteAt Self.stands Self.noteless self.now (run_ticks run.entry) };
+
+    /// Takes these ticks, all of them, which the box has foretold. No note falls into them, and no
+    /// number is used. Puts the bytes of the answer into `left`, one for each tick, or none for
+    /// silence. At most `MAX_TICKS` ticks are taken then.
+    fn follow(&mut self, run: TickRun<'_>, left: &mut RunBytes)
+        requires foretold { foretold self.old (run_ticks run) }
+        requires room { Self.taken self.old + length (run_ticks run) ≤ MAX_TICKS }
+        ensures taken { Self.taken self.new ≡ Self.taken self.old + length (run_ticks run.entry) }
+        ensures link { Self.link_of self.new ≡ Self.link_of self.old }
+        ensures run { TakesRun Self.walking Self.stands self.old self.new (run_ticks run.entry)
+            (answered (length (run_ticks run.entry)) left.new.items) };
+}

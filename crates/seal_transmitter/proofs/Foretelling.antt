@@ -1,0 +1,193 @@
+-- Ticks without a note, and runs that surely have none.
+use Rattle.std.proofs.Common.{◌≡◌, ◌∙◌, ◌⊎◌, ⊎_elim, inl, inr, ℕ, zero, suc, ◌+◌, ◌-◌, ◌<◌, ◌≤◌}
+use Rattle.std.proofs.Common.{◌==◌, true, false, not, List, [], ◌∷◌, ◌++◌, length, take, drop, map, get_or}
+use Rattle.std.proofs.Common.{refl, sym, ap, subst, arith, Option, None}
+use Rattle.std.specs.List.{All}
+use Rattle.std.proofs.lemmas.Bool.{cases_lt, not-true, eqb-false}
+use Rattle.std.proofs.lemmas.List.{length-replicate, length-take-le}
+use Rattle.yasir_ticks.specs.Ticks.{silent}
+use Rattle.yasir_ticks.specs.declared.TheConstants.{T3_5_TICKS}
+use Rattle.yasir_ticks.specs.declared.tick.Tick.{Tick}
+use Rattle.yasir_ticks.specs.declared.tick.Tick.TheVariants.{Silent, Byte}
+use Rattle.line_rules.specs.declared.line_rules.LineRules.{Ghosts as LineRules}
+use Rattle.frame_ending.specs.declared.burst_cut.BurstCut.{BurstCut}
+use Rattle.frame_ending.specs.declared.cut.Cut.{Cut}
+use Rattle.frame_ending.specs.declared.cut.Cut.TheVariants.{Closed, Extra, Pause, Quiet}
+use Rattle.frame_ending.specs.Cuts.{cut_of, cuts_after, IsPassing}
+use Rattle.frame_ending.specs.SoFar.{quiet_so_far}
+use Rattle.frame_ending.specs.Stands.{StandsFor as CutStandsFor}
+use Rattle.frame_ending.proofs.Cutting.{cut-rest, cut-wait}
+use Rattle.frame_ending.proofs.Running.{closed-tick}
+use Rattle.burst_walk.specs.Answered.{answered}
+use Rattle.burst_walk.specs.Answers.{AnswersTick as AnswersTickOf}
+use Rattle.burst_walk.specs.declared.box_step.BoxStep.{BoxStep}
+use Rattle.burst_walk.proofs.Runs.{run-tick}
+use Rattle.hmac_tag.specs.declared.tag.Mac.{Ghosts as Mac}
+use Rattle.link_box.specs.Noteless.{MayNoteAt}
+use Rattle.link_box.proofs.Answered.{answered-all, answered-none}
+use Rattle.link_format.specs.Profile.{profile_of}
+use Rattle.link_format.specs.Setup.{Setup}
+use Rattle.link_format.specs.Trailers.{bytes_left}
+use Rattle.seal_judgements.specs.Sealing.{sealer, at_floor}
+use Rattle.seal_judgements.specs.declared.note.SealNote.{SealNote}
+use Rattle.sequence_journal.specs.declared.numbers.TheConstants.{LIMIT}
+use Rattle.seal_transmitter.specs.Answers.{brief_note}
+use Rattle.seal_transmitter.specs.Foretold.{closes_none, WaitsOpen, Foretold}
+use Rattle.seal_transmitter.specs.Runs.{HasTakenRun}
+use Rattle.seal_transmitter.specs.Stands.{StandsAt, HasTaken}
+use Rattle.seal_transmitter.specs.declared.sealer.Sealer.{Sealer}
+use Rattle.seal_transmitter.proofs.OpenSilence.{rest-open, wait-open}
+use Rattle.seal_transmitter.proofs.RunSteps.{sent, sent-silent, sent-bytes, drop-none}
+
+-- ---- which ticks close a burst
+
+-- the fourth silent one behind a byte does
+pub fourth-closes : (line : List Tick) → quiet_so_far line ≡ 3 → closes_none line Silent ≡ false
+fourth-closes line is = ap (λ q. not (q == T3_5_TICKS - 1)) is
+
+module _ {R : Type 0} (proto : LineRules R) (v : BurstCut R) (line : List Tick)
+    (old : CutStandsFor proto v line) where
+  -- and no other
+  pub closing-noted : (t : Tick) → cut_of proto.rules line t ≡ Closed → closes_none line t ≡ true
+      → ⊥
+  closing-noted (Byte b) closed none =
+      let silence = closed-tick proto.rules line (Byte b) closed in absurd cc
+  closing-noted Silent closed none =
+      let is = old.quiet_is in
+      let other : quiet_so_far line ≡ 3 → ⊥ = eqb-false _ _ (not-true _ none) in
+      ⊎_elim
+      (λ runs. ⊎_elim
+      (λ waits. let pause : Pause (v.quiet + 1) ≡ cut_of proto.rules line Silent =
+      cut-wait proto v line old waits in
+      let both : Pause (v.quiet + 1) ≡ Closed = pause ∙ closed in absurd cc)
+      (λ fourth. absurd (other (omega arith)))
+      (cases_lt (v.quiet + 1) 4))
+      (λ rests. let quiet : Quiet ≡ cut_of proto.rules line Silent =
+      cut-rest proto v line old rests in
+      let both : Quiet ≡ Closed = quiet ∙ closed in absurd cc)
+      (cases_lt v.quiet 4)
+
+-- a tick that is neither live nor closes a burst passes
+pub passes-by : (cut : Cut) → ((n : ℕ) × (cut ≡ Extra n))
+    ⊎ (((n : ℕ) × (cut ≡ Pause n)) ⊎ ((cut ≡ Closed) ⊎ (cut ≡ Quiet))) → (cut ≡ Closed → ⊥)
+    → IsPassing cut
+passes-by cut which open' =
+    let P : Cut → Type 0 = λ c. IsPassing c in
+    ⊎_elim
+    (λ extra. subst P (sym extra.1) tt)
+    (λ others. ⊎_elim
+    (λ pause. subst P (sym pause.1) tt)
+    (λ silence. ⊎_elim (λ closed. absurd (open' closed)) (λ quiet. subst P (sym quiet) tt) silence)
+    others)
+    which
+
+-- a step without a note, as a run of one tick
+pub step-taken : {R M : Type 0} (proto : LineRules R) (macs : Mac M) {B : ℕ} (new : Sealer R M B)
+    (last : ℕ) (setup : Setup) (line : List Tick) (t : Tick) (step : BoxStep SealNote)
+    → HasTaken proto macs new last setup line t step → step.note ≡ None
+    → HasTakenRun proto macs new last setup line (t ∷ []) (step.tick ∷ [])
+step-taken proto macs {B} new last setup line t step taken none =
+    let A : Option SealNote → Type 0 = λ n. AnswersTickOf
+    (sealer (profile_of proto macs B LIMIT setup) proto.rules) brief_note (at_floor setup.floor)
+    line t step.tick n in
+    record {
+      stands = taken.stands;
+      floor = taken.floor;
+      answers = run-tick (sealer (profile_of proto macs B LIMIT setup) proto.rules) brief_note
+          (at_floor setup.floor) line t step.tick (subst A none taken.answers);
+    }
+
+-- ---- silence
+
+module _ {R M : Type 0} (proto : LineRules R) {B : ℕ} (value : Sealer R M B) where
+  pub silence-foretold : (n : ℕ) → WaitsOpen proto value n → Foretold proto value (silent n)
+  silence-foretold zero waits = tt
+  silence-foretold (suc n) waits =
+      subst (λ k. WaitsOpen proto value (suc k)) (sym (length-replicate n Silent)) waits
+
+  pub foretold-silence : (n : ℕ) → Foretold proto value (silent n) → WaitsOpen proto value n
+  foretold-silence zero none = record {
+    closes_none_yet = λ line cuts. ⊎_elim
+        (λ few. inr (omega arith))
+        (λ many. inl (omega arith))
+        (cases_lt (quiet_so_far line) 4);
+    alike = inr (omega arith);
+  }
+  foretold-silence (suc n) waits =
+      subst (λ k. WaitsOpen proto value (suc k)) (length-replicate n Silent) waits
+
+  -- fewer of such silent ticks
+  pub fewer-open : (most n : ℕ) → n ≤ most
+      → ((line : List Tick) → CutStandsFor proto value.cut line
+      → (T3_5_TICKS ≤ quiet_so_far line) ⊎ (quiet_so_far line + most < T3_5_TICKS))
+      → (bytes_left value.trailer ≡ []) ⊎ (n ≤ length (bytes_left value.trailer))
+      → WaitsOpen proto value n
+  fewer-open most n few open' alike' = record {
+    closes_none_yet = λ line cuts. ⊎_elim
+        (λ rests. inl rests)
+        (λ runs. inr (omega arith))
+        (open' line cuts);
+    alike = alike';
+  }
+
+  pub open-still : (n : ℕ) (line : List Tick) → CutStandsFor proto value.cut line
+      → WaitsOpen proto value n → All IsPassing (cuts_after proto.rules line (silent n))
+  open-still n line cuts waits =
+      let is = cuts.quiet_is in
+      ⊎_elim
+      (λ rests. rest-open proto n value.cut line cuts (omega arith))
+      (λ runs. wait-open proto n value.cut line cuts (omega arith))
+      (waits.closes_none_yet line cuts)
+
+  -- where no tick of some silence goes through, its first one closes a burst
+  pub silence-noted : (macs : Mac M) (n : ℕ)
+      → (0 < n → (line : List Tick) → CutStandsFor proto value.cut line → quiet_so_far line ≡ 3)
+      → MayNoteAt (StandsAt proto macs) (λ x line t. closes_none line t) value (silent n)
+  silence-noted macs zero fourth = tt
+  silence-noted macs (suc n) fourth = λ last setup line stands.
+      fourth-closes line (fourth (omega arith) line stands.cuts)
+
+-- what goes out in n ticks, where this many bytes go out and nothing is left then, or a byte a tick
+module _ (n count : ℕ) (left items : List ℕ) (items_are : items ≡ take count left) where
+  nothing-left : left ≡ [] → count ≡ 0
+      → (drop count left ≡ drop n left) × (sent n left ≡ answered n items)
+  nothing-left none zero_is =
+      let empty : items ≡ [] = items_are ∙ ap (λ k. take k left) zero_is in (
+        drop-none count left none ∙ sym (drop-none n left none),
+        ap (λ l. sent n l) none ∙ (sent-silent n ∙ answered-none n items empty),
+      )
+
+  one-each : n ≤ length left → count ≡ n
+      → (drop count left ≡ drop n left) × (sent n left ≡ answered n items)
+  one-each few same = (
+    ap (λ k. drop k left) same,
+    sent-bytes n left few
+        ∙ answered-all n (take n left) items (sym (length-take-le n left few))
+        (items_are ∙ ap (λ k. take k left) same),
+  )
+
+  pub sent-alike : (left ≡ []) ⊎ (n ≤ length left) → (left ≡ [] → count ≡ 0)
+      → (n ≤ length left → count ≡ n)
+      → (drop count left ≡ drop n left) × (sent n left ≡ answered n items)
+  sent-alike which zero_is same =
+      ⊎_elim (λ none. nothing-left none (zero_is none)) (λ few. one-each few (same few)) which
+
+-- ---- bytes
+
+module _ {R M : Type 0} (proto : LineRules R) {B : ℕ} (value : Sealer R M B) where
+  pub byte-foretold : (x : List ℕ) (n : ℕ) → n ≤ 1 → Foretold proto value (take n (map Byte x))
+  byte-foretold x zero few = tt
+  byte-foretold [] (suc n) few = tt
+  byte-foretold (b ∷ x) (suc zero) few = refl
+  byte-foretold (b ∷ x) (suc (suc n)) few = absurd (omega arith)
+
+  pub foretold-byte : (x : List ℕ) → Foretold proto value (map Byte x) → 0 < length x
+      → x ≡ get_or x 0 0 ∷ []
+  foretold-byte [] alone some = absurd (omega arith)
+  foretold-byte (b ∷ []) alone some = refl
+  foretold-byte (b ∷ c ∷ x) alone some = absurd cc
+
+  pub no-byte-noted : (macs : Mac M) (x : List ℕ) → length x ≡ 0
+      → MayNoteAt (StandsAt proto macs) (λ v line t. closes_none line t) value (map Byte x)
+  no-byte-noted macs [] none = tt
+  no-byte-noted macs (b ∷ x) none = absurd (omega arith)

@@ -1,0 +1,12 @@
+use Rattle.std.proofs.Common.{◌∙◌, inl, inr, sym, ap, length, arith}
+use Rattle.std.proofs.lemmas.List.{nil_from_length}
+use Rattle.seal_transmitter.proofs.sealer.Sealer.alike_most.Goals as goal
+
+pub returns-then-left-eq0-clause-alike : goal.returns-then-left-eq0-clause-alike
+returns-then-left-eq0-clause-alike g c = λ n few.
+    inl (sym c.left-left.ensures.left ∙ nil_from_length c.left-left.result.now (omega arith))
+
+pub returns-clause-alike : goal.returns-clause-alike
+returns-clause-alike g c = λ n few.
+    let size = ap length c.left-left.ensures.left in
+    inr (omega arith)

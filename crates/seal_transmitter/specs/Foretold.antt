@@ -1,0 +1,32 @@
+-- Ticks of which a transmitter is sure that they have no note, and runs that it surely takes at
+-- once.
+use Rattle.std.specs.Prelude.{◌≡◌, ◌⊎◌, ℕ, suc, ◌+◌, ◌-◌, ◌<◌, ◌≤◌, ◌==◌, not, Bool, true, List}
+use Rattle.std.specs.Prelude.{[], ◌∷◌, length}
+use Rattle.yasir_ticks.specs.declared.TheConstants.{T3_5_TICKS}
+use Rattle.yasir_ticks.specs.declared.tick.Tick.{Tick}
+use Rattle.yasir_ticks.specs.declared.tick.Tick.TheVariants.{Silent, Byte}
+use Rattle.line_rules.specs.declared.line_rules.LineRules.{Ghosts as LineRules}
+use Rattle.frame_ending.specs.SoFar.{quiet_so_far}
+use Rattle.frame_ending.specs.Stands.{StandsFor as CutStandsFor}
+use Rattle.link_format.specs.Trailers.{bytes_left}
+use Rattle.seal_transmitter.specs.declared.sealer.Sealer.{Sealer}
+
+-- Whether a tick closes no burst of the line before it: each burst is noted in the step that closes
+-- it, and in no other.
+abbrev pub closes_none : List Tick → Tick → Bool
+closes_none line Silent = not (quiet_so_far line == T3_5_TICKS - 1)
+closes_none line (Byte b) = true
+
+module _ {R M : Type 0} (proto : LineRules R) {B : ℕ} (value : Sealer R M B) where
+  -- So many silent ticks close no burst, and what is sent meanwhile is all of the trailer, or
+  -- nothing is left of it.
+  pub record WaitsOpen (n : ℕ) : Type 0 where
+    pub closes_none_yet : (line : List Tick) → CutStandsFor proto value.cut line
+        → (T3_5_TICKS ≤ quiet_so_far line) ⊎ (quiet_so_far line + n < T3_5_TICKS)
+    pub alike : (bytes_left value.trailer ≡ []) ⊎ (n ≤ length (bytes_left value.trailer))
+
+  -- It takes these ticks at once: a single byte, or such silence.
+  abbrev pub Foretold : List Tick → Type 0
+  Foretold [] = Unit {0}
+  Foretold (Silent ∷ more) = WaitsOpen (suc (length more))
+  Foretold (Byte b ∷ more) = more ≡ []
