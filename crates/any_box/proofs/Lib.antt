@@ -1,0 +1,7 @@
+mod Noted
+mod Committed
+mod Places
+mod Loaded
+mod Taking
+mod Arms
+mod Written

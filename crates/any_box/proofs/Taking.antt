@@ -1,0 +1,41 @@
+-- The front of a run.
+use Rattle.std.proofs.Common.{◌≡◌, ◌∙◌, ℕ, ◌+◌, ◌≤◌, List, length, take, sym, ap, subst, arith}
+use Rattle.std.proofs.lemmas.List.{length-take-le, length-take, take-take}
+use Rattle.sha2.specs.declared.Sha256.{Sha256}
+use Rattle.yasir_ticks.specs.declared.tick.Tick.{Tick}
+use Rattle.rtu_frame.specs.declared.rtu.Rtu.{Rtu}
+use Rattle.dnp_link_frame.specs.declared.dnp.Dnp.{Dnp}
+use Rattle.line_rules.specs.declared.line_rules.LineRules.{Ghosts as LineRules}
+use Rattle.hmac_tag.specs.declared.tag.Mac.{Ghosts as Mac}
+use Rattle.hmac_tag.specs.declared.keyed_hash.Hmac.{Hmac}
+use Rattle.hmac_tag.specs.declared.sha1_hasher.Sha1Hasher.{Sha1Hasher}
+use Rattle.any_box.specs.Boxes.{TakesRun}
+use Rattle.any_box.specs.declared.any_box.AnyBox.{AnyBox}
+
+module _ (n m : ℕ) (xs ys : List Tick) (front : ys ≡ take m xs) (within : n ≤ length ys) where
+  pub within_whole : n ≤ length xs
+  within_whole =
+      let fewer = subst (λ l. n ≤ length l) front within in
+      omega (arith, fewer, length-take m xs)
+
+  same-front : take n ys ≡ take n xs
+  same-front =
+      let fewer = subst (λ l. n ≤ length l) front within in
+      let less : n ≤ m = omega (arith, fewer, length-take m xs) in
+      ap (take n) front ∙ take-take n m xs less
+
+  pub takes_front : (rtu : LineRules Rtu) (dnp : LineRules Dnp) (short : Mac (Hmac Sha1Hasher 20))
+      (long : Mac (Hmac Sha256 32)) (old new : AnyBox) (answer : List Tick)
+      → TakesRun rtu dnp short long old new (take n ys) answer
+      → TakesRun rtu dnp short long old new (take n xs) answer
+  takes_front rtu dnp short long old new answer takes =
+      subst (λ run. TakesRun rtu dnp short long old new run answer) same-front takes
+
+-- this many ticks are counted
+pub taken_counted : (a b n : ℕ) (xs : List Tick) → a ≡ b + length (take n xs) → n ≤ length xs
+    → a ≡ b + n
+taken_counted a b n xs is within = is ∙ ap (λ k. b + k) (length-take-le n xs within)
+
+pub counted_taken : (a b n : ℕ) (xs : List Tick) → a ≡ b + n → n ≤ length xs
+    → a ≡ b + length (take n xs)
+counted_taken a b n xs is within = is ∙ ap (λ k. b + k) (sym (length-take-le n xs within))

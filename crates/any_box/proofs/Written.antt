@@ -1,0 +1,57 @@
+-- What a caller writes: slots that are again those of the box, and no floor that is lost.
+use Rattle.std.proofs.Common.{◌≡◌, ◌∙◌, ℕ, List, refl, sym, ap, subst}
+use Rattle.std.specs.Prelude.{Some}
+use Rattle.sha2.specs.declared.Sha256.{Sha256}
+use Rattle.yasir_ticks.specs.declared.tick.Tick.{Tick}
+use Rattle.yasir_io.specs.Disks.{Slots, with_slot, other_slot}
+use Rattle.yasir_io.specs.declared.disk.Slot.{Slot}
+use Rattle.yasir_io.specs.declared.disk.Slot.TheVariants.{A, B}
+use Rattle.rtu_frame.specs.declared.rtu.Rtu.{Rtu}
+use Rattle.dnp_link_frame.specs.declared.dnp.Dnp.{Dnp}
+use Rattle.line_rules.specs.declared.line_rules.LineRules.{Ghosts as LineRules}
+use Rattle.hmac_tag.specs.declared.tag.Mac.{Ghosts as Mac}
+use Rattle.hmac_tag.specs.declared.keyed_hash.Hmac.{Hmac}
+use Rattle.hmac_tag.specs.declared.sha1_hasher.Sha1Hasher.{Sha1Hasher}
+use Rattle.sequence_journal.specs.Journal.{kept_slot, AreSameBut, HasFloorAtLeast}
+use Rattle.sequence_journal.specs.Slots.{floor_of}
+use Rattle.sequence_journal.proofs.FloorLaws.{floor_of_images}
+use Rattle.any_box.proofs.Places.{fits_back}
+use Rattle.any_box.specs.Commits.{Owes, IsOwed}
+use Rattle.any_box.specs.Held.{slots_held, link_held, floor_held, StepsHeld}
+use Rattle.any_box.specs.declared.held_box.HeldBox.{HeldBox}
+use Rattle.any_box.specs.declared.held_box.HeldStep.{HeldStep}
+use Rattle.any_box.specs.declared.owed.Commit.{Commit}
+
+-- slots with one of them set are as they were but for this one
+but-set : (slot : Slot) (slots : Slots) (bytes : List ℕ)
+    → AreSameBut slot slots (with_slot slots slot bytes)
+but-set A slots bytes = refl
+but-set B slots bytes = refl
+
+module _ (rtu : LineRules Rtu) (dnp : LineRules Dnp) (short : Mac (Hmac Sha1Hasher 20))
+    (long : Mac (Hmac Sha256 32)) (old new : HeldBox) (t : Tick) (step : HeldStep)
+    (commit : Commit) (steps : StepsHeld rtu dnp short long old new t step)
+    (is : step.commit ≡ Some commit) where
+  owed : IsOwed old.journal new.journal old.disk new.disk commit
+  owed = subst (λ c. Owes old.journal new.journal old.disk new.disk c) is steps.owes
+
+  pub written-slots : with_slot (slots_held old) commit.slot commit.bytes ≡ slots_held new
+  written-slots = ap (λ slot. with_slot (slots_held old) slot commit.bytes) owed.slot_is
+      ∙ ap (with_slot (slots_held old) (other_slot (kept_slot old.journal))) owed.bytes_are
+      ∙ sym owed.commits.set
+
+  pub written-floor : floor_of (link_held old) (slots_held new) ≡ Some (floor_held new)
+  written-floor =
+      subst (λ link. floor_of link (slots_held new) ≡ Some (floor_held new)) steps.link new.floor_is
+
+  pub torn-floor : (bytes : List ℕ) → HasFloorAtLeast (link_held old) (floor_held old)
+      (with_slot (slots_held old) commit.slot bytes)
+  torn-floor bytes =
+      let free = other_slot (kept_slot old.journal) in
+      let image = with_slot (slots_held old) free bytes in
+      let fits = fits_back old.journal (slots_held old) old.whole old.floor_is old.kept_is in
+      let kept = floor_of_images old.journal (Some (slots_held old)) (λ (c : Slots). c ≡ image) fits
+      (λ c e. subst (λ (d : Slots). AreSameBut free (slots_held old) d) (sym e)
+      (but-set free (slots_held old) bytes)) image refl in
+      subst (λ (slot : Slot). HasFloorAtLeast (link_held old) (floor_held old)
+      (with_slot (slots_held old) slot bytes)) (sym owed.slot_is) kept

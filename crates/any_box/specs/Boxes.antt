@@ -1,0 +1,151 @@
+-- What the eight boxes are by the definitions, and what they have taken of a line.
+use Rattle.std.specs.Prelude.{◌≡◌, ℕ, ◌+◌, List, [], ◌∷◌, ◌++◌, length, Option}
+use Rattle.sha2.specs.declared.Sha256.{Sha256}
+use Rattle.yasir_ticks.specs.declared.tick.Tick.{Tick}
+use Rattle.burst_walk.specs.Answers.{told_notes, note_in}
+use Rattle.burst_walk.specs.Walk.{Noted}
+use Rattle.rtu_frame.specs.declared.rtu.Rtu.{Rtu}
+use Rattle.dnp_link_frame.specs.declared.dnp.Dnp.{Dnp}
+use Rattle.line_rules.specs.declared.line_rules.LineRules.{Ghosts as LineRules}
+use Rattle.hmac_tag.specs.declared.tag.Mac.{Ghosts as Mac}
+use Rattle.hmac_tag.specs.declared.keyed_hash.Hmac.{Hmac}
+use Rattle.hmac_tag.specs.declared.sha1_hasher.Sha1Hasher.{Sha1Hasher}
+use Rattle.link_format.specs.Setup.{Setup}
+use Rattle.link_box.specs.Walking.{Walking, full_notes, other_line, number_after}
+use Rattle.seal_transmitter.specs.Boxed.{seal_walking}
+use Rattle.seal_transmitter.specs.Stands.{StandsAt as SealsAt, ticks_taken as seal_ticks}
+use Rattle.seal_transmitter.specs.Stands.{direction_of as seal_direction}
+use Rattle.check_receiver.specs.Boxed.{check_walking}
+use Rattle.check_receiver.specs.Stands.{StandsAt as ChecksAt, ticks_taken as check_ticks}
+use Rattle.check_receiver.specs.Stands.{direction_of as check_direction}
+use Rattle.sequence_journal.specs.declared.link.LinkId.{LinkId}
+use Rattle.any_box.specs.declared.any_box.AnyBox.{AnyBox}
+use Rattle.any_box.specs.declared.any_box.AnyBox.TheVariants.{RtuSealer18, DnpSealer18}
+use Rattle.any_box.specs.declared.any_box.AnyBox.TheVariants.{RtuSealer24, DnpSealer24}
+use Rattle.any_box.specs.declared.any_box.AnyBox.TheVariants.{RtuChecker18, DnpChecker18}
+use Rattle.any_box.specs.declared.any_box.AnyBox.TheVariants.{RtuChecker24, DnpChecker24}
+use Rattle.any_box.specs.declared.any_note.AnyNote.{AnyNote}
+use Rattle.any_box.specs.declared.any_note.AnyNote.TheVariants.{OfSealer, OfChecker}
+use Rattle.any_box.specs.declared.kind.Kind.{Kind}
+use Rattle.any_box.specs.declared.kind.Part.{Part}
+use Rattle.any_box.specs.declared.kind.Part.TheVariants.{Sealer, Checker}
+use Rattle.any_box.specs.declared.kind.Proto.{Proto}
+use Rattle.any_box.specs.declared.kind.Proto.TheVariants as Of
+use Rattle.any_box.specs.declared.kind.Profile.{Profile}
+use Rattle.any_box.specs.declared.kind.Profile.TheVariants.{Y18, Y24}
+
+-- which of the eight a box is
+abbrev pub kind_of : AnyBox → Kind
+kind_of (RtuSealer18 value) = record { part = Sealer; proto = Of.Rtu; profile = Y18 }
+kind_of (DnpSealer18 value) = record { part = Sealer; proto = Of.Dnp3; profile = Y18 }
+kind_of (RtuSealer24 value) = record { part = Sealer; proto = Of.Rtu; profile = Y24 }
+kind_of (DnpSealer24 value) = record { part = Sealer; proto = Of.Dnp3; profile = Y24 }
+kind_of (RtuChecker18 value) = record { part = Checker; proto = Of.Rtu; profile = Y18 }
+kind_of (DnpChecker18 value) = record { part = Checker; proto = Of.Dnp3; profile = Y18 }
+kind_of (RtuChecker24 value) = record { part = Checker; proto = Of.Rtu; profile = Y24 }
+kind_of (DnpChecker24 value) = record { part = Checker; proto = Of.Dnp3; profile = Y24 }
+
+-- how many ticks it has taken
+abbrev pub ticks_in : AnyBox → ℕ
+ticks_in (RtuSealer18 value) = seal_ticks value
+ticks_in (DnpSealer18 value) = seal_ticks value
+ticks_in (RtuSealer24 value) = seal_ticks value
+ticks_in (DnpSealer24 value) = seal_ticks value
+ticks_in (RtuChecker18 value) = check_ticks value
+ticks_in (DnpChecker18 value) = check_ticks value
+ticks_in (RtuChecker24 value) = check_ticks value
+ticks_in (DnpChecker24 value) = check_ticks value
+
+-- the link of a box: the label of its protocol, its direction, and the delay of its profile
+abbrev pub own_link : AnyBox → LinkId
+own_link (RtuSealer18 value) = record { label = 1; dir = seal_direction value; profile = 18 }
+own_link (DnpSealer18 value) = record { label = 2; dir = seal_direction value; profile = 18 }
+own_link (RtuSealer24 value) = record { label = 1; dir = seal_direction value; profile = 24 }
+own_link (DnpSealer24 value) = record { label = 2; dir = seal_direction value; profile = 24 }
+own_link (RtuChecker18 value) = record { label = 1; dir = check_direction value; profile = 18 }
+own_link (DnpChecker18 value) = record { label = 2; dir = check_direction value; profile = 18 }
+own_link (RtuChecker24 value) = record { label = 1; dir = check_direction value; profile = 24 }
+own_link (DnpChecker24 value) = record { label = 2; dir = check_direction value; profile = 24 }
+
+-- What a box makes of a line by the definitions, as it is set up: the other line, the notes, and
+-- the last number that it uses.
+pub record Definition : Type 0 where
+  pub other : Setup → List Tick → List Tick
+  pub notes : Setup → List Tick → List (Noted AnyNote)
+  pub number : Setup → List Tick → ℕ
+
+-- that of a box by its walk, with its notes as those of any box
+abbrev pub defined_by : {A : Type 0} → Walking A → (A → AnyNote) → Definition
+defined_by walking noted = record {
+  other = λ setup line. other_line walking setup line;
+  notes = λ setup line. told_notes (λ full. noted (walking.brief full))
+      (full_notes walking setup line);
+  number = λ setup line. number_after walking setup line;
+}
+
+-- The rules of the two protocols, and the codes of the two profiles.
+module _ (rtu : LineRules Rtu) (dnp : LineRules Dnp) (short : Mac (Hmac Sha1Hasher 20))
+    (long : Mac (Hmac Sha256 32)) where
+  -- the definition of each of the eight
+  abbrev pub definition_by : Part → Proto → Profile → Definition
+  definition_by Sealer Of.Rtu Y18 = defined_by (seal_walking rtu short 2) OfSealer
+  definition_by Sealer Of.Dnp3 Y18 = defined_by (seal_walking dnp short 2) OfSealer
+  definition_by Sealer Of.Rtu Y24 = defined_by (seal_walking rtu long 4) OfSealer
+  definition_by Sealer Of.Dnp3 Y24 = defined_by (seal_walking dnp long 4) OfSealer
+  definition_by Checker Of.Rtu Y18 = defined_by (check_walking rtu short 2) OfChecker
+  definition_by Checker Of.Dnp3 Y18 = defined_by (check_walking dnp short 2) OfChecker
+  definition_by Checker Of.Rtu Y24 = defined_by (check_walking rtu long 4) OfChecker
+  definition_by Checker Of.Dnp3 Y24 = defined_by (check_walking dnp long 4) OfChecker
+
+  abbrev pub definition_of : Kind → Definition
+  definition_of kind = definition_by kind.part kind.proto kind.profile
+
+  -- Set up so, a box has taken these ticks, and the last number that it used is this one.
+  abbrev pub StandsAt : AnyBox → ℕ → Setup → List Tick → Type 0
+  StandsAt (RtuSealer18 value) = SealsAt rtu short value
+  StandsAt (DnpSealer18 value) = SealsAt dnp short value
+  StandsAt (RtuSealer24 value) = SealsAt rtu long value
+  StandsAt (DnpSealer24 value) = SealsAt dnp long value
+  StandsAt (RtuChecker18 value) = ChecksAt rtu short value
+  StandsAt (DnpChecker18 value) = ChecksAt dnp short value
+  StandsAt (RtuChecker24 value) = ChecksAt rtu long value
+  StandsAt (DnpChecker24 value) = ChecksAt dnp long value
+
+  -- After this line a box has taken one tick more: the last number that it used is that of the
+  -- definition, and it answers the tick of the other line and the note that the definition adds.
+  pub record HasStepped (value : AnyBox) (last : ℕ) (setup : Setup) (line : List Tick)
+      (t tick : Tick) (note : Option AnyNote) : Type 0 where
+    pub stands : StandsAt value last setup (line ++ t ∷ [])
+    pub number : last ≡ (definition_of (kind_of value)).number setup (line ++ t ∷ [])
+    pub tick_is : (definition_of (kind_of value)).other setup (line ++ t ∷ [])
+        ≡ (definition_of (kind_of value)).other setup line ++ tick ∷ []
+    pub note_is : (definition_of (kind_of value)).notes setup (line ++ t ∷ [])
+        ≡ (definition_of (kind_of value)).notes setup line ++ note_in (length line) note
+
+  -- Whatever line it had taken, a box has taken this tick more, and it is the same one of the
+  -- eight.
+  pub record Steps (old : AnyBox) (before : ℕ) (new : AnyBox) (after : ℕ) (t tick : Tick)
+      (note : Option AnyNote) : Type 0 where
+    pub kind_is : kind_of new ≡ kind_of old
+    pub link_is : own_link new ≡ own_link old
+    pub counted : ticks_in new ≡ ticks_in old + 1
+    pub steps : (setup : Setup) (line : List Tick) → StandsAt old before setup line
+        → HasStepped new after setup line t tick note
+
+  -- After this line a box has taken this run too, and used no number. The ticks of the other line
+  -- are these, and no note falls into them.
+  pub record HasTakenRun (value : AnyBox) (last : ℕ) (setup : Setup) (line run answer : List Tick) :
+      Type 0 where
+    pub stands : StandsAt value last setup (line ++ run)
+    pub ticks_are : (definition_of (kind_of value)).other setup (line ++ run)
+        ≡ (definition_of (kind_of value)).other setup line ++ answer
+    pub no_note : (definition_of (kind_of value)).notes setup (line ++ run)
+        ≡ (definition_of (kind_of value)).notes setup line
+
+  -- It does so whatever line it had taken.
+  pub record TakesRun (old new : AnyBox) (run answer : List Tick) : Type 0 where
+    pub kind_is : kind_of new ≡ kind_of old
+    pub link_is : own_link new ≡ own_link old
+    pub counted : ticks_in new ≡ ticks_in old + length run
+    pub takes : (last : ℕ) (setup : Setup) (line : List Tick) → StandsAt old last setup line
+        → HasTakenRun new last setup line run answer

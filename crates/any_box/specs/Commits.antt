@@ -1,0 +1,35 @@
+-- What a step over slots in memory does to a journal, and what its caller then owes.
+use Rattle.std.specs.Prelude.{◌≡◌, ◌<◌, ◌⊎◌, Option, Some, None}
+use Rattle.yasir_io.specs.Disks.{with_slot, other_slot}
+use Rattle.yasir_io.specs.Steady.{steady_slots}
+use Rattle.yasir_io.specs.declared.steady.SteadySlots.{SteadySlots}
+use Rattle.sequence_journal.specs.declared.journal.Journal.{Journal}
+use Rattle.sequence_journal.specs.Journal.{journal_link, journal_floor, kept_slot}
+use Rattle.sequence_journal.specs.Slots.{slot_bytes}
+use Rattle.any_box.specs.declared.owed.Commit.{Commit}
+
+-- A number above the floor was committed: it is the floor now, and it is in the slot that
+-- didn't keep the floor. The other slot is as it was.
+pub record CommitsOne (old new : Journal) (disk_old disk_new : SteadySlots) : Type 0 where
+  pub link : journal_link new ≡ journal_link old
+  pub above : journal_floor old < journal_floor new
+  pub set : steady_slots disk_new ≡ with_slot (steady_slots disk_old) (other_slot (kept_slot old))
+      (slot_bytes (journal_floor new) (journal_link old))
+  pub turned : kept_slot new ≡ other_slot (kept_slot old)
+
+-- or nothing was
+abbrev pub CommitsOneOrNone : Journal → Journal → SteadySlots → SteadySlots → Type 0
+CommitsOneOrNone old new disk_old disk_new =
+    ((new ≡ old) × (disk_new ≡ disk_old)) ⊎ CommitsOne old new disk_old disk_new
+
+-- What the caller has to write is what was committed: these bytes into the slot that didn't keep
+-- the floor.
+pub record IsOwed (old new : Journal) (disk_old disk_new : SteadySlots) (commit : Commit) : Type 0 where
+  pub commits : CommitsOne old new disk_old disk_new
+  pub slot_is : commit.slot ≡ other_slot (kept_slot old)
+  pub bytes_are : commit.bytes ≡ slot_bytes (journal_floor new) (journal_link old)
+
+-- and where there is nothing to write, journal and slots are as they were
+abbrev pub Owes : Journal → Journal → SteadySlots → SteadySlots → Option Commit → Type 0
+Owes old new disk_old disk_new None = (new ≡ old) × (disk_new ≡ disk_old)
+Owes old new disk_old disk_new (Some commit) = IsOwed old new disk_old disk_new commit

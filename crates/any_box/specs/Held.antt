@@ -1,0 +1,76 @@
+-- A box with its journal in memory: how it begins, and what its calls do.
+use Rattle.std.specs.Prelude.{◌≡◌, ℕ, ◌+◌, List, [], Some, length}
+use Rattle.sha2.specs.declared.Sha256.{Sha256}
+use Rattle.yasir_ticks.specs.declared.tick.Tick.{Tick}
+use Rattle.yasir_io.specs.Disks.{Slots}
+use Rattle.yasir_io.specs.Steady.{steady_slots, blank_old}
+use Rattle.rtu_frame.specs.declared.rtu.Rtu.{Rtu}
+use Rattle.dnp_link_frame.specs.declared.dnp.Dnp.{Dnp}
+use Rattle.line_rules.specs.declared.line_rules.LineRules.{Ghosts as LineRules}
+use Rattle.hmac_tag.specs.declared.dir.Dir.{Dir}
+use Rattle.hmac_tag.specs.declared.tag.Mac.{Ghosts as Mac}
+use Rattle.hmac_tag.specs.declared.keyed_hash.Hmac.{Hmac}
+use Rattle.hmac_tag.specs.declared.sha1_hasher.Sha1Hasher.{Sha1Hasher}
+use Rattle.link_format.specs.Setup.{Setup, setup_of}
+use Rattle.sequence_journal.specs.Journal.{journal_link, journal_floor}
+use Rattle.sequence_journal.specs.Slots.{floor_of}
+use Rattle.sequence_journal.specs.declared.link.LinkId.{LinkId}
+use Rattle.any_box.specs.Kinds.{link_for}
+use Rattle.any_box.specs.Commits.{Owes}
+use Rattle.any_box.specs.Boxes.{kind_of, StandsAt, Steps, TakesRun}
+use Rattle.any_box.specs.declared.held_box.HeldBox.{HeldBox}
+use Rattle.any_box.specs.declared.held_box.HeldStep.{HeldStep}
+use Rattle.any_box.specs.declared.kind.Kind.{Kind}
+
+-- the slots that a caller keeps
+abbrev pub slots_given : List ℕ → List ℕ → Slots
+slots_given a b = record { a = a; b = b; old = blank_old }
+
+-- the slots that a box holds in memory
+abbrev pub slots_held : HeldBox → Slots
+slots_held held = steady_slots held.disk
+
+-- the last number that it used
+abbrev pub floor_held : HeldBox → ℕ
+floor_held held = journal_floor held.journal
+
+-- how many ticks it has taken
+abbrev pub ticks_held : HeldBox → ℕ
+ticks_held held = held.ticks
+
+-- the link that its journal serves
+abbrev pub link_held : HeldBox → LinkId
+link_held held = journal_link held.journal
+
+-- The rules of the two protocols, and the codes of the two profiles.
+module _ (rtu : LineRules Rtu) (dnp : LineRules Dnp) (short : Mac (Hmac Sha1Hasher 20))
+    (long : Mac (Hmac Sha256 32)) where
+  -- Set up so, a box has taken this line.
+  abbrev pub Holds : HeldBox → Setup → List Tick → Type 0
+  Holds held setup line = StandsAt rtu dnp short long held.line_box (floor_held held) setup line
+
+  -- A box begins: it is this one of the eight, its journal is that of its link and has the floor of
+  -- the slots, which are as they were given, and it has taken no tick.
+  pub record Begins (kind : Kind) (dir : Dir) (key a b : List ℕ) (held : HeldBox) : Type 0 where
+    pub kind_is : kind_of held.line_box ≡ kind
+    pub link_is : link_held held ≡ link_for kind dir
+    pub floor_is : floor_of (link_for kind dir) (slots_given a b) ≡ Some (floor_held held)
+    pub slots_are : slots_held held ≡ slots_given a b
+    pub none_taken : ticks_held held ≡ 0
+    pub holds : Holds held (setup_of key dir (floor_held held)) []
+
+  -- A step answers what the definition of the box adds, whatever line it had taken, and what its
+  -- caller has to write.
+  pub record StepsHeld (old new : HeldBox) (t : Tick) (step : HeldStep) : Type 0 where
+    pub counted : ticks_held new ≡ ticks_held old + 1
+    pub steps : Steps rtu dnp short long old.line_box (floor_held old) new.line_box
+        (floor_held new) t step.tick step.note
+    pub link : link_held new ≡ link_held old
+    pub owes : Owes old.journal new.journal old.disk new.disk step.commit
+
+  -- A run is taken with these ticks of the other line, without a note and with nothing to write.
+  pub record TakesHeld (old new : HeldBox) (run answer : List Tick) : Type 0 where
+    pub counted : ticks_held new ≡ ticks_held old + length run
+    pub takes : TakesRun rtu dnp short long old.line_box new.line_box run answer
+    pub journal : new.journal ≡ old.journal
+    pub disk : new.disk ≡ old.disk

@@ -1,0 +1,6 @@
+pub mod Places
+pub mod Kinds
+pub mod Commits
+pub mod Noting
+pub mod Boxes
+pub mod Held

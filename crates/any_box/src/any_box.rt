@@ -1,0 +1,125 @@
+//! The eight boxes behind one type.
+ghost use Rattle.std.specs.Prelude.{◌≡◌, ◌+◌, ◌≤◌, ◌<◌, ℕ, [], length, take, Some};
+ghost use Rattle.yasir_io.specs.Steady.{steady_slots};
+ghost use Rattle.yasir_ticks.specs.TickRun.{run_ticks};
+ghost use Rattle.yasir_ticks.specs.declared.TheConstants.{MAX_TICKS};
+ghost use Rattle.burst_walk.specs.Answered.{answered};
+ghost use Rattle.link_format.specs.Setup.{setup_of};
+ghost use Rattle.sequence_journal.specs.Journal.{journal_link, journal_floor, Fits};
+ghost use Rattle.any_box.specs.Commits.{CommitsOneOrNone};
+
+use crate::any_note::AnyNote;
+use crate::committing::{CommittingBox, step_any};
+use crate::kind::{Kind, Part, Profile, Proto};
+use burst_walk::{BoxStep, RunBytes};
+use check_receiver::Checker;
+use dnp_link_frame::Dnp;
+use hmac_tag::{Dir, HmacSha1, HmacSha256, Mac};
+use line_rules::LineRules;
+use link_box::{LinkBox, take_alike};
+use rtu_frame::Rtu;
+use seal_transmitter::Sealer;
+use sequence_journal::Journal;
+use yasir_io::SteadySlots;
+use yasir_ticks::{MAX_TICKS, Tick, TickRun};
+
+/// One of the eight boxes.
+#[derive(Drop)]
+pub enum AnyBox {
+    RtuSealer18(Sealer<Rtu, HmacSha1, 2>),
+    DnpSealer18(Sealer<Dnp, HmacSha1, 2>),
+    RtuSealer24(Sealer<Rtu, HmacSha256, 4>),
+    DnpSealer24(Sealer<Dnp, HmacSha256, 4>),
+    RtuChecker18(Checker<Rtu, HmacSha1, 2, 18>),
+    DnpChecker18(Checker<Dnp, HmacSha1, 2, 18>),
+    RtuChecker24(Checker<Rtu, HmacSha256, 4, 24>),
+    DnpChecker24(Checker<Dnp, HmacSha256, 4, 24>),
+}
+
+impl AnyBox {
+    ghost use Rattle.any_box.specs.Boxes.{kind_of, ticks_in, own_link, StandsAt, Steps, TakesRun};
+    ghost use Rattle.any_box.specs.Kinds.{link_for};
+
+    /// A box that has taken no tick, for a key of any length and a direction.
+    pub(crate) fn new(kind: Kind, key: &[u8], dir: Dir) -> AnyBox
+        ensures kind { kind_of result ≡ kind }
+        ensures link { own_link result ≡ link_for kind dir }
+        ensures taken { ticks_in result ≡ 0 }
+        ensures stands { (floor : ℕ) → StandsAt ⟦<Rtu as LineRules>⟧ ⟦<Dnp as LineRules>⟧
+            ⟦<HmacSha1 as Mac>⟧ ⟦<HmacSha256 as Mac>⟧
+            result floor (setup_of key.now dir floor) [] }
+    {
+        match (kind.part, kind.proto, kind.profile) {
+            (Part::Sealer, Proto::Rtu, Profile::Y18) => AnyBox::RtuSealer18(Sealer::new(key, dir)),
+            (Part::Sealer, Proto::Dnp3, Profile::Y18) => AnyBox::DnpSealer18(Sealer::new(key, dir)),
+            (Part::Sealer, Proto::Rtu, Profile::Y24) => AnyBox::RtuSealer24(Sealer::new(key, dir)),
+            (Part::Sealer, Proto::Dnp3, Profile::Y24) => AnyBox::DnpSealer24(Sealer::new(key, dir)),
+            (Part::Checker, Proto::Rtu, Profile::Y18) => AnyBox::RtuChecker18(Checker::new(
+                key, dir,
+            )),
+            (Part::Checker, Proto::Dnp3, Profile::Y18) => AnyBox::DnpChecker18(Checker::new(
+                key, dir,
+            )),
+            (Part::Checker, Proto::Rtu, Profile::Y24) => AnyBox::RtuChecker24(Checker::new(
+                key, dir,
+            )),
+            (Part::Checker, Proto::Dnp3, Profile::Y24) => AnyBox::DnpChecker24(Checker::new(
+                key, dir,
+            )),
+        }
+    }
+
+    /// Takes the next tick, over slots in memory, which are the journal's. Fewer than `MAX_TICKS`
+    /// ticks were taken before.
+    pub(crate) fn step(
+        &mut self,
+        t: Tick,
+        journal: &mut Journal,
+        disk: &mut SteadySlots,
+    ) -> BoxStep<AnyNote>
+        requires room { ticks_in self.old < MAX_TICKS }
+        requires of_link { journal_link journal.old ≡ own_link self.old }
+        requires fits { Fits journal.old (Some (steady_slots disk.old)) }
+        ensures steps { Steps ⟦<Rtu as LineRules>⟧ ⟦<Dnp as LineRules>⟧
+            ⟦<HmacSha1 as Mac>⟧ ⟦<HmacSha256 as Mac>⟧
+            self.old (journal_floor journal.old) self.new (journal_floor journal.new)
+            t result.tick result.note }
+        ensures link { journal_link journal.new ≡ journal_link journal.old }
+        ensures fits { Fits journal.new (Some (steady_slots disk.new)) }
+        ensures commits { CommitsOneOrNone journal.old journal.new disk.old disk.new }
+    {
+        match self {
+            AnyBox::RtuSealer18(value) => step_any(value, t, journal, disk),
+            AnyBox::DnpSealer18(value) => step_any(value, t, journal, disk),
+            AnyBox::RtuSealer24(value) => step_any(value, t, journal, disk),
+            AnyBox::DnpSealer24(value) => step_any(value, t, journal, disk),
+            AnyBox::RtuChecker18(value) => step_any(value, t, journal, disk),
+            AnyBox::DnpChecker18(value) => step_any(value, t, journal, disk),
+            AnyBox::RtuChecker24(value) => step_any(value, t, journal, disk),
+            AnyBox::DnpChecker24(value) => step_any(value, t, journal, disk),
+        }
+    }
+
+    /// Takes the first of these ticks, as far as the box answers all of them with silence or all of
+    /// them with bytes, without a note and without a number, and answers how many. Puts the bytes
+    /// of the answer into `left`, one for each tick, or none for silence. With 0 the caller goes on
+    /// by `step`. At most `MAX_TICKS` ticks are taken then.
+    pub(crate) fn take_alike(&mut self, run: TickRun<'_>, left: &mut RunBytes) -> usize
+        requires room { ticks_in self.old + length (run_ticks run) ≤ MAX_TICKS }
+        ensures within { result ≤ length (run_ticks run.entry) }
+        ensures run { TakesRun ⟦<Rtu as LineRules>⟧ ⟦<Dnp as LineRules>⟧
+            ⟦<HmacSha1 as Mac>⟧ ⟦<HmacSha256 as Mac>⟧
+            self.old self.new (take result (run_ticks run.entry)) (answered result left.new.items) }
+    {
+        match self {
+            AnyBox::RtuSealer18(value) => take_alike(value, run, left),
+            AnyBox::DnpSealer18(value) => take_alike(value, run, left),
+            AnyBox::RtuSealer24(value) => take_alike(value, run, left),
+            AnyBox::DnpSealer24(value) => take_alike(value, run, left),
+            AnyBox::RtuChecker18(value) => take_alike(value, run, left),
+            AnyBox::DnpChecker18(value) => take_alike(value, run, left),
+            AnyBox::RtuChecker24(value) => take_alike(value, run, left),
+            AnyBox::DnpChecker24(value) => take_alike(value, run, left),
+        }
+    }
+}

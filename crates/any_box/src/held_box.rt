@@ -1,0 +1,152 @@
+//! A box with its journal in memory.
+ghost use Rattle.std.specs.Prelude.{◌≡◌, ◌≤◌, false, Some, option_map};
+ghost use Rattle.std.proofs.Props.{props};
+ghost use Rattle.yasir_ticks.specs.declared.TheConstants.{MAX_TICKS};
+ghost use Rattle.yasir_io.specs.Steady.{steady_slots};
+ghost use Rattle.sequence_journal.specs.Journal.{journal_link, journal_floor, kept_slot, is_broken};
+ghost use Rattle.sequence_journal.specs.Slots.{floor_of, floor_slot};
+ghost use Rattle.any_box.specs.Boxes.{ticks_in, own_link};
+ghost use Rattle.any_box.specs.Places.{slot_number};
+
+use crate::any_box::AnyBox;
+use crate::any_note::AnyNote;
+use crate::kind::Kind;
+use crate::owed::Commit;
+use burst_walk::RunBytes;
+use dnp_link_frame::Dnp;
+use hmac_tag::{Dir, HmacSha1, HmacSha256, Mac};
+use line_rules::LineRules;
+use rtu_frame::Rtu;
+use sequence_journal::{Journal, LoadError};
+use yasir_io::{Slot, SlotBytes, SteadySlots};
+use yasir_ticks::{MAX_TICKS, Tick, TickRun};
+
+/// What a step answers.
+#[derive(Clone, Copy, Debug, PartialEq, Eq)]
+pub struct HeldStep {
+    /// The tick of the other line, at the same place.
+    pub tick: Tick,
+    /// The note that falls into this step.
+    pub note: Option<AnyNote>,
+    /// What the caller has to write and sync before the tick leaves.
+    pub commit: Option<Commit>,
+}
+
+/// A box has taken `MAX_TICKS` ticks, and takes no more.
+#[derive(Clone, Copy, Debug, PartialEq, Eq)]
+pub struct Full;
+
+/// A box with its journal, over slots in memory that are those of the caller's disk.
+#[derive(Drop)]
+pub struct HeldBox {
+    line_box: AnyBox,
+    journal: Journal,
+    disk: SteadySlots,
+    ticks: u64,
+    ghost counted: { ticks_in line_box ≡ ticks },
+    ghost own_label: { (journal_link journal).label ≡ (own_link line_box).label },
+    ghost own_dir: { (journal_link journal).dir ≡ (own_link line_box).dir },
+    ghost own_profile: { (journal_link journal).profile ≡ (own_link line_box).profile },
+    ghost room: { ticks ≤ MAX_TICKS },
+    ghost whole: { is_broken journal ≡ false },
+    ghost floor_is: { floor_of (journal_link journal) (steady_slots disk)
+        ≡ Some (journal_floor journal) } by { Prim.hlevel props },
+    ghost kept_is: { option_map slot_number (floor_slot (journal_link journal) (steady_slots disk))
+        ≡ Some (slot_number (kept_slot journal)) } by { Prim.hlevel props },
+}
+
+impl HeldBox {
+    ghost use Rattle.std.specs.Prelude.{◌≡◌, ◌≤◌, IfOk, IfErr, OnErr, length, take, Some};
+    ghost use Rattle.yasir_ticks.specs.TickRun.{run_ticks};
+    ghost use Rattle.burst_walk.specs.Answered.{answered};
+    ghost use Rattle.sequence_journal.specs.Loading.{RefusesLoad};
+    ghost use Rattle.any_box.specs.Kinds.{link_for};
+    ghost use Rattle.any_box.specs.Held.{slots_given, floor_held, ticks_held, Begins};
+    ghost use Rattle.any_box.specs.Held.{StepsHeld, TakesHeld};
+
+    /// A box that has taken no tick, for a key of any length and a direction. Its journal is the
+    /// one that the caller's slots `a` and `b` hold for its link.
+    #[tactic(auto, using(crate::proofs::Places::fits_kept, crate::proofs::Loaded::loaded_link, crate::proofs::Loaded::loaded_floor, crate::proofs::Loaded::loaded_slots, crate::proofs::Loaded::refused_again, crate::proofs::Places::label_same, crate::proofs::Places::dir_same, crate::proofs::Places::profile_same))]
+    pub fn new(
+        kind: Kind,
+        dir: Dir,
+        key: &[u8],
+        a: SlotBytes,
+        b: SlotBytes,
+    ) -> Result<HeldBox, LoadError>
+        ensures begins { IfOk result (Begins ⟦<Rtu as LineRules>⟧ ⟦<Dnp as LineRules>⟧
+            ⟦<HmacSha1 as Mac>⟧ ⟦<HmacSha256 as Mac>⟧ kind dir key.now a b) }
+        ensures refused { IfErr result (RefusesLoad (link_for kind dir)
+            (Some (slots_given a b)) (Some (slots_given a b)) 0 0) }
+    {
+        let mut disk = SteadySlots::new(a, b);
+        let link = kind.link(dir);
+        let journal = match Journal::load(&mut disk, &link) {
+            Ok(journal) => journal,
+            Err(error) => return Err(error),
+        };
+        Ok(HeldBox {
+            line_box: AnyBox::new(kind, key, dir),
+            journal,
+            disk,
+            ticks: 0,
+        })
+    }
+
+    /// Takes the next tick, and answers that of the other line, the note that falls into this step,
+    /// and what the caller has to write to its disk and sync before the tick leaves.
+    ///
+    /// It fails where the box has taken `MAX_TICKS` ticks, and is then as it was.
+    #[tactic(auto, using(crate::proofs::Places::fits_back, crate::proofs::Places::fits_kept, crate::proofs::Places::own_back, crate::proofs::Places::label_kept, crate::proofs::Places::dir_kept, crate::proofs::Places::profile_kept))]
+    pub fn step(&mut self, t: Tick) -> Result<HeldStep, Full>
+        ensures steps { IfOk result (StepsHeld ⟦<Rtu as LineRules>⟧ ⟦<Dnp as LineRules>⟧
+            ⟦<HmacSha1 as Mac>⟧ ⟦<HmacSha256 as Mac>⟧ self.old self.new t) }
+        ensures full { OnErr result ((ticks_held self.old ≡ MAX_TICKS) × (self.new ≡ self.old)) }
+    {
+        if self.ticks >= MAX_TICKS {
+            return Err(Full);
+        }
+        let a = self.disk.slot(Slot::A);
+        let b = self.disk.slot(Slot::B);
+        let step = self.line_box.step(t, &mut self.journal, &mut self.disk);
+        let commit = Commit::between(&a, &b, &self.disk);
+        self.ticks += 1;
+        Ok(HeldStep {
+            tick: step.tick,
+            note: step.note,
+            commit,
+        })
+    }
+
+    /// Takes the first of these ticks, as far as the box answers all of them with silence or all of
+    /// them with bytes, without a note and with nothing to write, and answers how many. Puts the
+    /// bytes of the answer into `left`, one for each tick, or none for silence. With 0 the caller
+    /// goes on by `step`.
+    #[tactic(auto, using(crate::proofs::Places::label_kept, crate::proofs::Places::dir_kept, crate::proofs::Places::profile_kept, crate::proofs::Taking::within_whole, crate::proofs::Taking::takes_front, crate::proofs::Taking::taken_counted, crate::proofs::Taking::counted_taken))]
+    pub fn take_alike(&mut self, run: TickRun<'_>, left: &mut RunBytes) -> usize
+        ensures within { result ≤ length (run_ticks run.entry) }
+        ensures takes { TakesHeld ⟦<Rtu as LineRules>⟧ ⟦<Dnp as LineRules>⟧
+            ⟦<HmacSha1 as Mac>⟧ ⟦<HmacSha256 as Mac>⟧ self.old self.new
+            (take result (run_ticks run.entry)) (answered result left.new.items) }
+    {
+        let room = MAX_TICKS - self.ticks;
+        let most = run.len().min(room as usize);
+        let count = self.line_box.take_alike(run.front(most), left);
+        self.ticks += count as u64;
+        count
+    }
+
+    /// The last number that the box used.
+    pub fn floor(&self) -> u64
+        ensures { result ≡ floor_held self.now }
+    {
+        self.journal.floor()
+    }
+
+    /// How many ticks it has taken.
+    pub fn ticks(&self) -> u64
+        ensures { result ≡ ticks_held self.now }
+    {
+        self.ticks
+    }
+}

@@ -1,0 +1,34 @@
+//! Laws of what a caller writes for a box.
+ghost use Rattle.std.specs.Prelude.{◌≡◌, List, ℕ, Some};
+ghost use Rattle.yasir_ticks.specs.declared.tick.Tick.{Tick};
+ghost use Rattle.yasir_io.specs.Disks.{with_slot};
+ghost use Rattle.sequence_journal.specs.Journal.{HasFloorAtLeast};
+ghost use Rattle.sequence_journal.specs.Slots.{floor_of};
+ghost use Rattle.any_box.specs.Held.{slots_held, link_held, floor_held, StepsHeld};
+ghost use Rattle.any_box.specs.declared.held_box.HeldBox.{HeldBox};
+ghost use Rattle.any_box.specs.declared.held_box.HeldStep.{HeldStep};
+ghost use Rattle.any_box.specs.declared.owed.Commit.{Commit};
+
+use dnp_link_frame::Dnp;
+use hmac_tag::{HmacSha1, HmacSha256, Mac};
+use line_rules::LineRules;
+use rtu_frame::Rtu;
+
+/// Over slots that are those of a box, a caller writes what a step says. *written*: then they are
+/// again those of the box, and their floor is the last number that it used. *torn*: whatever a
+/// crash leaves in the slot that is written, the floor isn't below the last number before the step.
+pub fn writes_keep_the_floor()
+    ensures written { (old new : HeldBox) (t : Tick) (step : HeldStep) (commit : Commit)
+        → StepsHeld ⟦<Rtu as LineRules>⟧ ⟦<Dnp as LineRules>⟧
+        ⟦<HmacSha1 as Mac>⟧ ⟦<HmacSha256 as Mac>⟧ old new t step
+        → step.commit ≡ Some commit
+        → (with_slot (slots_held old) commit.slot commit.bytes ≡ slots_held new)
+        × (floor_of (link_held old) (slots_held new) ≡ Some (floor_held new)) }
+    ensures torn { (old new : HeldBox) (t : Tick) (step : HeldStep) (commit : Commit)
+        (bytes : List ℕ)
+        → StepsHeld ⟦<Rtu as LineRules>⟧ ⟦<Dnp as LineRules>⟧
+        ⟦<HmacSha1 as Mac>⟧ ⟦<HmacSha256 as Mac>⟧ old new t step
+        → step.commit ≡ Some commit
+        → HasFloorAtLeast (link_held old) (floor_held old)
+        (with_slot (slots_held old) commit.slot bytes) }
+{}
