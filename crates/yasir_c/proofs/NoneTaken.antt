@@ -1,0 +1,40 @@
+-- A box that takes no tick.
+use Rattle.std.proofs.Common.{◌∙◌, ℕ, List, take, refl, sym, ap, subst, arith}
+use Rattle.std.proofs.lemmas.List.{append-nil}
+use Rattle.sha2.specs.declared.Sha256.{Sha256}
+use Rattle.yasir_ticks.specs.declared.tick.Tick.{Tick}
+use Rattle.burst_walk.specs.Answered.{answered}
+use Rattle.rtu_frame.specs.declared.rtu.Rtu.{Rtu}
+use Rattle.dnp_link_frame.specs.declared.dnp.Dnp.{Dnp}
+use Rattle.line_rules.specs.declared.line_rules.LineRules.{Ghosts as LineRules}
+use Rattle.hmac_tag.specs.declared.tag.Mac.{Ghosts as Mac}
+use Rattle.hmac_tag.specs.declared.keyed_hash.Hmac.{Hmac}
+use Rattle.hmac_tag.specs.declared.sha1_hasher.Sha1Hasher.{Sha1Hasher}
+use Rattle.any_box.specs.Boxes.{kind_of, definition_of, StandsAt}
+use Rattle.any_box.specs.Held.{TakesHeld}
+use Rattle.any_box.specs.declared.held_box.HeldBox.{HeldBox}
+
+module _ (rtu : LineRules Rtu) (dnp : LineRules Dnp) (short : Mac (Hmac Sha1Hasher 20))
+    (long : Mac (Hmac Sha256 32)) where
+  -- a box that takes no tick is as it was
+  pub takes-none : (held : HeldBox) (run : List Tick) (left : List ℕ)
+      → TakesHeld rtu dnp short long held held (take 0 run) (answered 0 (take 0 left))
+  takes-none held run left = record {
+    counted = omega arith;
+    takes = record {
+      kind_is = refl;
+      link_is = refl;
+      counted = omega arith;
+      takes = λ last setup line stands.
+          let nil = append-nil line in
+          let made = definition_of rtu dnp short long (kind_of held.line_box) in
+          record {
+            stands = subst (λ (l : List Tick). StandsAt rtu dnp short long held.line_box last setup l)
+                (sym nil) stands;
+            ticks_are = ap (made.other setup) nil ∙ sym (append-nil (made.other setup line));
+            no_note = ap (made.notes setup) nil;
+          };
+    };
+    journal = refl;
+    disk = refl;
+  }

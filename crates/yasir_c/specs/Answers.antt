@@ -1,0 +1,88 @@
+-- What C reads of a step.
+use Rattle.std.specs.Prelude.{ℕ, nat_lt, nat_eq, List, Option, Some, None, replicate, if◌then◌else◌}
+use Rattle.yasir_ticks.specs.declared.tick.Tick.{Tick}
+use Rattle.yasir_ticks.specs.declared.tick.Tick.TheVariants.{Silent, Byte}
+use Rattle.yasir_io.specs.declared.disk.Slot.{Slot}
+use Rattle.yasir_io.specs.declared.disk.Slot.TheVariants.{A, B}
+use Rattle.seal_judgements.specs.declared.note.SealNote.TheVariants.{Sealed, Unsealed}
+use Rattle.seal_judgements.specs.declared.note.UnsealedWhy.{UnsealedWhy}
+use Rattle.seal_judgements.specs.declared.note.UnsealedWhy.TheVariants as Seal
+use Rattle.link_verdicts.specs.declared.note.CheckNote.TheVariants.{Passed, Refused, Dropped}
+use Rattle.link_verdicts.specs.declared.note.RefusedWhy.{RefusedWhy}
+use Rattle.link_verdicts.specs.declared.note.RefusedWhy.TheVariants as Refuse
+use Rattle.link_verdicts.specs.declared.note.DroppedWhy.{DroppedWhy}
+use Rattle.link_verdicts.specs.declared.note.DroppedWhy.TheVariants as Drop
+use Rattle.any_box.specs.declared.any_note.AnyNote.{AnyNote}
+use Rattle.any_box.specs.declared.any_note.AnyNote.TheVariants.{OfSealer, OfChecker}
+use Rattle.any_box.specs.declared.held_box.HeldStep.{HeldStep}
+use Rattle.any_box.specs.declared.owed.Commit.{Commit}
+use Rattle.yasir_c.specs.declared.answer.Answer.{Answer}
+use Rattle.yasir_c.specs.declared.answer.NoteNumbers.{NoteNumbers}
+
+abbrev pub unsealed_number : UnsealedWhy → ℕ
+unsealed_number Seal.Early = 1
+unsealed_number Seal.Form = 2
+unsealed_number Seal.Spent = 3
+
+abbrev pub refused_number : RefusedWhy → ℕ
+refused_number Refuse.Trailer = 1
+refused_number Refuse.Form = 2
+refused_number Refuse.Number = 3
+refused_number Refuse.Tag = 4
+
+abbrev pub dropped_number : DroppedWhy → ℕ
+dropped_number Drop.Busy = 1
+dropped_number Drop.Head = 2
+
+-- a note of a frame that has a number, and one of a burst that has none
+abbrev pub of_frame : ℕ → ℕ → ℕ → ℕ → NoteNumbers
+of_frame note number start len =
+    record { note = note; why = 0; len = len; number = number; start = start }
+
+abbrev pub of_burst : ℕ → ℕ → ℕ → NoteNumbers
+of_burst note start why = record { note = note; why = why; len = 0; number = 0; start = start }
+
+-- the note of a step by numbers
+abbrev pub numbers_in : Option AnyNote → NoteNumbers
+numbers_in None = of_burst 0 0 0
+numbers_in (Some (OfSealer (Sealed number start len))) = of_frame 1 number start len
+numbers_in (Some (OfSealer (Unsealed start why))) = of_burst 2 start (unsealed_number why)
+numbers_in (Some (OfChecker (Passed number start len))) = of_frame 3 number start len
+numbers_in (Some (OfChecker (Refused start why))) = of_burst 4 start (refused_number why)
+numbers_in (Some (OfChecker (Dropped start why))) = of_burst 5 start (dropped_number why)
+
+-- the slot to be written: none, A or B
+abbrev pub slot_code : Slot → ℕ
+slot_code A = 1
+slot_code B = 2
+
+abbrev pub commit_number : Option Commit → ℕ
+commit_number None = 0
+commit_number (Some commit) = slot_code commit.slot
+
+-- the bytes to be written there, or zeros
+abbrev pub commit_bytes : Option Commit → List ℕ
+commit_bytes None = replicate 24 0
+commit_bytes (Some commit) = commit.bytes
+
+-- whether a tick carries a byte, and that byte
+abbrev pub tick_bytes : Tick → ℕ × ℕ
+tick_bytes Silent = (0, 0)
+tick_bytes (Byte b) = (1, b)
+
+abbrev pub answer_of : HeldStep → Answer
+answer_of step = record {
+  number = (numbers_in step.note).number;
+  start = (numbers_in step.note).start;
+  len = (numbers_in step.note).len;
+  is_byte = (tick_bytes step.tick).0;
+  byte = (tick_bytes step.tick).1;
+  commit = commit_number step.commit;
+  note = (numbers_in step.note).note;
+  why = (numbers_in step.note).why;
+  unused = 0;
+}
+
+-- a tick by its number: a byte below 256, and 256 for silence
+abbrev pub tick_in : ℕ → Option Tick
+tick_in n = if nat_lt n 256 then Some (Byte n) else (if nat_eq n 256 then Some Silent else None)

@@ -1,0 +1,50 @@
+-- The numbers by which C names a box.
+use Rattle.std.specs.Prelude.{◌≡◌, ◌≢◌, ℕ, Option, Some, None}
+use Rattle.hmac_tag.specs.declared.dir.Dir.{Dir}
+use Rattle.hmac_tag.specs.declared.dir.Dir.TheVariants.{Ab, Ba}
+use Rattle.any_box.specs.declared.kind.Kind.{Kind}
+use Rattle.any_box.specs.declared.kind.Part.{Part}
+use Rattle.any_box.specs.declared.kind.Part.TheVariants.{Sealer, Checker}
+use Rattle.any_box.specs.declared.kind.Profile.{Profile}
+use Rattle.any_box.specs.declared.kind.Profile.TheVariants.{Y18, Y24}
+use Rattle.any_box.specs.declared.kind.Proto.{Proto}
+use Rattle.any_box.specs.declared.kind.Proto.TheVariants.{Rtu, Dnp3}
+use Rattle.yasir_c.specs.declared.kind.KindNumbers.{KindNumbers}
+
+abbrev pub part_number : Part → ℕ
+part_number Sealer = 0
+part_number Checker = 1
+
+abbrev pub proto_number : Proto → ℕ
+proto_number Rtu = 1
+proto_number Dnp3 = 2
+
+abbrev pub profile_number : Profile → ℕ
+profile_number Y18 = 18
+profile_number Y24 = 24
+
+abbrev pub dir_number : Dir → ℕ
+dir_number Ab = 0
+dir_number Ba = 1
+
+-- what has a number, or none where nothing has it
+module _ {A : Type 0} (number_of : A → ℕ) where
+  abbrev pub HasNumber : ℕ → Option A → Type 0
+  HasNumber number None = (a : A) → number ≢ number_of a
+  HasNumber number (Some a) = number ≡ number_of a
+
+-- these are the numbers of a box and a direction
+pub record IsKind (numbers : KindNumbers) (kind : Kind) (dir : Dir) : Type 0 where
+  pub part : numbers.part ≡ part_number kind.part
+  pub protocol : numbers.protocol ≡ proto_number kind.proto
+  pub profile : numbers.profile ≡ profile_number kind.profile
+  pub direction : numbers.direction ≡ dir_number dir
+
+-- they are those of no box
+abbrev pub IsNoKind : KindNumbers → Type 0
+IsNoKind numbers = (kind : Kind) (dir : Dir) → ¬ IsKind numbers kind dir
+
+-- the box and direction with these numbers, or none where there is none
+abbrev pub IsKnownAs : KindNumbers → Option (Kind × Dir) → Type 0
+IsKnownAs numbers None = IsNoKind numbers
+IsKnownAs numbers (Some known) = IsKind numbers known.0 known.1

@@ -1,0 +1,5 @@
+pub mod Kinds
+pub mod Statuses
+pub mod Answers
+pub mod Owning
+pub mod Edge

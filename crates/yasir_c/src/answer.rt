@@ -1,0 +1,156 @@
+//! What a step answers, as C reads it.
+ghost use Rattle.std.specs.Prelude.{◌≡◌};
+ghost use Rattle.yasir_c.specs.Answers.{answer_of, numbers_in, unsealed_number, refused_number};
+ghost use Rattle.yasir_c.specs.Answers.{dropped_number, commit_number, tick_bytes};
+
+use any_box::{AnyNote, Commit, HeldStep};
+use check_receiver::{CheckNote, DroppedWhy, RefusedWhy};
+use seal_transmitter::{SealNote, UnsealedWhy};
+use yasir_io::Slot;
+use yasir_ticks::Tick;
+
+/// What a step answers. Its fields are those of `yasir_answer` in `yasir.h`, in that order.
+#[repr(C)]
+#[derive(Clone, Copy, Debug, PartialEq, Eq)]
+pub struct Answer {
+    pub number: u64,
+    pub start: u64,
+    pub len: u16,
+    pub is_byte: u8,
+    pub byte: u8,
+    pub commit: u8,
+    pub note: u8,
+    pub why: u8,
+    pub unused: u8,
+}
+
+/// A note by numbers.
+#[derive(Clone, Copy)]
+pub(crate) struct NoteNumbers {
+    note: u8,
+    why: u8,
+    len: u16,
+    number: u64,
+    start: u64,
+}
+
+// A note of a frame that has a number.
+fn of_frame(note: u8, number: u64, start: u64, len: u16) -> NoteNumbers
+    ensures { result ≡ record { note = note; why = 0; len = len; number = number; start = start } }
+{
+    NoteNumbers {
+        note,
+        why: 0,
+        len,
+        number,
+        start,
+    }
+}
+
+// A note of a burst that has none.
+fn of_burst(note: u8, start: u64, why: u8) -> NoteNumbers
+    ensures { result ≡ record { note = note; why = why; len = 0; number = 0; start = start } }
+{
+    NoteNumbers {
+        note,
+        why,
+        len: 0,
+        number: 0,
+        start,
+    }
+}
+
+fn numbers_in(note: Option<AnyNote>) -> NoteNumbers
+    ensures { result ≡ numbers_in note }
+{
+    match note {
+        None => of_burst(0, 0, 0),
+        Some(AnyNote::OfSealer(SealNote::Sealed { number, start, len })) => {
+            of_frame(1, number, start, len)
+        }
+        Some(AnyNote::OfSealer(SealNote::Unsealed { start, why })) => {
+            of_burst(2, start, unsealed_number(why))
+        }
+        Some(AnyNote::OfChecker(CheckNote::Passed { number, start, len })) => {
+            of_frame(3, number, start, len)
+        }
+        Some(AnyNote::OfChecker(CheckNote::Refused { start, why })) => {
+            of_burst(4, start, refused_number(why))
+        }
+        Some(AnyNote::OfChecker(CheckNote::Dropped { start, why })) => {
+            of_burst(5, start, dropped_number(why))
+        }
+    }
+}
+
+fn unsealed_number(why: UnsealedWhy) -> u8
+    ensures { result ≡ unsealed_number why }
+{
+    match why {
+        UnsealedWhy::Early => 1,
+        UnsealedWhy::Form => 2,
+        UnsealedWhy::Spent => 3,
+    }
+}
+
+fn refused_number(why: RefusedWhy) -> u8
+    ensures { result ≡ refused_number why }
+{
+    match why {
+        RefusedWhy::Trailer => 1,
+        RefusedWhy::Form => 2,
+        RefusedWhy::Number => 3,
+        RefusedWhy::Tag => 4,
+    }
+}
+
+fn dropped_number(why: DroppedWhy) -> u8
+    ensures { result ≡ dropped_number why }
+{
+    match why {
+        DroppedWhy::Busy => 1,
+        DroppedWhy::Head => 2,
+    }
+}
+
+fn commit_number(commit: &Option<Commit>) -> u8
+    ensures { result ≡ commit_number commit.now }
+{
+    match commit {
+        None => 0,
+        Some(commit) => match commit.slot {
+            Slot::A => 1,
+            Slot::B => 2,
+        },
+    }
+}
+
+fn tick_bytes(tick: Tick) -> (u8, u8)
+    ensures { result ≡ tick_bytes tick }
+{
+    match tick {
+        Tick::Silent => (0, 0),
+        Tick::Byte(byte) => (1, byte),
+    }
+}
+
+impl Answer {
+    /// What C reads of a step.
+    pub(crate) fn of(step: &HeldStep) -> Answer
+        ensures { result ≡ answer_of step.now }
+    {
+        let note = numbers_in(step.note);
+        let (is_byte, byte) = tick_bytes(step.tick);
+        Answer {
+            number: note.number,
+            start: note.start,
+            len: note.len,
+            is_byte,
+            byte,
+            commit: commit_number(&step.commit),
+            note: note.note,
+            why: note.why,
+            unused: 0,
+        }
+    }
+}

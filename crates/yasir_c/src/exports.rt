@@ -1,0 +1,327 @@
+//! The functions that C calls.
+ghost use Rattle.std.specs.Prelude.{◌≡◌, ◌+◌, ◌≤◌, length, take, drop, Some, None, map};
+ghost use Rattle.any_box.specs.declared.held_box.HeldBox.{HeldBox};
+ghost use Rattle.yasir_ticks.specs.Ticks.{silent};
+ghost use Rattle.yasir_ticks.specs.TickRun.{run_ticks};
+ghost use Rattle.yasir_ticks.specs.declared.tick.Tick.TheVariants.{Byte};
+ghost use Rattle.yasir_c.specs.Answers.{tick_in, commit_bytes};
+ghost use Rattle.yasir_c.specs.Edge.{HoldsBox, MakesBy, StepsBy, TakesAt, TellsFloor, InitsBy};
+ghost use Rattle.yasir_c.specs.Edge.{why_refused};
+ghost use Rattle.yasir_c.specs.Statuses.{Returns};
+
+use crate::answer::Answer;
+use crate::handle::Handle;
+use crate::kind::KindNumbers;
+use crate::loose::Loose;
+use crate::status::Status;
+use any_box::{Commit, HeldBox};
+use burst_walk::RunBytes;
+use dnp_link_frame::Dnp;
+use hmac_tag::{HmacSha1, HmacSha256, Mac};
+use line_rules::LineRules;
+use rtu_frame::Rtu;
+use sequence_journal::{LoadError, slot_of};
+use std::alloc::Global;
+use std::mem;
+use yasir_io::{SLOT_LEN, SlotBytes};
+use yasir_ticks::{Tick, TickRun};
+
+/// The tick that carries silence; those below it carry a byte.
+const SILENT: u16 = 256;
+
+/// How many bytes a run leaves at most.
+const MAX_LEFT: usize = 64;
+
+// Takes what a handle holds, so that it holds none.
+fn handed_out(handle: &mut Handle) -> Handle
+    ensures out { result.value ≡ handle.old.value }
+    ensures none { handle.new.value ≡ None }
+{
+    mem::replace(handle, Handle::empty())
+}
+
+// The box that a handle holds.
+fn opened(alloc: Global, handle: Handle) -> Box<HeldBox, Global>
+    requires { HoldsBox handle.value }
+    ensures { handle.value ≡ Some result.value }
+{
+    handle.into_loose(alloc).into_box()
+}
+
+// Takes the box out of a handle, which then holds none.
+fn taken_out(alloc: Global, handle: &mut Handle) -> Box<HeldBox, Global>
+    requires { HoldsBox handle.old.value }
+    ensures out { handle.old.value ≡ Some result.value }
+    ensures none { handle.new.value ≡ None }
+{
+    opened(alloc, handed_out(handle))
+}
+
+// Puts a box into a handle that holds none.
+fn put_in(handle: &mut Handle, held: Box<HeldBox, Global>)
+    requires { handle.old.value ≡ None }
+    ensures { handle.new.value ≡ Some held.value }
+{
+    let held = Handle::of(Loose::of(held));
+    *handle = held;
+}
+
+fn slot_in(slots: &[u8], first: usize) -> SlotBytes
+    requires { first + 24 ≤ length slots.now }
+    ensures { result ≡ take 24 (drop first slots.now) }
+{
+    let mut slot = [0; SLOT_LEN];
+    slot.copy_from_slice(&slots[first..first + SLOT_LEN]);
+    slot
+}
+
+fn why_not(error: &LoadError) -> Status
+    ensures { result ≡ why_refused error.now }
+{
+    match error {
+        LoadError::Bad { .. } => Status::NoJournal,
+        LoadError::WrongLink { .. } => Status::OtherLink,
+        // no call of slots in memory fails
+        LoadError::Fault => Status::NoJournal,
+    }
+}
+
+// Makes a box, and puts it into a handle that holds none.
+pub(crate) fn make(
+    alloc: Global,
+    handle: &mut Handle,
+    kind: &KindNumbers,
+    key: &[u8],
+    slots: &[u8],
+) -> Status
+    requires { handle.old.value ≡ None }
+    ensures { MakesBy ⟦<Rtu as LineRules>⟧ ⟦<Dnp as LineRules>⟧ ⟦<HmacSha1 as Mac>⟧
+        ⟦<HmacSha256 as Mac>⟧ kind.now key.now slots.now handle.new.value result }
+{
+    let Some((kind, dir)) = kind.known() else {
+        return Status::BadArgument;
+    };
+    if slots.len() != 2 * SLOT_LEN {
+        return Status::BadArgument;
+    }
+    let a = slot_in(slots, 0);
+    let b = slot_in(slots, SLOT_LEN);
+    let held = match HeldBox::new(kind, dir, key, a, b) {
+        Ok(held) => held,
+        Err(error) => return why_not(&error),
+    };
+    let Ok(held) = Box::new(alloc, held) else {
+        return Status::NoMemory;
+    };
+    put_in(handle, held);
+    Status::Done
+}
+
+/// Makes a box that has taken no tick.
+#[unsafe(no_mangle)]
+pub extern "C" fn yasir_new(
+    alloc: Global,
+    handle: &mut Handle,
+    kind: &KindNumbers,
+    key: &[u8],
+    slots: &[u8],
+) -> u8
+    requires { handle.old.value ≡ None }
+    ensures { Returns (MakesBy ⟦<Rtu as LineRules>⟧ ⟦<Dnp as LineRules>⟧ ⟦<HmacSha1 as Mac>⟧
+        ⟦<HmacSha256 as Mac>⟧ kind.now key.now slots.now handle.new.value) result }
+{
+    make(alloc, handle, kind, key, slots).number()
+}
+
+// A tick by its number.
+fn tick_in(number: u16) -> Option<Tick>
+    ensures { result ≡ tick_in number }
+{
+    if number < SILENT {
+        return Some(Tick::Byte(number as u8));
+    }
+    if number == SILENT {
+        return Some(Tick::Silent);
+    }
+    None
+}
+
+fn bytes_owed(commit: &Option<Commit>) -> SlotBytes
+    ensures { result ≡ commit_bytes commit.now }
+{
+    match commit {
+        None => [0; SLOT_LEN],
+        Some(commit) => commit.bytes,
+    }
+}
+
+// Takes the next tick by the box in a handle.
+pub(crate) fn step(
+    alloc: Global,
+    handle: &mut Handle,
+    tick: u16,
+    answer: &mut Answer,
+    slot: &mut [u8],
+) -> Status
+    requires { HoldsBox handle.old.value }
+    ensures holds { HoldsBox handle.new.value }
+    ensures steps { StepsBy ⟦<Rtu as LineRules>⟧ ⟦<Dnp as LineRules>⟧ ⟦<HmacSha1 as Mac>⟧
+        ⟦<HmacSha256 as Mac>⟧ handle.old.value handle.new.value tick answer.old answer.new
+        slot.old slot.new result }
+{
+    let Some(tick) = tick_in(tick) else {
+        return Status::BadArgument;
+    };
+    if slot.len() != SLOT_LEN {
+        return Status::BadArgument;
+    }
+    let mut held = taken_out(alloc, handle);
+    let step = match held.step(tick) {
+        Ok(step) => step,
+        Err(_) => {
+            put_in(handle, held);
+            return Status::Full;
+        }
+    };
+    put_in(handle, held);
+    *answer = Answer::of(&step);
+    slot.copy_from_slice(&bytes_owed(&step.commit));
+    Status::Done
+}
+
+/// Takes the next tick.
+#[unsafe(no_mangle)]
+pub extern "C" fn yasir_step(
+    alloc: Global,
+    handle: &mut Handle,
+    tick: u16,
+    answer: &mut Answer,
+    slot: &mut [u8],
+) -> u8
+    requires { HoldsBox handle.old.value }
+    ensures holds { HoldsBox handle.new.value }
+    ensures steps { Returns (StepsBy ⟦<Rtu as LineRules>⟧ ⟦<Dnp as LineRules>⟧ ⟦<HmacSha1 as Mac>⟧
+        ⟦<HmacSha256 as Mac>⟧ handle.old.value handle.new.value tick answer.old answer.new
+        slot.old slot.new) result }
+{
+    step(alloc, handle, tick, answer, slot).number()
+}
+
+// Puts what a run leaves to the front of `left`, and says how many bytes that are.
+fn put_left(left: &mut [u8], bytes: &RunBytes) -> usize
+    requires { 64 ≤ length left.old }
+    ensures front { take result left.new ≡ bytes.now.items }
+    ensures within { result ≤ length left.new }
+    ensures room { length left.new ≡ length left.old }
+{
+    let count = bytes.len();
+    left[..count].copy_from_slice(bytes.as_slice());
+    count
+}
+
+// Takes the first ticks of a run, as far as the box answers them alike.
+fn take_run(
+    alloc: Global,
+    handle: &mut Handle,
+    run: TickRun<'_>,
+    left: &mut [u8],
+    left_count: &mut usize,
+) -> usize
+    requires { HoldsBox handle.old.value }
+    ensures holds { HoldsBox handle.new.value }
+    ensures takes { TakesAt ⟦<Rtu as LineRules>⟧ ⟦<Dnp as LineRules>⟧ ⟦<HmacSha1 as Mac>⟧
+        ⟦<HmacSha256 as Mac>⟧ handle.old.value handle.new.value (run_ticks run.entry)
+        left.new left_count.new result }
+{
+    *left_count = 0;
+    if left.len() < MAX_LEFT {
+        return 0;
+    }
+    let mut bytes = RunBytes::new();
+    let mut held = taken_out(alloc, handle);
+    let taken = held.take_alike(run, &mut bytes);
+    put_in(handle, held);
+    *left_count = put_left(left, &bytes);
+    taken
+}
+
+/// Takes the first of these bytes, one a tick, as far as the box answers them alike, without a note
+/// and with nothing to write.
+#[unsafe(no_mangle)]
+pub extern "C" fn yasir_take_bytes(
+    alloc: Global,
+    handle: &mut Handle,
+    bytes: &[u8],
+    left: &mut [u8],
+    left_count: &mut usize,
+) -> usize
+    requires { HoldsBox handle.old.value }
+    ensures holds { HoldsBox handle.new.value }
+    ensures takes { TakesAt ⟦<Rtu as LineRules>⟧ ⟦<Dnp as LineRules>⟧ ⟦<HmacSha1 as Mac>⟧
+        ⟦<HmacSha256 as Mac>⟧ handle.old.value handle.new.value (map Byte bytes.now)
+        left.new left_count.new result }
+{
+    take_run(alloc, handle, TickRun::Bytes(bytes), left, left_count)
+}
+
+/// The same of this many silent ticks.
+#[unsafe(no_mangle)]
+pub extern "C" fn yasir_take_silence(
+    alloc: Global,
+    handle: &mut Handle,
+    ticks: u32,
+    left: &mut [u8],
+    left_count: &mut usize,
+) -> usize
+    requires { HoldsBox handle.old.value }
+    ensures holds { HoldsBox handle.new.value }
+    ensures takes { TakesAt ⟦<Rtu as LineRules>⟧ ⟦<Dnp as LineRules>⟧ ⟦<HmacSha1 as Mac>⟧
+        ⟦<HmacSha256 as Mac>⟧ handle.old.value handle.new.value (silent ticks)
+        left.new left_count.new result }
+{
+    take_run(alloc, handle, TickRun::Silence(ticks), left, left_count)
+}
+
+/// The last number that the box used.
+#[unsafe(no_mangle)]
+pub extern "C" fn yasir_floor(alloc: Global, handle: &mut Handle) -> u64
+    requires { HoldsBox handle.old.value }
+    ensures holds { HoldsBox handle.new.value }
+    ensures tells { TellsFloor handle.old.value handle.new.value result }
+{
+    let held = taken_out(alloc, handle);
+    let floor = held.floor();
+    put_in(handle, held);
+    floor
+}
+
+/// Lets the box go.
+#[unsafe(no_mangle)]
+pub extern "C" fn yasir_free(alloc: Global, handle: &mut Handle)
+    requires { HoldsBox handle.old.value }
+    ensures { handle.new.value ≡ None }
+{
+    let _held = taken_out(alloc, handle);
+}
+
+// Puts slot A of a new journal into `slot`.
+pub(crate) fn begin(kind: &KindNumbers, slot: &mut [u8]) -> Status
+    ensures { InitsBy kind.now slot.old slot.new result }
+{
+    let Some((kind, dir)) = kind.known() else {
+        return Status::BadArgument;
+    };
+    if slot.len() != SLOT_LEN {
+        return Status::BadArgument;
+    }
+    slot.copy_from_slice(&slot_of(0, &kind.link(dir)));
+    Status::Done
+}
+
+/// The bytes of slot A of a new journal.
+#[unsafe(no_mangle)]
+pub extern "C" fn yasir_init(kind: &KindNumbers, slot: &mut [u8]) -> u8
+    ensures { Returns (InitsBy kind.now slot.old slot.new) result }
+{
+    begin(kind, slot).number()
+}

@@ -1,0 +1,80 @@
+//! Which box C asks for.
+ghost use Rattle.yasir_c.specs.Kinds.{part_number, proto_number, profile_number, dir_number};
+ghost use Rattle.yasir_c.specs.Kinds.{HasNumber};
+
+use any_box::{Kind, Part, Profile, Proto};
+use hmac_tag::Dir;
+
+/// Which box it is, by numbers.
+#[repr(C)]
+#[derive(Clone, Copy)]
+pub struct KindNumbers {
+    /// 0 for a transmitter, 1 for a receiver.
+    pub part: u8,
+    /// 1 for Modbus RTU, 2 for DNP3.
+    pub protocol: u8,
+    /// 18 or 24.
+    pub profile: u8,
+    /// 0 for `ab`, 1 for `ba`.
+    pub direction: u8,
+}
+
+fn part_in(number: u8) -> Option<Part>
+    ensures { HasNumber part_number number result }
+{
+    match number {
+        0 => Some(Part::Sealer),
+        1 => Some(Part::Checker),
+        _ => None,
+    }
+}
+
+fn proto_in(number: u8) -> Option<Proto>
+    ensures { HasNumber proto_number number result }
+{
+    match number {
+        1 => Some(Proto::Rtu),
+        2 => Some(Proto::Dnp3),
+        _ => None,
+    }
+}
+
+fn profile_in(number: u8) -> Option<Profile>
+    ensures { HasNumber profile_number number result }
+{
+    match number {
+        18 => Some(Profile::Y18),
+        24 => Some(Profile::Y24),
+        _ => None,
+    }
+}
+
+fn dir_in(number: u8) -> Option<Dir>
+    ensures { HasNumber dir_number number result }
+{
+    match number {
+        0 => Some(Dir::Ab),
+        1 => Some(Dir::Ba),
+        _ => None,
+    }
+}
+
+impl KindNumbers {
+    ghost use Rattle.yasir_c.specs.Kinds.{IsKnownAs};
+
+    /// The box and its direction, if there is such a box.
+    pub(crate) fn known(&self) -> Option<(Kind, Dir)>
+        ensures { IsKnownAs self.now result }
+    {
+        let part = part_in(self.part)?;
+        let proto = proto_in(self.protocol)?;
+        let profile = profile_in(self.profile)?;
+        let dir = dir_in(self.direction)?;
+        let kind = Kind {
+            part,
+            proto,
+            profile,
+        };
+        Some((kind, dir))
+    }
+}
