@@ -1,5 +1,7 @@
 pub mod FieldFacts
 pub mod Bodies
+pub mod BlockStands
+pub mod BlockWholes
 pub mod BlockPlaces
 pub mod BlockLive
 pub mod Stages

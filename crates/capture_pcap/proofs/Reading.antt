@@ -25,7 +25,7 @@ use Rattle.capture_pcap.specs.Pcap.IsCapture.{pcap, pcapng}
 use Rattle.capture_pcap.specs.BlockStep.{may_end as may_end_block}
 use Rattle.capture_pcap.specs.declared.block.Block.{Block}
 use Rattle.capture_pcap.specs.declared.block.Block.TheVariants as b
-use Rattle.capture_pcap.proofs.BlockPlaces.{AtBlock}
+use Rattle.capture_pcap.proofs.BlockStands.{AtBlock}
 use Rattle.capture_pcap.proofs.BlockSpelled.{blocks_walk}
 use Rattle.capture_pcap.proofs.Spelled.{packets_walk}
 use Rattle.capture_pcap.proofs.GoingOn.{on_stage}

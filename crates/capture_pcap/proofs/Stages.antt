@@ -40,8 +40,9 @@ use Rattle.capture_pcap.specs.declared.block.Block.{Block}
 use Rattle.capture_pcap.specs.declared.block.Block.TheVariants.{SectionSize}
 use Rattle.capture_pcap.specs.declared.block.Block.TheVariants as b
 use Rattle.capture_pcap.specs.declared.stage.Stage.TheVariants.{Blocks}
-use Rattle.capture_pcap.proofs.BlockPlaces.{AtBlock, BlockGoes, section_as, block_field_goes}
-use Rattle.capture_pcap.proofs.BlockPlaces.{block_byte_goes}
+use Rattle.capture_pcap.proofs.BlockPlaces.{block_field_goes, block_byte_goes}
+use Rattle.capture_pcap.proofs.BlockStands.{AtBlock, BlockGoes}
+use Rattle.capture_pcap.proofs.BlockWholes.{section_as}
 use Rattle.capture_pcap.proofs.BlockLive.{Live, LiveStep, live_field, live_byte}
 use Rattle.capture_pcap.proofs.FieldFacts.{field_is}
 use Rattle.capture_pcap.proofs.Bodies.{AtBody, BodyGoes, body_field_goes, body_byte_goes}

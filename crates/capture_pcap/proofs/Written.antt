@@ -1,5 +1,5 @@
 -- The header of a packet that is written, and data behind it, are a packet.
-use Rattle.std.proofs.Common.{◌≡◌, ◌∙◌, ℕ, ◌+◌, ◌*◌, ◌++◌, ◌∷◌, [], List, length, true, refl, ap}
+use Rattle.std.proofs.Common.{◌≡◌, ◌∙◌, ℕ, ◌+◌, ◌*◌, ◌/◌, ◌%◌, ◌++◌, ◌∷◌, [], List, length, true, refl, ap}
 use Rattle.std.proofs.Common.{sym}
 use Rattle.std.proofs.Common.{arith, append_assoc}
 use Rattle.line_stamps.specs.declared.capture.Way.{Way}
@@ -7,6 +7,8 @@ use Rattle.line_stamps.specs.declared.capture.Way.TheVariants.{A, B}
 use Rattle.capture_pcap.specs.Record.{seen_of, seen_bytes}
 use Rattle.capture_pcap.specs.Pcap.{IsPacket}
 use Rattle.capture_pcap.specs.Writing.{written_clock, data_event, AppendsNumber, AppendsFour}
+use Rattle.capture_pcap.specs.Writing.{packet_front}
+use Rattle.byteorder.specs.Endian.{big_bytes, little_bytes}
 
 data_seen : (start : ℕ) (way : Way) (payload : List ℕ)
     → seen_bytes start way true payload ≡ seen_of start (data_event way) payload
@@ -80,3 +82,17 @@ written_packet way start whole rest count none h1 h2 h3 h4 h5 h6 e a b c d f g t
     spelled = g.is ∙ ap (λ x. x ++ g.field) (f.is ∙ ap (λ x. x ++ f.field)
         (d.is ∙ ap (λ x. x ++ d.field) (c.is ∙ ap (λ x. x ++ c.field)
         (b.is ∙ ap (λ x. x ++ b.field) (a.is ∙ ap (λ x. x ++ a.field) e)))))
+
+-- a list grows by these bytes behind others that are known
+grown : (old new front more : List ℕ) → new ≡ old ++ more → old ≡ front → new ≡ front ++ more
+grown old new front more is e = is ∙ ap (λ x. x ++ more) e
+
+pub written_front : (way : Way) (start count : ℕ) (none h1 h2 h3 h4 h5 h6 all : List ℕ) → none ≡ []
+    → h1 ≡ none ++ little_bytes 4 (start / 1000000000)
+    → h2 ≡ h1 ++ little_bytes 4 (start % 1000000000) → h3 ≡ h2 ++ little_bytes 4 (count + 12)
+    → h4 ≡ h3 ++ little_bytes 4 (count + 12) → h5 ≡ h4 ++ big_bytes 4 (start / 1000000000)
+    → h6 ≡ h5 ++ big_bytes 4 (start % 1000000000 / 1000)
+    → all ≡ h6 ++ data_event way ∷ 0 ∷ 0 ∷ 0 ∷ [] → all ≡ packet_front way start count
+written_front way start count none h1 h2 h3 h4 h5 h6 all e a b c d f g h =
+    grown _ _ _ _ h (grown _ _ _ _ g (grown _ _ _ _ f (grown _ _ _ _ d (grown _ _ _ _ c
+    (grown _ _ _ _ b (grown _ _ _ _ a e))))))

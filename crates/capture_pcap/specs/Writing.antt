@@ -1,5 +1,6 @@
 -- The parts of a pcap file that is written.
-use Rattle.std.specs.Prelude.{◌≡◌, ℕ, ◌++◌, List, length}
+use Rattle.std.specs.Prelude.{◌≡◌, ℕ, ◌+◌, ◌/◌, ◌%◌, ◌++◌, List, [], ◌∷◌, length}
+use Rattle.byteorder.specs.Endian.{big_bytes, little_bytes}
 use Rattle.line_stamps.specs.declared.capture.Way.{Way}
 use Rattle.line_stamps.specs.declared.capture.Way.TheVariants.{A, B}
 use Rattle.capture_pcap.specs.Words.{number}
@@ -28,3 +29,17 @@ pub record AppendsFour (old new : List ℕ) : Type 0 where
 abbrev pub data_event : Way → ℕ
 data_event A = 1
 data_event B = 2
+
+-- What comes before this many bytes of data, which go this way and start then, in nanoseconds: the
+-- time, the captured and the original length, and the header of an RTAC record, with its time in
+-- microseconds, the event, no control line and no footer.
+abbrev pub packet_front : Way → ℕ → ℕ → List ℕ
+packet_front way start count =
+    ((((((little_bytes 4 (start / 1000000000) ++ little_bytes 4 (start % 1000000000))
+    ++ little_bytes 4 (count + 12)) ++ little_bytes 4 (count + 12))
+    ++ big_bytes 4 (start / 1000000000)) ++ big_bytes 4 (start % 1000000000 / 1000))
+    ++ data_event way ∷ 0 ∷ 0 ∷ 0 ∷ [])
+
+-- a packet of these bytes
+abbrev pub written_packet : Way → ℕ → List ℕ → List ℕ
+written_packet way start bytes = packet_front way start (length bytes) ++ bytes

@@ -1,7 +1,9 @@
 //! The parts of a pcap file that is written: little-endian, with times in nanoseconds.
 ghost use Rattle.std.specs.Prelude.{◌≡◌, ℕ, ◌+◌, ◌*◌, ◌<◌, ◌≤◌, ◌^◌, ◌++◌, ◌∷◌, [], List, length};
 ghost use Rattle.std.specs.Prelude.{true};
+ghost use Rattle.byteorder.specs.Endian.{big_bytes, little_bytes};
 ghost use Rattle.capture_pcap.specs.Writing.{AppendsNumber, AppendsFour, written_clock, data_event};
+ghost use Rattle.capture_pcap.specs.Writing.{packet_front};
 ghost use Rattle.capture_pcap.specs.Pcap.{IsHeader, IsPacket};
 ghost use Rattle.capture_pcap.specs.Record.{seen_bytes};
 
@@ -26,7 +28,8 @@ pub fn written_header()
 /// Appends a number, the lowest byte first.
 fn push_number(out: &mut PacketHeader, n: u32)
     requires { length out.old.items + 4 ≤ 28 }
-    ensures { AppendsNumber out.old.items out.new.items n }
+    ensures number { AppendsNumber out.old.items out.new.items n }
+    ensures bytes { out.new.items ≡ out.old.items ++ little_bytes 4 n }
 {
     let mut word = [0; 4];
     LittleEndian::write_u32(&mut word, n);
@@ -36,7 +39,8 @@ fn push_number(out: &mut PacketHeader, n: u32)
 /// Appends a number of an RTAC header, the highest byte first.
 fn push_stamp(out: &mut PacketHeader, n: u32)
     requires { length out.old.items + 4 ≤ 28 }
-    ensures { AppendsFour out.old.items out.new.items }
+    ensures four { AppendsFour out.old.items out.new.items }
+    ensures bytes { out.new.items ≡ out.old.items ++ big_bytes 4 n }
 {
     let mut word = [0; 4];
     BigEndian::write_u32(&mut word, n);
@@ -67,6 +71,7 @@ pub fn packet_header(way: Way, start: u64, count: u32) -> PacketHeader
     requires size { count + 12 < 2 ^ 32 }
     ensures packet { (payload : List ℕ) → length payload ≡ count
         → IsPacket written_clock (result.items ++ payload) (seen_bytes start way true payload) }
+    ensures front { result.items ≡ packet_front way start count }
 {
     let seconds = (start / 1_000_000_000) as u32;
     let nanoseconds = (start % 1_000_000_000) as u32;

@@ -12,7 +12,7 @@ use Rattle.yasir_ticks.specs.TickText.{is_decimal_digit, number_after}
 use Rattle.yasir_ticks.proofs.Digits.{number_after-append}
 use Rattle.capture_text.specs.CaptureText.{IsTime, IsRecord, IsPair, ArePairs, recorded, point}
 use Rattle.capture_text.specs.CaptureText.{fraction_value}
-use Rattle.capture_text.specs.Writing.{fraction_digits}
+use Rattle.capture_text.specs.Writing.{fraction_digits, time_front}
 use Rattle.capture_text.proofs.LineFacts.{all_more}
 
 -- ---- pairs
@@ -147,3 +147,11 @@ written_parts start none whole pointed fractioned front fits a b c d e =
     written_record start front fits
     (e ∙ ap (λ x. x ++ 32 ∷ []) (d ∙ ap (λ x. x ++ fraction) (c ∙ ap (λ x. x ++ point ∷ [])
     (b ∙ ap (λ x. x ++ digits) a))))
+
+pub front_parts : (start : ℕ) (none whole pointed fractioned front : List ℕ)
+    → none ≡ [] → whole ≡ none ++ decimal (start / 1000000000) → pointed ≡ whole ++ point ∷ []
+    → fractioned ≡ pointed ++ fraction_digits (start % 1000000000)
+    → front ≡ fractioned ++ 32 ∷ [] → front ≡ time_front start
+front_parts start none whole pointed fractioned front a b c d e =
+    e ∙ ap (λ x. x ++ 32 ∷ []) (d ∙ ap (λ x. x ++ fraction_digits (start % 1000000000))
+    (c ∙ ap (λ x. x ++ point ∷ []) (b ∙ ap (λ x. x ++ decimal (start / 1000000000)) a)))

@@ -1,5 +1,5 @@
 use Rattle.std.proofs.Common.{ℕ, List, true, sym, subst, arith, ◌++◌}
-use Rattle.capture_pcap.proofs.Written.{written_packet}
+use Rattle.capture_pcap.proofs.Written.{written_packet, written_front}
 use Rattle.capture_pcap.specs.Writing.{written_clock}
 use Rattle.capture_pcap.specs.Pcap.{IsPacket}
 use Rattle.capture_pcap.specs.Record.{seen_bytes}
@@ -12,7 +12,11 @@ returns c = record {
       (seen_bytes c.args.start c.args.way true payload) in
       subst Q (sym c.push_event.ensures)
       (written_packet c.args.way c.args.start _ _ c.args.count _ _ _ _ _ _ _ c.new-header.ensures
-      c.push_number.ensures c.push_number-2.ensures c.push_number-3.ensures
-      c.push_number-4.ensures c.push_stamp.ensures c.push_stamp-2.ensures (omega arith) payload
-      long);
+      c.push_number.ensures.number c.push_number-2.ensures.number c.push_number-3.ensures.number
+      c.push_number-4.ensures.number c.push_stamp.ensures.four c.push_stamp-2.ensures.four
+      (omega arith) payload long);
+  front = written_front c.args.way c.args.start c.args.count _ _ _ _ _ _ _ _ c.new-header.ensures
+      c.push_number.ensures.bytes c.push_number-2.ensures.bytes c.push_number-3.ensures.bytes
+      c.push_number-4.ensures.bytes c.push_stamp.ensures.bytes c.push_stamp-2.ensures.bytes
+      c.push_event.ensures;
 }
