@@ -1,5 +1,5 @@
 -- A text behind whole lines.
-use Rattle.std.proofs.Common.{◌≡◌, ◌∙◌, ℕ, suc, ◌+◌, ◌-◌, ◌^◌, List, [], ◌∷◌, ◌++◌, length, min, Some}
+use Rattle.std.proofs.Common.{◌≡◌, ◌∙◌, ℕ, ◌+◌, ◌-◌, List, [], ◌∷◌, ◌++◌, length, Some}
 use Rattle.std.proofs.Common.{refl, ap, sym, subst, arith, append-nil, append_assoc, length-append}
 use Rattle.std.specs.Prelude.{unwrap_or}
 use Rattle.std.specs.List.{flat_map}
@@ -8,7 +8,6 @@ use Rattle.yasir_ticks.specs.Ticks.{Item, marks_in}
 use Rattle.yasir_ticks.specs.TickText.{Lines, lines_of, line_items, all_items, ended_items}
 use Rattle.yasir_ticks.specs.TickText.{IsTickText, BeginsTickText, IsRefusedAfter, line_after}
 use Rattle.yasir_ticks.specs.TickText.{fault_after, fault_at_end, fault_in_line}
-use Rattle.yasir_ticks.specs.Reader.{StandsFor}
 use Rattle.yasir_ticks.proofs.Lines.{behind, lines_of-append}
 use Rattle.yasir_ticks.proofs.Items.{marks_in-append, all_items_both, all_items_parts}
 use Rattle.live_port.specs.Counted.{capped}

@@ -1,11 +1,12 @@
 -- What a reader of lines has read, by some bytes more.
-use Rattle.std.proofs.Common.{◌≡◌, ◌∙◌, ℕ, suc, ◌+◌, ◌-◌, ◌^◌, ◌<◌, ◌≤◌, List, [], ◌∷◌, ◌++◌, length, min}
-use Rattle.std.proofs.Common.{take, get_or, true, false, Bool, Some, Result, Ok, Err, refl, ap, sym, subst}
-use Rattle.std.proofs.Common.{arith, append-nil, append_assoc}
+use Rattle.std.proofs.Common.{◌≡◌, ◌∙◌, ℕ, ◌+◌, ◌-◌, ◌<◌, ◌≤◌, List, [], ◌∷◌, ◌++◌, length}
+use Rattle.std.proofs.Common.{take, get_or, true, refl, ap, sym, subst}
+use Rattle.std.proofs.Common.{arith, append-nil, append_assoc, length-append}
+use Rattle.std.proofs.lemmas.List.{length-take-le}
 use Rattle.yasir_ticks.specs.Ticks.{Item, marks_in, items_of_run}
 use Rattle.yasir_ticks.specs.TickText.{Lines, lines_of, ended_items, line_after, IsTickText}
 use Rattle.yasir_ticks.specs.TickText.{fault_at_end}
-use Rattle.yasir_ticks.specs.Reader.{StandsFor, items_of_content, lent_bytes}
+use Rattle.yasir_ticks.specs.Reader.{StandsFor, items_of_content}
 use Rattle.yasir_ticks.specs.Slices.{TakesUpTo, StopsAt}
 use Rattle.yasir_ticks.specs.declared.fault.BadTicks.{BadTicks}
 use Rattle.yasir_ticks.specs.declared.place.Content.{Content}
@@ -31,21 +32,23 @@ one_line : line_after [] ≡ 1
 unfolding lines_of
 one_line = refl
 
-pub read_none : (new : LineReader) → StandsFor new.reader 0 [] → new.line ≡ 1 → HasRead new []
-read_none new stands first = record {
+pub read_none : (new : LineReader) → StandsFor new.reader 0 [] → new.since ≡ 0 → new.line ≡ 1
+    → HasRead new []
+read_none new stands fed first = record {
   whole = [];
   part = [];
   is = refl;
   front = nothing_whole;
   stands = stands;
+  fed = fed;
   counted = first ∙ sym (ap capped one_line);
   ends = λ _. nothing_last;
 }
 
 pub renewed : (old new : LineReader) (text : List ℕ) → HasRead old text → old.ended ≡ true
-    → StandsFor new.reader 0 [] → new.line ≡ capped (old.line + (old.reader.line - 1))
-    → HasRead new text
-renewed old new text has ended stands line =
+    → StandsFor new.reader 0 [] → new.since ≡ 0
+    → new.line ≡ capped (old.line + (old.reader.line - 1)) → HasRead new text
+renewed old new text has ended stands fed line =
     let marks : marks_in (ended_items has.part) ≡ 0 = omega (arith, has.stands.at.marked) in
     record {
       whole = has.whole ++ has.part;
@@ -53,6 +56,7 @@ renewed old new text has ended stands line =
       is = has.is ∙ sym (append-nil (has.whole ++ has.part));
       front = whole_then has.whole has.part has.front (has.ends ended) has.stands.at.ended marks;
       stands = stands;
+      fed = fed;
       counted = line ∙ (ap (λ n. capped (n + (old.reader.line - 1))) has.counted
           ∙ (capped_then (line_after has.whole) (old.reader.line - 1)
           ∙ (ap (λ n. capped (line_after has.whole + (n - 1))) has.stands.at.counted
@@ -88,10 +92,11 @@ module _ (old : LineReader) (text bytes : List ℕ) (has : HasRead old text) (ta
       ∙ ap (λ (l : Lines). l.last) (lines_of-lf (has.part ++ take (taken - 1) bytes))
 
   pub fed_line : (new : LineReader) (content : Content) → 0 < length bytes
-      → TakesUpTo old.reader bytes taken content new.reader → new.line ≡ old.line
+      → TakesUpTo old.reader bytes taken content new.reader → new.since ≡ old.since + taken
+      → new.line ≡ old.line
       → (new.ended ≡ true → get_or bytes (taken - 1) 0 ≡ 10)
       → ReadsLine new text bytes taken (items_of_content content (lent new))
-  fed_line new content any takes line ended = record {
+  fed_line new content any takes fed line ended = record {
     some = takes.progress any;
     within = takes.within;
     has_read = record {
@@ -100,6 +105,13 @@ module _ (old : LineReader) (text bytes : List ℕ) (has : HasRead old text) (ta
       is = whole_is;
       front = has.front;
       stands = takes.stands 0 has.part has.stands;
+      fed = omega (
+        arith,
+        fed,
+        has.fed,
+        length-append has.part (take taken bytes),
+        length-take-le taken bytes takes.within,
+      );
       counted = line ∙ has.counted;
       ends = λ e. closed_by takes.within (takes.progress any) (ended e);
     };
@@ -128,6 +140,12 @@ module _ (old : LineReader) (text bytes : List ℕ) (has : HasRead old text) (ta
         why = why ∙ (refused.2 ∙ (sym (fault_behind has.whole own byte has.front.closed)
             ∙ rw whole_is refl));
       }
+
+-- a reader was fed no more bytes than its text has
+pub fed_within : (lines : LineReader) (text : List ℕ) → HasRead lines text
+    → lines.since ≤ length text
+fed_within lines text has =
+    omega (arith, has.fed, ap length has.is, length-append has.whole has.part)
 
 -- the end of the text
 pub finished : (old : LineReader) (text : List ℕ) (run : Run) → HasRead old text

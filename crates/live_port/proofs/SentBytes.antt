@@ -1,19 +1,17 @@
 -- What calls that write to a port do, one after the other.
 use Rattle.std.proofs.Common.{◌≡◌, ◌≢◌, ◌∙◌, ◌⊎◌, ℕ, List, [], ◌∷◌, ◌++◌, true, false, Result, Ok, Err}
-use Rattle.std.proofs.Common.{Option, refl, ap, sym, subst, inl, inr, append-nil}
+use Rattle.std.proofs.Common.{refl, ap, sym, subst, inl, inr, append-nil}
 use Rattle.yasir_io.specs.Causes.{HasCause, Rose}
 use Rattle.yasir_io.specs.declared.Failed.{Failed}
 use Rattle.yasir_ticks.specs.declared.tick.Tick.{Tick}
-use Rattle.line_texts.specs.Sending.{LineAndNotes, AnswersNoted}
 use Rattle.live_port.specs.History.{Event, told_then, WritesFront, KeepsFaults}
-use Rattle.live_port.specs.History.Event.{reads, writes, flushes}
+use Rattle.live_port.specs.History.Event.{writes, flushes}
 use Rattle.live_port.specs.LiveText.{IsTextOf}
-use Rattle.live_port.specs.Order.{Handed, HandedFronts}
-use Rattle.live_port.specs.Sent.{WritesCause, BreaksOff, Sends, Hands}
+use Rattle.live_port.specs.Sent.{WritesCause, Sends, Hands}
 use Rattle.live_port.specs.declared.port.Output.{Output}
 use Rattle.live_port.specs.declared.port.Output.TheVariants.{Out, Log}
 use Rattle.live_port.specs.declared.port.Port.{Ghosts as Port}
-use Rattle.live_port.proofs.Handing.{told_twice, Noted, noted_none, noted_sent, noted_cut, text_cut}
+use Rattle.live_port.proofs.Handing.{told_twice, noted_none, noted_sent, noted_cut, text_cut}
 use Rattle.live_port.proofs.Handing.{text_sent}
 
 is_output : (to other : Output) → (other ≡ to) ⊎ (other ≢ to)
@@ -28,37 +26,44 @@ module _ {P : Type 0} (p : Port P) where
 
   abbrev Beside : P → P → Output → Type 0
   Beside old new to = KeepsFaults (p.read_faults old) (p.read_faults new) (p.write_faults old)
-      (p.write_faults new) to
+      (p.write_faults new) to × (p.left new ≡ p.left old)
 
   all_same : (old new : P) (to : Output) → Fails old new to (Ok tt) → Beside old new to
       → (other : Output) → p.write_faults new other ≡ p.write_faults old other
   all_same old new to cause beside other = elim (is_output to other) [
     | inl is ↦ subst (λ o. p.write_faults new o ≡ p.write_faults old o) (sym is) cause.same
-    | inr apart ↦ beside.others other apart
+    | inr apart ↦ beside.0.others other apart
   ]
 
   cause_ok : (old new : P) (to : Output) → Fails old new to (Ok tt) → Beside old new to
       → WritesCause p {T = Unit {0}} {E = Failed} old new (Ok tt)
   cause_ok old new to cause beside = record {
-    read_same = beside.read_same;
+    left_same = beside.1;
+    read_same = beside.0.read_same;
     same = all_same old new to cause beside;
     failed = tt;
   }
 
   cause_err : (old new : P) (to : Output) (e : Failed) → Fails old new to (Err e)
       → Beside old new to → WritesCause p {T = Unit {0}} {E = Failed} old new (Err e)
-  cause_err old new to e cause beside =
-      record { read_same = beside.read_same; same = tt; failed = (to, cause.failed) }
+  cause_err old new to e cause beside = record {
+    left_same = beside.1;
+    read_same = beside.0.read_same;
+    same = tt;
+    failed = (to, cause.failed);
+  }
 
   pub cause_then : (a b c : P) (result : Result (Unit {0}) Failed)
       → WritesCause p {T = Unit {0}} {E = Failed} a b (Ok tt) → WritesCause p b c result
       → WritesCause p a c result
   cause_then a b c (Ok x) first then = record {
+    left_same = then.left_same ∙ first.left_same;
     read_same = then.read_same ∙ first.read_same;
     same = λ to. then.same to ∙ first.same to;
     failed = tt;
   }
   cause_then a b c (Err e) first then = record {
+    left_same = then.left_same ∙ first.left_same;
     read_same = then.read_same ∙ first.read_same;
     same = tt;
     failed = let at = then.failed in (
@@ -129,9 +134,6 @@ module _ {P : Type 0} (p : Port P) where
     }
 
   -- ---- a note, and then a text
-
-  cause_none : (port : P) → WritesCause p {T = Unit {0}} {E = Failed} port port (Ok tt)
-  cause_none port = record { read_same = refl; same = λ to. refl; failed = tt }
 
   -- no note: the text
   pub hands_text : (old new : P) (note text : List ℕ) (answer : List Tick)

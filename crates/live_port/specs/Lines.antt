@@ -28,6 +28,7 @@ pub record HasRead (lines : LineReader) (text : List ℕ) : Type 0 where
   pub is : text ≡ whole ++ part
   pub front : AreWholeLines whole
   pub stands : StandsFor lines.reader 0 part
+  pub fed : lines.since ≡ length part
   pub counted : lines.line ≡ capped (line_after whole)
   pub ends : lines.ended ≡ true → (lines_of part).last ≡ []
 
@@ -52,12 +53,19 @@ pub record RefusesByte (text bytes : List ℕ) (bad : BadTicks) : Type 0 where
   pub line : bad.line ≡ capped (line_after (text ++ take taken bytes))
   pub why : bad.why ≡ fault_after (text ++ take taken bytes) (slice_index bytes taken)
 
+-- The end comes of the text alone.
+abbrev pub IsOfText : End → Type 0
+IsOfText (Refused bad) = Unit {0}
+IsOfText (TooLong what count) = Unit {0}
+IsOfText end = ⊥
+
 -- what the answer says where bytes were to be read behind a text
 abbrev pub FeedAnswer : LineReader → List ℕ → List ℕ → Result ReadBytes End → Type 0
 FeedAnswer lines text bytes (Ok found) =
     ReadsLine lines text bytes found.taken (items_of_content found.content (lent lines))
 FeedAnswer lines text bytes (Err (Refused bad)) = RefusesByte text bytes bad
-FeedAnswer lines text bytes (Err (TooLong Bytes count)) = 2147483648 < count
+FeedAnswer lines text bytes (Err (TooLong Bytes count)) =
+    (2147483648 < count) × (count ≤ length text)
 FeedAnswer lines text bytes (Err end) = ⊥
 
 -- The whole text is no right one.

@@ -3,7 +3,7 @@ use Rattle.std.specs.Prelude.{◌≡◌, ◌⊎◌, ℕ, List, [], ◌∷◌, �
 use Rattle.std.specs.Prelude.{OnErr}
 use Rattle.yasir_io.specs.Causes.{Rose}
 use Rattle.live_port.specs.History.{Event, told_then}
-use Rattle.live_port.specs.History.Event.{reads, writes, flushes}
+use Rattle.live_port.specs.History.Event.{writes, flushes}
 use Rattle.live_port.specs.declared.port.Output.{Output}
 use Rattle.live_port.specs.declared.port.Port.{Ghosts as Port}
 use Rattle.live_port.specs.Order.{Handed, HandedFronts}
@@ -11,8 +11,9 @@ use Rattle.line_texts.specs.Sending.{LineAndNotes, AnswersNoted}
 use Rattle.yasir_ticks.specs.declared.tick.Tick.{Tick}
 
 module _ {P : Type 0} (p : Port P) where
-  -- The count of an output rose where a write failed, and no other count did.
+  -- The count of an output rose where a write failed, and no other count did. Nothing was read.
   pub record WritesCause {T E : Type 0} (old new : P) (result : Result T E) : Type 0 where
+    pub left_same : p.left new ≡ p.left old
     pub read_same : p.read_faults new ≡ p.read_faults old
     pub same : OnOk result ((to : Output) → p.write_faults new to ≡ p.write_faults old to)
     pub failed : OnErr result ((to : Output) × Rose (p.write_faults old to) (p.write_faults new to))

@@ -43,7 +43,8 @@ fn in_text(line: u32, bad: BadTicks) -> BadTicks
 }
 
 impl LineReader {
-    ghost use Rattle.live_port.specs.Lines.{HasRead, FeedAnswer, FinishAnswer, lent};
+    ghost use Rattle.std.specs.Prelude.{IfOk, IfErr};
+    ghost use Rattle.live_port.specs.Lines.{HasRead, FeedAnswer, FinishAnswer, IsOfText, lent};
 
     /// A reader of a text of which nothing has come.
     pub fn new() -> LineReader
@@ -84,7 +85,10 @@ impl LineReader {
     pub fn feed(&mut self, bytes: &[u8]) -> Result<ReadBytes, End>
         requires some { 0 < length bytes.now }
         requires few { length bytes.now ≤ 65536 }
-        ensures { (text : List ℕ) → HasRead self.old text
+        ensures progress { IfOk result (λ found. 0 < found.taken) }
+        ensures within { IfOk result (λ found. found.taken ≤ length bytes.now) }
+        ensures of_text { IfErr result IsOfText }
+        ensures answer { (text : List ℕ) → HasRead self.old text
             → FeedAnswer self.new text bytes.now result }
     {
         self.renew();
@@ -107,7 +111,8 @@ impl LineReader {
 
     /// Takes the end of the text, and returns the run of a last line without an LF.
     pub fn finish(self) -> Result<Run, End>
-        ensures { (text : List ℕ) → HasRead self text → FinishAnswer text result }
+        ensures of_text { IfErr result IsOfText }
+        ensures answer { (text : List ℕ) → HasRead self text → FinishAnswer text result }
     {
         let LineReader { reader, line, .. } = self;
         match reader.finish() {

@@ -1,6 +1,7 @@
 //! The outside of a live line as one object: what is read, written and flushed has one history.
-ghost use Rattle.std.specs.Prelude.{◌≡◌, ◌≢◌, ℕ, ◌≤◌, [], ◌∷◌, take, length, Option, List};
+ghost use Rattle.std.specs.Prelude.{◌≡◌, ◌≢◌, ℕ, ◌≤◌, ◌<◌, [], ◌∷◌, take, length, Option, List};
 ghost use Rattle.std.specs.Prelude.{Some, None, true, false, IfOk, OnOk, OnErr};
+ghost use Rattle.std.specs.Io.KnownBytes.{prepend_known, IsAtEnd};
 ghost use Rattle.yasir_io.specs.Causes.{HasCause};
 ghost use Rattle.live_port.specs.declared.port.Output.{Output};
 ghost use Rattle.live_port.specs.History.{Event, told_then, KeepsFaults};
@@ -24,6 +25,9 @@ pub trait Port {
     /// The calls so far, in order, where the port tells them.
     ghost history: { Self → Option (List Event) };
 
+    /// The bytes that the input has left, where the port tells them.
+    ghost left: { Self → Option (List ℕ) };
+
     /// How often a read has failed.
     ghost read_faults: { Self → ℕ };
 
@@ -39,12 +43,17 @@ pub trait Port {
             ≡ told_then (history self.old) (reads (Some (take n buf.new)) ∷ [])) }
         ensures err { OnErr result (history self.new
             ≡ told_then (history self.old) (reads None ∷ [])) }
+        ensures left { IfOk result (λ n.
+            left self.old ≡ prepend_known (take n buf.new) (left self.new)) }
+        ensures end { IfOk result (λ n. n ≡ 0 → 0 < length buf.new → IsAtEnd (left self.new)) }
+        ensures left_same { OnErr result (left self.new ≡ left self.old) }
         ensures cause { HasCause (read_faults self.old) (read_faults self.new) result }
         ensures outputs { (to : Output) → write_faults self.new to ≡ write_faults self.old to };
 
     /// Writes the whole piece to an output. After an error a front of it was written.
     fn write(&mut self, to: Output, piece: &[u8]) -> Result<(), Failed>
         ensures wrote { WritesFront (history self.old) (history self.new) to piece.now result }
+        ensures input { left self.new ≡ left self.old }
         ensures cause { HasCause (write_faults self.old to) (write_faults self.new to) result }
         ensures beside { KeepsFaults (read_faults self.old) (read_faults self.new)
             (write_faults self.old) (write_faults self.new) to };
@@ -55,6 +64,7 @@ pub trait Port {
             ≡ told_then (history self.old) (flushes to true ∷ [])) }
         ensures err { OnErr result (history self.new
             ≡ told_then (history self.old) (flushes to false ∷ [])) }
+        ensures input { left self.new ≡ left self.old }
         ensures cause { HasCause (write_faults self.old to) (write_faults self.new to) result }
         ensures beside { KeepsFaults (read_faults self.old) (read_faults self.new)
             (write_faults self.old) (write_faults self.new) to };

@@ -1,5 +1,6 @@
 //! Reads of a live line: each comes once all that was decided is written and flushed.
-ghost use Rattle.std.specs.Prelude.{◌≡◌, ℕ, ◌≤◌, ◌++◌, List, length, take, Option, IfOk, OnErr};
+ghost use Rattle.std.specs.Prelude.{◌≡◌, ℕ, ◌≤◌, ◌<◌, ◌++◌, List, length, take, Option, IfOk, OnErr};
+ghost use Rattle.std.specs.Io.KnownBytes.{prepend_known, IsAtEnd};
 ghost use Rattle.yasir_io.specs.Causes.{HasCause};
 ghost use Rattle.yasir_ticks.specs.Ticks.{ticks_in};
 ghost use Rattle.yasir_ticks.specs.TickText.{ended_items};
@@ -24,6 +25,10 @@ pub fn read_on<P: Port>(port: &mut P, buf: &mut [u8]) -> Result<usize, Failed>
     ensures err { OnErr result ((made : LineAndNotes) (start : Option (List Event))
         (read : List ℕ) → Handed made start (P.history port.old) read (ticks_in (ended_items read))
         → Handed made start (P.history port.new) read (ticks_in (ended_items read))) }
+    ensures left { IfOk result (λ n.
+        P.left port.old ≡ prepend_known (take n buf.new) (P.left port.new)) }
+    ensures end { IfOk result (λ n. n ≡ 0 → 0 < length buf.new → IsAtEnd (P.left port.new)) }
+    ensures left_same { OnErr result (P.left port.new ≡ P.left port.old) }
     ensures cause { HasCause (P.read_faults port.old) (P.read_faults port.new) result }
     ensures outputs { (to : Output) → P.write_faults port.new to ≡ P.write_faults port.old to }
 {

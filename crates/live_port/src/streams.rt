@@ -31,6 +31,8 @@ impl<'a, S, O, L> Streams<'a, S, O, L> {
 impl<'a, S: Source, O: Sink, L: Sink> Port for Streams<'a, S, O, L> {
     ghost history = { λ _. None };
 
+    ghost left = { λ streams. S.left streams.input.now };
+
     ghost read_faults = { λ streams. S.faults streams.input.now };
 
     ghost write_faults = { λ streams to. stream_faults O.Sink L.Sink streams to };

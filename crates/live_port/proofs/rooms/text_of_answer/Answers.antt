@@ -1,4 +1,4 @@
-use Rattle.std.proofs.Common.{◌≡◌, ◌∙◌, ◌++◌, ◌<◌, ◌≤◌, ℕ, List, length, ap, arith, sym, take, drop, length-drop}
+use Rattle.std.proofs.Common.{◌≡◌, ◌∙◌, ◌++◌, ◌<◌, ℕ, List, length, ap, arith, sym, take, drop, length-drop}
 use Rattle.std.proofs.lemmas.List.{nil_from_length, take-append-drop, length-take}
 use Rattle.yasir_ticks.specs.CanonicalText.{byte_line, silence_line}
 use Rattle.live_port.proofs.Texts.{answer_silence, answer_bytes, answer_two}

@@ -3,4 +3,4 @@ use Rattle.live_port.proofs.Reading.{read_none}
 use Rattle.live_port.proofs.lines.LineReader.new.Goals as goal
 
 pub returns : goal.returns
-returns c = read_none _ c.new.ensures.stands refl
+returns c = read_none _ c.new.ensures.stands refl refl

@@ -3,4 +3,4 @@ use Rattle.live_port.proofs.Reading.{renewed}
 use Rattle.live_port.proofs.lines.LineReader.renew.Goals as goal
 
 pub returns : goal.returns
-returns c = λ text has. renewed c.args.self.now _ text has (grind arith) c.new-self.ensures.stands (grind arith)
+returns c = λ text has. renewed c.args.self.now _ text has (grind arith) c.new-self.ensures.stands refl (grind arith)

@@ -1,0 +1,4 @@
+pub mod Filtering
+pub mod FilteringLaws
+pub mod TextEnds
+pub mod LiveLine
