@@ -20,6 +20,8 @@ use yasir_io::{Failed, SteadySlots};
 #[derive(Drop)]
 struct ToldPort<'a> {
     pieces: &'a [&'a [u8]],
+    // how many of them were read
+    read: usize,
     calls: ArrayVec<u8, 256>,
 }
 
@@ -34,30 +36,33 @@ impl<'a> Port for ToldPort<'a> {
 
     fn read(&mut self, buf: &mut [u8]) -> Result<usize, Failed> {
         let _ = self.calls.try_push(b'r');
-        let Some((piece, rest)) = self.pieces.split_first() else {
+        if self.read >= self.pieces.len() {
             return Ok(0);
-        };
+        }
+        let piece = self.pieces[self.read];
+        self.read += 1;
         let count = piece.len().min(buf.len());
         buf[..count].copy_from_slice(&piece[..count]);
         let _ = self.calls.try_extend_from_slice(&piece[..count]);
-        self.pieces = rest;
         Ok(count)
     }
 
     fn write(&mut self, to: Output, piece: &[u8]) -> Result<(), Failed> {
-        let _ = self.calls.try_push(match to {
+        let mark: u8 = match to {
             Output::Out => b'o',
             Output::Log => b'l',
-        });
+        };
+        let _ = self.calls.try_push(mark);
         let _ = self.calls.try_extend_from_slice(piece);
         Ok(())
     }
 
     fn flush(&mut self, to: Output) -> Result<(), Failed> {
-        let _ = self.calls.try_push(match to {
+        let mark: u8 = match to {
             Output::Out => b'O',
             Output::Log => b'L',
-        });
+        };
+        let _ = self.calls.try_push(mark);
         Ok(())
     }
 }
@@ -73,6 +78,7 @@ fn driven<X: LineBox>(pieces: &[&[u8]], rest: u32) -> Result<(ArrayVec<u8, 256>,
     let mut live_box = LiveBox::<X>::new(&[0; 16], Dir::Ab, journal);
     let mut port = ToldPort {
         pieces,
+        read: 0,
         calls: ArrayVec::new(),
     };
     let end = live_box.drive(rest, &mut port, &mut disk);
