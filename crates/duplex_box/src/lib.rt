@@ -2,7 +2,8 @@
 //! the incoming one, under one key.
 //!
 //! Both lines move at once, so each call takes the same number of ticks of both. `pass_both` takes
-//! runs without notes, as far as it can. Where it takes none, `step` takes one tick of each:
+//! runs without notes, as far as it can, also while both boxes are busy. Where it takes none,
+//! `step` takes one tick of each:
 //!
 //!     let mut duplex: Duplex<Rtu, HmacSha1, 2, 18> = Duplex::new(key, Dir::Ab);
 //!     let (mut to_link, mut to_device) = (RunBytes::new(), RunBytes::new());

@@ -11,9 +11,9 @@ use yasir_ticks::{MAX_TICKS, Tick, TickRun};
 /// How many bytes are forwarded at once at most: as many as `RunBytes` has room for.
 const MAX_RUN: usize = 64;
 
-// Puts these bytes into `left` in place of what is there.
+/// Puts these bytes, 64 at most, into `left` in place of what is there.
 #[inline]
-fn put(left: &mut RunBytes, bytes: &[u8])
+pub fn put_bytes(left: &mut RunBytes, bytes: &[u8])
     requires { length bytes.now ≤ 64 }
     ensures { left.new.items ≡ bytes.now }
 {
@@ -48,7 +48,7 @@ fn forward_alike<X: LinkBox>(line_box: &mut X, run: TickRun<'_>, left: &mut RunB
         TickRun::Bytes(bytes) => {
             let front = &bytes[..bytes.len().min(MAX_RUN)];
             let count = line_box.forward(TickRun::Bytes(front));
-            put(left, &front[..count]);
+            put_bytes(left, &front[..count]);
             count
         }
         TickRun::Silence(ticks) => {

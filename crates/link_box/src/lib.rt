@@ -15,7 +15,7 @@ mod box_trait;
 mod noteless;
 mod resting;
 
-pub use alike::{put_tick, take_alike};
+pub use alike::{put_bytes, put_tick, take_alike};
 pub use box_trait::LinkBox;
 pub use noteless::{ForetellingBox, NotelessBox};
 pub use resting::RestingBox;

@@ -4,7 +4,7 @@ use Rattle.std.proofs.Common.{◌==◌, true, false, not, List, [], ◌∷◌, �
 use Rattle.std.proofs.Common.{refl, sym, ap, subst, arith, Option, None}
 use Rattle.std.specs.List.{All}
 use Rattle.std.proofs.lemmas.Bool.{cases_lt, not-true, eqb-false}
-use Rattle.std.proofs.lemmas.List.{length-replicate, length-take-le}
+use Rattle.std.proofs.lemmas.List.{length-replicate, length-take, length-take-le, length-map}
 use Rattle.yasir_ticks.specs.Ticks.{silent}
 use Rattle.yasir_ticks.specs.declared.TheConstants.{T3_5_TICKS}
 use Rattle.yasir_ticks.specs.declared.tick.Tick.{Tick}
@@ -32,7 +32,7 @@ use Rattle.seal_judgements.specs.Sealing.{sealer, at_floor}
 use Rattle.seal_judgements.specs.declared.note.SealNote.{SealNote}
 use Rattle.sequence_journal.specs.declared.numbers.TheConstants.{LIMIT}
 use Rattle.seal_transmitter.specs.Answers.{brief_note}
-use Rattle.seal_transmitter.specs.Foretold.{closes_none, WaitsOpen, Foretold}
+use Rattle.seal_transmitter.specs.Foretold.{closes_none, WaitsOpen, Forwards, Foretold}
 use Rattle.seal_transmitter.specs.Runs.{HasTakenRun}
 use Rattle.seal_transmitter.specs.Stands.{StandsAt, HasTaken}
 use Rattle.seal_transmitter.specs.declared.sealer.Sealer.{Sealer}
@@ -175,17 +175,52 @@ module _ (n count : ℕ) (left items : List ℕ) (items_are : items ≡ take cou
 -- ---- bytes
 
 module _ {R M : Type 0} (proto : LineRules R) {B : ℕ} (value : Sealer R M B) where
+  -- a single one
   pub byte-foretold : (x : List ℕ) (n : ℕ) → n ≤ 1 → Foretold proto value (take n (map Byte x))
   byte-foretold x zero few = tt
   byte-foretold [] (suc n) few = tt
-  byte-foretold (b ∷ x) (suc zero) few = refl
+  byte-foretold (b ∷ x) (suc zero) few = inl refl
   byte-foretold (b ∷ x) (suc (suc n)) few = absurd (omega arith)
 
-  pub foretold-byte : (x : List ℕ) → Foretold proto value (map Byte x) → 0 < length x
-      → x ≡ get_or x 0 0 ∷ []
-  foretold-byte [] alone some = absurd (omega arith)
-  foretold-byte (b ∷ []) alone some = refl
-  foretold-byte (b ∷ c ∷ x) alone some = absurd cc
+  -- the first ones of some, as many as are forwarded
+  pub bytes-foretold : (x : List ℕ) (most n : ℕ) → n ≤ most → Forwards proto value most
+      → Foretold proto value (take n (map Byte x))
+  bytes-foretold x most zero few all = tt
+  bytes-foretold [] most (suc n) few all = tt
+  bytes-foretold (b ∷ x) most (suc n) few all =
+      let size = length-take n (map Byte x) in
+      let within : length (take n (map Byte x)) ≤ n = omega arith in
+      inr (record {
+        few = let limit = all.few in omega arith;
+        late = all.late;
+        live = λ line cuts y are short. all.live line cuts y are (omega arith);
+      })
+
+  pub foretold-bytes : (x : List ℕ) → Foretold proto value (map Byte x) → (length x ≡ 1 → ⊥)
+      → 0 < length x → Forwards proto value (length x)
+  foretold-bytes [] foretold more some = absurd (omega arith)
+  foretold-bytes (b ∷ x) foretold more some =
+      ⊎_elim
+      (λ alone. let none : length (map Byte x) ≡ 0 = ap length alone in
+      let same = length-map x Byte in
+      absurd (more (omega arith)))
+      (λ all. subst (λ n. Forwards proto value (suc n)) (length-map x Byte) all)
+      foretold
+
+  -- they are no more than are lent at once
+  pub foretold-few : (x : List ℕ) → Foretold proto value (map Byte x) → length x ≤ 64
+  foretold-few [] foretold = omega arith
+  foretold-few (b ∷ x) foretold =
+      let same = length-map x Byte in
+      ⊎_elim
+      (λ alone. let none : length (map Byte x) ≡ 0 = ap length alone in omega arith)
+      (λ all. let few = all.few in omega arith)
+      foretold
+
+  pub single-byte : (x : List ℕ) → length x ≡ 1 → x ≡ get_or x 0 0 ∷ []
+  single-byte [] one = absurd (omega arith)
+  single-byte (b ∷ []) one = refl
+  single-byte (b ∷ c ∷ x) one = absurd (omega arith)
 
   pub no-byte-noted : (macs : Mac M) (x : List ℕ) → length x ≡ 0
       → MayNoteAt (StandsAt proto macs) (λ v line t. closes_none line t) value (map Byte x)

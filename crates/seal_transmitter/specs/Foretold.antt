@@ -1,12 +1,15 @@
 -- Ticks of which a transmitter is sure that they have no note, and runs that it surely takes at
 -- once.
 use Rattle.std.specs.Prelude.{◌≡◌, ◌⊎◌, ℕ, suc, ◌+◌, ◌-◌, ◌<◌, ◌≤◌, ◌==◌, not, Bool, true, List}
-use Rattle.std.specs.Prelude.{[], ◌∷◌, length}
+use Rattle.std.specs.Prelude.{[], ◌∷◌, length, map}
 use Rattle.yasir_ticks.specs.declared.TheConstants.{T3_5_TICKS}
 use Rattle.yasir_ticks.specs.declared.tick.Tick.{Tick}
 use Rattle.yasir_ticks.specs.declared.tick.Tick.TheVariants.{Silent, Byte}
 use Rattle.line_rules.specs.declared.line_rules.LineRules.{Ghosts as LineRules}
-use Rattle.frame_ending.specs.SoFar.{quiet_so_far}
+use Rattle.line_rules.specs.Bytes.{AreBytes}
+use Rattle.frame_ending.specs.declared.cut.Cut.TheVariants.{Live}
+use Rattle.frame_ending.specs.Cuts.{cuts_after}
+use Rattle.frame_ending.specs.SoFar.{quiet_so_far, start_so_far}
 use Rattle.frame_ending.specs.Stands.{StandsFor as CutStandsFor}
 use Rattle.link_format.specs.Trailers.{bytes_left}
 use Rattle.seal_transmitter.specs.declared.sealer.Sealer.{Sealer}
@@ -25,8 +28,17 @@ module _ {R M : Type 0} (proto : LineRules R) {B : ℕ} (value : Sealer R M B) w
         → (T3_5_TICKS ≤ quiet_so_far line) ⊎ (quiet_so_far line + n < T3_5_TICKS)
     pub alike : (bytes_left value.trailer ≡ []) ⊎ (n ≤ length (bytes_left value.trailer))
 
-  -- It takes these ticks at once: a single byte, or such silence.
+  -- So many bytes are forwarded, whatever they are: each is a further live one of a burst that
+  -- isn't early.
+  pub record Forwards (n : ℕ) : Type 0 where
+    pub few : n ≤ 64
+    pub late : (line : List Tick) → CutStandsFor proto value.cut line
+        → value.earliest_start ≤ start_so_far line
+    pub live : (line : List Tick) → CutStandsFor proto value.cut line → (x : List ℕ)
+        → AreBytes x → length x ≤ n → cuts_after proto.rules line (map Byte x) ≡ map Live x
+
+  -- It takes these ticks at once: such silence, a single byte, or bytes that are forwarded.
   abbrev pub Foretold : List Tick → Type 0
   Foretold [] = Unit {0}
   Foretold (Silent ∷ more) = WaitsOpen (suc (length more))
-  Foretold (Byte b ∷ more) = more ≡ []
+  Foretold (Byte b ∷ more) = (more ≡ []) ⊎ Forwards (suc (length more))

@@ -1,13 +1,14 @@
-//! Silence that closes no burst.
-ghost use Rattle.std.specs.Prelude.{◌≡◌, ◌+◌, ◌≤◌, ◌++◌, List, All};
+//! Runs of ticks of a line that is cut: silence that closes no burst, and bytes.
+ghost use Rattle.std.specs.Prelude.{◌≡◌, ◌+◌, ◌≤◌, ◌++◌, List, All, length, map};
 ghost use Rattle.yasir_ticks.specs.Ticks.{silent};
 ghost use Rattle.yasir_ticks.specs.declared.tick.Tick.{Tick};
+ghost use Rattle.yasir_ticks.specs.declared.tick.Tick.TheVariants.{Byte};
 ghost use Rattle.frame_ending.specs.Cuts.{cuts_after, IsPassing};
 ghost use Rattle.frame_ending.specs.Stands.{StandsFor, ticks_taken};
 
 use frame_ending::BurstCut;
 use line_rules::LineRules;
-use yasir_ticks::{MAX_TICKS, T3_5_TICKS};
+use yasir_ticks::{MAX_TICKS, T3_5_TICKS, Tick};
 
 /// Takes the first of this many silent ticks, as far as none closes a burst, and says how many.
 #[inline]
@@ -28,4 +29,18 @@ pub(crate) fn wait_open<R: LineRules>(cut: &mut BurstCut<R>, ticks: u32) -> u32
     let count = ticks.min(u32::from(T3_5_TICKS - 1 - quiet));
     cut.wait_some(count);
     count
+}
+
+/// Takes these bytes, one a tick: the live ones at once, and then what is left, if anything is.
+#[inline]
+pub(crate) fn cut_all<R: LineRules>(cut: &mut BurstCut<R>, bytes: &[u8])
+    requires { ticks_taken cut.old + length bytes.now ≤ MAX_TICKS }
+    ensures taken { ticks_taken cut.new ≡ ticks_taken cut.old + length bytes.now }
+    ensures stands { (line : List Tick) → StandsFor R.LineRules cut.old line
+        → StandsFor R.LineRules cut.new (line ++ map Byte bytes.now) }
+{
+    let live = cut.go_on_some(bytes);
+    for i in live..bytes.len() {
+        let _ = cut.step(Tick::Byte(bytes[i]));
+    }
 }

@@ -5,9 +5,11 @@ ghost use Rattle.sequence_journal.specs.Journal.{journal_link, Fits};
 ghost use Rattle.seal_transmitter.specs.Stands.{direction_of, ticks_taken};
 
 use super::*;
+use dnp_link_frame::Dnp;
 use hmac_tag::{HmacSha1, HmacSha256, Mac};
 use line_rules::{FourBytes, LineRules};
 use link_box::LinkBox;
+use rtu_frame::Rtu;
 use sequence_journal::{Journal, slot_of};
 use std::alloc::Global;
 use std::test::Fail;
@@ -103,6 +105,24 @@ fn a_word_may_have_four_bytes(rt: HostRuntime) -> Result<(), Fail> {
     for (step, letter) in steps.iter().zip(link) {
         assert_eq!(rt; step.tick, tick_of(*letter));
     }
+    Ok(())
+}
+
+// A whole header of the longest frame of DNP3, which has 292 bytes. Its CRC is by the standard's
+// polynomial, bit by bit.
+const LONGEST_HEADER: &[u8] = b"\x05\x64\xFF\xC4\x01\x00\x00\x04\x27\x27";
+
+// In RTU the room is 256 bytes, whatever they are. In DNP3 nothing is sure before a header.
+#[test]
+fn the_room_that_is_left_is_told(rt: HostRuntime) -> Result<(), Fail> {
+    let mut rtu = Rtu::fresh();
+    assert_eq!(rt; rtu.room_left(), 256);
+    rtu.take_some(b"\x01\x03\x00");
+    assert_eq!(rt; rtu.room_left(), 253);
+    let mut dnp = Dnp::fresh();
+    assert_eq!(rt; dnp.room_left(), 0);
+    dnp.take_some(LONGEST_HEADER);
+    assert_eq!(rt; dnp.room_left(), 282);
     Ok(())
 }
 

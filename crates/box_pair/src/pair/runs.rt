@@ -1,9 +1,9 @@
 //! Runs of both directions at once.
 ghost use Rattle.std.specs.Prelude.{◌≡◌, ◌+◌, ◌<◌, ◌≤◌, ◌^◌, true, length, take};
-ghost use Rattle.link_box.specs.Noteless.{MayNoteAt};
 ghost use Rattle.yasir_ticks.specs.Ticks.{silent};
 ghost use Rattle.yasir_ticks.specs.TickRun.{run_ticks};
 ghost use Rattle.burst_walk.specs.Answered.{answered};
+ghost use Rattle.link_box.specs.Noteless.{MayNoteAt};
 ghost use Rattle.link_box.specs.Resting.{Rests};
 ghost use Rattle.box_pair.specs.Pairs.{HasPassed};
 

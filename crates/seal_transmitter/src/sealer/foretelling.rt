@@ -4,12 +4,17 @@ ghost use Rattle.std.specs.Prelude.{◌≡◌};
 ghost use Rattle.seal_transmitter.specs.Foretold.{closes_none, Foretold};
 
 use super::{Sealer, put};
+use crate::RoomTelling;
+use crate::silence::cut_all;
 use burst_walk::RunBytes;
 use frame_ending::Cut;
 use hmac_tag::Mac;
 use line_rules::LineRules;
-use link_box::{ForetellingBox, NotelessBox, put_tick};
+use link_box::{ForetellingBox, NotelessBox, put_bytes, put_tick};
 use yasir_ticks::{MAX_TICKS, T3_5_TICKS, Tick, TickRun};
+
+/// How many bytes are forwarded at once at most: as many as `RunBytes` has room for.
+const MAX_RUN: usize = 64;
 
 impl<R: LineRules, M: Mac, const B: usize> NotelessBox for Sealer<R, M, B> {
     ghost noteless = { λ value line t. closes_none line t };
@@ -28,13 +33,13 @@ impl<R: LineRules, M: Mac, const B: usize> NotelessBox for Sealer<R, M, B> {
     }
 }
 
-impl<R: LineRules, M: Mac, const B: usize> ForetellingBox for Sealer<R, M, B> {
+impl<R: RoomTelling, M: Mac, const B: usize> ForetellingBox for Sealer<R, M, B> {
     ghost foretold = { λ value ticks. Foretold R.LineRules value ticks };
 
     #[inline]
     fn foretell(&self, run: TickRun<'_>) -> usize {
         match run {
-            TickRun::Bytes(bytes) => bytes.len().min(1),
+            TickRun::Bytes(bytes) => self.foretell_bytes(bytes.len()),
             TickRun::Silence(ticks) => self.foretell_silence(ticks) as usize,
         }
     }
@@ -139,12 +144,17 @@ impl<R: LineRules, M: Mac, const B: usize> Sealer<R, M, B> {
             (map Byte bytes.now) (answered (length bytes.now) left.new.items) }
         ensures direction { direction_of self.new ≡ direction_of self.old }
     {
+        if bytes.len() == 1 {
+            put_tick(left, self.hear(Tick::Byte(bytes[0])));
+            return;
+        }
         if bytes.is_empty() {
             left.clear();
             return;
         }
-        let first = bytes[0];
-        put_tick(left, self.hear(Tick::Byte(first)));
+        put_bytes(left, bytes);
+        cut_all(&mut self.cut, bytes);
+        self.mac.update(bytes);
     }
 
     // Takes a tick that closes no burst, and returns that of the link.
@@ -163,5 +173,34 @@ impl<R: LineRules, M: Mac, const B: usize> Sealer<R, M, B> {
             Cut::Extra(_) | Cut::Pause(_) | Cut::Closed | Cut::Quiet => self.pass(),
         };
         step.tick
+    }
+}
+
+impl<R: RoomTelling, M: Mac, const B: usize> Sealer<R, M, B> {
+    ghost use Rattle.std.specs.Prelude.{◌≡◌, ℕ, ◌<◌, ◌≤◌, List, map, take};
+    ghost use Rattle.yasir_ticks.specs.declared.tick.Tick.TheVariants.{Byte};
+    ghost use Rattle.seal_transmitter.specs.Foretold.{Foretold};
+
+    // How many of this many bytes surely go through at once, whatever they are: those that are
+    // forwarded and have room, or else one.
+    #[inline]
+    fn foretell_bytes(&self, count: usize) -> usize
+        ensures within { result ≤ count }
+        ensures each { (x : List ℕ) (n : ℕ) → n ≤ result
+            → Foretold R.LineRules self.now (take n (map Byte x)) }
+        ensures some { 0 < count → 0 < result }
+    {
+        let one = count.min(1);
+        if self.cut.quiet() >= T3_5_TICKS {
+            return one;
+        }
+        if self.cut.live_over() {
+            return one;
+        }
+        if self.is_early() {
+            return one;
+        }
+        let room = usize::from(self.cut.rules().room_left()).min(MAX_RUN);
+        count.min(room.max(1))
     }
 }

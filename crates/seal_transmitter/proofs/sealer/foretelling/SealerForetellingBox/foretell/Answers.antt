@@ -1,4 +1,5 @@
-use Rattle.std.proofs.Common.{◌≡◌, ◌≤◌, ℕ, List, ap, sym, subst, arith, take, map, length}
+use Rattle.std.proofs.Common.{◌≡◌, ◌<◌, ◌≤◌, ℕ, List, ⊎_elim, sym, subst, arith, take, length}
+use Rattle.std.proofs.lemmas.Bool.{cases_lt}
 use Rattle.std.proofs.lemmas.List.{take-replicate}
 use Rattle.yasir_ticks.specs.TickRun.{run_ticks}
 use Rattle.yasir_ticks.specs.Ticks.{silent}
@@ -8,21 +9,25 @@ use Rattle.yasir_ticks.specs.declared.tick_run.TickRun.{TickRun}
 use Rattle.link_box.specs.Noteless.{MayNoteAt}
 use Rattle.seal_transmitter.specs.Foretold.{Foretold, closes_none}
 use Rattle.seal_transmitter.specs.Stands.{StandsAt}
-use Rattle.seal_transmitter.proofs.Foretelling.{byte-foretold, no-byte-noted}
+use Rattle.seal_transmitter.proofs.Foretelling.{no-byte-noted}
 use Rattle.seal_transmitter.proofs.sealer.foretelling.SealerForetellingBox.foretell.Goals as goal
 
 pub returns-in-Bytes-clause-each : goal.returns-in-Bytes-clause-each
 returns-in-Bytes-clause-each g c = λ n few.
     let P : TickRun → Type 0 = λ r. Foretold g.R.LineRules c.args.self.now (take n (run_ticks r)) in
     subst P (sym c.in-Bytes.is)
-    (byte-foretold g.R.LineRules c.args.self.now c.in-Bytes.bytes.now n (omega arith))
+    (c.foretell_bytes.ensures.each c.in-Bytes.bytes.now n few)
 
 pub returns-in-Bytes-clause-stops : goal.returns-in-Bytes-clause-stops
 returns-in-Bytes-clause-stops g c = λ none.
     let P : TickRun → Type 0 = λ r. MayNoteAt (StandsAt g.R.LineRules g.M.Mac)
     (λ v line t. closes_none line t) c.args.self.now (run_ticks r) in
     subst P (sym c.in-Bytes.is)
-    (no-byte-noted g.R.LineRules c.args.self.now g.M.Mac c.in-Bytes.bytes.now (omega arith))
+    (no-byte-noted g.R.LineRules c.args.self.now g.M.Mac c.in-Bytes.bytes.now
+    (⊎_elim
+    (λ some. let any = c.foretell_bytes.ensures.some some in absurd (omega arith))
+    (λ few. omega arith)
+    (cases_lt 0 (length c.in-Bytes.bytes.now))))
 
 pub returns-in-Silence-clause-each : goal.returns-in-Silence-clause-each
 returns-in-Silence-clause-each g c = λ n few.
