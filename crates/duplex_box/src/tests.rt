@@ -9,6 +9,8 @@ use std::test::Fail;
 use yasir_io::{MemSlots, Plan, SlotDisk, SteadySlots};
 use yasir_ticks::{Tick, TickRun};
 
+mod turn_tests;
+
 /// The boxes of Modbus RTU with the profile y18.
 type RtuDuplex = Duplex<Rtu, HmacSha1, 2, 18>;
 
