@@ -5,7 +5,8 @@
 # test: the gate. It proves each crate, tries the wrong bodies, and runs the tests and the program.
 # check: the scripts that try the built program from outside the gate. LEVEL is quick, change or release. BEFORE is the last
 #        version, a program or a checkout with one: the level release counts instructions beside it.
-.PHONY: try demo test check
+# live: shows mbpoll reading registers through four boxes, under attack. It needs mbpoll, libmodbus and a C compiler.
+.PHONY: try demo test check live
 
 try:
 	@python3 scripts/try.py
@@ -18,3 +19,6 @@ test:
 
 check:
 	@python3 scripts/check.py $(LEVEL) $(if $(BEFORE),--before $(BEFORE))
+
+live:
+	@python3 scripts/live.py

@@ -22,6 +22,7 @@ LOGS = os.path.join(ROOT, "out", "check")
 LEVELS = ("quick", "change", "release")
 MEMORY = "/dev/shm"
 CAPTURE = os.path.join(ROOT, "crates", "line_capture", "out", "line_capture")
+LIBRARY = os.path.join(ROOT, "crates", "yasir_c", "out", "libyasir_c.a")
 
 # A script, what it needs, and its words at each level; None where the level doesn't run it. PROGRAM, BEFORE and MEMORY stand for
 # paths.
@@ -48,6 +49,8 @@ CHECKS = [
     Check("killed_check", ("program", "memory"), None, ["40", "PROGRAM", "MEMORY"], ["400", "PROGRAM", "MEMORY"]),
     Check("refused_memory", ("program", "cc"), None, ["PROGRAM"], ["PROGRAM"]),
     Check("guard", ("program", "libmodbus"), None, ["PROGRAM"], ["PROGRAM", "2000", "2"]),
+    Check("clib_check", ("program", "library", "cc"), None, ["PROGRAM", "10000"], ["PROGRAM"]),
+    Check("live", ("library", "libmodbus", "mbpoll"), None, None, []),
     Check("captures", ("capture", "tshark"), None, [], []),
     Check("dissector_check", ("program", "tshark"), None, ["PROGRAM"], ["PROGRAM"]),
     Check("timeline_check", ("chromium",), None, [], []),
@@ -71,7 +74,9 @@ def lacking(need, program, before=None):
         return guard.lacking()
     if need == "capture" and not os.access(CAPTURE, os.X_OK):
         return "there is no program %s; `rt run` in crates/line_capture proves and builds it" % os.path.relpath(CAPTURE)
-    if need in ("cc", "valgrind", "tshark") and shutil.which(need) is None:
+    if need == "library" and not os.access(LIBRARY, os.R_OK):
+        return "there is no library %s; `python3 scripts/bridge_build.py` proves and builds it" % os.path.relpath(LIBRARY)
+    if need in ("cc", "valgrind", "tshark", "mbpoll") and shutil.which(need) is None:
         return "%s isn't on the path" % need
     return None
 

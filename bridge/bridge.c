@@ -1,0 +1,449 @@
+/* A box of both directions between two serial ports or ptys: what the device sends is sealed onto
+ * the link, and what the link brings is checked on its way to the device. Tested, not proved: what
+ * is proved are the boxes (yasir.h).
+ *
+ * One thread moves bytes: it stamps what comes with its time, and writes what leaves when its time
+ * has come. The other takes ticks, in each direction at `hold` behind the clock, commits numbers,
+ * and hands on what leaves for `playout` later. So a sync of the disk stops no byte that was handed
+ * on before it. See docs/LIVE.md for how hold and playout are chosen. */
+#define _GNU_SOURCE
+#include "guard.h"
+#include "journal.h"
+#include <errno.h>
+#include <fcntl.h>
+#include <getopt.h>
+#include <inttypes.h>
+#include <poll.h>
+#include <pthread.h>
+#include <signal.h>
+#include <stdio.h>
+#include <stdlib.h>
+#include <string.h>
+#include <termios.h>
+#include <time.h>
+#include <unistd.h>
+
+typedef int64_t nanos;
+enum { MS = 1000000, ROOM = 1 << 14 };
+
+/* Bytes on their way, each with a time: when it came, or when it is to leave. */
+typedef struct { uint8_t byte[ROOM]; nanos at[ROOM]; size_t first, count; uint64_t lost; } queue;
+
+/* A recording of ticks, as tick text. */
+typedef struct { FILE *file; uint64_t silent; int bytes; } tape;
+
+/* One direction: a port that is read, a box, a port that is written. */
+typedef struct {
+    const char *name;
+    yasir_handle box;
+    journal kept;
+    queue in, out;
+    int from, to;
+    uint64_t ticks;
+    int silents;      /* silent ticks behind the last byte taken, 0 where none is */
+    nanos last_came;  /* when that byte came */
+    int snaps;        /* a gap of about three ticks is taken as three: a trailer follows */
+    guard *spacer;
+    tape took, gave;  /* the line that is taken, and what the box answers */
+} way;
+
+static struct {
+    const char *device, *link, *key, *sent, *got, *record;
+    int baud, stop, make, guarded, quiet;
+    char parity;
+    double hold_ms, playout_ms;
+    yasir_kind kind;
+} opt = {.baud = 9600, .stop = 1, .parity = 'e', .guarded = 1, .hold_ms = 20, .playout_ms = 25,
+         .kind = {0, YASIR_RTU, YASIR_Y18, YASIR_AB}};
+
+static pthread_mutex_t lock = PTHREAD_MUTEX_INITIALIZER;
+static volatile sig_atomic_t stopping, failed;
+static nanos tick_len, started, slowest_sync;
+static way outgoing = {.name = "sealed"}, incoming = {.name = "checked", .snaps = 1};
+
+static nanos now(void)
+{
+    struct timespec t;
+    clock_gettime(CLOCK_MONOTONIC, &t);
+    return (nanos)t.tv_sec * 1000000000 + t.tv_nsec;
+}
+
+static void push(queue *q, uint8_t byte, nanos at)
+{
+    if (q->count == ROOM) { q->lost++; return; }
+    q->byte[(q->first + q->count) % ROOM] = byte;
+    q->at[(q->first + q->count) % ROOM] = at;
+    q->count++;
+}
+
+static void drop_first(queue *q) { q->first = (q->first + 1) % ROOM, q->count--; }
+
+static void fail(const char *what)
+{
+    if (!stopping) fprintf(stderr, "bridge: %s: %s\n", what, strerror(errno));
+    failed = 1, stopping = 1;
+}
+
+/* ---- the thread that moves bytes */
+
+static void read_some(way *w)
+{
+    uint8_t bytes[256];
+    ssize_t got = read(w->from, bytes, sizeof bytes), i;
+    nanos came = now();
+    if (got < 0 && (errno == EAGAIN || errno == EINTR || errno == EIO)) return;
+    if (got <= 0) { fail("read"); return; }
+    pthread_mutex_lock(&lock);
+    for (i = 0; i < got; i++) push(&w->in, bytes[i], came);
+    pthread_mutex_unlock(&lock);
+}
+
+/* Writes what is due; of bytes in a row also those of the next two ticks, so that a port with a rate
+ * of its own isn't left idle between them. Returns when the next one is due. */
+static nanos write_due(way *w)
+{
+    uint8_t bytes[256];
+    size_t n = 0, i;
+    nanos due = INT64_MAX, t = now();
+    pthread_mutex_lock(&lock);
+    while (n < w->out.count && n < sizeof bytes) {
+        nanos at = w->out.at[(w->out.first + n) % ROOM];
+        if (at > t + (n > 0 ? 2 * tick_len : 0)) break;
+        bytes[n] = w->out.byte[(w->out.first + n) % ROOM];
+        n++;
+        if (n < w->out.count && w->out.at[(w->out.first + n) % ROOM] > at + tick_len + tick_len / 2) {
+            if (w->out.at[(w->out.first + n) % ROOM] > t) break;
+        }
+    }
+    pthread_mutex_unlock(&lock);
+    if (n > 0) {
+        ssize_t done = write(w->to, bytes, n);
+        if (done < 0 && errno != EAGAIN && errno != EINTR && errno != EIO) fail("write");
+        pthread_mutex_lock(&lock);
+        for (i = 0; done > 0 && i < (size_t)done; i++) drop_first(&w->out);
+        pthread_mutex_unlock(&lock);
+    }
+    pthread_mutex_lock(&lock);
+    if (w->out.count > 0) due = w->out.at[w->out.first];
+    pthread_mutex_unlock(&lock);
+    return due;
+}
+
+static void *move_bytes(void *unused)
+{
+    (void)unused;
+    while (!stopping) {
+        struct pollfd ports[2] = {{outgoing.from, POLLIN, 0}, {incoming.from, POLLIN, 0}};
+        nanos a = write_due(&outgoing), b = write_due(&incoming), wait = (a < b ? a : b) - now();
+        struct timespec t;
+        if (wait < 0) wait = 0;
+        if (wait > 5 * MS) wait = 5 * MS;
+        t.tv_sec = 0, t.tv_nsec = wait;
+        if (ppoll(ports, 2, &t, NULL) < 0 && errno != EINTR) fail("poll");
+        if (ports[0].revents & POLLIN) read_some(&outgoing);
+        if (ports[1].revents & POLLIN) read_some(&incoming);
+        if (((ports[0].revents | ports[1].revents) & (POLLHUP | POLLERR)) && wait < MS) usleep(1000);
+    }
+    return NULL;
+}
+
+/* ---- the thread that takes ticks */
+
+static void record(tape *t, uint16_t tick)
+{
+    if (!t->file) return;
+    if (tick == YASIR_SILENT) {
+        if (t->bytes > 0) fputc('\n', t->file), t->bytes = 0;
+        if (++t->silent == 1000000) fprintf(t->file, "-1000000\n"), t->silent = 0;
+        return;
+    }
+    if (t->silent > 0) fprintf(t->file, "-%" PRIu64 "\n", t->silent), t->silent = 0;
+    fprintf(t->file, t->bytes == 0 ? "+%02x" : "%02x", tick);
+    if (++t->bytes == 32) fputc('\n', t->file), t->bytes = 0;
+}
+
+static void end_tape(tape *t)
+{
+    if (!t->file) return;
+    if (t->silent > 0) fprintf(t->file, "-%" PRIu64, t->silent);
+    fputc('\n', t->file);
+    if (fclose(t->file) != 0) perror("bridge: a recording");
+}
+
+static void open_tape(tape *t, const char *name)
+{
+    char path[4096];
+    if (!opt.record) return;
+    snprintf(path, sizeof path, "%s.%s.ticks", opt.record, name);
+    t->file = fopen(path, "w");
+    if (!t->file) { perror(path); exit(3); }
+}
+
+/* The tick of this direction whose time is `at`. A byte is taken behind the one before it if it came
+ * right behind it; else at its own time. */
+static uint16_t next_tick(way *w, nanos at)
+{
+    uint16_t tick = YASIR_SILENT;
+    pthread_mutex_lock(&lock);
+    if (w->in.count > 0) {
+        nanos came = w->in.at[w->in.first], gap = came - w->last_came;
+        int take;
+        if (w->silents <= 1 && gap <= tick_len + tick_len * 3 / 4) take = 1;
+        else if (w->snaps && gap > tick_len + tick_len * 3 / 4 && gap <= tick_len * 13 / 2)
+            take = w->silents >= 3;
+        else take = at >= came;
+        if (take) {
+            tick = w->in.byte[w->in.first];
+            w->last_came = came;
+            drop_first(&w->in);
+        }
+    }
+    pthread_mutex_unlock(&lock);
+    w->silents = tick == YASIR_SILENT ? w->silents + (w->silents < 1000000) : 0;
+    return tick;
+}
+
+/* The line of a note, as link_replay prints it. */
+static void note_line(const yasir_answer *a)
+{
+    static const char *const unsealed[] = {"", "early", "form", "spent"},
+        *const refused[] = {"", "trailer", "form", "number", "tag"}, *const dropped[] = {"", "busy", "head"};
+    if (a->note == YASIR_NO_NOTE || opt.quiet) return;
+    if (a->note == YASIR_SEALED || a->note == YASIR_PASSED)
+        printf("%s %" PRIu64 " at %" PRIu64 " len %u\n", a->note == YASIR_SEALED ? "sealed" : "passed",
+               a->number, a->start, a->len);
+    else
+        printf("%s at %" PRIu64 " %s\n", a->note == YASIR_UNSEALED ? "unsealed" : a->note == YASIR_REFUSED
+               ? "refused" : "dropped", a->start, a->note == YASIR_UNSEALED ? unsealed[a->why]
+               : a->note == YASIR_REFUSED ? refused[a->why] : dropped[a->why]);
+    fflush(stdout);
+}
+
+static void leave(way *w, int is_byte, uint8_t byte, nanos at)
+{
+    if (w->spacer) {
+        uint16_t spaced = guard_step(w->spacer, is_byte ? byte : YASIR_SILENT);
+        is_byte = spaced != YASIR_SILENT, byte = (uint8_t)spaced;
+    }
+    if (!is_byte) return;
+    pthread_mutex_lock(&lock);
+    push(&w->out, byte, at + (nanos)((opt.hold_ms + opt.playout_ms) * MS));
+    pthread_mutex_unlock(&lock);
+}
+
+static void take_tick(way *w, nanos at)
+{
+    yasir_answer answer;
+    uint8_t slot[YASIR_SLOT_LEN];
+    uint16_t tick = next_tick(w, at);
+    if (yasir_step(&w->box, tick, &answer, slot, sizeof slot) != YASIR_OK) {
+        fprintf(stderr, "bridge: the box takes no more ticks\n");
+        failed = 1, stopping = 1;
+        return;
+    }
+    w->ticks++;
+    if (answer.commit) {
+        nanos before = now();
+        if (journal_commit(&w->kept, answer.commit, slot) != 0) { fail("commit"); return; }
+        before = now() - before;
+        if (before > slowest_sync) {
+            slowest_sync = before;
+            if (before > (nanos)(opt.playout_ms * MS))
+                fprintf(stderr, "bridge: a sync took %.1f ms, more than the playout of %.1f ms: the frame "
+                        "is late and will be refused; give a longer -D\n", before / 1e6, opt.playout_ms);
+        }
+    }
+    note_line(&answer);
+    record(&w->took, tick);
+    record(&w->gave, answer.is_byte ? answer.byte : YASIR_SILENT);
+    leave(w, answer.is_byte, answer.byte, at);
+}
+
+static void take_ticks(void)
+{
+    nanos n = 0;
+    while (!stopping) {
+        nanos at = started + n * tick_len, due = at + (nanos)(opt.hold_ms * MS), t = now();
+        if (due > t) {
+            nanos wait = due - t;
+            struct timespec s = {wait / 1000000000, wait % 1000000000};
+            nanosleep(&s, NULL);
+            continue;
+        }
+        take_tick(&outgoing, at);
+        if (!stopping) take_tick(&incoming, at);
+        n++;
+    }
+}
+
+/* ---- ports and options */
+
+static speed_t speed_of(int baud)
+{
+    switch (baud) {
+    case 1200: return B1200; case 2400: return B2400; case 4800: return B4800; case 9600: return B9600;
+    case 19200: return B19200; case 38400: return B38400; case 57600: return B57600;
+    case 115200: return B115200; case 230400: return B230400;
+    default: return B0;
+    }
+}
+
+static int open_port(const char *path)
+{
+    struct termios t;
+    int port = open(path, O_RDWR | O_NOCTTY | O_NONBLOCK);
+    if (port < 0 || tcgetattr(port, &t) != 0) { perror(path); exit(3); }
+    cfmakeraw(&t);
+    cfsetspeed(&t, speed_of(opt.baud));
+    t.c_cflag |= CLOCAL | CREAD;
+    t.c_cflag &= ~(tcflag_t)(PARENB | PARODD | CSTOPB | CRTSCTS);
+    if (opt.parity != 'n') t.c_cflag |= PARENB;
+    if (opt.parity == 'o') t.c_cflag |= PARODD;
+    if (opt.stop == 2) t.c_cflag |= CSTOPB;
+    if (tcsetattr(port, TCSANOW, &t) != 0) { perror(path); exit(3); }
+    tcflush(port, TCIOFLUSH);
+    return port;
+}
+
+static void usage(FILE *to)
+{
+    fputs("bridge [options] DEVICE LINK    a box between the port of a device and the port of a link\n"
+          "  -k FILE   the key: 32 to 128 hex digits, the same at both ends\n"
+          "  -s FILE   the journal of what is sealed here; a box's own, and never another's\n"
+          "  -r FILE   the journal of what is received here\n"
+          "  -i        make journals that are missing or empty\n"
+          "  -d ab|ba  the direction in which this device sends; the two ends of a line differ (ab)\n"
+          "  -p rtu|dnp3|rtu24|dnp24  protocol and profile (rtu)\n"
+          "  -b BAUD   1200 to 230400 (9600)\n"
+          "  -P none|even|odd  parity (even)\n"
+          "  -S 1|2    stop bits (1)\n"
+          "  -H MS     hold: how long the first byte of a burst waits for those behind it (20)\n"
+          "  -D MS     playout: how long what leaves waits for a sync of the disk (25)\n"
+          "  -G        no guard: what the receiver lets leave goes to the device as it is\n"
+          "  -q        no line for each note\n"
+          "  -w NAME   record the ticks of both lines into NAME.device.ticks, NAME.sent.ticks,\n"
+          "            NAME.came.ticks and NAME.received.ticks\n"
+          "  -h, --help\n"
+          "Statuses: 0 ended by a signal; 2 words; 3 a port, the key or a journal; 4 a fault while running.\n", to);
+}
+
+static int one_of(const char *word, const char *const *words)
+{
+    int i;
+    for (i = 0; words[i]; i++) if (strcmp(word, words[i]) == 0) return i;
+    fprintf(stderr, "bridge: %s isn't known here\n", word);
+    exit(2);
+}
+
+static void read_options(int argc, char **argv)
+{
+    static const struct option longs[] = {{"help", no_argument, NULL, 'h'}, {0}};
+    static const char *const dirs[] = {"ab", "ba", NULL}, *const kinds[] = {"rtu", "dnp3", "rtu24", "dnp24", NULL},
+        *const parities[] = {"none", "even", "odd", NULL};
+    int c, i;
+    while ((c = getopt_long(argc, argv, "k:s:r:id:p:b:P:S:H:D:Gqw:h", longs, NULL)) != -1) switch (c) {
+    case 'k': opt.key = optarg; break;
+    case 's': opt.sent = optarg; break;
+    case 'r': opt.got = optarg; break;
+    case 'i': opt.make = 1; break;
+    case 'd': opt.kind.direction = (uint8_t)one_of(optarg, dirs); break;
+    case 'p':
+        i = one_of(optarg, kinds);
+        opt.kind.protocol = i % 2 ? YASIR_DNP3 : YASIR_RTU, opt.kind.profile = i / 2 ? YASIR_Y24 : YASIR_Y18;
+        break;
+    case 'b': opt.baud = atoi(optarg); break;
+    case 'P': opt.parity = parities[one_of(optarg, parities)][0]; break;
+    case 'S': opt.stop = atoi(optarg); break;
+    case 'H': opt.hold_ms = atof(optarg); break;
+    case 'D': opt.playout_ms = atof(optarg); break;
+    case 'G': opt.guarded = 0; break;
+    case 'q': opt.quiet = 1; break;
+    case 'w': opt.record = optarg; break;
+    case 'h': usage(stdout); exit(0);
+    default: usage(stderr); exit(2);
+    }
+    if (argc - optind != 2 || !opt.key || !opt.sent || !opt.got || speed_of(opt.baud) == B0
+        || opt.stop < 1 || opt.stop > 2 || !(opt.hold_ms >= 0 && opt.hold_ms <= 10000)
+        || !(opt.playout_ms >= 0 && opt.playout_ms <= 10000)) {
+        usage(stderr);
+        exit(2);
+    }
+    opt.device = argv[optind], opt.link = argv[optind + 1];
+}
+
+static void make_box(way *w, uint8_t part, uint8_t direction, const char *path, const uint8_t *key, size_t key_len)
+{
+    static const char *const why[] = {"", "no such box", "no slot holds a number (-i makes a journal)",
+                                      "the journal is another link's", "no memory"};
+    yasir_kind kind = opt.kind;
+    uint8_t status;
+    kind.part = part, kind.direction = direction;
+    if (journal_open(&w->kept, path, opt.make, &kind) != 0) exit(3);
+    status = yasir_new(&w->box, &kind, key, key_len, w->kept.slots, sizeof w->kept.slots);
+    if (status != YASIR_OK) {
+        fprintf(stderr, "bridge: %s: %s\n", path, why[status < 5 ? status : 1]);
+        exit(3);
+    }
+}
+
+/* What a sync of this disk takes, by ten of them over a slot that stays as it is. It is one beside
+ * which the other slot holds the last number, so that a crash here costs none. */
+static void try_disk(way *w, const yasir_kind *kind)
+{
+    uint8_t *a = w->kept.slots, *b = a + YASIR_SLOT_LEN;
+    uint64_t floor = yasir_floor(&w->box);
+    int i, into_a = journal_holds(b, floor, kind);
+    nanos slowest = 0;
+    if (!into_a && !journal_holds(a, floor, kind)) return;
+    for (i = 0; i < 10; i++) {
+        nanos before = now();
+        if (journal_commit(&w->kept, into_a ? YASIR_SLOT_A : YASIR_SLOT_B, into_a ? a : b) != 0) {
+            fail("the disk");
+            exit(4);
+        }
+        if (now() - before > slowest) slowest = now() - before;
+    }
+    if (slowest > (nanos)(opt.playout_ms * MS / 2))
+        fprintf(stderr, "bridge: this disk took %.1f ms to sync: a playout of %.1f ms is short at %d baud\n",
+                slowest / 1e6, opt.playout_ms, opt.baud);
+}
+
+static void stop(int signal) { (void)signal; stopping = 1; }
+
+int main(int argc, char **argv)
+{
+    uint8_t key[64];
+    size_t key_len;
+    pthread_t mover;
+    int device, link;
+    struct sigaction action = {.sa_handler = stop};
+    read_options(argc, argv);
+    key_len = key_read(opt.key, key);
+    if (key_len == 0) { fprintf(stderr, "bridge: %s: no key\n", opt.key); return 3; }
+    make_box(&outgoing, YASIR_SEALER, opt.kind.direction, opt.sent, key, key_len);
+    make_box(&incoming, YASIR_CHECKER, !opt.kind.direction, opt.got, key, key_len);
+    try_disk(&outgoing, &opt.kind);
+    device = open_port(opt.device), link = open_port(opt.link);
+    outgoing.from = incoming.to = device;
+    outgoing.to = incoming.from = link;
+    if (opt.guarded && !(incoming.spacer = guard_new(opt.kind.protocol == YASIR_DNP3, opt.kind.profile == YASIR_Y24 ? 27 : 21))) {
+        fprintf(stderr, "bridge: no memory\n");
+        return 4;
+    }
+    open_tape(&outgoing.took, "device"), open_tape(&outgoing.gave, "sent");
+    open_tape(&incoming.took, "came"), open_tape(&incoming.gave, "received");
+    tick_len = (nanos)((1 + 8 + (opt.parity != 'n') + opt.stop) * 1e9 / opt.baud);
+    sigaction(SIGINT, &action, NULL), sigaction(SIGTERM, &action, NULL), sigaction(SIGHUP, &action, NULL);
+    started = now();
+    outgoing.last_came = incoming.last_came = started - 1000000000;
+    outgoing.silents = incoming.silents = 1000;
+    if (pthread_create(&mover, NULL, move_bytes, NULL) != 0) { perror("bridge"); return 4; }
+    take_ticks();
+    pthread_join(mover, NULL);
+    end_tape(&outgoing.took), end_tape(&outgoing.gave), end_tape(&incoming.took), end_tape(&incoming.gave);
+    fprintf(stderr, "bridge: sealed to number %" PRIu64 ", received to number %" PRIu64 ", slowest sync %.1f ms, "
+            "bytes lost for want of room %" PRIu64 "\n", yasir_floor(&outgoing.box), yasir_floor(&incoming.box),
+            slowest_sync / 1e6, outgoing.in.lost + outgoing.out.lost + incoming.in.lost + incoming.out.lost);
+    yasir_free(&outgoing.box), yasir_free(&incoming.box), guard_free(incoming.spacer);
+    return failed ? 4 : 0;
+}

@@ -1,0 +1,91 @@
+#!/usr/bin/env python3
+"""Builds what stands in bridge/ over the proved library crates/yasir_c, into bridge/out/.
+
+    python3 scripts/bridge_build.py
+
+It needs a C compiler (CC, or else cc), and for bridge/out/server libmodbus. The library is proved first, and isn't built where
+a proof fails. The exit status is 0 where all was built; 2 where something isn't installed or can't be built, which is named.
+"""
+import os, shutil, subprocess, sys
+
+ROOT = os.path.dirname(os.path.dirname(os.path.abspath(__file__)))
+BRIDGE = os.path.join(ROOT, "bridge")
+OUT = os.path.join(BRIDGE, "out")
+CRATE = os.path.join(ROOT, "crates", "yasir_c")
+LIBRARY = os.path.join(CRATE, "out", "libyasir_c.a")
+FLAGS = ["-std=gnu11", "-O2", "-Wall", "-Wextra"]
+PROGRAMS = {
+    "filter": (["filter.c", "journal.c"], []),
+    "bridge": (["bridge.c", "guard.c", "journal.c"], ["-pthread"]),
+}
+
+
+class Missing(Exception):
+    """What isn't installed, or couldn't be built."""
+
+
+def ran(words, **more):
+    done = subprocess.run(words, capture_output=True, text=True, **more)
+    if done.returncode != 0:
+        raise Missing("`%s` ended with status %d:\n%s%s" % (" ".join(words), done.returncode, done.stdout, done.stderr))
+    return done.stdout
+
+
+def compiler():
+    found = os.environ.get("CC") or shutil.which("cc") or shutil.which("gcc") or shutil.which("clang")
+    if not found:
+        raise Missing("there is no C compiler: apt-get install gcc")
+    return found
+
+
+def kit():
+    """The folder of the toolchain, whose C code allocates for the library."""
+    if not shutil.which("rt"):
+        raise Missing("`rt` isn't on the path; it comes with the toolchain")
+    return os.path.dirname(ran(["rt", "doc"]).strip())
+
+
+def library():
+    """Proves and builds the library, or what of it has changed, and its crates below."""
+    if not library.built:
+        print("bridge_build: proves and builds crates/yasir_c and what it stands on: many minutes the first time", file=sys.stderr)
+        ran(["rt", "lib"], cwd=CRATE)
+        library.built = True
+    return [LIBRARY, os.path.join(kit(), "c", "liblibc_c.a")]
+
+
+library.built = False
+
+
+def build(name):
+    """The path of a program of bridge/, built."""
+    os.makedirs(OUT, exist_ok=True)
+    sources, more = PROGRAMS[name]
+    path = os.path.join(OUT, name)
+    ran([compiler(), *FLAGS, "-I", BRIDGE, *(os.path.join(BRIDGE, source) for source in sources), *library(), *more, "-o", path])
+    return path
+
+
+def server():
+    """The path of the server by libmodbus, built."""
+    os.makedirs(OUT, exist_ok=True)
+    path = os.path.join(OUT, "server")
+    try:
+        ran([compiler(), *FLAGS, os.path.join(BRIDGE, "server.c"), "-lmodbus", "-o", path])
+    except Missing as why:
+        raise Missing("libmodbus isn't installed: apt-get install libmodbus-dev\n%s" % why)
+    return path
+
+
+def main():
+    for name in PROGRAMS:
+        print(build(name))
+    print(server())
+
+
+if __name__ == "__main__":
+    try:
+        main()
+    except Missing as why:
+        print("bridge_build: %s" % why, file=sys.stderr)
+        sys.exit(2)
