@@ -20,6 +20,23 @@ static int write_at(int file, const uint8_t *bytes, size_t len, off_t at)
     return 0;
 }
 
+/* Syncs the folder of a file, so that a crash doesn't lose its name. */
+static int sync_folder(const char *path)
+{
+    char folder[4096];
+    const char *end = strrchr(path, '/');
+    size_t len = end ? (size_t)(end - path) + 1 : 0;
+    int opened, done;
+    if (len >= sizeof folder) return -1;
+    memcpy(folder, path, len);
+    folder[len] = 0;
+    opened = open(len > 0 ? folder : ".", O_RDONLY | O_DIRECTORY);
+    if (opened < 0) return -1;
+    done = fsync(opened);
+    close(opened);
+    return done;
+}
+
 static int refuse(journal *kept, const char *path, const char *why)
 {
     fprintf(stderr, "journal %s: %s\n", path, why);
@@ -43,7 +60,7 @@ int journal_open(journal *kept, const char *path, int make, const yasir_kind *ki
     if (got < 0) return refuse(kept, path, strerror(errno));
     if (make && got == 0) {
         if (yasir_init(kind, all + FIRST, YASIR_SLOT_LEN) != YASIR_OK
-            || write_at(kept->file, all, sizeof all, 0) != 0 || fsync(kept->file) != 0)
+            || write_at(kept->file, all, sizeof all, 0) != 0 || fsync(kept->file) != 0 || sync_folder(path) != 0)
             return refuse(kept, path, "can't be made");
     }
     for (i = 0; i < FIRST; i++)
