@@ -1,13 +1,17 @@
 -- The header of a packet that is written, and data behind it, are a packet.
 use Rattle.std.proofs.Common.{◌≡◌, ◌∙◌, ℕ, ◌+◌, ◌*◌, ◌/◌, ◌%◌, ◌++◌, ◌∷◌, [], List, length, true, refl, ap}
-use Rattle.std.proofs.Common.{sym}
+use Rattle.std.proofs.Common.{sym, subst, append-nil, ◌<◌, ◌^◌}
 use Rattle.std.proofs.Common.{arith, append_assoc}
 use Rattle.line_stamps.specs.declared.capture.Way.{Way}
 use Rattle.line_stamps.specs.declared.capture.Way.TheVariants.{A, B}
 use Rattle.capture_pcap.specs.Record.{seen_of, seen_bytes}
 use Rattle.capture_pcap.specs.Pcap.{IsPacket}
 use Rattle.capture_pcap.specs.Writing.{written_clock, data_event, AppendsNumber, AppendsFour}
-use Rattle.capture_pcap.specs.Writing.{packet_front}
+use Rattle.capture_pcap.specs.Writing.{packet_front, written_packet as as_written}
+use Rattle.capture_pcap.specs.Words.{number}
+use Rattle.capture_pcap.specs.declared.words.Order.TheVariants.{Little}
+use Rattle.byteorder.specs.Numbers.{little_number-reads_back, length-bytes_low_first}
+use Rattle.byteorder.specs.Numbers.{length-bytes_high_first}
 use Rattle.byteorder.specs.Endian.{big_bytes, little_bytes}
 
 data_seen : (start : ℕ) (way : Way) (payload : List ℕ)
@@ -96,3 +100,30 @@ pub written_front : (way : Way) (start count : ℕ) (none h1 h2 h3 h4 h5 h6 all 
 written_front way start count none h1 h2 h3 h4 h5 h6 all e a b c d f g h =
     grown _ _ _ _ h (grown _ _ _ _ g (grown _ _ _ _ f (grown _ _ _ _ d (grown _ _ _ _ c
     (grown _ _ _ _ b (grown _ _ _ _ a e))))))
+
+number_added : (old : List ℕ) (n : ℕ) → n < 2 ^ 32 → AppendsNumber old (old ++ little_bytes 4 n) n
+number_added old n fits = record {
+  field = little_bytes 4 n;
+  is = refl;
+  long = length-bytes_low_first 0 4 n;
+  value = subst (λ l. number Little l ≡ n) (append-nil (little_bytes 4 n))
+      (little_number-reads_back 4 n [] fits);
+}
+
+four_added : (old : List ℕ) (n : ℕ) → AppendsFour old (old ++ big_bytes 4 n)
+four_added old n = record {
+  field = big_bytes 4 n;
+  is = refl;
+  long = length-bytes_high_first 4 n;
+}
+
+-- what is written for a record is a packet of it
+pub packet_is : (way : Way) (start : ℕ) (bytes : List ℕ) → start < 2 ^ 32 * 1000000000
+    → length bytes + 12 < 2 ^ 32
+    → IsPacket written_clock (as_written way start bytes) (seen_bytes start way true bytes)
+packet_is way start bytes early few =
+    written_packet way start (start / 1000000000) (start % 1000000000) (length bytes) [] _ _ _ _ _ _
+    refl (number_added [] (start / 1000000000) (omega arith))
+    (number_added _ (start % 1000000000) (omega arith)) (number_added _ (length bytes + 12) few)
+    (number_added _ (length bytes + 12) few) (four_added _ (start / 1000000000))
+    (four_added _ (start % 1000000000 / 1000)) (omega arith) bytes refl

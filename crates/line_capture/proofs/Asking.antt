@@ -1,12 +1,13 @@
--- Words that ask for no command.
-use Rattle.std.proofs.Common.{◌≡◌, ℕ, zero, suc, List, [], ◌∷◌, ap, sym, refl}
+-- Words that ask for no command, and words that ask for one.
+use Rattle.std.proofs.Common.{◌≡◌, ℕ, zero, suc, ◌≤◌, List, [], ◌∷◌, length, ap, refl, arith}
 use Rattle.std.specs.Prelude.{codes}
 use Rattle.line_stamps.specs.RateWords.{rate_word}
 use Rattle.line_stamps.specs.declared.rate.Rate.{Rate}
-use Rattle.line_stamps.specs.declared.timing.Spacing.{Spacing}
 use Rattle.line_stamps.specs.declared.timing.Spacing.TheVariants.{ByTime, ByRecord}
-use Rattle.line_capture.specs.Words.{IsCommand, take_form_word, ways_word, spacing_words}
+use Rattle.line_capture.specs.Words.{IsCommand, take_form_word, give_form_word, ways_word}
 use Rattle.line_capture.specs.declared.words.Command.{Command}
+use Rattle.line_capture.specs.declared.words.Command.TheVariants.{Take, Give}
+use Rattle.line_capture.specs.declared.words.GiveForm.{GiveForm}
 use Rattle.line_capture.specs.declared.words.TakeForm.{TakeForm}
 use Rattle.line_capture.specs.declared.words.Ways.{Ways}
 
@@ -20,43 +21,87 @@ abbrev pub NoTake : List ℕ → List ℕ → List ℕ → Type 0
 NoTake form rate ways = (f : TakeForm) (r : Rate) (w : Ways)
     → form ≡ take_form_word f → rate ≡ rate_word r → ways ≡ ways_word w → ⊥
 
-by_time : (verb form rate ways f r w : List ℕ) (spacing : Spacing)
-    → verb ∷ form ∷ rate ∷ ways ∷ [] ≡ codes "take" ∷ f ∷ r ∷ w ∷ spacing_words spacing
-    → (form ≡ f) × (rate ≡ r) × (ways ≡ w)
-by_time verb form rate ways f r w ByTime is =
-    (ap (word_at 1) is, ap (word_at 2) is, ap (word_at 3) is)
-by_time verb form rate ways f r w ByRecord is = cc
+-- ---- three words
 
-by_record : (verb form rate ways last f r w : List ℕ) (spacing : Spacing)
-    → verb ∷ form ∷ rate ∷ ways ∷ last ∷ [] ≡ codes "take" ∷ f ∷ r ∷ w ∷ spacing_words spacing
-    → (form ≡ f) × (rate ≡ r) × (ways ≡ w)
-by_record verb form rate ways last f r w ByTime is = cc
-by_record verb form rate ways last f r w ByRecord is =
-    (ap (word_at 1) is, ap (word_at 2) is, ap (word_at 3) is)
+module _ (verb form rate : List ℕ) where
+  pub three_verb : (verb ≡ codes "give" → ⊥) → (command : Command)
+      → IsCommand (verb ∷ form ∷ rate ∷ []) command → ⊥
+  three_verb other (Take f r w ByTime) is = cc
+  three_verb other (Take f r w ByRecord) is = cc
+  three_verb other (Give f r) is = other (ap (word_at 0) is)
 
-pub no_four : (verb form rate ways : List ℕ) → NoTake form rate ways → (command : Command)
-    → IsCommand (verb ∷ form ∷ rate ∷ ways ∷ []) command → ⊥
-no_four verb form rate ways none command is =
-    let h = by_time verb form rate ways (take_form_word command.form) (rate_word command.rate)
-    (ways_word command.ways) command.spacing is in
-    none command.form command.rate command.ways h.0 h.1 h.2
+  pub three_form : ((f : GiveForm) → form ≡ give_form_word f → ⊥) → (command : Command)
+      → IsCommand (verb ∷ form ∷ rate ∷ []) command → ⊥
+  three_form none (Take f r w ByTime) is = cc
+  three_form none (Take f r w ByRecord) is = cc
+  three_form none (Give f r) is = none f (ap (word_at 1) is)
 
-pub no_five : (verb form rate ways last : List ℕ) → NoTake form rate ways → (command : Command)
-    → IsCommand (verb ∷ form ∷ rate ∷ ways ∷ last ∷ []) command → ⊥
-no_five verb form rate ways last none command is =
-    let h = by_record verb form rate ways last (take_form_word command.form)
-    (rate_word command.rate) (ways_word command.ways) command.spacing is in
-    none command.form command.rate command.ways h.0 h.1 h.2
+  pub three_rate : ((r : Rate) → rate ≡ rate_word r → ⊥) → (command : Command)
+      → IsCommand (verb ∷ form ∷ rate ∷ []) command → ⊥
+  three_rate none (Take f r w ByTime) is = cc
+  three_rate none (Take f r w ByRecord) is = cc
+  three_rate none (Give f r) is = none r (ap (word_at 2) is)
 
--- words that ask for a command
-pub four_ask : (verb form rate ways : List ℕ) (command : Command) → verb ≡ codes "take"
-    → form ≡ take_form_word command.form → rate ≡ rate_word command.rate
-    → ways ≡ ways_word command.ways → command.spacing ≡ ByTime
-    → IsCommand (verb ∷ form ∷ rate ∷ ways ∷ []) command
-four_ask verb form rate ways command v f r w s = rw (v, f, r, w, s) refl
+  pub three_ask : (f : GiveForm) (r : Rate) → verb ≡ codes "give" → form ≡ give_form_word f
+      → rate ≡ rate_word r → IsCommand (verb ∷ form ∷ rate ∷ []) (Give f r)
+  three_ask f r v form_is rate_is = rw (v, form_is, rate_is) refl
 
-pub five_ask : (verb form rate ways last : List ℕ) (command : Command) → verb ≡ codes "take"
-    → form ≡ take_form_word command.form → rate ≡ rate_word command.rate
-    → ways ≡ ways_word command.ways → command.spacing ≡ ByRecord → last ≡ codes "frames"
-    → IsCommand (verb ∷ form ∷ rate ∷ ways ∷ last ∷ []) command
-five_ask verb form rate ways last command v f r w s l = rw (v, f, r, w, s, l) refl
+-- ---- four words
+
+module _ (verb form rate ways : List ℕ) where
+  pub four_verb : (verb ≡ codes "take" → ⊥) → (command : Command)
+      → IsCommand (verb ∷ form ∷ rate ∷ ways ∷ []) command → ⊥
+  four_verb other (Take f r w s) is = other (ap (word_at 0) is)
+  four_verb other (Give f r) is = cc
+
+  pub no_four : NoTake form rate ways → (command : Command)
+      → IsCommand (verb ∷ form ∷ rate ∷ ways ∷ []) command → ⊥
+  no_four none (Take f r w s) is =
+      none f r w (ap (word_at 1) is) (ap (word_at 2) is) (ap (word_at 3) is)
+  no_four none (Give f r) is = cc
+
+  pub four_ask : (f : TakeForm) (r : Rate) (w : Ways) → verb ≡ codes "take"
+      → form ≡ take_form_word f → rate ≡ rate_word r → ways ≡ ways_word w
+      → IsCommand (verb ∷ form ∷ rate ∷ ways ∷ []) (Take f r w ByTime)
+  four_ask f r w v form_is rate_is ways_are = rw (v, form_is, rate_is, ways_are) refl
+
+-- ---- five words
+
+module _ (verb form rate ways last : List ℕ) where
+  pub five_verb : (verb ≡ codes "take" → ⊥) → (command : Command)
+      → IsCommand (verb ∷ form ∷ rate ∷ ways ∷ last ∷ []) command → ⊥
+  five_verb other (Take f r w s) is = other (ap (word_at 0) is)
+  five_verb other (Give f r) is = cc
+
+  pub five_last : (last ≡ codes "frames" → ⊥) → (command : Command)
+      → IsCommand (verb ∷ form ∷ rate ∷ ways ∷ last ∷ []) command → ⊥
+  five_last other (Take f r w ByTime) is = cc
+  five_last other (Take f r w ByRecord) is = other (ap (word_at 4) is)
+  five_last other (Give f r) is = cc
+
+  pub no_five : NoTake form rate ways → (command : Command)
+      → IsCommand (verb ∷ form ∷ rate ∷ ways ∷ last ∷ []) command → ⊥
+  no_five none (Take f r w s) is =
+      none f r w (ap (word_at 1) is) (ap (word_at 2) is) (ap (word_at 3) is)
+  no_five none (Give f r) is = cc
+
+  pub five_ask : (f : TakeForm) (r : Rate) (w : Ways) → verb ≡ codes "take"
+      → form ≡ take_form_word f → rate ≡ rate_word r → ways ≡ ways_word w
+      → last ≡ codes "frames"
+      → IsCommand (verb ∷ form ∷ rate ∷ ways ∷ last ∷ []) (Take f r w ByRecord)
+  five_ask f r w v form_is rate_is ways_are last_is =
+      rw (v, form_is, rate_is, ways_are, last_is) refl
+
+-- ---- other numbers of words
+
+pub least_words : (words : List (List ℕ)) (command : Command) → IsCommand words command
+    → 3 ≤ length words
+least_words words (Take f r w ByTime) is = let n = ap length is in omega arith
+least_words words (Take f r w ByRecord) is = let n = ap length is in omega arith
+least_words words (Give f r) is = let n = ap length is in omega arith
+
+pub most_words : (words : List (List ℕ)) (command : Command) → IsCommand words command
+    → length words ≤ 5
+most_words words (Take f r w ByTime) is = let n = ap length is in omega arith
+most_words words (Take f r w ByRecord) is = let n = ap length is in omega arith
+most_words words (Give f r) is = let n = ap length is in omega arith

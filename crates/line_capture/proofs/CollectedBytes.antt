@@ -1,14 +1,14 @@
 -- A capture, collected byte by byte.
 use Rattle.std.proofs.Common.{◌≡◌, ◌∙◌, ℕ, ◌+◌, ◌<◌, List, [], ◌∷◌, ◌++◌, Bool, true, false, length, take, drop}
-use Rattle.std.proofs.Common.{get_or, suc, Option, Some, None, refl, sym, ap, subst, append-nil, arith}
-use Rattle.std.proofs.Common.{append_assoc, length-append, length-drop}
+use Rattle.std.proofs.Common.{get_or, suc, sym, ap, subst, append-nil, arith}
+use Rattle.std.proofs.Common.{append_assoc}
 use Rattle.std.proofs.Math.Seq.{drop-cons}
 use Rattle.std.proofs.lemmas.List.{take-append-drop, take_more, length-take}
 use Rattle.line_stamps.specs.declared.seen.Seen.{Seen}
-use Rattle.line_capture.specs.Captures.{HoldsItems, TakesItem, RefusesByte, EndsInError, EndsEarly}
-use Rattle.line_capture.specs.Captures.{IsTaken, IsRefused, Collects, EndsSo, TakesItems, is_error}
+use Rattle.line_capture.specs.Captures.{HoldsItems, TakesItem}
+use Rattle.line_capture.specs.Captures.{IsRefused, Collects, EndsSo, TakesItems, is_error}
 use Rattle.line_capture.specs.Captures.IsRefused.{at_byte, at_error, at_end}
-use Rattle.line_capture.specs.Collecting.{Collecting, RefusesNext, ErrorNext, StopsNext}
+use Rattle.line_capture.specs.Collecting.{Collecting, StopsNext}
 use Rattle.line_capture.specs.Collecting.StopsNext.{refused, in_error}
 use Rattle.line_capture.specs.declared.bad_capture.BadCapture.{BadCapture}
 use Rattle.line_capture.specs.declared.bad_capture.BadCapture.TheVariants.{ByteError}

@@ -1,15 +1,14 @@
 -- What is kept of items, with one item more.
-use Rattle.std.proofs.Common.{◌≡◌, ◌∙◌, ℕ, ◌+◌, ◌-◌, ◌^◌, ◌==◌, min, Bool, true, false, cond, List, []}
-use Rattle.std.proofs.Common.{◌∷◌, ◌++◌, Option, Some, None, refl, sym, ap, arith, append-nil}
-use Rattle.std.specs.List.{filter_map}
+use Rattle.std.proofs.Common.{◌≡◌, ◌∙◌, ℕ, ◌+◌, ◌-◌, ◌^◌, min, Bool, true, false, cond, List, []}
+use Rattle.std.proofs.Common.{◌∷◌, ◌++◌, Some, None, refl, sym, ap, arith, append-nil}
 use Rattle.std.proofs.lemmas.List.Elements.{filter_map-append}
 use Rattle.line_stamps.specs.declared.capture.CaptureByte.{CaptureByte}
 use Rattle.line_stamps.specs.declared.capture.Way.TheVariants as way
 use Rattle.line_stamps.specs.declared.seen.LineEvent.{LineEvent}
 use Rattle.line_stamps.specs.declared.seen.Seen.{Seen}
 use Rattle.line_stamps.specs.declared.seen.Seen.TheVariants.{Byte, Event}
-use Rattle.line_capture.specs.Captures.{takes, is_way, byte_of, way_bytes, is_error, is_break}
-use Rattle.line_capture.specs.Captures.{is_control_line, count_of, NoError, HoldsItems, TakesItem}
+use Rattle.line_capture.specs.Captures.{takes, byte_of, way_bytes, is_error, is_break}
+use Rattle.line_capture.specs.Captures.{is_control_line, count_of, NoError, TakesItem}
 use Rattle.line_capture.specs.declared.collect.Kept.{Kept}
 use Rattle.line_capture.specs.declared.words.Ways.{Ways}
 

@@ -6,3 +6,14 @@ pub mod Written
 pub mod RunEnds
 pub mod LineTexts
 pub mod ReadBytes
+pub mod RecordLists
+pub mod RecordBytes
+pub mod Gives
+pub mod SoundForms
+pub mod PlacedWhole
+pub mod Able
+pub mod RunAble
+pub mod GivenRecords
+pub mod GivenFiles
+pub mod TakenAgain
+pub mod LawOfGiven

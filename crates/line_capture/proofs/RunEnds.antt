@@ -1,5 +1,5 @@
 -- How runs of `take` end.
-use Rattle.std.proofs.Common.{◌≡◌, ◌∙◌, ℕ, ◌⊎◌, inl, inr, Bool, true, false, Option, Some, None, refl}
+use Rattle.std.proofs.Common.{◌≡◌, ◌∙◌, ℕ, ◌⊎◌, inl, inr, Bool, false, Option, refl}
 use Rattle.std.proofs.Common.{sym, ap, subst, List, min, ◌+◌, ◌-◌, ◌^◌, ◌≤◌, [], arith}
 use Rattle.std.specs.Io.KnownBytes.{append_known}
 use Rattle.yasir_io.specs.Output.{GotPrefix}
@@ -8,13 +8,18 @@ use Rattle.replay_status.specs.declared.status.Status.{Status}
 use Rattle.replay_status.specs.declared.status.Status.TheVariants as statuses
 use Rattle.replay_status.specs.Causes.{SinkCause}
 use Rattle.replay_status.specs.Statuses.{fault_line as status_line}
+use Rattle.replay_status.specs.Flushes.{FlushesAtEnd}
+use Rattle.replay_status.proofs.FlushLaws.{flushes_after}
 use Rattle.replay_status.proofs.Logging.{sinks_after}
+use Rattle.yasir_io.specs.Flushed.{NoneFlushed, IsNotFlushed}
+use Rattle.yasir_io.specs.declared.sink.Sink.{Ghosts as Sink}
 use Rattle.line_capture.specs.Formats.{Format}
+use Rattle.line_capture.specs.Inputs.{Told}
 use Rattle.line_capture.specs.Outcomes.{status_in}
 use Rattle.line_capture.specs.Placed.{CountsOverlaps}
-use Rattle.line_capture.specs.Takes.{Held, held, stop_outcome, line_outcome, read_outcome, or_else}
-use Rattle.line_capture.specs.Takes.{outcome_of, WritesAll, WritesPart, WritesTaken, TakesFile}
-use Rattle.line_capture.specs.Takes.{TakesRead, TakesInput, Takes, HasNoMemory, is_write_fault}
+use Rattle.line_capture.specs.Takes.{Held, stop_outcome, read_outcome, or_else}
+use Rattle.line_capture.specs.Takes.{outcome_of, WritesTaken}
+use Rattle.line_capture.specs.Takes.{TakesRead, Takes, is_write_fault}
 use Rattle.line_capture.specs.Captures.{Collects}
 use Rattle.line_capture.specs.Takes.{HasOutcome, timing_for, counts_line, WrittenLines, WrittenFront}
 use Rattle.line_capture.specs.Takes.{is_whole}
@@ -107,6 +112,30 @@ causes_after out0 out1 log0 log1 log2 (BadCapture bad) h rises alike =
     (h.0, omega (arith, h.1, rises))
 causes_after out0 out1 log0 log1 log2 (outcomes.Unplaced w place why) h rises alike =
     (h.0, omega (arith, h.1, rises))
+
+-- ---- flushes
+
+-- Done and WriteFault have no fault line, and the one of any other outcome isn't flushed.
+pub flushes_with_line : {O L : Type 0} (o : Sink O) (l : Sink L) (out0 out1 : O) (log0 log1 log2 : L)
+    (outcome : Outcome) → FlushesAtEnd o l out0 out1 log0 log1 (status_in outcome)
+    → ((status : Status) → outcome ≡ Ended status → status_line status ≡ [] → log2 ≡ log1)
+    → IsNotFlushed l log1 log2 → FlushesAtEnd o l out0 out1 log0 log2 (status_in outcome)
+flushes_with_line o l out0 out1 log0 log1 log2 (Ended status) h alike none =
+    flushes_after o l out0 out1 log0 log1 log2 status h (alike status refl) none
+flushes_with_line o l out0 out1 log0 log1 log2 (BadCapture bad) h alike none =
+    record { out = h.out; log = none ∙ h.log }
+flushes_with_line o l out0 out1 log0 log1 log2 (outcomes.Unplaced w place why) h alike none =
+    record { out = h.out; log = none ∙ h.log }
+
+-- An outcome without a flush is any but Done.
+pub none_at_end : {O L : Type 0} (o : Sink O) (l : Sink L) (out0 out1 : O) (log0 log1 : L)
+    (outcome : Outcome) → (outcome ≡ Ended statuses.Done → ⊥)
+    → NoneFlushed o l out0 out1 log0 log1 → FlushesAtEnd o l out0 out1 log0 log1 (status_in outcome)
+none_at_end o l out0 out1 log0 log1 (Ended statuses.Done) other none = absurd (other refl)
+none_at_end o l out0 out1 log0 log1 (Ended statuses.WriteFault) other none = inl none
+none_at_end o l out0 out1 log0 log1 (Ended status) other none = none
+none_at_end o l out0 out1 log0 log1 (BadCapture bad) other none = none
+none_at_end o l out0 out1 log0 log1 (outcomes.Unplaced w place why) other none = none
 
 module _ (taking : Taking) (k : Kept) (read : ReadEnd) (end : CaptureEnd) (before now : Held)
     (a b : LineEnd)
@@ -216,7 +245,7 @@ module _ (format : Format) (taking : Taking) (file : List ℕ) (before now : Hel
   read_fault_is read outcome (kept takes) is =
       taken_fault takes.kept read takes.end outcome takes.writes is
 
-pub take_usage : (format : Format) (taking : Taking) (in_before in_now : Option (List ℕ))
+pub take_usage : (format : Format) (taking : Taking) (in_before in_now : Told)
     (before now : Held) (outcome : Outcome) → Takes format taking in_before in_now before now outcome
     → outcome ≡ Ended statuses.Usage → ⊥
 take_usage format taking in_before in_now before now outcome (no_room none) is =

@@ -8,6 +8,8 @@ use Rattle.capture_text.specs.Reader.{IsSeenText, Refuses}
 use Rattle.line_stamps.specs.declared.seen.Seen.{Seen}
 use Rattle.line_capture.specs.declared.bad_capture.BadCapture.{BadCapture}
 use Rattle.line_capture.specs.declared.bad_capture.BadCapture.TheVariants.{Text, Pcap, ByteError}
+use Rattle.line_capture.specs.declared.words.TakeForm.{TakeForm}
+use Rattle.line_capture.specs.declared.words.TakeForm.TheVariants as take_forms
 
 -- A form of captures.
 pub record Format : Type 1 where
@@ -70,3 +72,7 @@ pcap_format = record {
   lacks = LacksPcap;
   begins = HaveFirst IsCapture;
 }
+
+abbrev pub format_of : TakeForm → Format
+format_of take_forms.Pcap = pcap_format
+format_of take_forms.Text = text_format

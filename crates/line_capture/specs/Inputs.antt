@@ -24,3 +24,16 @@ abbrev pub IsReadOf : ℕ → ℕ → ReadEnd → Type 0
 IsReadOf before now Failed = Rose before now
 IsReadOf before now Whole = now ≡ before
 IsReadOf before now TooLong = now ≡ before
+
+-- What an input has left, and how often a read of it has failed.
+pub record Told : Type 0 where
+  pub left : Option (List ℕ)
+  pub faults : ℕ
+
+abbrev pub told : Option (List ℕ) → ℕ → Told
+told left faults = record { left = left; faults = faults }
+
+-- These bytes were read of an input, and its reading ended so, for its cause.
+pub record IsRead (before now : Told) (bytes : List ℕ) (end : ReadEnd) : Type 0 where
+  pub reads : ReadsInput before.left now.left bytes end
+  pub cause : IsReadOf before.faults now.faults end

@@ -5,5 +5,10 @@ pub mod Inputs
 pub mod Placed
 pub mod Outcomes
 pub mod Takes
+pub mod Records
+pub mod RecordWalk
+pub mod Gives
+pub mod Able
+pub mod TakenAgain
 pub mod Programs
 pub mod Collecting

@@ -1,6 +1,5 @@
 -- The exit status and the fault line of each outcome.
-use Rattle.std.specs.Prelude.{◌≡◌, ℕ, List, [], ◌++◌, codes, decimal, Option}
-use Rattle.line_stamps.specs.declared.capture.Way.{Way}
+use Rattle.std.specs.Prelude.{ℕ, List, ◌++◌, codes, decimal, Option}
 use Rattle.line_stamps.specs.declared.capture.Way.TheVariants.{A, B}
 use Rattle.line_stamps.specs.declared.placer.Unplaced.{Unplaced}
 use Rattle.line_stamps.specs.declared.placer.Unplaced.TheVariants.{Early, Overlap, Late}

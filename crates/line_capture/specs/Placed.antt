@@ -1,6 +1,6 @@
 -- The line of one way of a capture, as it is written.
 use Rattle.std.specs.Prelude.{◌≡◌, ℕ, ◌<◌, ◌≤◌, ◌-◌, ◌^◌, min, List, [], ◌∷◌, ◌++◌, length, Option}
-use Rattle.std.specs.Prelude.{Result, Ok, Err, OnOk, OnErr, ◌⊎◌, Some, None, Bool, true, false}
+use Rattle.std.specs.Prelude.{Result, Ok, Err, OnOk, OnErr, ◌⊎◌, None, Bool, true, false}
 use Rattle.std.specs.Io.KnownBytes.{append_known}
 use Rattle.yasir_io.specs.Output.{GotPrefix}
 use Rattle.yasir_io.specs.declared.Failed.{Failed}
@@ -9,7 +9,7 @@ use Rattle.yasir_ticks.specs.CanonicalText.{canonical_text}
 use Rattle.yasir_ticks.specs.declared.tick.Tick.{Tick}
 use Rattle.tick_drive.specs.Input.{max_ticks}
 use Rattle.line_texts.specs.Sending.{LineAndNotes, SinkTexts, SendsTexts, HasSentFronts}
-use Rattle.line_texts.specs.Texts.{Writing, writing, waiting_in, texts_held, Writes}
+use Rattle.line_texts.specs.Texts.{Writing, waiting_in, texts_held, Writes}
 use Rattle.line_stamps.specs.declared.capture.CaptureByte.{CaptureByte}
 use Rattle.line_stamps.specs.declared.placer.Placer.{Placer}
 use Rattle.line_stamps.specs.declared.placer.Unplaced.TheVariants.{Early, Late}

@@ -4,20 +4,19 @@ use Rattle.yasir_io.specs.Causes.{Rose}
 use Rattle.yasir_io.specs.declared.source.Source.{Ghosts as Source}
 use Rattle.yasir_io.specs.declared.sink.Sink.{Ghosts as Sink}
 use Rattle.replay_status.specs.Causes.{SinkCause}
+use Rattle.replay_status.specs.Flushes.{FlushesAtEnd}
 use Rattle.replay_status.specs.declared.status.Status.TheVariants as statuses
-use Rattle.line_capture.specs.Formats.{Format, text_format, pcap_format}
+use Rattle.line_capture.specs.Formats.{format_of}
+use Rattle.line_capture.specs.Gives.{Gives}
+use Rattle.line_capture.specs.Able.{MayDo, EndsWell}
+use Rattle.line_capture.specs.Inputs.{told}
 use Rattle.line_capture.specs.Outcomes.{LogsOutcome, status_in}
 use Rattle.line_capture.specs.Takes.{Takes, held}
 use Rattle.line_capture.specs.Words.{Asks}
 use Rattle.line_capture.specs.declared.outcome.Outcome.{Outcome}
 use Rattle.line_capture.specs.declared.outcome.Outcome.TheVariants.{Ended}
 use Rattle.line_capture.specs.declared.words.Command.{Command}
-use Rattle.line_capture.specs.declared.words.TakeForm.{TakeForm}
-use Rattle.line_capture.specs.declared.words.TakeForm.TheVariants.{Pcap, Text}
-
-abbrev pub format_of : TakeForm → Format
-format_of Pcap = pcap_format
-format_of Text = text_format
+use Rattle.line_capture.specs.declared.words.Command.TheVariants.{Take, Give}
 
 -- What a run is handed: its input, and the two sinks.
 pub record Outside (S O L : Type 0) : Type 0 where
@@ -32,10 +31,15 @@ module _ {S O L : Type 0} (s : Source S) (o : Sink O) (l : Sink L) where
   -- What is done before the fault line: nothing at all where the words ask for no command.
   abbrev pub Does : Option Command → Outside S O L → Outside S O L → Outcome → Type 0
   Does None before after outcome = (outcome ≡ Ended statuses.Usage) × (after ≡ before)
-  Does (Some command) before after outcome =
-      Takes (format_of command.form)
-      (record { rate = command.rate; ways = command.ways; spacing = command.spacing })
-      (s.left before.input) (s.left after.input)
+  Does (Some (Take form rate ways spacing)) before after outcome =
+      Takes (format_of form) (record { rate = rate; ways = ways; spacing = spacing })
+      (told (s.left before.input) (s.faults before.input))
+      (told (s.left after.input) (s.faults after.input))
+      (held (o.held before.out) (l.held before.log)) (held (o.held after.out) (l.held after.log))
+      outcome
+  Does (Some (Give form rate)) before after outcome =
+      Gives form rate (told (s.left before.input) (s.faults before.input))
+      (told (s.left after.input) (s.faults after.input))
       (held (o.held before.out) (l.held before.log)) (held (o.held after.out) (l.held after.log))
       outcome
 
@@ -46,6 +50,12 @@ module _ {S O L : Type 0} (s : Source S) (o : Sink O) (l : Sink L) where
     pub asks : Asks words asked
     pub does : Does asked before after outcome
 
+  -- No read, write or flush failed.
+  pub record IsCalm (before after : Outside S O L) : Type 0 where
+    pub input : ¬ Rose (s.faults before.input) (s.faults after.input)
+    pub out : ¬ Rose (o.faults before.out) (o.faults after.out)
+    pub log : ¬ Rose (l.faults before.log) (l.faults after.log)
+
   -- The same, and then the fault line in the log, where the outcome has one.
   pub record Runs (words : List (List ℕ)) (before after : Outside S O L) (outcome : Outcome)
       : Type 0 where
@@ -54,11 +64,15 @@ module _ {S O L : Type 0} (s : Source S) (o : Sink O) (l : Sink L) where
     pub answers : Answers words before (record after { log = noted }) outcome
     pub logs : LogsOutcome (l.held noted) (l.held after.log) (l.faults noted) (l.faults after.log)
         outcome
+    -- what is right is done, unless something fails outside or there is no memory
+    pub able : MayDo answers.asked (s.left before.input) → IsCalm before after → EndsWell outcome
 
-  -- What an outcome says of the counts of faults.
+  -- What an outcome says of the counts of faults, and of flushes: on the way to Done `out` is
+  -- flushed and then the log, each once, behind all that was written to it.
   pub record RunCauses (before after : Outside S O L) (outcome : Outcome) : Type 0 where
     pub read_failed : outcome ≡ Ended statuses.ReadFault
         → Rose (s.faults before.input) (s.faults after.input)
     pub input_never_falls : s.faults before.input ≤ s.faults after.input
     pub sinks : SinkCause (o.faults before.out) (o.faults after.out)
         (l.faults before.log) (l.faults after.log) (status_in outcome)
+    pub flushes : FlushesAtEnd o l before.out after.out before.log after.log (status_in outcome)

@@ -16,8 +16,8 @@ use Rattle.line_stamps.specs.Places.{line_of}
 use Rattle.replay_status.specs.declared.status.Status.TheVariants as statuses
 use Rattle.line_capture.specs.Captures.{Collects}
 use Rattle.line_capture.specs.Formats.{Format}
-use Rattle.line_capture.specs.Inputs.{ReadsInput}
-use Rattle.line_capture.specs.Placed.{IsFront, StopsAt, CountsOverlaps, WrittenLine}
+use Rattle.line_capture.specs.Inputs.{Told, IsRead}
+use Rattle.line_capture.specs.Placed.{IsFront, StopsAt, CountsOverlaps}
 use Rattle.line_capture.specs.declared.bad_capture.BadCapture.TheVariants.{ByteError}
 use Rattle.line_capture.specs.declared.collect.CaptureEnd.{CaptureEnd}
 use Rattle.line_capture.specs.declared.collect.CaptureEnd.TheVariants as ends
@@ -216,14 +216,14 @@ pub data TakesRead (format : Format) (taking : Taking) (read : ReadEnd) (file : 
 -- ---- an input
 
 -- What was read of the input was taken.
-pub record TakesInput (format : Format) (taking : Taking) (in_before in_now : Option (List ℕ))
+pub record TakesInput (format : Format) (taking : Taking) (in_before in_now : Told)
     (before now : Held) (outcome : Outcome) : Type 0 where
   pub read : ReadEnd
   pub file : List ℕ
-  pub reads : ReadsInput in_before in_now file read
+  pub reads : IsRead in_before in_now file read
   pub takes : TakesRead format taking read file before now outcome
 
-pub data Takes (format : Format) (taking : Taking) (in_before in_now : Option (List ℕ))
+pub data Takes (format : Format) (taking : Taking) (in_before in_now : Told)
     (before now : Held) (outcome : Outcome) : Type 0 where
   no_memory : HasNoMemory before now outcome
       → Takes format taking in_before in_now before now outcome

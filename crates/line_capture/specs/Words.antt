@@ -4,6 +4,9 @@ use Rattle.line_stamps.specs.RateWords.{rate_word}
 use Rattle.line_stamps.specs.declared.timing.Spacing.{Spacing}
 use Rattle.line_stamps.specs.declared.timing.Spacing.TheVariants.{ByTime, ByRecord}
 use Rattle.line_capture.specs.declared.words.Command.{Command}
+use Rattle.line_capture.specs.declared.words.Command.TheVariants.{Take, Give}
+use Rattle.line_capture.specs.declared.words.GiveForm.{GiveForm}
+use Rattle.line_capture.specs.declared.words.GiveForm.TheVariants as give_forms
 use Rattle.line_capture.specs.declared.words.TakeForm.{TakeForm}
 use Rattle.line_capture.specs.declared.words.TakeForm.TheVariants as take_forms
 use Rattle.line_capture.specs.declared.words.Ways.{Ways}
@@ -12,6 +15,10 @@ use Rattle.line_capture.specs.declared.words.Ways.TheVariants.{A, B, Both}
 abbrev pub take_form_word : TakeForm → List ℕ
 take_form_word take_forms.Pcap = codes "pcap"
 take_form_word take_forms.Text = codes "text"
+
+abbrev pub give_form_word : GiveForm → List ℕ
+give_form_word give_forms.Pcap = codes "pcap"
+give_form_word give_forms.Text = codes "text"
 
 abbrev pub ways_word : Ways → List ℕ
 ways_word A = codes "a"
@@ -25,8 +32,10 @@ spacing_words ByRecord = codes "frames" ∷ []
 
 -- These words ask for the command.
 abbrev pub IsCommand : List (List ℕ) → Command → Type 0
-IsCommand words command = words ≡ codes "take" ∷ take_form_word command.form
-    ∷ rate_word command.rate ∷ ways_word command.ways ∷ spacing_words command.spacing
+IsCommand words (Take form rate ways spacing) = words ≡ codes "take" ∷ take_form_word form
+    ∷ rate_word rate ∷ ways_word ways ∷ spacing_words spacing
+IsCommand words (Give form rate) =
+    words ≡ codes "give" ∷ give_form_word form ∷ rate_word rate ∷ []
 
 -- what the words ask for: a command, or none where they fit no command
 abbrev pub Asks : List (List ℕ) → Option Command → Type 0

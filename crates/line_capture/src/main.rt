@@ -1,13 +1,16 @@
-//! `line_capture`: turns captures of a serial line into tick text.
+//! `line_capture`: turns captures of a serial line into tick text, and tick text into captures.
 #![tactic(auto)]
 
 mod bad_capture;
 mod collect;
+mod give;
 mod input;
+mod laws;
 mod outcome;
 mod placing;
 mod program;
 mod reader;
+mod records;
 mod take;
 #[cfg(test)]
 mod tests;
@@ -15,14 +18,17 @@ mod words;
 
 pub use bad_capture::BadCapture;
 pub use collect::{CaptureEnd, Collected, Kept, collect};
+pub use give::{Giving, give};
 pub use input::{Input, MAX_INPUT_BYTES, ReadEnd, read_input};
+pub use laws::what_was_given_is_taken;
 pub use outcome::{Outcome, log_outcome};
 pub use placing::{LineEnd, LineStop, MAX_LINE_TICKS, count_overlaps, write_line};
 pub use program::{run, words_after_name};
 pub use reader::FormReader;
+pub use records::{MAX_RECORD_BYTES, RecordForm, recorded};
 use std::process::ExitCode;
 pub use take::{Taking, take};
-pub use words::{Command, TakeForm, Usage, Ways, read_words};
+pub use words::{Command, GiveForm, TakeForm, Usage, Ways, read_words};
 use yasir_io::{StderrSink, StdinSource, StdoutSink};
 
 /// The exit status of a run that was given no words by its runtime: nothing is done.

@@ -121,7 +121,7 @@ pub fn log_outcome<L: Sink>(log: &mut L, outcome: &Outcome)
     ensures never_falls { L.faults log.old ≤ L.faults log.new }
     ensures flushes { L.flushes log.new ≡ L.flushes log.old }
     ensures same { (status : Status) → outcome.now ≡ Outcome.Ended status → status_line status ≡ []
-        → L.faults log.new ≡ L.faults log.old }
+        → log.new ≡ log.old }
 {
     let line = match outcome {
         Outcome::Ended(status) => {

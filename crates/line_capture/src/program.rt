@@ -4,16 +4,20 @@ ghost use Rattle.std.specs.Vec.Iter.{into_iter_items};
 ghost use Rattle.std.specs.String.{string_bytes};
 ghost use Rattle.yasir_io.specs.Causes.{Rose};
 ghost use Rattle.replay_status.specs.Causes.{SinkCause};
+ghost use Rattle.replay_status.specs.Flushes.{FlushesAtEnd};
 ghost use Rattle.replay_status.specs.declared.status.Status.{Status};
-ghost use Rattle.line_capture.specs.Programs.{outside, Runs, Answers, RunCauses, format_of};
+ghost use Rattle.line_capture.specs.Formats.{format_of};
+ghost use Rattle.line_capture.specs.Programs.{outside, Runs, Answers, RunCauses};
 ghost use Rattle.line_capture.specs.Outcomes.{status_in};
+ghost use Rattle.line_capture.specs.Inputs.{told};
 ghost use Rattle.line_capture.specs.Takes.{Takes, held};
 ghost use Rattle.line_capture.specs.Words.{Asks};
 ghost use Rattle.line_capture.specs.declared.outcome.Outcome.{Outcome};
 
+use crate::give::{Giving, give};
 use crate::outcome::{Outcome, log_outcome};
 use crate::take::{Taking, take};
-use crate::words::{TakeForm, Usage, read_words};
+use crate::words::{Command, TakeForm, Usage, read_words};
 use capture_pcap::PcapReader;
 use capture_text::TextReader;
 use replay_status::Status;
@@ -37,10 +41,12 @@ fn take_form<S: Source, O: Sink, L: Sink>(
     out: &mut O,
     log: &mut L,
 ) -> Outcome
-    ensures takes { Takes (format_of form) taking (S.left input.old) (S.left input.new)
+    ensures takes { Takes (format_of form) taking (told (S.left input.old) (S.faults input.old))
+        (told (S.left input.new) (S.faults input.new))
         (held (O.held out.old) (L.held log.old)) (held (O.held out.new) (L.held log.new)) result }
     ensures sinks { SinkCause (O.faults out.old) (O.faults out.new) (L.faults log.old)
         (L.faults log.new) (status_in result) }
+    ensures flushes { FlushesAtEnd O.Sink L.Sink out.old out.new log.old log.new (status_in result) }
     ensures input { S.faults input.old ≤ S.faults input.new }
     ensures read_failed { result ≡ Outcome.Ended Status.ReadFault
         → Rose (S.faults input.old) (S.faults input.new) }
@@ -65,6 +71,7 @@ fn answer<S: Source, O: Sink, L: Sink>(
         (outside input.old out.old log.old) (outside input.new out.new log.new) result }
     ensures sinks { SinkCause (O.faults out.old) (O.faults out.new) (L.faults log.old)
         (L.faults log.new) (status_in result) }
+    ensures flushes { FlushesAtEnd O.Sink L.Sink out.old out.new log.old log.new (status_in result) }
     ensures input { S.faults input.old ≤ S.faults input.new }
     ensures read_failed { result ≡ Outcome.Ended Status.ReadFault
         → Rose (S.faults input.old) (S.faults input.new) }
@@ -73,12 +80,22 @@ fn answer<S: Source, O: Sink, L: Sink>(
         Ok(command) => command,
         Err(Usage) => return Outcome::Ended(Status::Usage),
     };
-    let taking = Taking {
-        rate: command.rate,
-        ways: command.ways,
-        spacing: command.spacing,
-    };
-    take_form(alloc, command.form, taking, input, out, log)
+    match command {
+        Command::Take {
+            form,
+            rate,
+            ways,
+            spacing,
+        } => {
+            let taking = Taking {
+                rate,
+                ways,
+                spacing,
+            };
+            take_form(alloc, form, taking, input, out, log)
+        }
+        Command::Give { form, rate } => give(alloc, Giving { form, rate }, input, out, log),
+    }
 }
 
 /// The program: reads its words, those after the program's name, and does what they ask for. Behind
@@ -94,12 +111,12 @@ pub fn run<S: Source, O: Sink, L: Sink>(
     ensures usage { (result ≡ Outcome.Ended Status.Usage)
         ↔ Asks (map string_bytes words.now) None }
 
-    // What was read and written, and the fault line behind it.
+    // What was read and written, and the fault line behind it. What is right is done.
     ensures runs { Runs S.Source O.Sink L.Sink (map string_bytes words.now)
         (outside input.old out.old log.old) (outside input.new out.new log.new) result }
 
     // A fault of reading or writing comes only where a count of faults rose. Where the run is done
-    // no write has failed.
+    // no write has failed, and `out` was flushed and then the log.
     ensures causes { RunCauses S.Source O.Sink L.Sink (outside input.old out.old log.old)
         (outside input.new out.new log.new) result }
 {

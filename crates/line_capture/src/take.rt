@@ -7,7 +7,9 @@ ghost use Rattle.yasir_io.specs.Flushed.{NoneFlushed};
 ghost use Rattle.line_texts.specs.Sending.{HaveCause};
 ghost use Rattle.tick_drive.specs.Input.{max_bytes};
 ghost use Rattle.replay_status.specs.Causes.{SinkCause};
+ghost use Rattle.replay_status.specs.Flushes.{FlushesAtEnd};
 ghost use Rattle.replay_status.specs.declared.status.Status.{Status};
+ghost use Rattle.line_capture.specs.Inputs.{told};
 ghost use Rattle.line_capture.specs.Outcomes.{status_in};
 ghost use Rattle.line_capture.specs.Takes.{WritesLines, origin_of, line_outcome, read_outcome};
 ghost use Rattle.line_capture.specs.Takes.{outcome_of, counts_line, held, WritesTaken, TakesRead};
@@ -124,8 +126,8 @@ fn line_outcome(way: Way, end: LineEnd) -> Option<Outcome>
     }
 }
 
-// How a run ends of which all that was read was taken.
-fn read_outcome(read: ReadEnd) -> Outcome
+/// How a run ends of which all that was read was taken.
+pub fn read_outcome(read: ReadEnd) -> Outcome
     ensures { result ≡ read_outcome read }
 {
     match read {
@@ -183,6 +185,7 @@ fn end_run<O: Sink, L: Sink>(outcome: Outcome, out: &mut O, log: &mut L) -> Outc
     ensures log { L.held log.new ≡ L.held log.old }
     ensures sinks { SinkCause (O.faults out.old) (O.faults out.new) (L.faults log.old)
         (L.faults log.new) (status_in result) }
+    ensures flushes { FlushesAtEnd O.Sink L.Sink out.old out.new log.old log.new (status_in result) }
 {
     match outcome {
         Outcome::Ended(Status::Done) => Outcome::Ended(flush_both(out, log)),
@@ -202,6 +205,7 @@ fn write_taken<O: Sink, L: Sink>(
         (held (O.held out.old) (L.held log.old)) (held (O.held out.new) (L.held log.new)) result }
     ensures sinks { SinkCause (O.faults out.old) (O.faults out.new) (L.faults log.old)
         (L.faults log.new) (status_in result) }
+    ensures flushes { FlushesAtEnd O.Sink L.Sink out.old out.new log.old log.new (status_in result) }
 {
     let kept = &collected.kept;
     let timing = timing_for(taking, kept);
@@ -246,6 +250,7 @@ fn take_read<F: FormReader, O: Sink, L: Sink>(
         (held (O.held out.old) (L.held log.old)) (held (O.held out.new) (L.held log.new)) result }
     ensures sinks { SinkCause (O.faults out.old) (O.faults out.new) (L.faults log.old)
         (L.faults log.new) (status_in result) }
+    ensures flushes { FlushesAtEnd O.Sink L.Sink out.old out.new log.old log.new (status_in result) }
 {
     let whole = is_whole(read.end);
     let file = read.bytes.as_slice();
@@ -267,10 +272,12 @@ pub fn take<F: FormReader, S: Source, O: Sink, L: Sink>(
     out: &mut O,
     log: &mut L,
 ) -> Outcome
-    ensures takes { Takes F.format taking (S.left input.old) (S.left input.new)
+    ensures takes { Takes F.format taking (told (S.left input.old) (S.faults input.old))
+        (told (S.left input.new) (S.faults input.new))
         (held (O.held out.old) (L.held log.old)) (held (O.held out.new) (L.held log.new)) result }
     ensures sinks { SinkCause (O.faults out.old) (O.faults out.new) (L.faults log.old)
         (L.faults log.new) (status_in result) }
+    ensures flushes { FlushesAtEnd O.Sink L.Sink out.old out.new log.old log.new (status_in result) }
     ensures input { S.faults input.old ≤ S.faults input.new }
     ensures read_failed { result ≡ Outcome.Ended Status.ReadFault
         → Rose (S.faults input.old) (S.faults input.new) }

@@ -176,6 +176,31 @@ fn calls_that_fail(rt: HostRuntime) -> Result<(), Fail> {
     Ok(())
 }
 
+/// `examples/captures/modbus.ticks` at 9,600 baud and 11 bits: a run of bytes, and its start in
+/// nanoseconds by `scripts/capture_model.py`.
+#[test]
+fn tick_text_is_given_as_text(rt: HostRuntime) -> Result<(), Fail> {
+    let alloc = rt.alloc();
+    let ran = run_words(alloc, "give text 9600x11", POLL_TICKS, 0, 0)?;
+    let text = b"0.000000000 01030000000ac5cd\n0.114583333 0103000a0002e409\n";
+    ended(&rt, &ran, DONE, text, b"");
+    let ran = run_words(alloc, "give text 9600x11", BOTH_TICKS, 0, 0)?;
+    assert_eq!(rt; ran.outcome.exit_status(), 4);
+    assert_eq!(rt; ran.out.held(), b"".as_slice());
+    assert_eq!(rt; ran.log.held(), b"fault: line 4 char\n".as_slice());
+    Ok(())
+}
+
+#[test]
+fn tick_text_is_given_as_packets(rt: HostRuntime) -> Result<(), Fail> {
+    let alloc = rt.alloc();
+    let ran = run_words(alloc, "give pcap 9600x11", BOTH_TICKS, 0, 0)?;
+    assert_eq!(rt; ran.outcome, DONE);
+    let ran = run_words(alloc, "take pcap 9600x11 both", ran.out.held(), 0, 0)?;
+    ended(&rt, &ran, DONE, BOTH_TICKS, NO_COUNTS);
+    Ok(())
+}
+
 #[test]
 fn other_words_are_usage(rt: HostRuntime) -> Result<(), Fail> {
     let alloc = rt.alloc();
@@ -187,6 +212,9 @@ fn other_words_are_usage(rt: HostRuntime) -> Result<(), Fail> {
         "take text 9600x9 a",
         "take text 9600x11 a frame",
         "give text 9600x11 a",
+        "give pcap",
+        "give logic2 9600x11",
+        "give pcap 9600x12",
     ] {
         let ran = run_words(alloc, words, POLLS, 0, 0)?;
         ended(

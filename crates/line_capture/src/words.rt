@@ -6,9 +6,10 @@ ghost use Rattle.line_stamps.specs.declared.rate.Rate.{Rate};
 ghost use Rattle.line_stamps.specs.declared.timing.Spacing.{Spacing};
 ghost use Rattle.line_stamps.specs.declared.timing.Spacing.TheVariants.{ByTime, ByRecord};
 ghost use Rattle.line_capture.specs.declared.words.Command.{Command};
+ghost use Rattle.line_capture.specs.declared.words.GiveForm.{GiveForm};
 ghost use Rattle.line_capture.specs.declared.words.TakeForm.{TakeForm};
 ghost use Rattle.line_capture.specs.declared.words.Ways.{Ways};
-ghost use Rattle.line_capture.specs.Words.{IsCommand, take_form_word, ways_word};
+ghost use Rattle.line_capture.specs.Words.{IsCommand, take_form_word, give_form_word, ways_word};
 
 use line_stamps::{Rate, Spacing};
 
@@ -21,6 +22,15 @@ pub enum TakeForm {
     Text,
 }
 
+/// The form of a capture that is written.
+#[derive(Clone, Copy, Debug, PartialEq, Eq)]
+pub enum GiveForm {
+    /// A pcap file of link type 250 (RTAC serial), with times in nanoseconds.
+    Pcap,
+    /// Lines of a time in seconds and the bytes of a record in hex digits, of one way.
+    Text,
+}
+
 /// Which ways of a line are taken.
 #[derive(Clone, Copy, Debug, PartialEq, Eq)]
 pub enum Ways {
@@ -30,13 +40,21 @@ pub enum Ways {
     Both,
 }
 
-/// What the program is asked to do: to read a capture and write tick text.
-#[derive(Clone, Copy)]
-pub struct Command {
-    pub form: TakeForm,
-    pub rate: Rate,
-    pub ways: Ways,
-    pub spacing: Spacing,
+/// What the program is asked to do.
+#[derive(Clone, Copy, Debug, PartialEq, Eq)]
+pub enum Command {
+    /// To read a capture and write tick text.
+    Take {
+        form: TakeForm,
+        rate: Rate,
+        ways: Ways,
+        spacing: Spacing,
+    },
+    /// To read tick text and write a capture.
+    Give {
+        form: GiveForm,
+        rate: Rate,
+    },
 }
 
 /// The words name no command.
@@ -51,6 +69,18 @@ fn read_take_form(word: &str) -> Result<TakeForm, Usage>
     match word {
         "pcap" => Ok(TakeForm::Pcap),
         "text" => Ok(TakeForm::Text),
+        _ => Err(Usage),
+    }
+}
+
+// The form to give that a word names.
+fn read_give_form(word: &str) -> Result<GiveForm, Usage>
+    ensures ok { IfOk result (λ form. word.now ≡ give_form_word form) }
+    ensures usage { OnErr result ((form : GiveForm) → word.now ≡ give_form_word form → ⊥) }
+{
+    match word {
+        "pcap" => Ok(GiveForm::Pcap),
+        "text" => Ok(GiveForm::Text),
         _ => Err(Usage),
     }
 }
@@ -79,24 +109,38 @@ fn read_rate(word: &str) -> Result<Rate, Usage>
     }
 }
 
-// The command of the word `take`, three words, and a spacing.
-fn read_take(form: &str, rate: &str, ways: &str, spacing: Spacing) -> Result<Command, Usage>
-    ensures form { IfOk result (λ command. form.now ≡ take_form_word command.form) }
-    ensures rate { IfOk result (λ command. rate.now ≡ rate_word command.rate) }
-    ensures ways { IfOk result (λ command. ways.now ≡ ways_word command.ways) }
-    ensures spacing { IfOk result (λ command. command.spacing ≡ spacing) }
+// What three words behind `take` name.
+fn read_taken(form: &str, rate: &str, ways: &str) -> Result<(TakeForm, Rate, Ways), Usage>
+    ensures form { IfOk result (λ taken. form.now ≡ take_form_word taken.0) }
+    ensures rate { IfOk result (λ taken. rate.now ≡ rate_word taken.1) }
+    ensures ways { IfOk result (λ taken. ways.now ≡ ways_word taken.2) }
     ensures usage { OnErr result ((f : TakeForm) (r : Rate) (w : Ways)
         → form.now ≡ take_form_word f → rate.now ≡ rate_word r → ways.now ≡ ways_word w → ⊥) }
 {
     let form = read_take_form(form)?;
     let rate = read_rate(rate)?;
     let ways = read_ways(ways)?;
-    Ok(Command {
-        form,
-        rate,
-        ways,
-        spacing,
-    })
+    Ok((form, rate, ways))
+}
+
+// The command of three words.
+fn read_three(verb: &str, form: &str, rate: &str) -> Result<Command, Usage>
+    ensures ok { IfOk result (λ command.
+        IsCommand (verb.now ∷ form.now ∷ rate.now ∷ []) command) }
+    ensures usage { OnErr result ((command : Command)
+        → IsCommand (verb.now ∷ form.now ∷ rate.now ∷ []) command → ⊥) }
+{
+    if verb != "give" {
+        return Err(Usage);
+    }
+    let form = match read_give_form(form) {
+        Ok(form) => form,
+        Err(Usage) => return Err(Usage),
+    };
+    match read_rate(rate) {
+        Ok(rate) => Ok(Command::Give { form, rate }),
+        Err(Usage) => Err(Usage),
+    }
 }
 
 // The command of four words.
@@ -109,8 +153,14 @@ fn read_four(verb: &str, form: &str, rate: &str, ways: &str) -> Result<Command, 
     if verb != "take" {
         return Err(Usage);
     }
-    match read_take(form, rate, ways, Spacing::ByTime) {
-        Ok(command) => Ok(command),
+    let spacing = Spacing::ByTime;
+    match read_taken(form, rate, ways) {
+        Ok((form, rate, ways)) => Ok(Command::Take {
+            form,
+            rate,
+            ways,
+            spacing,
+        }),
         Err(Usage) => Err(Usage),
     }
 }
@@ -128,8 +178,14 @@ fn read_five(verb: &str, form: &str, rate: &str, ways: &str, last: &str) -> Resu
     if last != "frames" {
         return Err(Usage);
     }
-    match read_take(form, rate, ways, Spacing::ByRecord) {
-        Ok(command) => Ok(command),
+    let spacing = Spacing::ByRecord;
+    match read_taken(form, rate, ways) {
+        Ok((form, rate, ways)) => Ok(Command::Take {
+            form,
+            rate,
+            ways,
+            spacing,
+        }),
         Err(Usage) => Err(Usage),
     }
 }
@@ -141,6 +197,7 @@ pub fn read_words(words: &[String]) -> Result<Command, Usage>
         → IsCommand (map string_bytes words.now) command → ⊥) }
 {
     match words {
+        [verb, form, rate] => read_three(verb.as_str(), form.as_str(), rate.as_str()),
         [verb, form, rate, ways] => {
             read_four(verb.as_str(), form.as_str(), rate.as_str(), ways.as_str())
         }

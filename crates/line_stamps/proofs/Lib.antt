@@ -5,4 +5,4 @@ mod Words
 mod RoundingLaws
 pub mod Clocks
 mod GivenTicks
-mod GivenLines
+pub mod GivenLines

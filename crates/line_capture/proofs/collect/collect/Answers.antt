@@ -1,4 +1,4 @@
-use Rattle.std.proofs.Common.{◌≡◌, refl, arith, take, rules}
+use Rattle.std.proofs.Common.{refl, arith, take, rules}
 use Rattle.std.proofs.lemmas.List.{take_all}
 use Rattle.line_capture.proofs.CollectedBytes.{collects_more, stops_at, taken_items, ends_whole}
 use Rattle.line_capture.proofs.CollectedBytes.{length-front}

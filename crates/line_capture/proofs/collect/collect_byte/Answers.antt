@@ -1,4 +1,4 @@
-use Rattle.line_capture.proofs.CollectedBytes.{collects_none, collects_one, collects_error}
+use Rattle.line_capture.proofs.CollectedBytes.{collects_none, collects_one}
 use Rattle.line_capture.proofs.CollectedBytes.{collects_refused}
 use Rattle.line_capture.proofs.collect.collect_byte.Goals as goal
 

@@ -1,4 +1,4 @@
-use Rattle.std.proofs.Common.{refl, arith, take}
+use Rattle.std.proofs.Common.{arith, take}
 use Rattle.line_capture.proofs.CollectedBytes.{item_parts, item_front, length-front}
 use Rattle.line_capture.proofs.PlacedBytes.{one_more, one_stops, one_fails, next_so_far}
 use Rattle.line_capture.proofs.placing.place_bytes.Goals as goal

@@ -1,4 +1,4 @@
-use Rattle.line_capture.proofs.RunEnds.{flushed, calm}
+use Rattle.line_capture.proofs.RunEnds.{calm}
 use Rattle.line_capture.proofs.take.end_run.Goals as goal
 
 pub returns-in_default-clause-sinks : goal.returns-in_default-clause-sinks

@@ -1,4 +1,4 @@
-use Rattle.std.proofs.Common.{◌≡◌, ℕ, ◌<◌, ◌≤◌, List, [], ◌∷◌, length, get_or, map, IfOk, OnErr}
+use Rattle.std.proofs.Common.{◌≡◌, ℕ, ◌<◌, ◌≤◌, List, [], ◌∷◌, length, get_or, map, OnErr}
 use Rattle.std.proofs.Common.{subst, sym, arith}
 use Rattle.std.specs.String.{string_bytes}
 use Rattle.line_capture.specs.declared.words.Command.{Command}

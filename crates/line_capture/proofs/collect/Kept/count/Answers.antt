@@ -1,4 +1,4 @@
-use Rattle.std.proofs.Common.{◌∙◌, sym, refl, rules, arith}
+use Rattle.std.proofs.Common.{rules}
 use Rattle.line_capture.specs.Captures.{is_break, is_control_line}
 use Rattle.line_capture.proofs.Keeping.{takes_event, event_counted, event_passed}
 use Rattle.line_capture.proofs.collect.Kept.count.Goals as goal

@@ -1,0 +1,35 @@
+-- A run that is given what is right.
+use Rattle.std.proofs.Common.{ℕ, List, Option, Some, None}
+use Rattle.yasir_io.specs.Causes.{Rose}
+use Rattle.yasir_io.specs.declared.source.Source.{Ghosts as Source}
+use Rattle.yasir_io.specs.declared.sink.Sink.{Ghosts as Sink}
+use Rattle.line_capture.specs.Able.{MayDo, EndsWell}
+use Rattle.line_capture.specs.Programs.{Outside, Does, Answers, IsCalm, RunCauses}
+use Rattle.line_capture.specs.declared.outcome.Outcome.{Outcome}
+use Rattle.line_capture.specs.declared.words.Command.{Command}
+use Rattle.line_capture.specs.declared.words.Command.TheVariants.{Take, Give}
+use Rattle.line_capture.proofs.Able.{EndsFree, take_done, give_done, ends_well}
+use Rattle.line_capture.proofs.SoundForms.{sound_form}
+
+module _ {S O L : Type 0} (s : Source S) (o : Sink O) (l : Sink L) where
+  does_free : (asked : Option Command) (before after : Outside S O L) (outcome : Outcome)
+      → Does s o l asked before after outcome → MayDo asked (s.left before.input)
+      → ¬ Rose (s.faults before.input) (s.faults after.input) → EndsFree outcome
+  does_free None before after outcome does able calm = absurd able
+  does_free (Some (Take form rate ways spacing)) before after outcome does able calm =
+      take_done _ (sound_form form) _ _ _ _ _ outcome does able calm
+  does_free (Some (Give form rate)) before after outcome does able calm =
+      give_done form rate _ _ _ _ outcome does able calm
+
+  -- the log may have got a fault line since
+  pub able_after : (words : List (List ℕ)) (before after : Outside S O L) (noted : L)
+      (outcome : Outcome)
+      → (answers : Answers s o l words before (record after { log = noted }) outcome)
+      → RunCauses s o l before after outcome → MayDo answers.asked (s.left before.input)
+      → IsCalm s o l before after → EndsWell outcome
+  able_after words before after noted outcome answers causes able calm =
+      ends_well outcome (s.faults before.input) (s.faults after.input) (o.faults before.out)
+      (o.faults after.out) (l.faults before.log) (l.faults after.log)
+      (does_free answers.asked before (record after { log = noted }) outcome answers.does able
+      calm.input)
+      causes.read_failed causes.sinks calm.input calm.out calm.log

@@ -1,0 +1,45 @@
+-- What `take` makes of a capture that `give` wrote.
+use Rattle.std.specs.Prelude.{◌≡◌, ℕ, min, List, [], ◌∷◌}
+use Rattle.std.specs.Io.KnownBytes.{append_known}
+use Rattle.yasir_ticks.specs.declared.tick.Tick.{Tick}
+use Rattle.line_stamps.specs.Giving.{ByteAt, bytes_from}
+use Rattle.line_stamps.specs.declared.rate.Rate.{Rate}
+use Rattle.line_stamps.specs.declared.timing.Spacing.TheVariants.{ByTime}
+use Rattle.line_capture.specs.Takes.{Held, lines_text}
+use Rattle.line_capture.specs.declared.take.Taking.{Taking}
+use Rattle.line_capture.specs.declared.words.GiveForm.{GiveForm}
+use Rattle.line_capture.specs.declared.words.GiveForm.TheVariants as give_forms
+use Rattle.line_capture.specs.declared.words.TakeForm.{TakeForm}
+use Rattle.line_capture.specs.declared.words.TakeForm.TheVariants as take_forms
+use Rattle.line_capture.specs.declared.words.Ways.TheVariants.{Both}
+
+-- the form to take of a form that was given
+abbrev pub taken_as : GiveForm → TakeForm
+taken_as give_forms.Pcap = take_forms.Pcap
+taken_as give_forms.Text = take_forms.Text
+
+-- both ways of a line, by times
+abbrev pub both_ways : Rate → Taking
+both_ways rate = record { rate = rate; ways = Both; spacing = ByTime }
+
+-- the tick of the first byte of two lines
+abbrev pub first_of : List ByteAt → List ByteAt → ℕ
+first_of [] [] = 0
+first_of (x ∷ xs) [] = x.tick
+first_of [] (y ∷ ys) = y.tick
+first_of (x ∷ xs) (y ∷ ys) = min x.tick y.tick
+
+abbrev pub first_tick : List Tick → List Tick → ℕ
+first_tick a b = first_of (bytes_from 0 a) (bytes_from 0 b)
+
+-- Tick 0 of the one line is this tick of the other, and each byte is in the same tick of both.
+abbrev pub SameTicks : ℕ → List Tick → List Tick → Type 0
+SameTicks first given taken = bytes_from first taken ≡ bytes_from 0 given
+
+-- The output got two lines, the same ticks as these from the first byte of either on.
+pub record TakesAgain (a b : List Tick) (before now : Held) : Type 0 where
+  pub taken_a : List Tick
+  pub taken_b : List Tick
+  pub out : now.out ≡ append_known before.out (lines_text Both taken_a taken_b)
+  pub a_same : SameTicks (first_tick a b) a taken_a
+  pub b_same : SameTicks (first_tick a b) b taken_b

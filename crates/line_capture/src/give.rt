@@ -1,0 +1,159 @@
+//! The command `give`: tick text as a capture.
+ghost use Rattle.std.specs.Prelude.{◌≡◌, ◌≤◌, length, IfOk};
+ghost use Rattle.yasir_io.specs.Causes.{Rose};
+ghost use Rattle.tick_drive.specs.Input.{max_bytes, max_ticks};
+ghost use Rattle.replay_status.specs.Causes.{SinkCause};
+ghost use Rattle.replay_status.specs.Flushes.{FlushesAtEnd};
+ghost use Rattle.replay_status.specs.declared.status.Status.{Status};
+ghost use Rattle.line_capture.specs.Gives.{has_mark, marks_for, IsGiven, Gives, GivesFile, GivesRead};
+ghost use Rattle.line_capture.specs.Gives.{end_status};
+ghost use Rattle.line_capture.specs.Inputs.{told};
+ghost use Rattle.line_capture.specs.Outcomes.{status_in};
+ghost use Rattle.line_capture.specs.Takes.{held};
+ghost use Rattle.line_capture.specs.declared.outcome.Outcome.{Outcome};
+ghost use Rattle.line_capture.specs.declared.input.ReadEnd.{ReadEnd};
+
+use crate::input::{Input, ReadEnd, read_input};
+use crate::outcome::Outcome;
+use crate::records::{RecordForm, recorded};
+use crate::take::read_outcome;
+use crate::words::GiveForm;
+use line_stamps::Rate;
+use replay_status::{Status, print_text};
+use std::alloc::Global;
+use tick_drive::End;
+use tick_lists::list_ticks;
+use yasir_io::{NoMemory, Sink, Source, SteadySource};
+use yasir_ticks::Tick;
+
+/// How a capture is given.
+#[derive(Clone, Copy, Debug, PartialEq, Eq)]
+pub struct Giving {
+    pub form: GiveForm,
+    pub rate: Rate,
+}
+
+// Whether a `%` begins a line of the text.
+fn has_mark(text: &[u8]) -> bool
+    ensures { result ≡ has_mark text.now }
+{
+    let mut before = b'\n';
+    for b in text {
+        if before == b'\n' && *b == b'%' {
+            return true;
+        }
+        before = *b;
+    }
+    false
+}
+
+// How many marks a tick text must have to be given.
+fn marks_for(form: GiveForm, text: &[u8]) -> u8
+    ensures { result ≡ marks_for form text.now }
+{
+    match form {
+        GiveForm::Pcap => { if has_mark(text) { 1 } else { 0 } }
+        GiveForm::Text => 0,
+    }
+}
+
+// The capture of two lines.
+fn given(alloc: Global, giving: Giving, a: &[Tick], b: &[Tick]) -> Result<Vec<u8>, NoMemory>
+    requires a { length a.now ≤ max_ticks }
+    requires b { length b.now ≤ max_ticks }
+    ensures { IfOk result (λ text. IsGiven giving.form giving.rate a.now b.now text.items) }
+{
+    match giving.form {
+        GiveForm::Pcap => recorded(alloc, RecordForm::Pcap, giving.rate, a, b),
+        GiveForm::Text => recorded(alloc, RecordForm::Text, giving.rate, a, b),
+    }
+}
+
+// How a run ends of which the tick text wasn't taken.
+fn end_status(end: End) -> Status
+    ensures { result ≡ end_status end }
+{
+    match end {
+        End::Whole => Status::Done,
+        End::Refused(bad) => Status::BadTicks(bad),
+        End::TooLong { what, count } => Status::TooLong { what, count },
+        End::ReadFault => Status::ReadFault,
+        End::Stopped(_) => Status::NoMemory,
+    }
+}
+
+// Gives a tick text that was read to its end.
+fn give_file<O: Sink, L: Sink>(
+    alloc: Global,
+    giving: Giving,
+    file: &[u8],
+    out: &mut O,
+    log: &mut L,
+) -> Outcome
+    ensures gives { GivesFile giving.form giving.rate file.now
+        (held (O.held out.old) (L.held log.old)) (held (O.held out.new) (L.held log.new)) result }
+    ensures sinks { SinkCause (O.faults out.old) (O.faults out.new) (L.faults log.old)
+        (L.faults log.new) (status_in result) }
+    ensures flushes { FlushesAtEnd O.Sink L.Sink out.old out.new log.old log.new (status_in result) }
+    ensures read { result ≡ Outcome.Ended Status.ReadFault → ⊥ }
+{
+    let marks = marks_for(giving.form, file);
+    let lists = match list_ticks(alloc, marks, &mut SteadySource::new(file)) {
+        Ok(lists) => lists,
+        Err(end) => return Outcome::Ended(end_status(end)),
+    };
+    let text = match given(alloc, giving, lists.first(), lists.second()) {
+        Ok(text) => text,
+        Err(NoMemory) => return Outcome::Ended(Status::NoMemory),
+    };
+    Outcome::Ended(print_text(text.as_slice(), out, log))
+}
+
+// Gives what was read of an input.
+fn give_read<O: Sink, L: Sink>(
+    alloc: Global,
+    giving: Giving,
+    read: &Input,
+    out: &mut O,
+    log: &mut L,
+) -> Outcome
+    ensures gives { GivesRead giving.form giving.rate read.now.end read.now.bytes.items
+        (held (O.held out.old) (L.held log.old)) (held (O.held out.new) (L.held log.new)) result }
+    ensures sinks { SinkCause (O.faults out.old) (O.faults out.new) (L.faults log.old)
+        (L.faults log.new) (status_in result) }
+    ensures flushes { FlushesAtEnd O.Sink L.Sink out.old out.new log.old log.new (status_in result) }
+    ensures read { result ≡ Outcome.Ended Status.ReadFault → read.now.end ≡ ReadEnd.Failed }
+{
+    match read.end {
+        ReadEnd::Whole => give_file(alloc, giving, read.bytes.as_slice(), out, log),
+        ReadEnd::Failed => read_outcome(ReadEnd::Failed),
+        ReadEnd::TooLong => read_outcome(ReadEnd::TooLong),
+    }
+}
+
+/// Writes a capture of a tick text to `out`, all of it or, where the text isn't right, nothing.
+/// Nothing goes to the log. Memory is taken for the input, for its ticks and for the capture, each
+/// up to three times as much while it grows; where there is none, nothing is written.
+pub fn give<S: Source, O: Sink, L: Sink>(
+    alloc: Global,
+    giving: Giving,
+    input: &mut S,
+    out: &mut O,
+    log: &mut L,
+) -> Outcome
+    ensures gives { Gives giving.form giving.rate (told (S.left input.old) (S.faults input.old))
+        (told (S.left input.new) (S.faults input.new))
+        (held (O.held out.old) (L.held log.old)) (held (O.held out.new) (L.held log.new)) result }
+    ensures sinks { SinkCause (O.faults out.old) (O.faults out.new) (L.faults log.old)
+        (L.faults log.new) (status_in result) }
+    ensures flushes { FlushesAtEnd O.Sink L.Sink out.old out.new log.old log.new (status_in result) }
+    ensures input { S.faults input.old ≤ S.faults input.new }
+    ensures read_failed { result ≡ Outcome.Ended Status.ReadFault
+        → Rose (S.faults input.old) (S.faults input.new) }
+{
+    let read = match read_input(alloc, input) {
+        Ok(read) => read,
+        Err(NoMemory) => return Outcome::Ended(Status::NoMemory),
+    };
+    give_read(alloc, giving, &read, out, log)
+}
