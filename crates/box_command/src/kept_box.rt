@@ -30,6 +30,9 @@ use std::alloc::Global;
 use yasir_io::{Failed, NoMemory, SLOT_LEN, SteadySlots};
 use yasir_ticks::{MAX_TICKS, Tick, TickRun};
 
+#[cfg(test)]
+mod turn_tests;
+
 // How many ticks a box is asked to answer at once at most.
 const MAX_RUN: usize = 4_294_967_295;
 

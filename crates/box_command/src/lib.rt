@@ -13,6 +13,8 @@ mod both_boxes;
 mod box_lines;
 mod check_lines;
 mod command;
+#[cfg(test)]
+mod counted_box;
 mod driven_box;
 mod kept_box;
 mod laws;

@@ -1,0 +1,75 @@
+//! How often a box is called as it takes a line into memory: silence and bursts go through in runs,
+//! so that they cost a few calls however long they are. No clause says so.
+ghost use Rattle.std.specs.Prelude.{◌≡◌, ◌+◌, ◌≤◌, length, OnOk};
+ghost use Rattle.yasir_ticks.specs.declared.TheConstants.{MAX_TICKS};
+ghost use Rattle.link_box.specs.Links.{AreLinks};
+ghost use Rattle.box_command.specs.KeptBox.{IsSteady, ticks_kept};
+
+use super::KeptBox;
+use crate::counted_box::{Calls, Counted};
+use crate::line_box::LineBox;
+use check_receiver::Checker;
+use hmac_tag::{Dir, HmacSha1};
+use rtu_frame::Rtu;
+use seal_transmitter::Sealer;
+use std::alloc::Global;
+use std::test::Fail;
+use yasir_io::NoMemory;
+use yasir_ticks::TickRun;
+
+// Takes all of these bytes, one a tick.
+fn take_bytes<B: LineBox>(kept: &mut KeptBox<B>, bytes: &[u8]) -> Result<(), NoMemory>
+    requires room { ticks_kept kept.old + length bytes.now ≤ MAX_TICKS }
+    requires steady { IsSteady B.LinkBox B.line_of kept.old }
+    ensures taken { OnOk result (ticks_kept kept.new ≡ ticks_kept kept.old + length bytes.now) }
+    ensures steady { OnOk result (IsSteady B.LinkBox B.line_of kept.new) }
+{
+    let mut left = bytes;
+    while !left.is_empty() {
+        match kept.take_some(TickRun::Bytes(left)) {
+            Ok(count) => left = &left[count..],
+            Err(NoMemory) => return Err(NoMemory),
+        }
+    }
+    Ok(())
+}
+
+// Takes this many silent ticks.
+fn take_silence<B: LineBox>(kept: &mut KeptBox<B>, ticks: u32) -> Result<(), NoMemory>
+    requires room { ticks_kept kept.old + ticks ≤ MAX_TICKS }
+    requires steady { IsSteady B.LinkBox B.line_of kept.old }
+    ensures taken { OnOk result (ticks_kept kept.new ≡ ticks_kept kept.old + ticks) }
+    ensures steady { OnOk result (IsSteady B.LinkBox B.line_of kept.new) }
+{
+    kept.wait(ticks)
+}
+
+// A burst of this many bytes, which is no frame, between two long silences.
+const BURST: [u8; 500] = [0x41; 500];
+
+// The calls of a box that takes them.
+fn calls_of<X: LineBox>(alloc: Global) -> Result<Calls, Fail>
+    requires widths { X.widths_fit }
+    requires links { AreLinks X.link_in }
+{
+    let mut kept: KeptBox<Counted<X>> = KeptBox::new(alloc, &[0; 16], Dir::Ab);
+    take_silence(&mut kept, 1_000_000)?;
+    take_bytes(&mut kept, &BURST)?;
+    take_silence(&mut kept, 2_000_000)?;
+    Ok(kept.line_box.calls)
+}
+
+// The transmitter forwards each silence at once, and the live bytes of the burst in runs of at most
+// 64; the bytes behind them cost a call, and the tick that closes the burst is one by itself. The
+// receiver takes the first byte or two alone, and a few ticks where the burst is judged.
+#[test]
+fn long_silence_and_long_bursts_cost_few_calls(rt: HostRuntime) -> Result<(), Fail> {
+    let sealing = calls_of::<Sealer<Rtu, HmacSha1, 2>>(rt.alloc())?;
+    assert!(rt; sealing.step <= 2, "{sealing:?}");
+    assert!(rt; sealing.forward <= 16, "{sealing:?}");
+    assert!(rt; sealing.pass <= 8, "{sealing:?}");
+    let checking = calls_of::<Checker<Rtu, HmacSha1, 2, 18>>(rt.alloc())?;
+    assert!(rt; checking.step <= 6, "{checking:?}");
+    assert!(rt; checking.pass <= 30, "{checking:?}");
+    Ok(())
+}
