@@ -4,102 +4,18 @@ ghost use Rattle.std.specs.Prelude.{◌≡◌};
 ghost use Rattle.link_box.specs.Links.{AreLinks};
 
 use super::BoxLines;
+use crate::counted_box::{Calls, Counted};
 use crate::driven_box::DrivenBox;
 use crate::line_box::LineBox;
-use crate::note_lines::NoteLine;
-use burst_walk::{BoxStep, RunBytes};
 use check_receiver::Checker;
 use hmac_tag::{Dir, HmacSha1};
-use link_box::LinkBox;
 use rtu_frame::Rtu;
 use seal_transmitter::Sealer;
-use sequence_journal::{Journal, JournalFault, LinkId, slot_of};
+use sequence_journal::{Journal, slot_of};
 use std::alloc::Global;
 use std::test::Fail;
 use tick_drive::{End, drive};
-use yasir_io::{MemSink, Plan, SlotDisk, SteadySlots, SteadySource};
-use yasir_ticks::{Tick, TickRun};
-
-/// How often a box was asked to forward a run, how often to answer one, and how often it took a
-/// single tick.
-#[derive(Clone, Copy, Debug, PartialEq, Eq)]
-struct Calls {
-    forward: u32,
-    pass: u32,
-    step: u32,
-}
-
-const NO_CALLS: Calls = Calls {
-    forward: 0,
-    pass: 0,
-    step: 0,
-};
-
-/// A box, and how often it was called.
-#[derive(Drop)]
-struct Counted<X> {
-    inner: X,
-    calls: Calls,
-}
-
-impl<X: LinkBox> LinkBox for Counted<X> {
-    type Note = X::Note;
-
-    ghost stands = { λ value. X.stands value.inner };
-
-    ghost taken = { λ value. X.taken value.inner };
-
-    ghost walking = { X.walking };
-
-    ghost widths_fit = { X.widths_fit };
-
-    ghost link_of = { λ value. X.link_of value.inner };
-
-    ghost link_in = { X.link_in };
-
-    fn link(dir: Dir) -> LinkId {
-        X::link(dir)
-    }
-
-    fn new(key: &[u8], dir: Dir) -> Self {
-        Counted {
-            inner: X::new(key, dir),
-            calls: NO_CALLS,
-        }
-    }
-
-    fn step<D: SlotDisk>(
-        &mut self,
-        t: Tick,
-        journal: &mut Journal,
-        disk: &mut D,
-    ) -> Result<BoxStep<X::Note>, JournalFault> {
-        self.calls.step = self.calls.step.saturating_add(1);
-        self.inner.step(t, journal, disk)
-    }
-
-    fn forward(&mut self, run: TickRun<'_>) -> usize {
-        self.calls.forward = self.calls.forward.saturating_add(1);
-        self.inner.forward(run)
-    }
-
-    fn pass(&mut self, run: TickRun<'_>, left: &mut RunBytes) -> usize {
-        self.calls.pass = self.calls.pass.saturating_add(1);
-        self.inner.pass(run, left)
-    }
-}
-
-impl<X: LineBox> LineBox for Counted<X> {
-    ghost line_of = { X.line_of };
-
-    fn note_line(note: &X::Note) -> NoteLine {
-        X::note_line(note)
-    }
-
-    ghost rising = { X.rising };
-
-    ghost causal = { λ value. X.causal value.inner };
-}
+use yasir_io::{MemSink, Plan, SteadySlots, SteadySource};
 
 // Two lines of bytes, and two of silence, one of them as long as a line of silence may be.
 const TEXT: &[u8] = b"+000102030405060708090a0b0c0d0e0f101112131415161718191a1b1c1d1e1f\n\
