@@ -13,6 +13,9 @@ from fractions import Fraction
 
 from model import canonical
 
+# The most bytes of a record that is given.
+MOST_BYTES = 65536
+
 # Drift is taken up in silences of more ticks than these alone; a record that is taken for a frame
 # has so many silent ticks before it.
 DRIFT_SILENCE, FRAME_SILENCE = 320, 4
@@ -255,10 +258,11 @@ def lines_of(text):
 
 
 def runs_of(line):
-    """The runs of bytes of a line, each with its first tick."""
+    """The runs of bytes of a line, each with its first tick, cut where they are long."""
     found = []
     for tick, byte in enumerate(line):
-        if byte is not None and (tick == 0 or line[tick - 1] is None):
+        if byte is not None and (tick == 0 or line[tick - 1] is None
+                                 or len(found[-1][1]) == MOST_BYTES):
             found.append((tick, [byte]))
         elif byte is not None:
             found[-1][1].append(byte)
@@ -330,7 +334,10 @@ def run(words, data):
     if len(words) == 3 and words[0] == "give" and words[1] in WRITERS:
         character_of(words[2])
         try:
-            return WRITERS[words[1]](lines_of(data.decode()), words[2]), None
+            lines = lines_of(data.decode())
+            if len(lines) > (1 if words[1] == "text" else 2):
+                raise Refused("a mark")
+            return WRITERS[words[1]](lines, words[2]), None
         except Refused as why:
             return b"", why
     raise Usage("the words")

@@ -52,6 +52,9 @@ REFUSED = [("errors.pcap", "pcap", "a"), ("ethernet.pcap", "pcap", "a"),
            ("errors.sigrok.json", "sigrok", "a"), ("modbus.vcd", "pcap", "a"),
            ("modbus.pcap", "text", "a"), ("modbus.pcap", "logic2", "a")]
 
+# Tick texts that aren't given: a line without its sign, and a mark too many.
+REFUSED_TICKS = [("pcap", b"+01\n01\n"), ("pcap", b"+01\n%\n+02\n%\n"), ("text", b"+01\n%\n+02\n")]
+
 # Words that are no command.
 WRONG_WORDS = ["", "take", "take pcap", "take pcap 9600x11", "take vcd 9600x11 a",
                "give logic2 9600x11", "take pcap 9600x11 c", "take pcap 9600x11 a frame",
@@ -269,6 +272,9 @@ def refusals(trial):
         refused(trial, name, [form, "9600x11", way], content_of(name))
     for words in WRONG_WORDS:
         trial.same("words `%s`" % words, trial.run(words.split(), b"")[0], 2)
+    for form, text in [row for row in REFUSED_TICKS if trial.has("give", row[0])]:
+        ran = trial.run(["give", form, "9600x11"], text)
+        trial.same("give %s of %r" % (form, text), ran, (4, b""))
     cut_off(trial, "modbus.pcap")
     if trial.has("take", "pcapng"):
         cut_off(trial, "modbus_nanoseconds.pcapng")
@@ -352,6 +358,11 @@ def times_are_those_of_ticks(trial, what, lines, rate, records, unit):
 
 def given(trial):
     trial.needs("give", "pcap")
+    long = [[0xA5] * 70000 + [None] * 400 + [0x5A], [None] * 65536 + [0x33] * 3]
+    whole, _ = capture_model.run(["give", "pcap", "9600x11"], text_of(long))
+    capture = trial.give("a run of 70,000 bytes", ["pcap", "9600x11"], long)
+    trial.same("a run of 70,000 bytes: give", capture, whole)
+    trial.take("a run of 70,000 bytes", ["pcap", "9600x11", "both"], capture, text_of(long))
     for proto, rate in TOOL_RATES:
         what, lines = "%s at %s" % (proto.word, rate), trial.lines(proto, rate, 40, 2000)
         one = lines[:1]

@@ -1,6 +1,5 @@
 -- A capture that was given is taken as the same ticks, for each form.
-use Rattle.std.proofs.Common.{◌≡◌, ◌∙◌, ℕ, zero, suc, List, [], ◌∷◌, Some, refl, sym, ap, subst}
-use Rattle.std.proofs.Common.{map}
+use Rattle.std.proofs.Common.{◌≡◌, ◌∙◌, ℕ, zero, suc, ◌≤◌, List, [], ◌∷◌, length, map, Some, refl, sym, ap, subst}
 use Rattle.line_stamps.specs.declared.seen.Seen.TheVariants.{Byte}
 use Rattle.yasir_ticks.specs.Ticks.{Item, ticks_in, marks_in, AreTicks}
 use Rattle.yasir_ticks.specs.Ticks.Item.{tick, mark}
@@ -17,20 +16,23 @@ use Rattle.replay_status.specs.declared.status.Status.TheVariants as statuses
 use Rattle.line_capture.specs.Formats.{format_of}
 use Rattle.line_capture.specs.Gives.{AreLinesOf, IsGiven, marks_for}
 use Rattle.line_capture.specs.Inputs.{Told}
-use Rattle.line_capture.specs.Records.{AreRecords, records_of}
+use Rattle.line_capture.specs.Records.{LineRecord, AreRecords, records_of}
 use Rattle.line_capture.specs.TakenAgain.{taken_as, both_ways, TakesAgain}
 use Rattle.line_capture.specs.Takes.{Held, Takes}
 use Rattle.line_capture.specs.declared.outcome.Outcome.{Outcome}
 use Rattle.line_capture.specs.declared.outcome.Outcome.TheVariants.{Ended}
 use Rattle.line_capture.specs.declared.words.GiveForm.{GiveForm}
 use Rattle.line_capture.specs.declared.words.GiveForm.TheVariants as give_forms
+use Rattle.line_capture.specs.declared.words.TakeForm.{TakeForm}
 use Rattle.line_capture.specs.declared.words.TakeForm.TheVariants as take_forms
 use Rattle.line_capture.proofs.GivenFiles.{AreRight, right_records, right_both, packets_are, lines_are}
 use Rattle.line_capture.proofs.GivenFiles.{none_of_b}
 use Rattle.line_capture.proofs.GivenRecords.{bytes_of_records}
 use Rattle.line_capture.proofs.Gives.{few_ticks}
 use Rattle.line_capture.proofs.SoundForms.{sound_form}
-use Rattle.line_capture.proofs.TakenAgain.{run-again}
+use Rattle.tick_drive.specs.Input.{max_bytes}
+use Rattle.line_capture.specs.Able.{IsTakeable}
+use Rattle.line_capture.proofs.TakenAgain.{run-again, takeable-again}
 
 -- the ticks of a part are ticks
 part_ticks : (n : ℕ) (items : List Item) → AreTicks (ticks_in items) → AreTicks (part n items)
@@ -60,26 +62,51 @@ module _ (form : GiveForm) (text : List ℕ) (a b : List Tick) (lines : AreLines
         (subst AreRight (sym are.a_are) (right_records A a ticks_a few.0))
         (subst AreRight (sym are.b_are) (right_records B b ticks_b few.1))
 
-pub given_again : (form : GiveForm) (rate : Rate) (text : List ℕ) (a b : List Tick)
-    (file : List ℕ) (in_before in_now : Told) (before now : Held) (outcome : Outcome)
-    → IsHeader written_clock FILE_HEADER → AreLinesOf form text a b → IsGiven form rate a b file
-    → in_before.left ≡ Some file
-    → Takes (format_of (taken_as form)) (both_ways rate) in_before in_now before now outcome
-    → outcome ≡ Ended statuses.Done → TakesAgain a b before now
-given_again give_forms.Pcap rate text a b file in_before in_now before now outcome header lines given
-    told takes done =
-    let right = all_right give_forms.Pcap text a b lines given.records given.are in
-    let is = subst (λ l. IsCapture l (map Byte (bytes_of_records rate given.records)))
-    (sym given.text_is)
-    (packets_are rate given.records header right) in
-    run-again (format_of take_forms.Pcap) (sound_form take_forms.Pcap) rate a b given.records given.are
-    file is before now in_before in_now outcome told takes done
-given_again give_forms.Text rate text a b file in_before in_now before now outcome header lines given
-    told takes done =
+-- what is given of these lines is a capture of the records of them
+record IsCaptureOf (taken : TakeForm) (rate : Rate) (a b : List Tick) (file : List ℕ) : Type 0 where
+  records : List LineRecord
+  are : AreRecords a b records
+  is : (format_of taken).is file (map Byte (bytes_of_records rate records))
+
+is_capture : (form : GiveForm) (taken : TakeForm) (rate : Rate) (text : List ℕ) (a b : List Tick)
+    (file : List ℕ) → IsHeader written_clock FILE_HEADER → taken_as form ≡ Some taken
+    → AreLinesOf form text a b → IsGiven form rate a b file → IsCaptureOf taken rate a b file
+is_capture give_forms.Pcap take_forms.Pcap rate text a b file header same lines given =
+    let right = all_right give_forms.Pcap text a b lines given.records given.are in record {
+      records = given.records;
+      are = given.are;
+      is = subst (λ l. IsCapture l (map Byte (bytes_of_records rate given.records)))
+          (sym given.text_is) (packets_are rate given.records header right);
+    }
+is_capture give_forms.Text take_forms.Text rate text a b file header same lines given =
     let right = all_right give_forms.Text text a b lines given.records given.are in
     let none : b ≡ [] = lines.b_is ∙ no_part lines.items lines.right.marked in
-    let all = none_of_b given.records (given.are.b_are ∙ ap (records_of B) none) in
-    let is = subst (λ l. IsSeenText l (map Byte (bytes_of_records rate given.records)))
-    (sym given.text_is) (lines_are rate given.records right all) in
-    run-again (format_of take_forms.Text) (sound_form take_forms.Text) rate a b given.records given.are
-    file is before now in_before in_now outcome told takes done
+    let all = none_of_b given.records (given.are.b_are ∙ ap (records_of B) none) in record {
+      records = given.records;
+      are = given.are;
+      is = subst (λ l. IsSeenText l (map Byte (bytes_of_records rate given.records)))
+          (sym given.text_is) (lines_are rate given.records right all);
+    }
+is_capture give_forms.Pcap take_forms.Text rate text a b file header same lines given = cc
+is_capture give_forms.Text take_forms.Pcap rate text a b file header same lines given = cc
+
+module _ (form : GiveForm) (taken : TakeForm) (rate : Rate) (text : List ℕ) (a b : List Tick)
+    (file : List ℕ) (header : IsHeader written_clock FILE_HEADER) (same : taken_as form ≡ Some taken)
+    (lines : AreLinesOf form text a b) (given : IsGiven form rate a b file) where
+  capture : IsCaptureOf taken rate a b file
+  capture = is_capture form taken rate text a b file header same lines given
+
+  pub given_again : (in_before in_now : Told) (before now : Held) (outcome : Outcome)
+      → in_before.left ≡ Some file
+      → Takes (format_of taken) (both_ways rate) in_before in_now before now outcome
+      → outcome ≡ Ended statuses.Done → TakesAgain a b before now
+  given_again in_before in_now before now outcome told takes done =
+      run-again (format_of taken) (sound_form taken) rate a b capture.records capture.are file
+      capture.is before now in_before in_now outcome told takes done
+
+  pub given_right : length file ≤ max_bytes
+      → IsTakeable (format_of taken) (both_ways rate) (Some file)
+  given_right few =
+      let short = few_ticks form text a b lines in
+      takeable-again (format_of taken) (sound_form taken) rate a b capture.records capture.are file
+      capture.is few short.0 short.1

@@ -15,5 +15,6 @@ pub mod Able
 pub mod RunAble
 pub mod GivenRecords
 pub mod GivenFiles
+pub mod EachPlaced
 pub mod TakenAgain
 pub mod LawOfGiven

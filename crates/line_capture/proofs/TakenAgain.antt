@@ -1,7 +1,8 @@
 -- A capture that was given is taken as the same ticks.
 use Rattle.std.proofs.Common.{◌≡◌, ◌∙◌, ℕ, zero, suc, ◌+◌, ◌*◌, ◌/◌, ◌<◌, ◌≤◌, min, ⊎_elim, List, []}
 use Rattle.std.proofs.Common.{◌∷◌, ◌++◌, map, drop, true, Some, None}
-use Rattle.std.proofs.Common.{refl, sym, ap, subst, arith, append-nil}
+use Rattle.std.proofs.Common.{refl, sym, ap, subst, arith, append-nil, length-append, length-drop}
+use Rattle.std.proofs.Common.{length}
 use Rattle.std.proofs.Math.Nat.{mul-le-mul_right, div-mul-le_self, div-eq_of_lt}
 use Rattle.std.proofs.lemmas.Nat.{le-div}
 use Rattle.std.proofs.lemmas.Bool.{cases_lt}
@@ -17,10 +18,10 @@ use Rattle.line_stamps.specs.declared.rate.Rate.{Rate}
 use Rattle.line_stamps.specs.declared.seen.Seen.{Seen}
 use Rattle.line_stamps.specs.declared.seen.Seen.TheVariants.{Byte}
 use Rattle.line_stamps.specs.declared.timing.Timing.{Timing}
-use Rattle.line_stamps.proofs.GivenLines.{given-line}
+use Rattle.line_stamps.proofs.GivenLines.{given-line, given-free}
 use Rattle.replay_status.specs.declared.status.Status.TheVariants as statuses
 use Rattle.replay_status.proofs.Readable.{all_of_told}
-use Rattle.line_capture.specs.Captures.{Collects, HoldsItems}
+use Rattle.line_capture.specs.Captures.{Collects, HoldsItems, way_bytes}
 use Rattle.line_capture.specs.Formats.{Format}
 use Rattle.line_capture.specs.Inputs.{Told, ReadsInput}
 use Rattle.line_capture.specs.Placed.{StopsAt}
@@ -44,7 +45,10 @@ use Rattle.line_capture.specs.declared.placing.LineEnd.{LineEnd}
 use Rattle.line_capture.specs.declared.placing.LineStop.{LineStop}
 use Rattle.line_capture.specs.declared.placing.LineStop.TheVariants as stops
 use Rattle.line_capture.specs.declared.words.Ways.TheVariants.{Both}
-use Rattle.line_capture.proofs.GivenFiles.{way-records}
+use Rattle.tick_drive.specs.Input.{max_ticks, max_bytes}
+use Rattle.line_capture.specs.Able.{IsPlacedWhole, IsTakeable, timing_of_items}
+use Rattle.line_capture.proofs.EachPlaced.{placed-whole}
+use Rattle.line_capture.proofs.GivenFiles.{way-records, no_errors}
 use Rattle.line_capture.proofs.GivenRecords.{bytes_of_records, given_line, from_later, BeginsBehind}
 use Rattle.line_capture.proofs.SoundForms.{IsSound}
 
@@ -139,6 +143,18 @@ module _ (rate : Rate) (first : ℕ) (line : List Tick) (cs : List CaptureByte)
       sym (silence-behind first taken.0 (line_of (taken_from rate 1 0 first) cs))
       ∙ ap (bytes_from first) (sym taken.1) ∙ from-first
 
+  -- All of its bytes are placed.
+  pub placed-alike : length line ≤ max_ticks → IsPlacedWhole (taken_from rate 1 0 first) cs
+  placed-alike few =
+      let given' = subst (λ l. AreGiven rate 1 0 None l cs) (sym from-first) given in
+      let taken : IsTakenAs (taken_from rate 1 0 first) cs (drop first line) =
+      given-line rate 1 0 first (omega arith) small (drop first line) cs given' in
+      let free = given-free rate 1 0 first (omega arith) small (drop first line) cs given' in
+      let e = ap length taken.1
+      ∙ length-append (line_of (taken_from rate 1 0 first) cs) (silent taken.0) in
+      let d = length-drop first line in
+      placed-whole (taken_from rate 1 0 first) refl cs free (omega arith)
+
 -- ---- a run
 
 -- A run that is done has read all, and placed all.
@@ -230,6 +246,42 @@ module _ (format : Format) (sound : IsSound format) (rate : Rate) (a b : List Ti
     taken-b = subst (λ t. SameTicks first b (line_of t held.b.items)) timing-is
         (taken-alike rate first b held.b.items (first-before-b (bytes_from 0 a) (bytes_from 0 b))
         given-b)
+
+  -- ---- that it is done
+
+  ways-a : AreGiven rate 1 0 None (bytes_from 0 a) (way_bytes Both way.A items)
+  ways-a = subst (AreGiven rate 1 0 None (bytes_from 0 a))
+      (sym (way-records rate way.A records ∙ ap (bytes_of_records rate) are.a_are))
+      (given_line rate way.A a)
+
+  ways-b : AreGiven rate 1 0 None (bytes_from 0 b) (way_bytes Both way.B items)
+  ways-b = subst (AreGiven rate 1 0 None (bytes_from 0 b))
+      (sym (way-records rate way.B records ∙ ap (bytes_of_records rate) are.b_are))
+      (given_line rate way.B b)
+
+  items-timing : taken_from rate 1 0 first ≡ timing_of_items (both_ways rate) items
+  items-timing =
+      let P : ℕ → Timing = λ n.
+      record { rate = rate; spacing = (both_ways rate).spacing; origin = n } in
+      ap P (sym (origin-is rate (bytes_from 0 a) (bytes_from 0 b) (way_bytes Both way.A items)
+      (way_bytes Both way.B items) ways-a ways-b))
+
+  pub takeable-again : length file ≤ max_bytes → length a ≤ max_ticks → length b ≤ max_ticks
+      → IsTakeable format (both_ways rate) (Some file)
+  takeable-again few few_a few_b = record {
+    file = file;
+    items = items;
+    told = refl;
+    few = few;
+    right = is;
+    no_error = no_errors (bytes_of_records rate records);
+    a = subst (λ t. IsPlacedWhole t (way_bytes Both way.A items)) items-timing
+        (placed-alike rate first a (way_bytes Both way.A items)
+        (first-before-a (bytes_from 0 a) (bytes_from 0 b)) ways-a few_a);
+    b = subst (λ t. IsPlacedWhole t (way_bytes Both way.B items)) items-timing
+        (placed-alike rate first b (way_bytes Both way.B items)
+        (first-before-b (bytes_from 0 a) (bytes_from 0 b)) ways-b few_b);
+  }
 
   -- all bytes of a way are in front, if no more were to be placed
   front-all : (cs front rest : List CaptureByte) (t : Timing) (stop : LineStop) → cs ≡ front ++ rest

@@ -1,5 +1,5 @@
 -- What `take` makes of a capture that `give` wrote.
-use Rattle.std.specs.Prelude.{◌≡◌, ℕ, min, List, [], ◌∷◌}
+use Rattle.std.specs.Prelude.{◌≡◌, ℕ, min, List, [], ◌∷◌, Option, Some}
 use Rattle.std.specs.Io.KnownBytes.{append_known}
 use Rattle.yasir_ticks.specs.declared.tick.Tick.{Tick}
 use Rattle.line_stamps.specs.Giving.{ByteAt, bytes_from}
@@ -13,10 +13,10 @@ use Rattle.line_capture.specs.declared.words.TakeForm.{TakeForm}
 use Rattle.line_capture.specs.declared.words.TakeForm.TheVariants as take_forms
 use Rattle.line_capture.specs.declared.words.Ways.TheVariants.{Both}
 
--- the form to take of a form that was given
-abbrev pub taken_as : GiveForm → TakeForm
-taken_as give_forms.Pcap = take_forms.Pcap
-taken_as give_forms.Text = take_forms.Text
+-- the form to take of a form that was given, where it is one that is taken
+abbrev pub taken_as : GiveForm → Option TakeForm
+taken_as give_forms.Pcap = Some take_forms.Pcap
+taken_as give_forms.Text = Some take_forms.Text
 
 -- both ways of a line, by times
 abbrev pub both_ways : Rate → Taking

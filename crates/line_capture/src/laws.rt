@@ -1,9 +1,11 @@
 //! Laws of what runs do.
-ghost use Rattle.std.specs.Prelude.{◌≡◌, List, ℕ, Some};
+ghost use Rattle.std.specs.Prelude.{◌≡◌, ◌≤◌, List, ℕ, Some, length};
 ghost use Rattle.yasir_ticks.specs.declared.tick.Tick.{Tick};
 ghost use Rattle.line_stamps.specs.declared.rate.Rate.{Rate};
 ghost use Rattle.replay_status.specs.declared.status.Status.{Status};
 ghost use Rattle.replay_status.specs.declared.status.Status.TheVariants.{Done};
+ghost use Rattle.tick_drive.specs.Input.{max_bytes};
+ghost use Rattle.line_capture.specs.Able.{IsTakeable};
 ghost use Rattle.line_capture.specs.Formats.{format_of};
 ghost use Rattle.line_capture.specs.Gives.{AreLinesOf, IsGiven};
 ghost use Rattle.line_capture.specs.Inputs.{Told};
@@ -12,6 +14,7 @@ ghost use Rattle.line_capture.specs.Takes.{Held, Takes};
 ghost use Rattle.line_capture.specs.declared.outcome.Outcome.{Outcome};
 ghost use Rattle.line_capture.specs.declared.outcome.Outcome.TheVariants.{Ended};
 ghost use Rattle.line_capture.specs.declared.words.GiveForm.{GiveForm};
+ghost use Rattle.line_capture.specs.declared.words.TakeForm.{TakeForm};
 
 use capture_pcap::written_header;
 
@@ -20,11 +23,17 @@ use capture_pcap::written_header;
 /// each byte is in the same tick, counted from the first byte of either line. Behind its last byte
 /// a line ends, for a capture doesn't tell of the silence there.
 pub fn what_was_given_is_taken()
-    ensures { (form : GiveForm) (rate : Rate) (text : List ℕ) (a b : List Tick) (file : List ℕ)
-        (in_before in_now : Told) (before now : Held) (outcome : Outcome)
-        → AreLinesOf form text a b → IsGiven form rate a b file → in_before.left ≡ Some file
-        → Takes (format_of (taken_as form)) (both_ways rate) in_before in_now before now outcome
+    ensures same { (form : GiveForm) (taken : TakeForm) (rate : Rate) (text : List ℕ)
+        (a b : List Tick) (file : List ℕ) (in_before in_now : Told) (before now : Held)
+        (outcome : Outcome) → taken_as form ≡ Some taken → AreLinesOf form text a b
+        → IsGiven form rate a b file → in_before.left ≡ Some file
+        → Takes (format_of taken) (both_ways rate) in_before in_now before now outcome
         → outcome ≡ Ended Done → TakesAgain a b before now }
+    // It is right for `take`, unless it is too long: no byte of it is refused.
+    ensures right { (form : GiveForm) (taken : TakeForm) (rate : Rate) (text : List ℕ)
+        (a b : List Tick) (file : List ℕ) → taken_as form ≡ Some taken → AreLinesOf form text a b
+        → IsGiven form rate a b file → length file ≤ max_bytes
+        → IsTakeable (format_of taken) (both_ways rate) (Some file) }
 {
     written_header()
 }

@@ -2,7 +2,7 @@ mod Worked
 mod Taking
 mod Numbers
 mod Words
-mod RoundingLaws
+pub mod RoundingLaws
 pub mod Clocks
 mod GivenTicks
 pub mod GivenLines
