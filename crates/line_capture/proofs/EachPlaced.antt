@@ -1,12 +1,12 @@
 -- Bytes of which none is refused are placed, on a line that isn't too long: none of them is late.
-use Rattle.std.proofs.Common.{◌≡◌, ◌∙◌, ℕ, suc, ◌+◌, ◌-◌, ◌*◌, ◌<◌, ◌≤◌, ◌^◌, ⊎_elim, List, [], ◌∷◌, length}
-use Rattle.std.proofs.Common.{false, ◌||◌, Option, Some, None, Ok, refl, sym, ap, subst, arith, add-mul, nat_lt, nat_le}
+use Rattle.std.proofs.Common.{◌≡◌, ◌∙◌, ℕ, ◌+◌, ◌-◌, ◌*◌, ◌<◌, ◌≤◌, ⊎_elim, List, [], ◌∷◌, length}
+use Rattle.std.proofs.Common.{false, ◌||◌, Option, Some, None, Ok, refl, sym, ap, subst, arith, add-mul, nat_le}
 use Rattle.std.proofs.Math.Nat.{mul-le-mul_right}
 use Rattle.std.proofs.lemmas.Bool.{cases_lt, cond-false, lt-leb, ltb-false}
 use Rattle.tick_drive.specs.Input.{max_ticks}
 use Rattle.line_stamps.specs.Parts.{character, rounded, ticks_apart}
-use Rattle.line_stamps.specs.Places.{Spot, spot_of, start_of, next_tick, placed_from, ticks_from}
-use Rattle.line_stamps.specs.Places.{line_of, last_spot_from, last_spot, tick_at}
+use Rattle.line_stamps.specs.Places.{Spot, spot_of, start_of, next_tick}
+use Rattle.line_stamps.specs.Places.{line_of, last_spot_from, tick_at}
 use Rattle.line_stamps.specs.Placing.{answer_at, is_early, is_late, overlaps, overlaps_at}
 use Rattle.line_stamps.specs.Placing.{NoneRefused, silence_before}
 use Rattle.line_stamps.specs.declared.TheConstants.{TIME_LIMIT}
