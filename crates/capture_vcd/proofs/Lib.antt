@@ -1,0 +1,4 @@
+pub mod LevelLaws
+pub mod ChangeLaws
+pub mod TextLaws
+pub mod LookLaws

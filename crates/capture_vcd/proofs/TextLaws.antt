@@ -1,0 +1,75 @@
+-- The text of a dump, tick by tick.
+use Rattle.std.proofs.Common.{◌≡◌, ◌∙◌, ℕ, ◌+◌, ◌-◌, ◌*◌, ◌≤◌, max, Bool, false, List, [], ◌∷◌, ◌++◌, length, take, drop, get_or, replicate}
+use Rattle.std.proofs.Common.{ap, sym, arith, append_assoc}
+use Rattle.std.specs.List.{flat_map}
+use Rattle.std.proofs.lemmas.Grind.{flat_map-append}
+use Rattle.std.proofs.lemmas.List.{append-nil}
+use Rattle.yasir_ticks.specs.declared.tick.Tick.{Tick}
+use Rattle.yasir_ticks.specs.declared.tick.Tick.TheVariants.{Silent}
+use Rattle.line_stamps.specs.declared.rate.Rate.{Rate}
+use Rattle.capture_vcd.specs.Levels.{tick_levels}
+use Rattle.capture_vcd.specs.Changes.{bit_start, quiet, changes_at, changes_from, padded}
+use Rattle.capture_vcd.specs.Changes.{ticks_changes}
+use Rattle.capture_vcd.specs.Dump.{change_text, dump_front, dump_end, dump_text}
+use Rattle.capture_vcd.specs.declared.changes.BothLevels.{BothLevels}
+use Rattle.capture_vcd.specs.declared.changes.Change.{Change}
+use Rattle.capture_vcd.specs.declared.text.Wires.{Wires}
+use Rattle.capture_vcd.proofs.ChangeLaws.{bits_more, ticks_more}
+
+-- the text of the first bit, and that of those behind it
+pub bits_text : (rate : Rate) (bit : ℕ) (before : BothLevels) (xs ys : List Bool)
+    (old now all : List ℕ) → 1 ≤ length xs → 1 ≤ length ys
+    → now ≡ old ++ flat_map change_text
+    (changes_at (bit_start rate bit) before (get_or xs 0 false) (get_or ys 0 false))
+    → all ≡ now ++ flat_map change_text (changes_from rate (bit + 1)
+    (record { a = get_or xs 0 false; b = get_or ys 0 false })
+    (take (length xs - 1) (drop 1 xs)) (take (length ys - 1) (drop 1 ys)))
+    → all ≡ old ++ flat_map change_text (changes_from rate bit before xs ys)
+bits_text rate bit before xs ys old now all h k first rest =
+    let here : List Change =
+    changes_at (bit_start rate bit) before (get_or xs 0 false) (get_or ys 0 false) in
+    let behind : List Change = changes_from rate (bit + 1)
+    (record { a = get_or xs 0 false; b = get_or ys 0 false })
+    (take (length xs - 1) (drop 1 xs)) (take (length ys - 1) (drop 1 ys)) in
+    rest ∙ ap (λ x. x ++ flat_map change_text behind) first
+    ∙ append_assoc old (flat_map change_text here) (flat_map change_text behind)
+    ∙ ap (λ x. old ++ x) (sym (flat_map-append change_text here behind)
+    ∙ ap (flat_map change_text) (sym (bits_more rate bit before xs ys h k)))
+
+padded_as : (line other : List Tick) → length line ≡ length other → padded line other ≡ line
+padded_as line other e =
+    let none : length other - length line ≡ 0 = omega arith in
+    ap (λ k. line ++ replicate k Silent) none ∙ append-nil line
+
+module _ (rate : Rate) (wires : Wires) (xs ys : List Tick) (n : ℕ) (text more : List ℕ)
+    (of_a : length xs ≡ n) (of_b : length ys ≡ n)
+    (is : text ≡ dump_front wires ++ flat_map change_text (ticks_changes rate xs ys)) where
+  pub text_more : (a b : Tick) (bit : ℕ) → bit ≡ (n + 1) * rate.bits
+      → more ≡ flat_map change_text (changes_from rate bit quiet (tick_levels rate.bits a)
+      (tick_levels rate.bits b))
+      → text ++ more
+      ≡ dump_front wires ++ flat_map change_text (ticks_changes rate (xs ++ a ∷ []) (ys ++ b ∷ []))
+  text_more a b bit place more_is =
+      let so_far : List ℕ = flat_map change_text (ticks_changes rate xs ys) in
+      let there : List Change → List ℕ = flat_map change_text in
+      ap (λ x. x ++ more) is
+      ∙ append_assoc (dump_front wires) so_far more
+      ∙ ap (λ x. dump_front wires ++ (so_far ++ x)) (more_is
+      ∙ ap (λ k. there (changes_from rate k quiet (tick_levels rate.bits a)
+      (tick_levels rate.bits b))) place)
+      ∙ ap (λ x. dump_front wires ++ x) (sym (flat_map-append change_text (ticks_changes rate xs ys)
+      (changes_from rate ((n + 1) * rate.bits) quiet (tick_levels rate.bits a)
+      (tick_levels rate.bits b))))
+      ∙ ap (λ x. dump_front wires ++ flat_map change_text x)
+      (sym (ticks_more rate xs ys a b n of_a of_b))
+
+  pub text_ends : more ≡ dump_end rate n → text ++ more ≡ dump_text rate wires xs ys
+  text_ends more_is =
+      let longest : n ≡ max (length xs) (length ys) = omega arith in
+      ap (λ x. x ++ more) is
+      ∙ ap (λ x. (dump_front wires ++ flat_map change_text (ticks_changes rate xs ys)) ++ x)
+      (more_is ∙ ap (dump_end rate) longest)
+      ∙ ap (λ x. (dump_front wires ++ flat_map change_text (ticks_changes rate x ys))
+      ++ dump_end rate (max (length xs) (length ys))) (sym (padded_as xs ys (omega arith)))
+      ∙ ap (λ x. (dump_front wires ++ flat_map change_text (ticks_changes rate (padded xs ys) x))
+      ++ dump_end rate (max (length xs) (length ys))) (sym (padded_as ys xs (omega arith)))

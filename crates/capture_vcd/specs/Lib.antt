@@ -1,0 +1,5 @@
+pub mod Levels
+pub mod Changes
+pub mod Dump
+pub mod Writer
+pub mod Looks
