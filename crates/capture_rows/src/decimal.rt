@@ -1,0 +1,92 @@
+//! Numbers in decimal digits, and times of whole nanoseconds. No float is used.
+ghost use Rattle.std.specs.Prelude.{◌≡◌, ◌<◌, true};
+ghost use Rattle.yasir_ticks.specs.TickText.{is_decimal_digit};
+ghost use Rattle.capture_rows.specs.Decimals.{with_digit, with_fraction, number_from};
+ghost use Rattle.capture_rows.specs.Decimals.{fraction_from, whole_at, time_at};
+
+use crate::cut::place_of;
+use capture_text::is_digit;
+
+/// A number with one digit more, if it is below 2^64.
+fn with_digit(value: u64, digit: u8) -> Option<u64>
+    requires { is_decimal_digit digit ≡ true }
+    ensures { result ≡ with_digit value digit }
+{
+    value.checked_mul(10)?.checked_add(u64::from(digit - b'0'))
+}
+
+/// A time with one digit more behind its point, which counts this many nanoseconds.
+fn with_fraction(time: u64, counts: u64, digit: u8) -> Option<u64>
+    requires small { counts < 1000000000 }
+    requires digit { is_decimal_digit digit ≡ true }
+    ensures { result ≡ with_fraction time counts digit }
+{
+    time.checked_add(u64::from(digit - b'0') * counts)
+}
+
+/// The number of a value and the digits that follow it, if it is below 2^64.
+fn number_from(value: u64, digits: &[u8]) -> Option<u64>
+    ensures { result ≡ number_from value digits.now }
+{
+    match digits {
+        [] => Some(value),
+        [digit, rest @ ..] => {
+            if !is_digit(*digit) {
+                return None;
+            }
+            match with_digit(value, *digit) {
+                Some(value) => number_from(value, rest),
+                None => None,
+            }
+        }
+    }
+}
+
+/// A time and the digits behind its point, the first of which counts this many nanoseconds.
+fn fraction_from(time: u64, counts: u64, digits: &[u8]) -> Option<u64>
+    requires { counts < 1000000000 }
+    ensures { result ≡ fraction_from time counts digits.now }
+{
+    match digits {
+        [] => Some(time),
+        [digit, rest @ ..] => {
+            if !is_digit(*digit) {
+                return None;
+            }
+            match with_fraction(time, counts, *digit) {
+                Some(time) => fraction_from(time, counts / 10, rest),
+                None => None,
+            }
+        }
+    }
+}
+
+/// A whole number of units of this many nanoseconds.
+fn whole_at(unit: u64, digits: &[u8]) -> Option<u64>
+    ensures { result ≡ whole_at unit digits.now }
+{
+    if digits.is_empty() {
+        return None;
+    }
+    match number_from(0, digits) {
+        Some(n) => n.checked_mul(unit),
+        None => None,
+    }
+}
+
+/// A time in units of this many nanoseconds, in whole nanoseconds.
+pub fn time_at(unit: u64, text: &[u8]) -> Option<u64>
+    requires { unit < 10000000000 }
+    ensures { result ≡ time_at unit text.now }
+{
+    let Some(at) = place_of(b'.', text) else {
+        return whole_at(unit, text);
+    };
+    let Some(time) = whole_at(unit, &text[..at]) else {
+        return None;
+    };
+    if at + 1 == text.len() {
+        return None;
+    }
+    fraction_from(time, unit / 10, &text[at + 1..])
+}

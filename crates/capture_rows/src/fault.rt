@@ -1,0 +1,30 @@
+//! Why an export is refused.
+
+/// Why an export is refused.
+#[derive(Clone, Copy, Debug, PartialEq, Eq)]
+pub enum RowFault {
+    /// A line of more than 255 bytes.
+    Long,
+    /// A line that is none of this form, or that can't be at its place: another heading, or a row
+    /// behind the end of a trace.
+    Line,
+    /// A time that isn't written as digits, with or without a point and digits behind it, or one of
+    /// 2^64 nanoseconds or more.
+    Time,
+    /// A row that has neither a byte in two hex digits nor an error that is known.
+    Data,
+    /// A third channel, or one with a name of more than 64 bytes.
+    Channel,
+    /// The export ends within a line, or before its last one.
+    End,
+}
+
+/// A refusal of an export.
+#[derive(Clone, Copy, Debug, PartialEq, Eq)]
+pub struct BadRow {
+    /// How many bytes come before the refused line.
+    pub offset: u64,
+    /// The refused line, counted from 1.
+    pub line: u64,
+    pub why: RowFault,
+}

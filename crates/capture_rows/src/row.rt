@@ -1,0 +1,69 @@
+//! What a line of an export says, whatever its form.
+ghost use Rattle.std.specs.Prelude.{◌≡◌, ◌≤◌, length};
+
+use crate::RowFault;
+
+/// Where in an export its reader is.
+#[derive(Clone, Copy, Debug, PartialEq, Eq)]
+pub enum Stage {
+    /// Before its first line.
+    Start,
+    /// Rows may follow, and it may end.
+    Rows,
+    /// A row or the last line follows.
+    First,
+    /// A row follows.
+    More,
+    /// The last line follows.
+    Last,
+    /// Behind its last line.
+    Done,
+}
+
+/// What a row says of its channel.
+#[derive(Clone, Copy, Debug, PartialEq, Eq)]
+pub enum What {
+    /// A byte.
+    Byte(u8),
+    /// An event of this number, as RTAC serial captures count them: 7 is a framing error, 8 a
+    /// parity error and 9 a break.
+    Event(u8),
+}
+
+/// What a row says, and when that was, in nanoseconds.
+#[derive(Clone, Copy, Debug, PartialEq, Eq)]
+pub struct RowItem {
+    pub start: u64,
+    pub what: What,
+}
+
+/// A line: what may follow it, and what it says, if it says anything.
+#[derive(Clone, Copy, Debug, PartialEq, Eq)]
+pub struct Row {
+    pub next: Stage,
+    pub item: Option<RowItem>,
+}
+
+/// A form of exports that have a row a line.
+pub trait RowForm: Drop {
+    ghost use Rattle.std.specs.Prelude.{◌≡◌, ℕ, List, Result};
+    ghost use Rattle.capture_rows.specs.declared.fault.RowFault.{RowFault};
+    ghost use Rattle.capture_rows.specs.declared.row.Row.{Row};
+    ghost use Rattle.capture_rows.specs.declared.row.Stage.{Stage};
+
+    // What a line is at this stage, or why it is refused.
+    ghost row_at: { Stage → List ℕ → Result Row RowFault };
+
+    // The name of a row's channel.
+    ghost name_of: { List ℕ → List ℕ };
+
+    fn form() -> Self;
+
+    /// What a line is at this stage, or why it is refused.
+    fn row(&self, stage: Stage, line: &[u8]) -> Result<Row, RowFault>
+        ensures { result ≡ row_at stage line.now };
+
+    /// The name of a row's channel.
+    fn name<'t>(&self, line: &'t [u8]) -> &'t [u8]
+        ensures { result.now ≡ name_of line.now };
+}
