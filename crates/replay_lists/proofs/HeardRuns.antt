@@ -1,5 +1,5 @@
 -- A device that hears a run of ticks.
-use Rattle.std.proofs.Common.{◌≡◌, ◌∙◌, ℕ, List, [], ◌∷◌, ◌++◌, Some, None, Option}
+use Rattle.std.proofs.Common.{◌≡◌, ◌∙◌, ℕ, List, [], ◌∷◌, ◌++◌}
 use Rattle.std.proofs.Common.{ap, sym, subst, append-nil, arith, length, map, take, min, ◌-◌, ◌≤◌}
 use Rattle.std.proofs.Common.{◌+◌, drop, append_assoc, length-drop}
 use Rattle.std.proofs.Math.Seq.{take-add}
@@ -8,43 +8,9 @@ use Rattle.yasir_ticks.specs.Ticks.{silent}
 use Rattle.yasir_ticks.specs.declared.tick.Tick.{Tick}
 use Rattle.yasir_ticks.specs.declared.tick.Tick.TheVariants.{Silent, Byte}
 use Rattle.burst_walk.specs.Answered.{answered}
-use Rattle.device_model.specs.Frames.{frames_of}
 use Rattle.device_model.specs.declared.device.Device.{Ghosts as Device}
-use Rattle.device_model.specs.declared.device.FrameAt.{FrameAt}
-use Rattle.replay_lists.specs.FrameList.{Kept, Holds}
-use Rattle.replay_lists.specs.ReplayLists.{Listens, kept_read, kept_reads}
+use Rattle.replay_lists.specs.ReplayLists.{Listens}
 use Rattle.replay_lists.specs.declared.frame_list.FrameList.{FrameList}
-
-module _ {V : Type 0} (device : Device V) (old new : V) (run : List Tick)
-    (stands : (line : List Tick) → device.stands old line → device.stands new (line ++ run)) where
-  -- which has read no frame in it
-  pub hears-none : (list : FrameList ℕ) (frame : Option FrameAt) → frame ≡ None
-      → ((line : List Tick) → device.stands old line
-      → device.reads (line ++ run) ≡ device.reads line ++ frames_of frame)
-      → (line : List Tick) → Listens device old list line → Listens device new list (line ++ run)
-  hears-none list frame is answer line listens = record {
-    hears = stands line listens.hears;
-    holds = subst (λ l. Holds list (kept_reads l))
-        (sym (answer line listens.hears ∙ ap (λ f. device.reads line ++ frames_of f) is
-        ∙ append-nil (device.reads line))) listens.holds;
-  }
-
-  -- which has read one, and it was kept
-  pub hears-one : (before after : FrameList ℕ) (o : Option FrameAt) (frame : FrameAt)
-      → o ≡ Some frame
-      → ((line : List Tick) → device.stands old line
-      → device.reads (line ++ run) ≡ device.reads line ++ frames_of o)
-      → ((frames : List (Kept ℕ)) → Holds before frames
-      → Holds after (frames ++ record { head = frame.start; frame = frame.bytes.items } ∷ []))
-      → (line : List Tick) → Listens device old before line → Listens device new after (line ++ run)
-  hears-one before after o frame is answer push line listens = record {
-    hears = stands line listens.hears;
-    holds = subst (Holds after)
-        (sym (ap kept_reads (answer line listens.hears
-        ∙ ap (λ f. device.reads line ++ frames_of f) is)
-        ∙ map-append kept_read (device.reads line) (frames_of (Some frame))))
-        (push (kept_reads (device.reads line)) listens.holds);
-  }
 
 -- nothing was heard yet
 pub hears-nothing : {V : Type 0} (device : Device V) (value : V) (list : FrameList ℕ)

@@ -1,18 +1,15 @@
 -- What is kept of a line, and of one tick more.
-use Rattle.std.proofs.Common.{◌≡◌, ◌∙◌, ℕ, List, [], ◌∷◌, ◌++◌, Some, None, Result, refl}
+use Rattle.std.proofs.Common.{◌≡◌, ◌∙◌, ℕ, List, [], ◌∷◌, ◌++◌, Some, None, refl}
 use Rattle.std.proofs.Common.{ap, sym, subst, append-nil}
-use Rattle.std.specs.Prelude.{OnOk}
 use Rattle.std.proofs.lemmas.List.{map-append}
-use Rattle.std.proofs.lemmas.Result.{on_ok_weaker}
 use Rattle.yasir_ticks.specs.declared.tick.Tick.{Tick}
 use Rattle.link_format.specs.Setup.{Setup}
-use Rattle.device_model.specs.Frames.{frames_of}
+use Rattle.device_model.specs.Frames.{FrameRead}
 use Rattle.device_model.specs.declared.device.Device.{Ghosts as Device}
-use Rattle.device_model.specs.declared.device.FrameAt.{FrameAt}
 use Rattle.replay_lists.specs.FrameList.{Kept, Holds}
 use Rattle.replay_lists.specs.FrameBox.{AnswersFrame, frame_told, kept_numbered}
 use Rattle.replay_lists.specs.FrameBox.{kept_frames}
-use Rattle.replay_lists.specs.ReplayLists.{KeepsFrames, StepsInto, Listens, kept_read, kept_reads}
+use Rattle.replay_lists.specs.ReplayLists.{KeepsFrames, StepsInto, Listens, kept_reads}
 use Rattle.replay_lists.specs.declared.frame_box.FrameBox.{Ghosts as FrameBox}
 use Rattle.replay_lists.specs.declared.frame_box.FrameStep.{FrameStep}
 use Rattle.replay_lists.specs.declared.frame_box.Numbered.{Numbered}
@@ -50,24 +47,21 @@ module _ {B : Type 0} (box : FrameBox B) (old new : B) (before after : FrameList
         answers = answers.tick_is;
       }
 
--- ---- a tick at a device
+-- ---- some ticks at a device
 
-module _ {V : Type 0} (device : Device V) (old new : V) (before after : FrameList ℕ) (t : Tick)
-  where
-    -- which has read a frame
-    pub listens-more : {E : Type 0} (frame : FrameAt) (result : Result (Unit {0}) E)
-        → ((line : List Tick) → device.stands old line → device.stands new (line ++ t ∷ []))
-        → ((line : List Tick) → device.stands old line
-        → device.reads (line ++ t ∷ []) ≡ device.reads line ++ frames_of (Some frame))
-        → OnOk result ((frames : List (Kept ℕ)) → Holds before frames
-        → Holds after (frames ++ record { head = frame.start; frame = frame.bytes.items } ∷ []))
-        → OnOk result ((line : List Tick) → Listens device old before line
-        → Listens device new after (line ++ t ∷ []))
-    listens-more frame result stands answer push =
-        on_ok_weaker result (λ pushed line listens. record {
-          hears = stands line listens.hears;
-          holds = subst (Holds after)
-              (sym (ap kept_reads (answer line listens.hears)
-              ∙ map-append kept_read (device.reads line) (frames_of (Some frame))))
-              (pushed (kept_reads (device.reads line)) listens.holds);
-        }) push
+module _ {V : Type 0} (device : Device V) (old new : V) (before after : FrameList ℕ)
+    (run : List Tick) (frames : List FrameRead) where
+  -- in which these frames are read, and kept
+  pub listens-more : ((line : List Tick) → device.stands old line
+      → device.stands new (line ++ run))
+      → ((line : List Tick) → device.stands old line
+      → device.reads (line ++ run) ≡ device.reads line ++ frames)
+      → ((reads : List FrameRead) → Holds before (kept_reads reads)
+      → Holds after (kept_reads (reads ++ frames)))
+      → (line : List Tick) → Listens device old before line
+      → Listens device new after (line ++ run)
+  listens-more stands answer kept line listens = record {
+    hears = stands line listens.hears;
+    holds = subst (λ l. Holds after (kept_reads l)) (sym (answer line listens.hears))
+        (kept (device.reads line) listens.holds);
+  }

@@ -5,16 +5,34 @@ ghost use Rattle.yasir_ticks.specs.declared.tick.Tick.{Tick};
 ghost use Rattle.yasir_ticks.specs.declared.tick.Tick.TheVariants.{Byte};
 ghost use Rattle.yasir_ticks.specs.declared.TheConstants.{MAX_TICKS};
 ghost use Rattle.burst_walk.specs.Answered.{answered};
-ghost use Rattle.replay_lists.specs.FrameList.{list_len};
-ghost use Rattle.replay_lists.specs.ReplayLists.{Listens};
+ghost use Rattle.device_model.specs.Frames.{FrameRead, frames_lent};
+ghost use Rattle.replay_lists.specs.FrameList.{Holds, list_len};
+ghost use Rattle.replay_lists.specs.ReplayLists.{Listens, kept_reads};
 
 use crate::frame_list::FrameList;
-use device_model::Device;
+use device_model::LendingDevice;
 use yasir_io::NoMemory;
+
+// Keeps the frame that a device lends, if it has read one.
+#[inline]
+pub(crate) fn keep_lent<V: LendingDevice>(
+    device: &V,
+    start: Option<u64>,
+    frames: &mut FrameList<u64>,
+) -> Result<(), NoMemory>
+    ensures few { OnOk result (list_len frames.new ≤ list_len frames.old + 1) }
+    ensures kept { OnOk result ((reads : List FrameRead) → Holds frames.old (kept_reads reads)
+        → Holds frames.new (kept_reads (reads ++ frames_lent start (V.lent device.now)))) }
+{
+    match start {
+        None => Ok(()),
+        Some(start) => frames.push(start, device.frame_bytes()),
+    }
+}
 
 // A device hears bytes up to the first one in which it reads a frame, which is kept. Returns how
 // many.
-pub(crate) fn hear_some<V: Device>(
+pub(crate) fn hear_some<V: LendingDevice>(
     device: &mut V,
     frames: &mut FrameList<u64>,
     bytes: &[u8],
@@ -29,20 +47,17 @@ pub(crate) fn hear_some<V: Device>(
         → Listens V.Device device.old frames.old line
         → Listens V.Device device.new frames.new (line ++ map Byte (take n bytes.now))) }
 {
-    let heard = device.hear_some(bytes);
-    match &heard.frame {
-        None => Ok(heard.taken),
-        Some(frame) => match frames.push(frame.start, frame.bytes.as_slice()) {
-            Ok(()) => Ok(heard.taken),
-            Err(NoMemory) => Err(NoMemory),
-        },
+    let met = device.hear_on(bytes);
+    match keep_lent(device, met.start, frames) {
+        Ok(()) => Ok(met.taken),
+        Err(NoMemory) => Err(NoMemory),
     }
 }
 
 // A device hears this many silent ticks, up to the first one in which it reads a frame, which is
 // kept. Returns how many.
 #[inline]
-pub(crate) fn wait_some<V: Device>(
+pub(crate) fn wait_some<V: LendingDevice>(
     device: &mut V,
     frames: &mut FrameList<u64>,
     ticks: usize,
@@ -57,18 +72,15 @@ pub(crate) fn wait_some<V: Device>(
         → Listens V.Device device.old frames.old line
         → Listens V.Device device.new frames.new (line ++ silent n)) }
 {
-    let heard = device.wait_some(ticks);
-    match &heard.frame {
-        None => Ok(heard.taken),
-        Some(frame) => match frames.push(frame.start, frame.bytes.as_slice()) {
-            Ok(()) => Ok(heard.taken),
-            Err(NoMemory) => Err(NoMemory),
-        },
+    let met = device.wait_on(ticks);
+    match keep_lent(device, met.start, frames) {
+        Ok(()) => Ok(met.taken),
+        Err(NoMemory) => Err(NoMemory),
     }
 }
 
 // A device hears all of these bytes.
-fn hear_bytes<V: Device>(
+fn hear_bytes<V: LendingDevice>(
     device: &mut V,
     frames: &mut FrameList<u64>,
     bytes: &[u8],
@@ -90,7 +102,7 @@ fn hear_bytes<V: Device>(
 
 // A device hears this many silent ticks.
 #[inline(always)]
-pub(crate) fn hear_silence<V: Device>(
+pub(crate) fn hear_silence<V: LendingDevice>(
     device: &mut V,
     frames: &mut FrameList<u64>,
     ticks: usize,
@@ -114,7 +126,7 @@ pub(crate) fn hear_silence<V: Device>(
 // A device hears what a box answers to a run of this many ticks. It is kept separate from silence,
 // which is answered more often and comes without a call.
 #[inline(never)]
-fn hear_run<V: Device>(
+fn hear_run<V: LendingDevice>(
     device: &mut V,
     frames: &mut FrameList<u64>,
     count: usize,
@@ -135,7 +147,7 @@ fn hear_run<V: Device>(
 
 // A device hears what a box answers to a run of this many ticks: as many bytes, or silence.
 #[inline(always)]
-pub(crate) fn hear_answered<V: Device>(
+pub(crate) fn hear_answered<V: LendingDevice>(
     device: &mut V,
     frames: &mut FrameList<u64>,
     count: usize,

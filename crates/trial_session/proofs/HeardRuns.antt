@@ -1,12 +1,11 @@
 -- Runs that a device hears.
-use Rattle.std.proofs.Common.{◌≡◌, ◌∙◌, ℕ, ◌+◌, List, [], ◌∷◌, ◌++◌, length, map, Option, ap, sym}
+use Rattle.std.proofs.Common.{◌≡◌, ◌∙◌, ℕ, ◌+◌, List, [], ◌∷◌, ◌++◌, length, map, ap, sym}
 use Rattle.std.proofs.Common.{subst, refl, arith, length-append, append_assoc, append-nil}
 use Rattle.std.proofs.lemmas.List.{map-append}
 use Rattle.yasir_ticks.specs.declared.tick.Tick.{Tick}
 use Rattle.yasir_ticks.specs.declared.tick.Tick.TheVariants.{Byte}
-use Rattle.device_model.specs.Frames.{frames_of}
+use Rattle.device_model.specs.Frames.{FrameRead}
 use Rattle.device_model.specs.declared.device.Device.{Ghosts as Device}
-use Rattle.device_model.specs.declared.device.FrameAt.{FrameAt}
 use Rattle.link_box.specs.declared.box_trait.LinkBox.{Ghosts as LinkBox}
 use Rattle.trial_session.specs.Counting.{Counting}
 use Rattle.trial_session.specs.Sides.{HasTaken, HasPassed, HasHeard, IsHearing, HasReceived}
@@ -20,20 +19,20 @@ none-waits (b ∷ x) none = absurd (omega (arith, none))
 
 module _ {V : Type 0} (device : Device V) where
   -- a run in which a frame is read at most in the last tick
-  pub hears-run : (value next : Listening V) (line run front : List Tick) (frame : Option FrameAt)
-      (n : ℕ) → run ≡ front
+  pub hears-run : (value next : Listening V) (line run front : List Tick)
+      (frames : List FrameRead) (n : ℕ) → run ≡ front
       → device.stands next.device (line ++ run)
-      → device.reads (line ++ run) ≡ device.reads line ++ frames_of frame
-      → n ≡ length (frames_of frame) → HasHeard device value line
+      → device.reads (line ++ run) ≡ device.reads line ++ frames
+      → n ≡ length frames → HasHeard device value line
       → next.read ≡ value.read + n
       → HasHeard device next (line ++ front)
-  hears-run value next line run front frame n same stands reads count heard more =
+  hears-run value next line run front frames n same stands reads count heard more =
       subst (λ l. HasHeard device next (line ++ l)) same (record {
         stands = stands;
         counts = more
             ∙ ap (λ k. k + n) heard.counts
             ∙ ap (λ k. length (device.reads line) + k) count
-            ∙ sym (ap length reads ∙ length-append (device.reads line) (frames_of frame));
+            ∙ sym (ap length reads ∙ length-append (device.reads line) frames);
       })
 
   -- the same bytes by other names

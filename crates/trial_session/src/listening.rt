@@ -1,9 +1,9 @@
 //! A device in a session, and how many frames it has read.
-ghost use Rattle.std.specs.Prelude.{◌≡◌, ◌≤◌, length};
-ghost use Rattle.device_model.specs.Frames.{frames_of};
+ghost use Rattle.std.specs.Prelude.{◌≡◌, ℕ, ◌≤◌, List, length};
+ghost use Rattle.device_model.specs.Frames.{frames_lent};
 
 use arrayvec::ArrayVec;
-use device_model::{Device, FrameAt};
+use device_model::LendingDevice;
 use yasir_ticks::MAX_TICKS;
 
 /// Bytes that a device is still to hear.
@@ -24,19 +24,20 @@ impl<V> Listening<V> {
     }
 }
 
-// How many frames a step of the device has read.
-fn frames_in(frame: Option<FrameAt>) -> u64
-    ensures value { result ≡ length (frames_of frame) }
+// How many frames a device has read in some ticks, by the tick at which one begins.
+#[inline]
+fn frames_in(start: Option<u64>) -> u64
+    ensures value { (bytes : List ℕ) → result ≡ length (frames_lent start bytes) }
     ensures few { result ≤ 1 }
 {
-    match frame {
+    match start {
         Some(_) => 1,
         None => 0,
     }
 }
 
-impl<V: Device + Drop> Listening<V> {
-    ghost use Rattle.std.specs.Prelude.{◌+◌, List, [], ◌++◌, map};
+impl<V: LendingDevice + Drop> Listening<V> {
+    ghost use Rattle.std.specs.Prelude.{◌+◌, [], ◌++◌, map};
     ghost use Rattle.yasir_ticks.specs.Ticks.{silent};
     ghost use Rattle.yasir_ticks.specs.declared.tick.Tick.TheVariants.{Byte};
     ghost use Rattle.burst_walk.specs.Answered.{answered};
@@ -73,9 +74,9 @@ impl<V: Device + Drop> Listening<V> {
     {
         let mut at = 0;
         while at < bytes.len() {
-            let heard = self.device.hear_some(&bytes[at..]);
-            self.read += frames_in(heard.frame);
-            at += heard.taken;
+            let met = self.device.hear_on(&bytes[at..]);
+            self.read += frames_in(met.start);
+            at += met.taken;
         }
     }
 
@@ -90,9 +91,9 @@ impl<V: Device + Drop> Listening<V> {
     {
         let mut at = 0;
         while at < ticks {
-            let heard = self.device.wait_some(ticks - at);
-            self.read += frames_in(heard.frame);
-            at += heard.taken;
+            let met = self.device.wait_on(ticks - at);
+            self.read += frames_in(met.start);
+            at += met.taken;
         }
     }
 

@@ -6,7 +6,7 @@ use super::ReplayLists;
 use crate::frame_box::{FrameBox, FrameStep};
 use crate::recordings::list_recordings;
 use burst_walk::RunBytes;
-use device_model::{Device, FrameAt, Heard, LendingDevice, Met};
+use device_model::{Device, FrameAt, LendingDevice, Met};
 use hmac_tag::Dir;
 use std::alloc::Global;
 use std::test::Fail;
@@ -113,24 +113,6 @@ impl Device for Deaf {
         self.calls.step = self.calls.step.saturating_add(1);
         self.taken += 1;
         None
-    }
-
-    fn hear_some(&mut self, bytes: &[u8]) -> Heard {
-        self.calls.bytes = self.calls.bytes.saturating_add(1);
-        self.taken += bytes.len() as u64;
-        Heard {
-            taken: bytes.len(),
-            frame: None,
-        }
-    }
-
-    fn wait_some(&mut self, ticks: usize) -> Heard {
-        self.calls.silence = self.calls.silence.saturating_add(1);
-        self.taken += ticks as u64;
-        Heard {
-            taken: ticks,
-            frame: None,
-        }
     }
 }
 

@@ -9,7 +9,7 @@ use crate::side::Side;
 use crate::{CountingBox, Fate};
 use burst_walk::{BoxStep, RunBytes};
 use check_receiver::Checker;
-use device_model::{Device, FrameAt, Heard, RtuDevice};
+use device_model::{Device, FrameAt, LendingDevice, Met, RtuDevice};
 use hmac_tag::{Dir, HmacSha1};
 use link_box::LinkBox;
 use rtu_frame::Rtu;
@@ -117,15 +117,28 @@ impl<V: Device> Device for Counted<V> {
         self.turn();
         self.inner.step(t)
     }
+}
 
-    fn hear_some(&mut self, bytes: &[u8]) -> Heard {
-        self.turn();
-        self.inner.hear_some(bytes)
+impl<V: LendingDevice> LendingDevice for Counted<V> {
+    ghost lent = { λ value. V.lent value.inner };
+
+    fn frame_bytes(&self) -> &[u8] {
+        self.inner.frame_bytes()
     }
 
-    fn wait_some(&mut self, ticks: usize) -> Heard {
+    fn step_on(&mut self, t: Tick) -> Option<u64> {
         self.turn();
-        self.inner.wait_some(ticks)
+        self.inner.step_on(t)
+    }
+
+    fn hear_on(&mut self, bytes: &[u8]) -> Met {
+        self.turn();
+        self.inner.hear_on(bytes)
+    }
+
+    fn wait_on(&mut self, ticks: usize) -> Met {
+        self.turn();
+        self.inner.wait_on(ticks)
     }
 }
 

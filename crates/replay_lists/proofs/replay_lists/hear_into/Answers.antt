@@ -1,7 +1,10 @@
+use Rattle.std.proofs.lemmas.Result.{on_ok_weaker}
 use Rattle.replay_lists.proofs.Keeping.{listens-more}
 use Rattle.replay_lists.proofs.replay_lists.hear_into.Goals as goal
 
-pub returns-in-Some-clause-ok : goal.returns-in-Some-clause-ok
-returns-in-Some-clause-ok g c =
-    listens-more g.V.Device _ _ _ _ c.args.t c.in-Some.frame _ c.in-Some.ensures.stands
-    c.in-Some.ensures.answer (rw c.as_slice.ensures.value at c.push.ensures.kept)
+pub returns-clause-ok : goal.returns-clause-ok
+returns-clause-ok g c =
+    on_ok_weaker c.keep_lent.result (listens-more g.V.Device c.args.device.now
+    c.step_on-start.new.self c.args.frames.now c.keep_lent.new.frames _ _
+    c.step_on-start.ensures.stands c.step_on-start.ensures.answer)
+    c.keep_lent.ensures.kept
