@@ -51,6 +51,22 @@ const POLL_TICKS: &[u8] = b"+01030000000ac5cd\n-92\n+0103000a0002e409\n";
 const BOTH_TICKS: &[u8] = b"+01030000000ac5cd\n-92\n+0103000a0002e409\n%\n-28\n\
 +01031408fd08fa090100650067006301f400000000000198d2\n-67\n+018302c0f1\n";
 
+/// What `scripts/capture_model.py give pcap 9600x11` makes of these ticks.
+const GIVEN: [u8; 182] = [
+    0x4D, 0x3C, 0xB2, 0xA1, 0x02, 0x00, 0x04, 0x00, 0x00, 0x00, 0x00, 0x00, 0x00, 0x00, 0x00, 0x00,
+    0x00, 0x00, 0x04, 0x00, 0xFA, 0x00, 0x00, 0x00, 0x00, 0x00, 0x00, 0x00, 0x00, 0x00, 0x00, 0x00,
+    0x14, 0x00, 0x00, 0x00, 0x14, 0x00, 0x00, 0x00, 0x00, 0x00, 0x00, 0x00, 0x00, 0x00, 0x00, 0x00,
+    0x01, 0x00, 0x00, 0x00, 0x01, 0x03, 0x00, 0x00, 0x00, 0x0A, 0xC5, 0xCD, 0x00, 0x00, 0x00, 0x00,
+    0x85, 0x8D, 0xE9, 0x01, 0x25, 0x00, 0x00, 0x00, 0x25, 0x00, 0x00, 0x00, 0x00, 0x00, 0x00, 0x00,
+    0x00, 0x00, 0x7D, 0x53, 0x02, 0x00, 0x00, 0x00, 0x01, 0x03, 0x14, 0x08, 0xFD, 0x08, 0xFA, 0x09,
+    0x01, 0x00, 0x65, 0x00, 0x67, 0x00, 0x63, 0x01, 0xF4, 0x00, 0x00, 0x00, 0x00, 0x00, 0x01, 0x98,
+    0xD2, 0x00, 0x00, 0x00, 0x00, 0x25, 0x67, 0xD4, 0x06, 0x14, 0x00, 0x00, 0x00, 0x14, 0x00, 0x00,
+    0x00, 0x00, 0x00, 0x00, 0x00, 0x00, 0x01, 0xBF, 0x97, 0x01, 0x00, 0x00, 0x00, 0x01, 0x03, 0x00,
+    0x0A, 0x00, 0x02, 0xE4, 0x09, 0x00, 0x00, 0x00, 0x00, 0x60, 0x15, 0x32, 0x08, 0x11, 0x00, 0x00,
+    0x00, 0x11, 0x00, 0x00, 0x00, 0x00, 0x00, 0x00, 0x00, 0x00, 0x02, 0x19, 0x1C, 0x02, 0x00, 0x00,
+    0x00, 0x01, 0x83, 0x02, 0xC0, 0xF1,
+];
+
 /// Nothing that is worth a note.
 const NO_COUNTS: &[u8] = b"counted: overlaps 0, errors 0, breaks 0, control lines 0\n";
 
@@ -91,7 +107,7 @@ fn run_words(
 ) -> Result<Ran, Fail> {
     let words = words_of(alloc, words)?;
     let mut source = MemSource::new(input, 7, plan(read_fails));
-    let Ok(mut out) = MemSink::with_room(alloc, 1000, 5, plan(write_fails)) else {
+    let Ok(mut out) = MemSink::with_room(alloc, 50_000, 5, plan(write_fails)) else {
         return Err("no memory".into());
     };
     let Ok(mut log) = MemSink::with_room(alloc, 1000, 5, plan(0)) else {
@@ -173,11 +189,15 @@ fn calls_that_fail(rt: HostRuntime) -> Result<(), Fail> {
     let ran = run_words(alloc, "take text 9600x11 a", POLLS, 0, 2)?;
     assert_eq!(rt; ran.outcome, Outcome::Ended(Status::WriteFault));
     assert_eq!(rt; ran.out.held(), b"+0103".as_slice());
+    let ran = run_words(alloc, "give pcap 9600x11", BOTH_TICKS, 6, 0)?;
+    assert_eq!(rt; ran.outcome, Outcome::Ended(Status::ReadFault));
+    assert_eq!(rt; ran.out.held(), b"".as_slice());
+    let ran = run_words(alloc, "give text 9600x11", POLL_TICKS, 0, 2)?;
+    assert_eq!(rt; ran.outcome, Outcome::Ended(Status::WriteFault));
+    assert_eq!(rt; ran.out.held(), b"0.000".as_slice());
     Ok(())
 }
 
-/// `examples/captures/modbus.ticks` at 9,600 baud and 11 bits: a run of bytes, and its start in
-/// nanoseconds by `scripts/capture_model.py`.
 #[test]
 fn tick_text_is_given_as_text(rt: HostRuntime) -> Result<(), Fail> {
     let alloc = rt.alloc();
@@ -191,11 +211,26 @@ fn tick_text_is_given_as_text(rt: HostRuntime) -> Result<(), Fail> {
     Ok(())
 }
 
+/// The start of the last record is that of tick 5,998.
+#[test]
+fn many_records_are_given(rt: HostRuntime) -> Result<(), Fail> {
+    let alloc = rt.alloc();
+    let mut ticks = Vec::new(alloc);
+    for _ in 0..3_000 {
+        ticks.extend_from_slice(b"+01\n-1\n")?;
+    }
+    let ran = run_words(alloc, "give text 9600x11", ticks.as_slice(), 0, 0)?;
+    assert_eq!(rt; ran.outcome, DONE);
+    assert_eq!(rt; ran.out.held().len(), 45_000);
+    assert_eq!(rt; &ran.out.held()[44_985..], b"6.872708333 01\n".as_slice());
+    Ok(())
+}
+
 #[test]
 fn tick_text_is_given_as_packets(rt: HostRuntime) -> Result<(), Fail> {
     let alloc = rt.alloc();
     let ran = run_words(alloc, "give pcap 9600x11", BOTH_TICKS, 0, 0)?;
-    assert_eq!(rt; ran.outcome, DONE);
+    ended(&rt, &ran, DONE, &GIVEN, b"");
     let ran = run_words(alloc, "take pcap 9600x11 both", ran.out.held(), 0, 0)?;
     ended(&rt, &ran, DONE, BOTH_TICKS, NO_COUNTS);
     Ok(())
