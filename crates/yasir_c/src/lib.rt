@@ -8,3 +8,5 @@ mod handle;
 mod kind;
 mod loose;
 mod status;
+#[cfg(test)]
+mod tests;
