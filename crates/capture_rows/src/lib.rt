@@ -1,5 +1,15 @@
 //! Captures in rows of text, as other tools export them: the table that Saleae Logic 2 exports of
 //! its Async Serial analyzers, and the trace that sigrok-cli writes of its UART decoder.
+//!
+//! What a table has in it, each byte with its way and its time:
+//!
+//!     let mut reader = Logic2Reader::start();
+//!     for b in table {
+//!         if let Some(seen) = reader.feed(*b)? {
+//!             keep(seen);
+//!         }
+//!     }
+//!     reader.finish()?;
 #![tactic(auto)]
 
 mod cut;

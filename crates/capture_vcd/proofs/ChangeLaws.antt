@@ -1,13 +1,14 @@
 -- The changes of a line, tick by tick.
 use Rattle.std.proofs.Common.{◌≡◌, ◌∙◌, ℕ, suc, ◌+◌, ◌-◌, ◌*◌, ◌<◌, ◌≤◌, Bool, true, false, List, [], ◌∷◌, ◌++◌, length}
-use Rattle.std.proofs.Common.{get_or, take, drop, refl, ap, sym, arith, append_assoc}
+use Rattle.std.proofs.Common.{get_or, take, drop, replicate, refl, ap, sym, arith, append_assoc}
 use Rattle.std.proofs.lemmas.Grind.{flat_map-append}
-use Rattle.std.proofs.lemmas.List.{append-nil, take_all}
+use Rattle.std.proofs.lemmas.List.{append-nil, take_all, length-append, length-replicate}
 use Rattle.yasir_ticks.specs.declared.tick.Tick.{Tick}
+use Rattle.yasir_ticks.specs.declared.tick.Tick.TheVariants.{Silent}
 use Rattle.line_stamps.specs.declared.rate.Rate.{Rate}
 use Rattle.capture_vcd.specs.Levels.{tick_levels, line_levels}
 use Rattle.capture_vcd.specs.Changes.{bit_start, quiet, changes_at, changes_from}
-use Rattle.capture_vcd.specs.Changes.{ticks_changes}
+use Rattle.capture_vcd.specs.Changes.{padded, ticks_changes}
 use Rattle.capture_vcd.specs.declared.changes.BothLevels.{BothLevels}
 use Rattle.capture_vcd.specs.declared.changes.Change.{Change}
 use Rattle.capture_vcd.proofs.LevelLaws.{last_level, line_ends_high, length_line}
@@ -123,3 +124,10 @@ ticks_more rate xs ys a b n of_a of_b =
     ++ changes_from rate k (last_of quiet la lb) ta tb) place
     ∙ ap (λ q. changes_from rate rate.bits quiet la lb
     ++ changes_from rate ((n + 1) * rate.bits) q ta tb) ends
+
+-- a line and the silence behind it
+pub length_padded : (line other : List Tick) → length (padded line other)
+    ≡ length line + (length other - length line)
+length_padded line other =
+    length-append line (replicate (length other - length line) Silent)
+    ∙ ap (λ n. length line + n) (length-replicate (length other - length line) Silent)

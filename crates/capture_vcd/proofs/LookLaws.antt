@@ -18,7 +18,7 @@ use Rattle.capture_vcd.specs.Looks.{same_way, is_past, level_at, IsWithin}
 use Rattle.capture_vcd.specs.declared.changes.BothLevels.{BothLevels}
 use Rattle.capture_vcd.specs.declared.changes.Change.{Change}
 use Rattle.capture_vcd.proofs.LevelLaws.{length_line, level_in_line}
-use Rattle.capture_vcd.proofs.ChangeLaws.{changes_none, changes_one, changes_more}
+use Rattle.capture_vcd.proofs.ChangeLaws.{changes_none, changes_one, changes_more, length_padded}
 
 -- ---- bits start in their order
 
@@ -181,12 +181,6 @@ look way time rate bit (suc k) n before (a ∷ xs) (b ∷ ys) e within at from t
     ∙ next_level way a b xs ys k
 
 -- ---- a tick of a dump
-
-length_padded : (line other : List Tick) → length (padded line other)
-    ≡ length line + (length other - length line)
-length_padded line other =
-    length-append line (replicate (length other - length line) Silent)
-    ∙ ap (λ n. length line + n) (length-replicate (length other - length line) Silent)
 
 module _ (rate : Rate) (a b : List Tick) (tick bit time : ℕ) (small : bit < rate.bits)
     (within : IsWithin rate tick bit time) where

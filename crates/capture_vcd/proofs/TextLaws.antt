@@ -1,9 +1,12 @@
 -- The text of a dump, tick by tick.
-use Rattle.std.proofs.Common.{◌≡◌, ◌∙◌, ℕ, ◌+◌, ◌-◌, ◌*◌, ◌≤◌, max, Bool, false, List, [], ◌∷◌, ◌++◌, length, take, drop, get_or, replicate}
-use Rattle.std.proofs.Common.{ap, sym, arith, append_assoc}
+use Rattle.std.proofs.Common.{◌≡◌, ◌∙◌, ℕ, zero, suc, ◌+◌, ◌-◌, ◌*◌, ◌<◌, ◌≤◌, max, ⊎_elim, Bool, false, List}
+use Rattle.std.proofs.Common.{[], ◌∷◌, ◌++◌, length, take, drop, get_or, replicate, refl, ap, sym, arith}
+use Rattle.std.proofs.Common.{append_assoc}
 use Rattle.std.specs.List.{flat_map}
 use Rattle.std.proofs.lemmas.Grind.{flat_map-append}
-use Rattle.std.proofs.lemmas.List.{append-nil}
+use Rattle.std.proofs.lemmas.Bool.{cases_lt}
+use Rattle.std.proofs.lemmas.List.{append-nil, take_all, take_more}
+use Rattle.std.proofs.lemmas.List.{get_or_append_left, get_or-append_right}
 use Rattle.yasir_ticks.specs.declared.tick.Tick.{Tick}
 use Rattle.yasir_ticks.specs.declared.tick.Tick.TheVariants.{Silent}
 use Rattle.line_stamps.specs.declared.rate.Rate.{Rate}
@@ -14,7 +17,7 @@ use Rattle.capture_vcd.specs.Dump.{change_text, dump_front, dump_end, dump_text}
 use Rattle.capture_vcd.specs.declared.changes.BothLevels.{BothLevels}
 use Rattle.capture_vcd.specs.declared.changes.Change.{Change}
 use Rattle.capture_vcd.specs.declared.text.Wires.{Wires}
-use Rattle.capture_vcd.proofs.ChangeLaws.{bits_more, ticks_more}
+use Rattle.capture_vcd.proofs.ChangeLaws.{bits_more, ticks_more, length_padded}
 
 -- the text of the first bit, and that of those behind it
 pub bits_text : (rate : Rate) (bit : ℕ) (before : BothLevels) (xs ys : List Bool)
@@ -73,3 +76,59 @@ module _ (rate : Rate) (wires : Wires) (xs ys : List Tick) (n : ℕ) (text more 
       ++ dump_end rate (max (length xs) (length ys))) (sym (padded_as xs ys (omega arith)))
       ∙ ap (λ x. (dump_front wires ++ flat_map change_text (ticks_changes rate (padded xs ys) x))
       ++ dump_end rate (max (length xs) (length ys))) (sym (padded_as ys xs (omega arith)))
+
+-- ---- both lines as a whole
+
+silent_there : (k n : ℕ) → get_or (replicate k Silent) n Silent ≡ Silent
+silent_there zero n = refl
+silent_there (suc k) zero = refl
+silent_there (suc k) (suc n) = silent_there k n
+
+silent_behind : (line : List Tick) (n : ℕ) → length line ≤ n → get_or line n Silent ≡ Silent
+silent_behind [] n h = refl
+silent_behind (tick ∷ line) zero h = absurd (omega arith)
+silent_behind (tick ∷ line) (suc n) h = silent_behind line n (omega arith)
+
+-- a tick of a line with the silence behind it
+tick_of_padded : (line other : List Tick) (n : ℕ)
+    → get_or (padded line other) n Silent ≡ get_or line n Silent
+tick_of_padded line other n =
+    ⊎_elim
+    (λ (within : n < length line). get_or_append_left line (replicate (length other - length line) Silent) Silent n within)
+    (λ (behind : length line ≤ n). get_or-append_right line (replicate (length other - length line) Silent)
+    (length line) n Silent refl behind
+    ∙ silent_there (length other - length line) (n - length line)
+    ∙ sym (silent_behind line n behind))
+    (cases_lt n (length line))
+
+-- one tick more of it
+pub front_more : (line other : List Tick) (n : ℕ) → n < max (length line) (length other)
+    → take n (padded line other) ++ get_or line n Silent ∷ [] ≡ take (n + 1) (padded line other)
+front_more line other n h =
+    ap (λ t. take n (padded line other) ++ t ∷ []) (sym (tick_of_padded line other n))
+    ∙ sym (take_more (padded line other) n Silent (omega (arith, length_padded line other)))
+
+-- all of it
+pub front_all : (line other : List Tick) (n : ℕ) → n ≡ max (length line) (length other)
+    → take n (padded line other) ≡ padded line other
+front_all line other n h = take_all n (padded line other) (omega (arith, length_padded line other))
+
+-- The silence behind the shorter line says nothing more.
+pub dump_padded : (rate : Rate) (wires : Wires) (a b : List Tick)
+    → dump_text rate wires (padded a b) (padded b a) ≡ dump_text rate wires a b
+dump_padded rate wires a b =
+    let of_a = length_padded a b in
+    let of_b = length_padded b a in
+    let same : length (padded a b) ≡ length (padded b a) = omega (arith, of_a, of_b) in
+    let longest : max (length (padded a b)) (length (padded b a)) ≡ max (length a) (length b) =
+    omega (arith, of_a, of_b) in
+    ap (λ x. (dump_front wires
+    ++ flat_map change_text (ticks_changes rate x (padded (padded b a) (padded a b))))
+    ++ dump_end rate (max (length (padded a b)) (length (padded b a))))
+    (padded_as (padded a b) (padded b a) same)
+    ∙ ap (λ x. (dump_front wires ++ flat_map change_text (ticks_changes rate (padded a b) x))
+    ++ dump_end rate (max (length (padded a b)) (length (padded b a))))
+    (padded_as (padded b a) (padded a b) (sym same))
+    ∙ ap (λ n. (dump_front wires
+    ++ flat_map change_text (ticks_changes rate (padded a b) (padded b a))) ++ dump_end rate n)
+    longest

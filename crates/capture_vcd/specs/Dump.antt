@@ -34,6 +34,11 @@ dump_front Two = codes "$timescale 1 ns $end\n$scope module line $end\n$var wire
 abbrev pub dump_end : Rate → ℕ → List ℕ
 dump_end rate ticks = time_line (bit_start rate ((ticks + 2) * rate.bits))
 
+-- the wires of a dump whose way B is this line: that of way B, if it has ticks
+abbrev pub wires_for : List Tick → Wires
+wires_for [] = One
+wires_for (tick ∷ line) = Two
+
 -- The dump of two lines, at a rate. Of one line, the other one is empty.
 abbrev pub dump_text : Rate → Wires → List Tick → List Tick → List ℕ
 dump_text rate wires a b =

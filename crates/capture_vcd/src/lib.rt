@@ -1,7 +1,8 @@
 //! A line as a value change dump (VCD): the levels of its wires, bit by bit, for tools that decode
 //! a serial line of it.
 //!
-//! The dump of the two ways of a line, a tick of both at a time:
+//! The dump of the two ways of a line as a whole is `dump(alloc, rate, a, b)?`; or a tick of both
+//! at a time:
 //!
 //!     let mut writer = DumpWriter::new(rate, Wires::Two);
 //!     out.extend_from_slice(writer.front())?;
@@ -14,6 +15,7 @@
 mod changes;
 mod laws;
 mod levels;
+mod lines;
 #[cfg(test)]
 mod tests;
 mod text;
@@ -22,6 +24,7 @@ mod writer;
 pub use changes::{BothLevels, Change, TickText, bit_start};
 pub use laws::{levels_give_the_tick, looks_give_the_levels};
 pub use levels::{Levels, tick_levels};
+pub use lines::dump;
 pub use text::{ChangeText, Wires, change_text};
 pub use writer::DumpWriter;
 

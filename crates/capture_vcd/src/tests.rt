@@ -8,7 +8,12 @@ use std::test::Fail;
 use yasir_ticks::Tick;
 
 /// The dump of ticks of both wires.
-fn dump(alloc: Global, rate: Rate, wires: Wires, ticks: &[(Tick, Tick)]) -> Result<Vec<u8>, Fail> {
+fn dump_by_ticks(
+    alloc: Global,
+    rate: Rate,
+    wires: Wires,
+    ticks: &[(Tick, Tick)],
+) -> Result<Vec<u8>, Fail> {
     let mut writer = DumpWriter::new(rate, wires);
     let mut text = Vec::new(alloc);
     text.extend_from_slice(writer.front())?;
@@ -99,13 +104,13 @@ fn dumps_of_bytes(rt: HostRuntime) -> Result<(), Fail> {
         (Tick::Silent, Tick::Silent),
         (Tick::Silent, Tick::Byte(0x03)),
     ];
-    let text = dump(alloc, rate, Wires::Two, &ticks)?;
+    let text = dump_by_ticks(alloc, rate, Wires::Two, &ticks)?;
     check(&rt, &text, PARITY);
     let rate = Rate {
         baud: 62500,
         bits: 10,
     };
-    let text = dump(alloc, rate, Wires::One, &[(Tick::Byte(0x55), Tick::Silent)])?;
+    let text = dump_by_ticks(alloc, rate, Wires::One, &[(Tick::Byte(0x55), Tick::Silent)])?;
     check(&rt, &text, PLAIN);
     let one = change_text(Change {
         time: 7,

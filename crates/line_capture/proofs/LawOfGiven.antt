@@ -88,7 +88,12 @@ is_capture give_forms.Text take_forms.Text rate text a b file header same lines 
           (sym given.text_is) (lines_are rate given.records right all);
     }
 is_capture give_forms.Pcap take_forms.Text rate text a b file header same lines given = cc
+is_capture give_forms.Pcap take_forms.Logic2 rate text a b file header same lines given = cc
+is_capture give_forms.Pcap take_forms.Sigrok rate text a b file header same lines given = cc
 is_capture give_forms.Text take_forms.Pcap rate text a b file header same lines given = cc
+is_capture give_forms.Text take_forms.Logic2 rate text a b file header same lines given = cc
+is_capture give_forms.Text take_forms.Sigrok rate text a b file header same lines given = cc
+is_capture give_forms.Vcd taken rate text a b file header same lines given = cc
 
 module _ (form : GiveForm) (taken : TakeForm) (rate : Rate) (text : List ℕ) (a b : List Tick)
     (file : List ℕ) (header : IsHeader written_clock FILE_HEADER) (same : taken_as form ≡ Some taken)

@@ -7,6 +7,14 @@ use Rattle.capture_pcap.specs.Pcap.{IsCapture}
 use Rattle.capture_pcap.specs.PcapStep.{step_at as pcap_step}
 use Rattle.capture_pcap.specs.declared.stage.Stage.TheVariants.{Magic}
 use Rattle.capture_pcap.proofs.Reading.{reads_pcap}
+use Rattle.capture_rows.specs.Logic2.{logic2_row, logic2_name}
+use Rattle.capture_rows.specs.Rows.{IsExport, first_state}
+use Rattle.capture_rows.specs.Rows.{step_at as row_step}
+use Rattle.capture_rows.specs.Sigrok.{trace_row, trace_name}
+use Rattle.capture_rows.specs.declared.fault.RowFault.{RowFault}
+use Rattle.capture_rows.specs.declared.row.Row.{Row}
+use Rattle.capture_rows.specs.declared.row.Stage.{Stage}
+use Rattle.capture_rows.proofs.RowLaws.{reads_rows}
 use Rattle.capture_text.specs.CaptureText.{IsTextCapture}
 use Rattle.capture_text.specs.Reader.{IsSeenText}
 use Rattle.capture_text.specs.TextStep.{step_at as text_step}
@@ -16,8 +24,9 @@ use Rattle.line_stamps.specs.declared.capture.CaptureByte.{CaptureByte}
 use Rattle.line_stamps.specs.declared.seen.Seen.{Seen}
 use Rattle.line_stamps.specs.declared.seen.Seen.TheVariants.{Byte}
 use Rattle.line_capture.specs.Formats.{Format, text_format, pcap_format, format_of}
+use Rattle.line_capture.specs.Formats.{RefusesRows, LacksRows, rows_format}
 use Rattle.line_capture.specs.declared.bad_capture.BadCapture.{BadCapture}
-use Rattle.line_capture.specs.declared.bad_capture.BadCapture.TheVariants.{Text, Pcap, ByteError}
+use Rattle.line_capture.specs.declared.bad_capture.BadCapture.TheVariants.{Text, Pcap, Rows, ByteError}
 use Rattle.line_capture.specs.declared.words.TakeForm.{TakeForm}
 use Rattle.line_capture.specs.declared.words.TakeForm.TheVariants as take_forms
 
@@ -66,12 +75,14 @@ text_refused : (front : List ℕ) (items : List Seen) (byte : ℕ) (bad : BadCap
 text_refused front items byte (Text bad) more all refuses is =
     refuses.0 more all (subst (λ l. IsSeenText l all) (one-more front byte more) is)
 text_refused front items byte (Pcap bad) more all refuses is = absurd refuses
+text_refused front items byte (Rows bad) more all refuses is = absurd refuses
 text_refused front items byte (ByteError offset) more all refuses is = absurd refuses
 
 text_lacking : (file : List ℕ) (items : List Seen) (bad : BadCapture) (all : List Seen)
     → text_format.lacks file items bad → IsSeenText file all → ⊥
 text_lacking file items (Text bad) all lacks is = lacks.0 all is
 text_lacking file items (Pcap bad) all lacks is = absurd lacks
+text_lacking file items (Rows bad) all lacks is = absurd lacks
 text_lacking file items (ByteError offset) all lacks is = absurd lacks
 
 pcap_refused : (front : List ℕ) (items : List Seen) (byte : ℕ) (bad : BadCapture) (more : List ℕ)
@@ -80,13 +91,50 @@ pcap_refused : (front : List ℕ) (items : List Seen) (byte : ℕ) (bad : BadCap
 pcap_refused front items byte (Pcap bad) more all refuses is =
     refuses.0 more all (subst (λ l. IsCapture l all) (one-more front byte more) is)
 pcap_refused front items byte (Text bad) more all refuses is = absurd refuses
+pcap_refused front items byte (Rows bad) more all refuses is = absurd refuses
 pcap_refused front items byte (ByteError offset) more all refuses is = absurd refuses
 
 pcap_lacking : (file : List ℕ) (items : List Seen) (bad : BadCapture) (all : List Seen)
     → pcap_format.lacks file items bad → IsCapture file all → ⊥
 pcap_lacking file items (Pcap bad) all lacks is = lacks.0 all is
 pcap_lacking file items (Text bad) all lacks is = absurd lacks
+pcap_lacking file items (Rows bad) all lacks is = absurd lacks
 pcap_lacking file items (ByteError offset) all lacks is = absurd lacks
+
+module _ (row_at : Stage → List ℕ → Result Row RowFault) (name_of : List ℕ → List ℕ) where
+  rows_alike : (file : List ℕ) (a b : List Seen) → IsExport row_at name_of file a
+      → IsExport row_at name_of file b → a ≡ b
+  rows_alike file a b one other =
+      let reads = reads_rows row_at name_of in
+      let first = reads.complete file a one in
+      let second = reads.complete file b other in
+      walks_alike (walk (row_step row_at name_of) (first_state, []) file) first.0 second.0 a b
+      first.1 second.1
+
+  rows_refused : (front : List ℕ) (items : List Seen) (byte : ℕ) (bad : BadCapture) (more : List ℕ)
+      (all : List Seen) → RefusesRows row_at name_of front items byte bad
+      → IsExport row_at name_of (front ++ byte ∷ more) all → ⊥
+  rows_refused front items byte (Rows bad) more all refuses is =
+      refuses.0 more all
+      (subst (λ l. IsExport row_at name_of l all) (one-more front byte more) is)
+  rows_refused front items byte (Text bad) more all refuses is = absurd refuses
+  rows_refused front items byte (Pcap bad) more all refuses is = absurd refuses
+  rows_refused front items byte (ByteError offset) more all refuses is = absurd refuses
+
+  rows_lacking : (file : List ℕ) (items : List Seen) (bad : BadCapture) (all : List Seen)
+      → LacksRows row_at name_of file items bad → IsExport row_at name_of file all → ⊥
+  rows_lacking file items (Rows bad) all lacks is = lacks.0 all is
+  rows_lacking file items (Text bad) all lacks is = absurd lacks
+  rows_lacking file items (Pcap bad) all lacks is = absurd lacks
+  rows_lacking file items (ByteError offset) all lacks is = absurd lacks
+
+  sound_rows : IsSound (rows_format row_at name_of)
+  sound_rows = record {
+    refused = rows_refused;
+    lacking = rows_lacking;
+    first = λ file items more all begins is. begins more all is;
+    alike = rows_alike;
+  }
 
 sound_text : IsSound text_format
 sound_text = record {
@@ -108,3 +156,5 @@ sound_pcap = record {
 pub sound_form : (form : TakeForm) → IsSound (format_of form)
 sound_form take_forms.Pcap = sound_pcap
 sound_form take_forms.Text = sound_text
+sound_form take_forms.Logic2 = sound_rows logic2_row logic2_name
+sound_form take_forms.Sigrok = sound_rows trace_row trace_name

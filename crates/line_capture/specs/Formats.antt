@@ -1,13 +1,20 @@
 -- The forms of captures: which files are captures, with which bytes of the line and events, and why
 -- others are refused.
-use Rattle.std.specs.Prelude.{◌≡◌, ℕ, List, [], ◌∷◌, ◌++◌, Some, None}
+use Rattle.std.specs.Prelude.{◌≡◌, ℕ, List, [], ◌∷◌, ◌++◌, Some, None, Result}
 use Rattle.byte_walk.specs.Walks.{BeginsNone}
 use Rattle.capture_pcap.specs.Pcap.{IsCapture}
 use Rattle.capture_pcap.specs.Reader.{Refuses as RefusesPacket}
+use Rattle.capture_rows.specs.Logic2.{logic2_row, logic2_name}
+use Rattle.capture_rows.specs.Reader.{Refuses as RefusesRow}
+use Rattle.capture_rows.specs.Rows.{IsExport}
+use Rattle.capture_rows.specs.Sigrok.{trace_row, trace_name}
+use Rattle.capture_rows.specs.declared.fault.RowFault.{RowFault}
+use Rattle.capture_rows.specs.declared.row.Row.{Row}
+use Rattle.capture_rows.specs.declared.row.Stage.{Stage}
 use Rattle.capture_text.specs.Reader.{IsSeenText, Refuses}
 use Rattle.line_stamps.specs.declared.seen.Seen.{Seen}
 use Rattle.line_capture.specs.declared.bad_capture.BadCapture.{BadCapture}
-use Rattle.line_capture.specs.declared.bad_capture.BadCapture.TheVariants.{Text, Pcap, ByteError}
+use Rattle.line_capture.specs.declared.bad_capture.BadCapture.TheVariants.{Text, Pcap, Rows, ByteError}
 use Rattle.line_capture.specs.declared.words.TakeForm.{TakeForm}
 use Rattle.line_capture.specs.declared.words.TakeForm.TheVariants as take_forms
 
@@ -36,12 +43,14 @@ abbrev pub RefusesText : List ℕ → List Seen → ℕ → BadCapture → Type 
 RefusesText file items b (Text bad) =
     BeginsNone IsSeenText (file ++ b ∷ []) × Refuses file items (Some b) bad
 RefusesText file items b (Pcap bad) = ⊥
+RefusesText file items b (Rows bad) = ⊥
 RefusesText file items b (ByteError offset) = ⊥
 
 -- The file is no text capture, though it begins one.
 abbrev pub LacksText : List ℕ → List Seen → BadCapture → Type 0
 LacksText file items (Text bad) = IsNone IsSeenText file × Refuses file items None bad
 LacksText file items (Pcap bad) = ⊥
+LacksText file items (Rows bad) = ⊥
 LacksText file items (ByteError offset) = ⊥
 
 abbrev pub text_format : Format
@@ -57,12 +66,14 @@ abbrev pub RefusesPcap : List ℕ → List Seen → ℕ → BadCapture → Type 
 RefusesPcap file items b (Pcap bad) =
     BeginsNone IsCapture (file ++ b ∷ []) × RefusesPacket file items (Some b) bad
 RefusesPcap file items b (Text bad) = ⊥
+RefusesPcap file items b (Rows bad) = ⊥
 RefusesPcap file items b (ByteError offset) = ⊥
 
 -- The file is no pcap or pcapng file, though it begins one.
 abbrev pub LacksPcap : List ℕ → List Seen → BadCapture → Type 0
 LacksPcap file items (Pcap bad) = IsNone IsCapture file × RefusesPacket file items None bad
 LacksPcap file items (Text bad) = ⊥
+LacksPcap file items (Rows bad) = ⊥
 LacksPcap file items (ByteError offset) = ⊥
 
 abbrev pub pcap_format : Format
@@ -73,6 +84,33 @@ pcap_format = record {
   begins = HaveFirst IsCapture;
 }
 
+module _ (row_at : Stage → List ℕ → Result Row RowFault) (name_of : List ℕ → List ℕ) where
+  -- Behind this much of a file a byte begins no export of this form.
+  abbrev pub RefusesRows : List ℕ → List Seen → ℕ → BadCapture → Type 0
+  RefusesRows file items b (Rows bad) = BeginsNone (IsExport row_at name_of) (file ++ b ∷ [])
+      × RefusesRow row_at name_of file items (Some b) bad
+  RefusesRows file items b (Text bad) = ⊥
+  RefusesRows file items b (Pcap bad) = ⊥
+  RefusesRows file items b (ByteError offset) = ⊥
+
+  -- The file is no export of this form, though it begins one.
+  abbrev pub LacksRows : List ℕ → List Seen → BadCapture → Type 0
+  LacksRows file items (Rows bad) =
+      IsNone (IsExport row_at name_of) file × RefusesRow row_at name_of file items None bad
+  LacksRows file items (Text bad) = ⊥
+  LacksRows file items (Pcap bad) = ⊥
+  LacksRows file items (ByteError offset) = ⊥
+
+  abbrev pub rows_format : Format
+  rows_format = record {
+    is = IsExport row_at name_of;
+    refuses = RefusesRows;
+    lacks = LacksRows;
+    begins = HaveFirst (IsExport row_at name_of);
+  }
+
 abbrev pub format_of : TakeForm → Format
 format_of take_forms.Pcap = pcap_format
 format_of take_forms.Text = text_format
+format_of take_forms.Logic2 = rows_format logic2_row logic2_name
+format_of take_forms.Sigrok = rows_format trace_row trace_name

@@ -15,6 +15,7 @@ use Rattle.replay_status.specs.PrintsText.{PrintsText}
 use Rattle.replay_status.specs.declared.status.Status.{Status}
 use Rattle.replay_status.specs.declared.status.Status.TheVariants as statuses
 use Rattle.line_stamps.specs.declared.rate.Rate.{Rate}
+use Rattle.capture_vcd.specs.Dump.{dump_text, wires_for}
 use Rattle.line_capture.specs.Inputs.{Told, IsRead}
 use Rattle.line_capture.specs.Records.{IsRecorded}
 use Rattle.line_capture.specs.Takes.{Held, HasNoMemory, read_outcome}
@@ -24,7 +25,7 @@ use Rattle.line_capture.specs.declared.outcome.Outcome.{Outcome}
 use Rattle.line_capture.specs.declared.outcome.Outcome.TheVariants.{Ended}
 use Rattle.line_capture.specs.declared.records.RecordForm.TheVariants as record_forms
 use Rattle.line_capture.specs.declared.words.GiveForm.{GiveForm}
-use Rattle.line_capture.specs.declared.words.GiveForm.TheVariants.{Pcap, Text}
+use Rattle.line_capture.specs.declared.words.GiveForm.TheVariants.{Pcap, Text, Vcd}
 
 -- whether a `%` begins a line of what comes after this byte
 abbrev pub has_mark_behind : ℕ → List ℕ → Bool
@@ -40,6 +41,7 @@ has_mark text = has_mark_behind line_feed text
 abbrev pub marks_for : GiveForm → List ℕ → ℕ
 marks_for Pcap text = if has_mark text then 1 else 0
 marks_for Text text = 0
+marks_for Vcd text = if has_mark text then 1 else 0
 
 -- How a run ends of which the tick text wasn't taken: no list of its ticks stops but for want of
 -- memory.
@@ -54,6 +56,7 @@ end_status (Stopped stop) = statuses.NoMemory
 abbrev pub IsGiven : GiveForm → Rate → List Tick → List Tick → List ℕ → Type 0
 IsGiven Pcap rate a b text = IsRecorded record_forms.Pcap rate a b text
 IsGiven Text rate a b text = IsRecorded record_forms.Text rate a b text
+IsGiven Vcd rate a b text = text ≡ dump_text rate (wires_for b) a b
 
 -- The file is a right tick text of these two lines, of which the second is empty where it has no
 -- mark, and they have no more ticks than are taken.

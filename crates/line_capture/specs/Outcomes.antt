@@ -5,13 +5,15 @@ use Rattle.line_stamps.specs.declared.placer.Unplaced.{Unplaced}
 use Rattle.line_stamps.specs.declared.placer.Unplaced.TheVariants.{Early, Overlap, Late}
 use Rattle.capture_pcap.specs.declared.fault.PcapFault.{PcapFault}
 use Rattle.capture_pcap.specs.declared.fault.PcapFault.TheVariants as pcap
+use Rattle.capture_rows.specs.declared.fault.RowFault.{RowFault}
+use Rattle.capture_rows.specs.declared.fault.RowFault.TheVariants as rows
 use Rattle.capture_text.specs.declared.fault.TextFault.{TextFault}
 use Rattle.capture_text.specs.declared.fault.TextFault.TheVariants as text
 use Rattle.replay_status.specs.Causes.{GotLine, LogsFault}
 use Rattle.replay_status.specs.Statuses.{exit_status_of as status_exit, fault_line as status_line}
 use Rattle.replay_status.specs.declared.status.Status.{Status}
 use Rattle.replay_status.specs.declared.status.Status.TheVariants.{Usage}
-use Rattle.line_capture.specs.declared.bad_capture.BadCapture.TheVariants.{Text, Pcap, ByteError}
+use Rattle.line_capture.specs.declared.bad_capture.BadCapture.TheVariants.{Text, Pcap, Rows, ByteError}
 use Rattle.line_capture.specs.declared.outcome.Outcome.{Outcome}
 use Rattle.line_capture.specs.declared.outcome.Outcome.TheVariants as outcomes
 use Rattle.line_capture.specs.declared.outcome.Outcome.TheVariants.{Ended, BadCapture}
@@ -41,6 +43,14 @@ pcap_word pcap.Interface = codes "interface"
 pcap_word pcap.Late = codes "late"
 pcap_word pcap.End = codes "end"
 
+abbrev pub rows_word : RowFault → List ℕ
+rows_word rows.Long = codes "long"
+rows_word rows.Line = codes "row"
+rows_word rows.Time = codes "time"
+rows_word rows.Data = codes "data"
+rows_word rows.Channel = codes "channel"
+rows_word rows.End = codes "end"
+
 abbrev pub unplaced_word : Unplaced → List ℕ
 unplaced_word Early = codes "early"
 unplaced_word Overlap = codes "overlap"
@@ -56,6 +66,7 @@ abbrev pub fault_line : Outcome → List ℕ
 fault_line (Ended status) = status_line status
 fault_line (BadCapture (Text bad)) = counted_line (codes "line ") bad.line (text_word bad.why)
 fault_line (BadCapture (Pcap bad)) = counted_line (codes "byte ") bad.offset (pcap_word bad.why)
+fault_line (BadCapture (Rows bad)) = counted_line (codes "line ") bad.line (rows_word bad.why)
 fault_line (BadCapture (ByteError offset)) = counted_line (codes "byte ") offset (codes "error")
 fault_line (outcomes.Unplaced A place why) =
     counted_line (codes "way a byte ") place (unplaced_word why)

@@ -1,5 +1,5 @@
 -- What `take` makes of a capture that `give` wrote.
-use Rattle.std.specs.Prelude.{◌≡◌, ℕ, min, List, [], ◌∷◌, Option, Some}
+use Rattle.std.specs.Prelude.{◌≡◌, ℕ, min, List, [], ◌∷◌, Option, Some, None}
 use Rattle.std.specs.Io.KnownBytes.{append_known}
 use Rattle.yasir_ticks.specs.declared.tick.Tick.{Tick}
 use Rattle.line_stamps.specs.Giving.{ByteAt, bytes_from}
@@ -17,6 +17,7 @@ use Rattle.line_capture.specs.declared.words.Ways.TheVariants.{Both}
 abbrev pub taken_as : GiveForm → Option TakeForm
 taken_as give_forms.Pcap = Some take_forms.Pcap
 taken_as give_forms.Text = Some take_forms.Text
+taken_as give_forms.Vcd = None
 
 -- both ways of a line, by times
 abbrev pub both_ways : Rate → Taking

@@ -15,10 +15,13 @@ use Rattle.line_capture.specs.declared.words.Ways.TheVariants.{A, B, Both}
 abbrev pub take_form_word : TakeForm → List ℕ
 take_form_word take_forms.Pcap = codes "pcap"
 take_form_word take_forms.Text = codes "text"
+take_form_word take_forms.Logic2 = codes "logic2"
+take_form_word take_forms.Sigrok = codes "sigrok"
 
 abbrev pub give_form_word : GiveForm → List ℕ
 give_form_word give_forms.Pcap = codes "pcap"
 give_form_word give_forms.Text = codes "text"
+give_form_word give_forms.Vcd = codes "vcd"
 
 abbrev pub ways_word : Ways → List ℕ
 ways_word A = codes "a"

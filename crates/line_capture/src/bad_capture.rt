@@ -1,6 +1,7 @@
 //! Why a capture is refused.
 
 use capture_pcap::BadPcap;
+use capture_rows::BadRow;
 use capture_text::BadText;
 
 /// A refusal of a capture, with its place.
@@ -10,6 +11,8 @@ pub enum BadCapture {
     Text(BadText),
     /// The input is no pcap file of a serial line.
     Pcap(BadPcap),
+    /// The input is no export of a logic analyser in rows of this form.
+    Rows(BadRow),
     /// A byte of the line came with a framing or a parity error. `offset` bytes of the capture
     /// come before the one that told of it.
     ByteError { offset: u64 },

@@ -1,6 +1,7 @@
 //! The command `give`: tick text as a capture.
 ghost use Rattle.std.specs.Prelude.{◌≡◌, ◌≤◌, length, IfOk};
 ghost use Rattle.yasir_io.specs.Causes.{Rose};
+ghost use Rattle.capture_vcd.specs.Dump.{dump_text, wires_for};
 ghost use Rattle.tick_drive.specs.Input.{max_bytes, max_ticks};
 ghost use Rattle.replay_status.specs.Causes.{SinkCause};
 ghost use Rattle.replay_status.specs.Flushes.{FlushesAtEnd};
@@ -18,6 +19,7 @@ use crate::outcome::Outcome;
 use crate::records::{RecordForm, recorded};
 use crate::take::read_outcome;
 use crate::words::GiveForm;
+use capture_vcd::dump;
 use line_stamps::Rate;
 use replay_status::{Status, print_text};
 use std::alloc::Global;
@@ -54,6 +56,19 @@ fn marks_for(form: GiveForm, text: &[u8]) -> u8
     match form {
         GiveForm::Pcap => { if has_mark(text) { 1 } else { 0 } }
         GiveForm::Text => 0,
+        GiveForm::Vcd => { if has_mark(text) { 1 } else { 0 } }
+    }
+}
+
+// The dump of two lines.
+fn dumped(alloc: Global, rate: Rate, a: &[Tick], b: &[Tick]) -> Result<Vec<u8>, NoMemory>
+    requires a { length a.now ≤ max_ticks }
+    requires b { length b.now ≤ max_ticks }
+    ensures { IfOk result (λ text. text.items ≡ dump_text rate (wires_for b.now) a.now b.now) }
+{
+    match dump(alloc, rate, a, b) {
+        Ok(text) => Ok(text),
+        Err(_) => Err(NoMemory),
     }
 }
 
@@ -66,6 +81,7 @@ fn given(alloc: Global, giving: Giving, a: &[Tick], b: &[Tick]) -> Result<Vec<u8
     match giving.form {
         GiveForm::Pcap => recorded(alloc, RecordForm::Pcap, giving.rate, a, b),
         GiveForm::Text => recorded(alloc, RecordForm::Text, giving.rate, a, b),
+        GiveForm::Vcd => dumped(alloc, giving.rate, a, b),
     }
 }
 

@@ -2,11 +2,12 @@
 ghost use Rattle.std.specs.Prelude.{◌≡◌, ◌≤◌, ◌+◌, [], ◌++◌, ◌∷◌, length, codes, decimal};
 ghost use Rattle.replay_status.specs.Statuses.{fault_line as status_line};
 ghost use Rattle.replay_status.specs.declared.status.Status.{Status};
-ghost use Rattle.line_capture.specs.Outcomes.{exit_status_of, fault_line, text_word, pcap_word};
+ghost use Rattle.line_capture.specs.Outcomes.{exit_status_of, fault_line, text_word, pcap_word, rows_word};
 ghost use Rattle.line_capture.specs.Outcomes.{unplaced_word, LogsOutcome};
 
 use crate::bad_capture::BadCapture;
 use capture_pcap::PcapFault;
+use capture_rows::RowFault;
 use capture_text::TextFault;
 use line_stamps::{Unplaced, Way};
 use replay_status::{Line, Status, push_decimal, write_fault};
@@ -67,6 +68,20 @@ fn pcap_word(why: PcapFault) -> &'static [u8]
     }
 }
 
+fn rows_word(why: RowFault) -> &'static [u8]
+    ensures word { result.now ≡ rows_word why }
+    ensures short { length result.now ≤ 7 }
+{
+    match why {
+        RowFault::Long => b"long",
+        RowFault::Line => b"row",
+        RowFault::Time => b"time",
+        RowFault::Data => b"data",
+        RowFault::Channel => b"channel",
+        RowFault::End => b"end",
+    }
+}
+
 fn unplaced_word(why: Unplaced) -> &'static [u8]
     ensures word { result.now ≡ unplaced_word why }
     ensures short { length result.now ≤ 7 }
@@ -101,6 +116,7 @@ fn bad_capture_line(bad: &BadCapture) -> Line
     match bad {
         BadCapture::Text(bad) => counted_line(b"line ", bad.line, text_word(bad.why)),
         BadCapture::Pcap(bad) => counted_line(b"byte ", bad.offset, pcap_word(bad.why)),
+        BadCapture::Rows(bad) => counted_line(b"line ", bad.line, rows_word(bad.why)),
         BadCapture::ByteError { offset } => counted_line(b"byte ", *offset, b"error"),
     }
 }

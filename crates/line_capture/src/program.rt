@@ -19,6 +19,7 @@ use crate::outcome::{Outcome, log_outcome};
 use crate::take::{Taking, take};
 use crate::words::{Command, TakeForm, Usage, read_words};
 use capture_pcap::PcapReader;
+use capture_rows::{Logic2Reader, SigrokReader};
 use capture_text::TextReader;
 use replay_status::Status;
 use std::alloc::{AllocError, Global};
@@ -54,6 +55,8 @@ fn take_form<S: Source, O: Sink, L: Sink>(
     match form {
         TakeForm::Pcap => take::<PcapReader, S, O, L>(alloc, taking, input, out, log),
         TakeForm::Text => take::<TextReader, S, O, L>(alloc, taking, input, out, log),
+        TakeForm::Logic2 => take::<Logic2Reader, S, O, L>(alloc, taking, input, out, log),
+        TakeForm::Sigrok => take::<SigrokReader, S, O, L>(alloc, taking, input, out, log),
     }
 }
 

@@ -7,6 +7,7 @@ ghost use Rattle.line_capture.specs.Formats.{Format};
 
 use crate::bad_capture::BadCapture;
 use capture_pcap::PcapReader;
+use capture_rows::{RowForm, RowReader};
 use capture_text::TextReader;
 use line_stamps::{CaptureReader, Seen};
 
@@ -105,6 +106,36 @@ impl FormReader for PcapReader {
         match <PcapReader as CaptureReader>::finish(self) {
             Ok(()) => Ok(()),
             Err(bad) => Err(BadCapture::Pcap(bad)),
+        }
+    }
+}
+
+impl<F: RowForm> FormReader for RowReader<F> {
+    ghost use Rattle.line_capture.specs.Formats.{rows_format};
+    ghost use Rattle.capture_rows.specs.Reader.{StandsFor, bytes_taken};
+
+    ghost format = { rows_format F.row_at F.name_of };
+
+    ghost stands = { StandsFor F.row_at F.name_of };
+
+    ghost taken = { bytes_taken };
+
+    fn begin() -> Self {
+        <RowReader<F> as CaptureReader>::start()
+    }
+
+    #[inline]
+    fn feed(&mut self, b: u8) -> Result<Option<Seen>, BadCapture> {
+        match <RowReader<F> as CaptureReader>::feed(self, b) {
+            Ok(seen) => Ok(seen),
+            Err(bad) => Err(BadCapture::Rows(bad)),
+        }
+    }
+
+    fn finish(self) -> Result<(), BadCapture> {
+        match <RowReader<F> as CaptureReader>::finish(self) {
+            Ok(()) => Ok(()),
+            Err(bad) => Err(BadCapture::Rows(bad)),
         }
     }
 }

@@ -70,6 +70,27 @@ const GIVEN: [u8; 182] = [
 /// Nothing that is worth a note.
 const NO_COUNTS: &[u8] = b"counted: overlaps 0, errors 0, breaks 0, control lines 0\n";
 
+/// The first rows of `examples/captures/modbus.logic2.csv`, and a row of the other analyzer.
+const TABLE: &[u8] = b"name,type,start_time,duration,data,error
+\"Master\",\"data\",0.000000000,0.001145833,0x01,
+\"Master\",\"data\",0.001145833,0.001145833,0x03,
+\"Device\",\"data\",0.032083333,0.001145833,0x83,
+";
+
+/// Some lines of `examples/captures/modbus.sigrok.json`, which sigrok-cli wrote.
+const TRACE: &[u8] = b"{\"traceEvents\": [
+{\"ph\": \"B\", \"ts\": 1250.000000, \"pid\": \"uart-1\", \"tid\": \"RX\", \"name\": \"01\"},
+{\"ph\": \"E\", \"ts\": 2083.300000, \"pid\": \"uart-1\", \"tid\": \"RX\", \"name\": \"01\"},
+{\"ph\": \"B\", \"ts\": 2395.800000, \"pid\": \"uart-1\", \"tid\": \"RX\", \"name\": \"03\"},
+{\"ph\": \"E\", \"ts\": 3229.100000, \"pid\": \"uart-1\", \"tid\": \"RX\", \"name\": \"03\"},
+{\"ph\": \"B\", \"ts\": 33333.300000, \"pid\": \"uart-1\", \"tid\": \"TX\", \"name\": \"83\"},
+{\"ph\": \"E\", \"ts\": 34166.600000, \"pid\": \"uart-1\", \"tid\": \"TX\", \"name\": \"83\"}
+]}
+";
+
+/// The ticks of both ways in them: the second one begins 28 characters behind the first.
+const EXPORT_TICKS: &[u8] = b"+0103\n%\n-28\n+83\n";
+
 /// This call fails, and none where it is 0.
 fn plan(call: u32) -> Plan {
     let mut plan = Plan::new();
@@ -138,6 +159,24 @@ fn captures_are_taken(rt: HostRuntime) -> Result<(), Fail> {
     ended(&rt, &ran, DONE, BOTH_TICKS, NO_COUNTS);
     let ran = run_words(alloc, "take text 9600x11 b", POLLS, 0, 0)?;
     ended(&rt, &ran, DONE, b"", NO_COUNTS);
+    Ok(())
+}
+
+#[test]
+fn exports_are_taken(rt: HostRuntime) -> Result<(), Fail> {
+    let alloc = rt.alloc();
+    let ran = run_words(alloc, "take logic2 9600x11 both", TABLE, 0, 0)?;
+    ended(&rt, &ran, DONE, EXPORT_TICKS, NO_COUNTS);
+    let ran = run_words(alloc, "take sigrok 9600x11 both", TRACE, 0, 0)?;
+    ended(&rt, &ran, DONE, EXPORT_TICKS, NO_COUNTS);
+    let ran = run_words(alloc, "take sigrok 9600x11 a", TABLE, 0, 0)?;
+    let row = b"counted: overlaps 0, errors 0, breaks 0, control lines 0\nfault: line 1 row\n";
+    assert_eq!(rt; ran.log.held(), row.as_slice());
+    let short = &TRACE[..TRACE.len() - 3];
+    let ran = run_words(alloc, "take sigrok 9600x11 a", short, 0, 0)?;
+    let end = b"counted: overlaps 0, errors 0, breaks 0, control lines 0\nfault: line 8 end\n";
+    assert_eq!(rt; ran.out.held(), b"+0103\n".as_slice());
+    assert_eq!(rt; ran.log.held(), end.as_slice());
     Ok(())
 }
 
@@ -233,6 +272,43 @@ fn tick_text_is_given_as_packets(rt: HostRuntime) -> Result<(), Fail> {
     ended(&rt, &ran, DONE, &GIVEN, b"");
     let ran = run_words(alloc, "take pcap 9600x11 both", ran.out.held(), 0, 0)?;
     ended(&rt, &ran, DONE, BOTH_TICKS, NO_COUNTS);
+    Ok(())
+}
+
+/// A byte, and one on the other wire two ticks later, by `scripts/capture_model.py`.
+const DUMP: &[u8] = b"$timescale 1 ns $end
+$scope module line $end
+$var wire 1 ! a $end
+$var wire 1 \" b $end
+$upscope $end
+$enddefinitions $end
+#0
+1!
+1\"
+#1145833
+0!
+#1250000
+1!
+#1354167
+0!
+#2083333
+1!
+#3437500
+0\"
+#3541667
+1\"
+#3750000
+0\"
+#4479167
+1\"
+#5729167
+";
+
+#[test]
+fn tick_text_is_given_as_a_dump(rt: HostRuntime) -> Result<(), Fail> {
+    let alloc = rt.alloc();
+    let ran = run_words(alloc, "give vcd 9600x11", b"+01\n%\n-2\n+03\n", 0, 0)?;
+    ended(&rt, &ran, DONE, DUMP, b"");
     Ok(())
 }
 

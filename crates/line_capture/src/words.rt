@@ -20,6 +20,10 @@ pub enum TakeForm {
     Pcap,
     /// Lines of a time in seconds and the bytes of a record in hex digits.
     Text,
+    /// The table that Saleae Logic 2 exports of its Async Serial analyzers.
+    Logic2,
+    /// The trace that sigrok-cli writes of its UART decoder.
+    Sigrok,
 }
 
 /// The form of a capture that is written.
@@ -29,6 +33,8 @@ pub enum GiveForm {
     Pcap,
     /// Lines of a time in seconds and the bytes of a record in hex digits, of one way.
     Text,
+    /// The levels of a line's wires, as a value change dump.
+    Vcd,
 }
 
 /// Which ways of a line are taken.
@@ -69,6 +75,8 @@ fn read_take_form(word: &str) -> Result<TakeForm, Usage>
     match word {
         "pcap" => Ok(TakeForm::Pcap),
         "text" => Ok(TakeForm::Text),
+        "logic2" => Ok(TakeForm::Logic2),
+        "sigrok" => Ok(TakeForm::Sigrok),
         _ => Err(Usage),
     }
 }
@@ -81,6 +89,7 @@ fn read_give_form(word: &str) -> Result<GiveForm, Usage>
     match word {
         "pcap" => Ok(GiveForm::Pcap),
         "text" => Ok(GiveForm::Text),
+        "vcd" => Ok(GiveForm::Vcd),
         _ => Err(Usage),
     }
 }
