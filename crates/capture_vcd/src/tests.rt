@@ -112,6 +112,19 @@ fn dumps_of_bytes(rt: HostRuntime) -> Result<(), Fail> {
     };
     let text = dump_by_ticks(alloc, rate, Wires::One, &[(Tick::Byte(0x55), Tick::Silent)])?;
     check(&rt, &text, PLAIN);
+    // a whole dump of the same lines, of which the second one is longer
+    let a = [Tick::Byte(0x01)];
+    let b = [Tick::Silent, Tick::Silent, Tick::Byte(0x03)];
+    let whole = dump(
+        alloc,
+        Rate {
+            baud: 9600,
+            bits: 11,
+        },
+        &a,
+        &b,
+    )?;
+    check(&rt, &whole, PARITY);
     let one = change_text(Change {
         time: 7,
         way: line_stamps::Way::B,
