@@ -23,6 +23,7 @@ LEVELS = ("quick", "change", "release")
 MEMORY = "/dev/shm"
 CAPTURE = os.path.join(ROOT, "crates", "line_capture", "out", "line_capture")
 LIBRARY = os.path.join(ROOT, "crates", "yasir_c", "out", "libyasir_c.a")
+LIVE = os.path.join(ROOT, "crates", "link_live", "out", "link_live")
 
 # A script, what it needs, and its words at each level; None where the level doesn't run it. PROGRAM, BEFORE and MEMORY stand for
 # paths.
@@ -43,6 +44,7 @@ CHECKS = [
     Check("duplex", ("program",), ["150", "PROGRAM"], ["1500", "PROGRAM", "2"], ["6000", "PROGRAM", "3"]),
     Check("closed_streams", ("program",), *same("PROGRAM")),
     Check("init_over", ("program",), *same("PROGRAM")),
+    Check("live_pipe", ("program", "live"), *same("LIVE", "PROGRAM")),
     Check("two_runs", ("program",), None, ["PROGRAM", "10"], ["PROGRAM", "60"]),
     Check("taken_over", ("program", "cc"), None, ["PROGRAM"], ["PROGRAM"]),
     Check("killed_seal", ("program", "memory"), None, ["40", "PROGRAM", "MEMORY"], ["400", "PROGRAM", "MEMORY"]),
@@ -76,6 +78,8 @@ def lacking(need, program, before=None):
         return "there is no program %s; `rt run` in crates/line_capture proves and builds it" % os.path.relpath(CAPTURE)
     if need == "library" and not os.access(LIBRARY, os.R_OK):
         return "there is no library %s; `python3 scripts/bridge_build.py` proves and builds it" % os.path.relpath(LIBRARY)
+    if need == "live" and not os.access(LIVE, os.X_OK):
+        return "there is no program %s; `rt run` in crates/link_live proves and builds it" % os.path.relpath(LIVE)
     if need in ("cc", "valgrind", "tshark", "mbpoll") and shutil.which(need) is None:
         return "%s isn't on the path" % need
     return None
@@ -95,7 +99,7 @@ def older(program):
 
 def run(check, words, program, before):
     """Runs one script. Returns whether it passed, its seconds, and the end of what it said."""
-    paths = {"PROGRAM": program, "BEFORE": before, "MEMORY": MEMORY}
+    paths = {"PROGRAM": program, "BEFORE": before, "MEMORY": MEMORY, "LIVE": LIVE}
     line = [sys.executable, os.path.join("scripts", check.name + ".py")] + [paths.get(word, word) for word in words]
     log, began = os.path.join(LOGS, check.name + ".log"), time.monotonic()
     with open(log, "w") as file:

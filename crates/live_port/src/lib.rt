@@ -15,5 +15,5 @@ pub use lines::{LineReader, ReadBytes};
 pub use port::{Output, Port};
 pub use receiving::{handed_lines_are_in_order, read_on};
 pub use rooms::{AnswerText, text_of_answer, text_of_tick};
-pub use sending::hand_on;
+pub use sending::{hand_on, send};
 pub use streams::Streams;

@@ -7,8 +7,8 @@ ghost use Rattle.live_port.specs.Sent.{Sends, Hands};
 use crate::{Output, Port};
 use yasir_io::Failed;
 
-// Writes bytes to an output, and hands them on.
-fn send<P: Port>(port: &mut P, to: Output, bytes: &[u8]) -> Result<(), Failed>
+/// Writes bytes to an output, and flushes it.
+pub fn send<P: Port>(port: &mut P, to: Output, bytes: &[u8]) -> Result<(), Failed>
     ensures { Sends P.Port port.old port.new to bytes.now result }
 {
     match port.write(to, bytes) {

@@ -1,0 +1,4 @@
+pub mod Asking
+pub mod FaultLines
+pub mod Links
+pub mod LiveRuns

@@ -1,0 +1,239 @@
+-- From how a box was driven over a live line to what the status says of it.
+use Rattle.std.proofs.Common.{◌≡◌, ◌∙◌, ℕ, ◌≤◌, ◌⊎◌, inl, inr, List, [], ◌∷◌, ◌++◌, Option, Some, refl}
+use Rattle.std.proofs.Common.{sym, ap, subst, true, false}
+use Rattle.yasir_io.specs.Causes.{Rose}
+use Rattle.yasir_io.specs.Disks.{Slots, OneImage, LeavesOnly}
+use Rattle.yasir_io.specs.declared.disk.SlotDisk.{Ghosts as SlotDisk}
+use Rattle.yasir_ticks.specs.Ticks.{Item, ticks_in}
+use Rattle.yasir_ticks.specs.Ticks.Item.{tick}
+use Rattle.yasir_ticks.specs.declared.tick.Tick.{Tick}
+use Rattle.hmac_tag.specs.declared.dir.Dir.{Dir}
+use Rattle.burst_walk.specs.Causal.{IsCausal}
+use Rattle.link_format.specs.NumberedFrame.{numbers_of}
+use Rattle.link_format.specs.Setup.{Setup, setup_of}
+use Rattle.link_box.specs.Walking.{frames_of}
+use Rattle.link_box.specs.declared.box_trait.LinkBox.{Ghosts as LinkBox}
+use Rattle.sequence_journal.specs.declared.link.LinkId.{LinkId}
+use Rattle.sequence_journal.specs.declared.journal.Journal.{Journal}
+use Rattle.sequence_journal.specs.Journal.{journal_link, journal_floor, HasFloorAtLeast, Fits}
+use Rattle.sequence_journal.specs.Journal.{IsCrashSafe}
+use Rattle.sequence_journal.specs.Slots.{floor_of}
+use Rattle.sequence_journal.specs.Loading.{IsLoaded, KeepsLoadable}
+use Rattle.sequence_journal.specs.Uptimes.{RiseFrom}
+use Rattle.tick_drive.specs.Input.{is_read_fault}
+use Rattle.tick_drive.specs.declared.consumer.Stop.{Stop}
+use Rattle.tick_drive.specs.declared.consumer.Stop.TheVariants as stops
+use Rattle.tick_drive.specs.declared.end.End.{End}
+use Rattle.tick_drive.specs.declared.end.End.TheVariants.{Whole, Refused, TooLong, ReadFault}
+use Rattle.tick_drive.specs.declared.end.End.TheVariants.{Stopped}
+use Rattle.tick_drive.proofs.ItemLaws.{ticks_in-append}
+use Rattle.replay_status.specs.Endings.{status_of}
+use Rattle.replay_status.specs.declared.status.Status.{Status}
+use Rattle.replay_status.specs.declared.status.Status.TheVariants.{WriteFault}
+use Rattle.box_command.specs.Boxes.{Boxed, IsBoxed, FailsBox}
+use Rattle.box_command.specs.BoxLines.{ToldFloor}
+use Rattle.box_command.specs.LinkBoxed.{boxed_of}
+use Rattle.box_command.specs.ReplaysBox.{boxed_with, KeepsFloor, LeavesUptime, KeepsFloorThroughout}
+use Rattle.box_command.proofs.Floors.{told_before, keeps_floor, keeps_from_load, keeps_throughout}
+use Rattle.box_command.proofs.Walking.{walk-boxed}
+use Rattle.live_port.specs.History.{Event}
+use Rattle.live_port.specs.Order.{Handed, HandedFronts}
+use Rattle.live_port.specs.declared.port.Port.{Ghosts as Port}
+use Rattle.live_filter.specs.Filtering.{LiveOrigin, Filters}
+use Rattle.live_filter.specs.LiveLine.{Live, LiveGoes, HeardAt, HaltsAt, Drives}
+use Rattle.live_filter.proofs.TextEndsLaws.{text_by}
+use Rattle.link_live.specs.LiveCommand.{Around, around, Carries, HaltsBox, EndsLine, RunsLine}
+use Rattle.link_live.specs.LiveCommand.{PortCauses}
+
+-- the status of an end
+runs_of : {P D : Type 0} (p : Port P) (d : SlotDisk D) (link : LinkId) (boxes : ℕ → Boxed) (rest : ℕ)
+    (before after : Around P D) (end : End) → EndsLine p d link boxes rest before after end
+    → (is_read_fault end ≡ true → Rose (p.read_faults before.port) (p.read_faults after.port))
+    → RunsLine p d link boxes rest before after (status_of end)
+runs_of p d link boxes rest before after Whole ends rose = ends
+runs_of p d link boxes rest before after (Refused bad) ends rose = ends
+runs_of p d link boxes rest before after (TooLong what count) ends rose = ends
+runs_of p d link boxes rest before after ReadFault ends rose = (ends, rose refl)
+runs_of p d link boxes rest before after (Stopped stops.WriteFault) ends rose = ends
+runs_of p d link boxes rest before after (Stopped stops.JournalFault) ends rose = inl ends
+runs_of p d link boxes rest before after (Stopped stops.NoMemory) ends rose =
+    elim ends.ends [
+      | inl within ↦ within.ends
+      | inr last ↦ last.1.holds
+    ]
+
+-- the causes at the port of an end
+pub port_causes : {P D B : Type 0} (p : Port P) (d : SlotDisk D) (old new : Live B P D) (end : End)
+    → LiveGoes p d old new end → PortCauses p old.port new.port (status_of end)
+port_causes p d old new Whole goes = record {
+  no_read = λ _. goes.reads.same refl;
+  no_write = λ _. goes.outputs.same refl;
+  write = λ e. cc;
+}
+port_causes p d old new (Refused bad) goes = record {
+  no_read = λ _. goes.reads.same refl;
+  no_write = λ _. goes.outputs.same refl;
+  write = λ e. cc;
+}
+port_causes p d old new (TooLong what count) goes = record {
+  no_read = λ _. goes.reads.same refl;
+  no_write = λ _. goes.outputs.same refl;
+  write = λ e. cc;
+}
+port_causes p d old new ReadFault goes = record {
+  no_read = λ other. absurd (other refl);
+  no_write = λ _. goes.outputs.same refl;
+  write = λ e. cc;
+}
+port_causes p d old new (Stopped stops.WriteFault) goes = record {
+  no_read = λ _. goes.reads.same refl;
+  no_write = λ other. absurd (other refl);
+  write = λ e. goes.outputs.failed refl;
+}
+port_causes p d old new (Stopped stops.JournalFault) goes = record {
+  no_read = λ _. goes.reads.same refl;
+  no_write = λ _. goes.outputs.same refl;
+  write = λ e. cc;
+}
+port_causes p d old new (Stopped stops.NoMemory) goes = record {
+  no_read = λ _. goes.reads.same refl;
+  no_write = λ _. goes.outputs.same refl;
+  write = λ e. cc;
+}
+
+module _ {B N P D : Type 0} (b : LinkBox B N) (line_of : N → List ℕ) (p : Port P) (d : SlotDisk D)
+    (link : LinkId) (key : List ℕ) (dir : Dir) (rest : ℕ) (journal : Journal) (before : D)
+    (old new : Live B P D)
+    (causal : (value : B) (last : ℕ) (setup : Setup) (line : List Tick)
+    → b.stands value last setup line → IsCausal (b.walking.walker setup))
+    (rising : (setup : Setup) (line : List Tick)
+    → RiseFrom setup.floor (numbers_of (frames_of b.walking setup line)))
+    (load : IsLoaded link (d.told before) (d.told old.disk) (d.may_leave before)
+    (d.may_leave old.disk) journal)
+    (safe : OneImage (d.told before) (d.may_leave before)
+    → IsCrashSafe journal (d.told old.disk) (d.may_leave old.disk))
+    (fits : Fits journal (d.told old.disk))
+    (same : old.live_box.filter.journal ≡ journal) (zero : old.live_box.ticks ≡ 0)
+    (begins : (history : Option (List Event)) (link : LinkId) (told : Option Slots)
+    → journal_link journal ≡ link → Fits journal told
+    → Filters b line_of old.live_box.filter history told (record {
+      start = history;
+      read = [];
+      link = link;
+      setup = setup_of key dir (journal_floor journal);
+    }) [])
+    (end : End) (drives : Drives b line_of p d rest old new end) where
+  abbrev floor : ℕ
+  floor = journal_floor journal
+
+  abbrev setup : Setup
+  setup = setup_of key dir floor
+
+  abbrev box : Boxed
+  box = boxed_of b.walking line_of setup
+
+  abbrev origin : LiveOrigin
+  origin = record { start = p.history old.port; read = []; link = link; setup = setup }
+
+  abbrev heard_of : LiveOrigin
+  heard_of = record { start = p.history old.port; read = drives.text; link = link; setup = setup }
+
+  abbrev at_first : Around P D
+  at_first = around old.port before
+
+  abbrev at_last : Around P D
+  at_last = around new.port new.disk
+
+  begun : Filters b line_of old.live_box.filter (p.history old.port) (d.told old.disk) origin []
+  begun = begins (p.history old.port) link (d.told old.disk) load.link_is fits
+
+  laws : IsBoxed box floor
+  laws = walk-boxed b.walking line_of setup
+      (causal old.live_box.filter.line_box (journal_floor old.live_box.filter.journal) setup []
+      begun.steps) (rising setup)
+
+  keeps : (n : ℕ) → journal_link new.live_box.filter.journal ≡ link
+      → journal_floor new.live_box.filter.journal ≡ n → KeepsFloor d link n before new.disk
+  keeps n served is = subst (λ m. KeepsFloor d link m before new.disk) is
+      (keeps_floor d link journal before old.disk load safe old.live_box.filter.journal
+      new.live_box.filter.journal new.disk same drives.goes.images.is_kept served)
+
+  floor_before : ToldFloor link floor (d.told before)
+  floor_before = told_before d link journal before old.disk load safe
+
+  -- each image makes an uptime
+  uptime_to : (line : List Tick) → journal_link new.live_box.filter.journal ≡ link
+      → journal_floor new.live_box.filter.journal ≡ box.number line
+      → LeavesUptime d link (box.numbers line) before new.disk
+  uptime_to line served is one starts told image left = record {
+    floor = floor;
+    loads = subst (ToldFloor link floor) told floor_before;
+    rise = laws.rising line;
+    leaves = subst (λ n. HasFloorAtLeast link n image) (sym (laws.last_is line))
+        (keeps _ served is one image left);
+  }
+
+  carries : (line : List Tick) → HeardAt b line_of p d new heard_of line
+      → Carries p d link box at_first at_last drives.text line
+  carries line heard =
+      let filters = heard.filters in
+      subst (Carries p d link box at_first at_last drives.text) heard.are (record {
+        handed = filters.handed;
+        images = keeps _ filters.link_is filters.number_is;
+        uptime = uptime_to (ticks_in heard.items) filters.link_is filters.number_is;
+        floor_told = subst (λ n. ToldFloor link n (d.told new.disk)) filters.number_is
+            filters.floor_told;
+      })
+
+  halts : (stop : Stop) (line : List Tick) → HaltsAt b line_of p d new heard_of stop line
+      → HaltsBox p d link box at_first at_last drives.text stop line
+  halts stops.JournalFault line halted =
+      let at = halted.stops in record {
+        line = ticks_in at.front;
+        last = at.last;
+        more = halted.more;
+        all = ap (λ l. l ++ halted.more) (sym (ap ticks_in at.is
+            ∙ ticks_in-append at.front (tick at.last ∷ []))) ∙ halted.are;
+        handed = at.handed;
+        images = keeps _ at.link_is at.floor;
+        uptime = uptime_to (ticks_in at.front) at.link_is at.floor;
+        fails = at.fails;
+      }
+  halts stops.WriteFault line halted =
+      let at = halted.stops in record {
+        line = ticks_in halted.items;
+        more = halted.more;
+        all = halted.are;
+        fronts = at.fronts;
+        images = keeps _ at.link_is at.floor;
+        uptime = uptime_to (ticks_in halted.items) at.link_is at.floor;
+        floor_told = subst (λ n. ToldFloor link n (d.told new.disk)) at.floor at.floor_told;
+      }
+  halts stops.NoMemory line halted = halted.stops
+
+  ends_line : EndsLine p d link (boxed_with (boxed_of b.walking line_of) key dir) rest at_first
+      at_last end
+  ends_line = record {
+    floor = floor;
+    text = drives.text;
+    floor_before = floor_before;
+    came = drives.came;
+    ends = text_by (HeardAt b line_of p d new heard_of)
+        (Carries p d link box at_first at_last drives.text) (HaltsAt b line_of p d new heard_of)
+        (HaltsBox p d link box at_first at_last drives.text) carries halts rest _ end drives.text
+        (drives.ends origin zero refl (record { items = []; are = refl; filters = begun }));
+    from_load = keeps_from_load d link journal before old.disk load safe
+        old.live_box.filter.journal new.disk same drives.goes.images.any_moment;
+  }
+
+  pub throughout : ((slots : Slots) (floor : ℕ) → d.told before ≡ Some slots
+      → OneImage (d.told before) (d.may_leave before) → floor_of link slots ≡ Some floor
+      → LeavesOnly d.moment d.left_since before old.disk (KeepsLoadable link slots floor))
+      → KeepsFloorThroughout d link before new.disk
+  throughout loading = keeps_throughout d link journal before old.disk load safe
+      old.live_box.filter.journal new.disk same loading drives.goes.images.any_moment
+
+  pub runs_line : RunsLine p d link (boxed_with (boxed_of b.walking line_of) key dir) rest at_first
+      at_last (status_of end)
+  runs_line = runs_of p d link (boxed_with (boxed_of b.walking line_of) key dir) rest at_first
+      at_last end ends_line drives.goes.reads.failed

@@ -1,0 +1,16 @@
+-- The fault line of a status in the log of a port.
+use Rattle.std.specs.Prelude.{◌≡◌, ◌⊎◌, [], take, Result}
+use Rattle.yasir_io.specs.declared.Failed.{Failed}
+use Rattle.replay_status.specs.Statuses.{fault_line}
+use Rattle.replay_status.specs.declared.status.Status.{Status}
+use Rattle.live_port.specs.Sent.{Sends}
+use Rattle.live_port.specs.declared.port.Output.TheVariants.{Log}
+use Rattle.live_port.specs.declared.port.Port.{Ghosts as Port}
+
+-- Where the status has a fault line, it was written to the log and flushed, or a front of it was
+-- where a call failed; where it has none, nothing was done.
+abbrev pub TellsFault : {P : Type 0} → Port P → P → P → Status → Type 0
+TellsFault p before after status =
+    ((take 640 (fault_line status) ≡ []) × (after ≡ before))
+    ⊎ ((result : Result (Unit {0}) Failed)
+    × Sends p before after Log (take 640 (fault_line status)) result)

@@ -1,0 +1,6 @@
+pub mod FaultText
+pub mod LiveCommand
+pub mod OverFiles
+pub mod Programs
+pub mod Protocols
+pub mod Words

@@ -1,0 +1,163 @@
+-- A command that drives a live line through a box: what each status says of the key, the port and
+-- the journal's disk.
+use Rattle.std.specs.Prelude.{◌≡◌, ℕ, ◌⊎◌, List, [], ◌∷◌, ◌++◌}
+use Rattle.std.specs.Io.KnownBytes.{prepend_known, IsAtEnd}
+use Rattle.yasir_io.specs.Causes.{Rose}
+use Rattle.yasir_io.specs.Disks.{Slots, NoMore}
+use Rattle.yasir_io.specs.declared.source.Source.{Ghosts as Source}
+use Rattle.yasir_io.specs.declared.disk.SlotDisk.{Ghosts as SlotDisk}
+use Rattle.yasir_ticks.specs.declared.tick.Tick.{Tick}
+use Rattle.hmac_tag.specs.declared.dir.Dir.{Dir}
+use Rattle.link_format.specs.Setup.{Setup}
+use Rattle.sequence_journal.specs.declared.link.LinkId.{LinkId}
+use Rattle.sequence_journal.specs.Loading.{MayTakeOver, FindsNone, FindsOther, MayLeaveLoading}
+use Rattle.tick_drive.specs.declared.consumer.Stop.{Stop}
+use Rattle.tick_drive.specs.declared.consumer.Stop.TheVariants as stops
+use Rattle.tick_drive.specs.declared.end.End.{End}
+use Rattle.tick_drive.specs.declared.end.End.TheVariants.{Whole, Refused, Stopped}
+use Rattle.tick_drive.specs.declared.end.End.TheVariants as ends
+use Rattle.key_text.specs.KeyText.{IsKeyMet, IsKeyText, IsNoKey, IsCutShort}
+use Rattle.replay_status.specs.declared.status.Status.{Status}
+use Rattle.replay_status.specs.declared.status.Status.TheVariants.{Done, BadTicks, ReadFault}
+use Rattle.replay_status.specs.declared.status.Status.TheVariants.{WriteFault, JournalFault}
+use Rattle.replay_status.specs.declared.status.Status.TheVariants.{TooLong, BadKey, BadJournal}
+use Rattle.replay_status.specs.declared.status.Status.TheVariants.{WrongLink}
+use Rattle.box_command.specs.Boxes.{Boxed, FailsBox}
+use Rattle.box_command.specs.BoxLines.{ToldFloor}
+use Rattle.box_command.specs.ReplaysBox.{boxed_with, KeepsFloor, LeavesUptime, KeepsFloorFromLoad}
+use Rattle.box_command.specs.Sending.{made_by}
+use Rattle.live_port.specs.Order.{Handed, HandedFronts}
+use Rattle.live_port.specs.declared.port.Output.{Output}
+use Rattle.live_port.specs.declared.port.Port.{Ghosts as Port}
+use Rattle.live_filter.specs.TextEnds.{EndsText}
+
+-- what a run is handed beside the key: the port of the line, and the journal's disk
+pub record Around (P D : Type 0) : Type 0 where
+  pub port : P
+  pub disk : D
+
+abbrev pub around : {P D : Type 0} → P → D → Around P D
+around port disk = record { port = port; disk = disk }
+
+module _ {P D : Type 0} (p : Port P) (d : SlotDisk D) (link : LinkId) where
+  -- A text was read, and what the box makes of this line is written and flushed. Before each read
+  -- all that had been decided was written and flushed, and before each write of the other line the
+  -- notes of its ticks. Each image of the disk has the last number of the line, and makes an uptime
+  -- with its numbers.
+  pub record Carries (box : Boxed) (before after : Around P D) (text : List ℕ) (line : List Tick) :
+      Type 0 where
+    pub handed : Handed (made_by box) (p.history before.port) (p.history after.port) text line
+    pub images : KeepsFloor d link (box.number line) before.disk after.disk
+    pub uptime : LeavesUptime d link (box.numbers line) before.disk after.disk
+    pub floor_told : ToldFloor link (box.number line) (d.told after.disk)
+
+  -- The disk failed as the step of one of these ticks used its number: the same holds of those
+  -- before it.
+  pub record FailsAtNumber (box : Boxed) (before after : Around P D) (text : List ℕ)
+      (ticks : List Tick) : Type 0 where
+    pub line : List Tick
+    pub last : Tick
+    pub more : List Tick
+    pub all : (line ++ last ∷ []) ++ more ≡ ticks
+    pub handed : Handed (made_by box) (p.history before.port) (p.history after.port) text line
+    pub images : KeepsFloor d link (box.number line) before.disk after.disk
+    pub uptime : LeavesUptime d link (box.numbers line) before.disk after.disk
+    pub fails : FailsBox link box line last (d.told after.disk)
+
+  -- A write or a flush failed behind the step of one of these ticks: of what the box makes of those
+  -- up to it the outputs have got a front each, the notes first.
+  pub record WritesFronts (box : Boxed) (before after : Around P D) (text : List ℕ)
+      (ticks : List Tick) : Type 0 where
+    pub line : List Tick
+    pub more : List Tick
+    pub all : line ++ more ≡ ticks
+    pub fronts : HandedFronts (made_by box) (p.history before.port) (p.history after.port) text line
+    pub images : KeepsFloor d link (box.number line) before.disk after.disk
+    pub uptime : LeavesUptime d link (box.numbers line) before.disk after.disk
+    pub floor_told : ToldFloor link (box.number line) (d.told after.disk)
+
+  -- why the box was stopped at one of these ticks; it takes no memory
+  abbrev pub HaltsBox : Boxed → Around P D → Around P D → List ℕ → Stop → List Tick → Type 0
+  HaltsBox box before after text stops.JournalFault ticks = FailsAtNumber box before after text ticks
+  HaltsBox box before after text stops.WriteFault ticks = WritesFronts box before after text ticks
+  HaltsBox box before after text stops.NoMemory ticks = ⊥
+
+  -- The box by the floor of its journal, and how many silent ticks come after a whole line.
+  module _ (box : ℕ → Boxed) (rest : ℕ) (before after : Around P D) where
+    -- The reading of the line ended so.
+    pub record EndsLine (end : End) : Type 0 where
+      pub floor : ℕ
+      pub text : List ℕ
+      pub floor_before : ToldFloor link floor (d.told before.disk)
+      pub came : p.left before.port ≡ prepend_known text (p.left after.port)
+      pub ends : EndsText (Carries (box floor) before after text)
+          (HaltsBox (box floor) before after text) rest (IsAtEnd (p.left after.port)) end text
+      pub from_load : KeepsFloorFromLoad d link floor before.disk after.disk
+
+    -- The journal was looked at, and nothing else was touched.
+    pub record LooksAtJournal : Type 0 where
+      pub port : after.port ≡ before.port
+      pub told : d.told after.disk ≡ d.told before.disk
+      pub images : NoMore (d.may_leave before.disk) (d.may_leave after.disk)
+      pub images_back : NoMore (d.may_leave after.disk) (d.may_leave before.disk)
+
+    -- The disk failed as the journal was loaded: nothing else was touched, and an old journal may
+    -- be taken over, in part or whole.
+    pub record FailsAtLoad : Type 0 where
+      pub port : after.port ≡ before.port
+      pub told : MayTakeOver link (d.told before.disk) (d.told after.disk)
+      pub images : (c : Slots) → d.may_leave after.disk c
+          → MayLeaveLoading (d.told before.disk) (d.may_leave before.disk) c
+
+    -- What each status says of a run with this key and direction, from the journal on.
+    abbrev pub RunsLine : Status → Type 0
+    RunsLine Done = EndsLine Whole
+    RunsLine (BadTicks bad) = EndsLine (Refused bad)
+    RunsLine (TooLong what count) = EndsLine (ends.TooLong what count)
+    RunsLine ReadFault = EndsLine ends.ReadFault
+        × Rose (p.read_faults before.port) (p.read_faults after.port)
+    RunsLine JournalFault = EndsLine (Stopped stops.JournalFault) ⊎ FailsAtLoad
+    RunsLine WriteFault = EndsLine (Stopped stops.WriteFault)
+    RunsLine (BadJournal a b) = FindsNone (d.told before.disk) a b × LooksAtJournal
+    RunsLine (WrongLink slot) = FindsOther link (d.told before.disk) slot × LooksAtJournal
+    RunsLine status = ⊥
+
+module _ {K P D : Type 0} (k : Source K) (p : Port P) (d : SlotDisk D) (boxed : Setup → Boxed)
+    (link : LinkId) (dir : Dir) (rest : ℕ) (key_before key_after : K) (before after : Around P D)
+  where
+    -- A right key text was met, and with its key the status says this.
+    pub record RunsKeyed (status : Status) : Type 0 where
+      pub text : List ℕ
+      pub key : List ℕ
+      pub met : IsKeyMet (k.left key_before) (k.left key_after) text
+      pub right : IsKeyText text key
+      pub calm : k.faults key_after ≡ k.faults key_before
+      pub runs : RunsLine p d link (boxed_with boxed key dir) rest before after status
+
+    -- What was met of the key is no key text, and nothing else was touched.
+    pub record RefusesKey (place : ℕ) : Type 0 where
+      pub text : List ℕ
+      pub met : IsKeyMet (k.left key_before) (k.left key_after) text
+      pub refused : IsNoKey text place
+      pub same : after ≡ before
+
+    -- A read of the key failed, and nothing else was touched.
+    pub record FailsAtKey : Type 0 where
+      pub rose : Rose (k.faults key_before) (k.faults key_after)
+      pub cut : IsCutShort (k.left key_before) (k.left key_after)
+      pub same : after ≡ before
+
+    -- What each status says of the command.
+    abbrev pub LivesBox : Status → Type 0
+    LivesBox (BadKey place) = RefusesKey place
+    LivesBox ReadFault = FailsAtKey ⊎ RunsKeyed ReadFault
+    LivesBox status = RunsKeyed status
+
+-- The counts of the port's faults: that of the input rose where a read of the line failed, and that
+-- of an output where a write or a flush of it failed.
+pub record PortCauses {P : Type 0} (p : Port P) (before after : P) (status : Status) : Type 0 where
+  pub no_read : (status ≡ ReadFault → ⊥) → p.read_faults after ≡ p.read_faults before
+  pub no_write : (status ≡ WriteFault → ⊥) → (to : Output)
+      → p.write_faults after to ≡ p.write_faults before to
+  pub write : status ≡ WriteFault
+      → (to : Output) × Rose (p.write_faults before to) (p.write_faults after to)

@@ -1,0 +1,69 @@
+-- The program over a file system: which files are its key and its journal, and how it ends.
+use Rattle.std.specs.Prelude.{◌≡◌, ◌↔◌, ◌⊎◌, ℕ, List, Option, Some, None, drop, map, option_map}
+use Rattle.std.specs.String.{string_bytes}
+use Rattle.std.specs.Vec.Iter.{into_iter_items}
+use Rattle.std.specs.declared.string.String.{String}
+use Rattle.std.specs.declared.alloc.Global.{Global}
+use Rattle.std.specs.declared.vec.IntoIter.{IntoIter}
+use Rattle.yasir_io.specs.declared.source.Source.{Ghosts as Source}
+use Rattle.yasir_io.specs.declared.disk.SlotDisk.{Ghosts as SlotDisk}
+use Rattle.yasir_io.specs.declared.files.FileSource.{FileSource}
+use Rattle.yasir_io.specs.declared.files.FileSlots.{FileSlots}
+use Rattle.yasir_io.specs.declared.files.SlotFile.TheVariants.{Standing}
+use Rattle.yasir_io.specs.Edge.{file_of, file_path, file_options, file_faults}
+use Rattle.yasir_io.specs.Edge.{slots_file, slots_path, slots_kind, slots_options, slots_faults}
+use Rattle.yasir_io.specs.SlotFiles.{for_reading, for_slots}
+use Rattle.replay_status.specs.Statuses.{exit_status_of}
+use Rattle.replay_status.specs.declared.status.Status.{Status}
+use Rattle.replay_status.specs.declared.status.Status.TheVariants.{Usage, NoMemory}
+use Rattle.live_port.specs.declared.port.Port.{Ghosts as Port}
+use Rattle.link_live.specs.declared.words.Command.{Command}
+use Rattle.link_live.specs.declared.over_files.TheConstants.{NOT_GIVEN}
+use Rattle.link_live.specs.LiveCommand.{around}
+use Rattle.link_live.specs.Programs.{Runs, KeepsDisk}
+use Rattle.link_live.specs.Words.{key_place, journal_place, word_in}
+
+-- the words of the arguments that are still to come: all but the first, which is the program's name
+abbrev pub words_after : IntoIter (String Global) Global → List (List ℕ)
+words_after args = map string_bytes (drop 1 (into_iter_items args))
+
+-- The file at the path, for reading, and no call on it was made.
+pub record IsKeyFile {R F D : Type 0} (bytes : Option (List ℕ)) (source : FileSource R F D)
+    : Type 0 where
+  pub path : option_map string_bytes (file_path source) ≡ bytes
+  pub closed : file_of source ≡ None
+  pub options : file_options source ≡ for_reading
+  pub faults : file_faults source ≡ 0
+
+-- The file at the path, which is to stand already, and no call on it was made.
+pub record IsJournalFile {R F D : Type 0} (bytes : Option (List ℕ)) (disk : FileSlots R F D) :
+    Type 0 where
+  pub path : option_map string_bytes (slots_path disk) ≡ bytes
+  pub closed : slots_file disk ≡ None
+  pub options : slots_options disk ≡ for_slots Standing
+  pub kind : slots_kind disk ≡ Standing
+  pub faults : slots_faults disk ≡ 0
+
+module _ {R F D P : Type 0} (k : Source (FileSource R F D)) (p : Port P)
+    (d : SlotDisk (FileSlots R F D)) where
+  -- The program runs over the files whose paths its words are, and does what they ask for.
+  pub record RunsOverFiles (words : List (List ℕ)) (asked : Option Command) (before after : P)
+      (status : Status) : Type 0 where
+    pub key_before : FileSource R F D
+    pub key_after : FileSource R F D
+    pub disk_before : FileSlots R F D
+    pub disk_after : FileSlots R F D
+    pub key : IsKeyFile (word_in words asked key_place) key_before
+    pub journal : IsJournalFile (word_in words asked journal_place) disk_before
+    pub usage : (status ≡ Usage) ↔ (asked ≡ None)
+    pub runs : Runs k p d asked key_before key_after (around before disk_before)
+        (around after disk_after) status
+    pub any_moment : KeepsDisk d asked disk_before disk_after
+
+  -- It ends with the status of this run; or nothing was done, since the runtime refused what a run
+  -- needs, or there was no memory for a path.
+  abbrev pub EndsOverFiles : List (List ℕ) → Option Command → P → P → ℕ → Type 0
+  EndsOverFiles words asked before after exit_status =
+      ((status : Status) × (exit_status ≡ exit_status_of status)
+      × RunsOverFiles words asked before after status)
+      ⊎ ((after ≡ before) × ((exit_status ≡ NOT_GIVEN) ⊎ (exit_status ≡ exit_status_of NoMemory)))

@@ -1,0 +1,51 @@
+-- The words of the program's commands.
+use Rattle.std.specs.Prelude.{◌≡◌, ◌≢◌, ℕ, List, [], ◌∷◌, Option, Some, None, codes, slice_get}
+use Rattle.hmac_tag.specs.declared.dir.Dir.{Dir}
+use Rattle.hmac_tag.specs.declared.dir.Dir.TheVariants.{Ab, Ba}
+use Rattle.link_live.specs.declared.words.Proto.{Proto}
+use Rattle.link_live.specs.declared.words.Proto.TheVariants.{Rtu, Dnp3}
+use Rattle.link_live.specs.declared.words.Profile.{Profile}
+use Rattle.link_live.specs.declared.words.Profile.TheVariants.{Y18, Y24}
+use Rattle.link_live.specs.declared.words.Linked.{Linked}
+use Rattle.link_live.specs.declared.words.Command.{Command}
+use Rattle.link_live.specs.declared.words.Command.TheVariants.{Seal, Check}
+
+-- the word of a protocol on a link of a profile
+abbrev pub link_word : Proto → Profile → List ℕ
+link_word Rtu Y18 = codes "rtu"
+link_word Dnp3 Y18 = codes "dnp3"
+link_word Rtu Y24 = codes "rtu24"
+link_word Dnp3 Y24 = codes "dnp24"
+
+abbrev pub dir_word : Dir → List ℕ
+dir_word Ab = codes "ab"
+dir_word Ba = codes "ba"
+
+-- These words ask for a box: its name, a protocol and a profile, a direction, and the paths of its
+-- key and its journal.
+abbrev pub AskForBox : List ℕ → Linked → List (List ℕ) → Type 0
+AskForBox name of words =
+    (key : List ℕ) × (path : List ℕ) × (key ≢ []) × (path ≢ [])
+    × (words ≡ name ∷ link_word of.proto of.profile ∷ dir_word of.dir ∷ key ∷ path ∷ [])
+
+-- These words ask for the command.
+abbrev pub IsCommand : List (List ℕ) → Command → Type 0
+IsCommand words (Seal of) = AskForBox (codes "seal") of words
+IsCommand words (Check of) = AskForBox (codes "check") of words
+
+-- what the words ask for: a command, or none where they fit no command
+abbrev pub Asks : List (List ℕ) → Option Command → Type 0
+Asks words None = (command : Command) → IsCommand words command → ⊥
+Asks words (Some command) = IsCommand words command
+
+-- the place of the word that is the key file's path, and of that of the journal's
+abbrev pub key_place : ℕ
+key_place = 3
+
+abbrev pub journal_place : ℕ
+journal_place = 4
+
+-- the word at a place, where the words ask for a command
+abbrev pub word_in : List (List ℕ) → Option Command → ℕ → Option (List ℕ)
+word_in words None place = None
+word_in words (Some command) place = slice_get words place

@@ -1,0 +1,108 @@
+//! The two boxes of a link on a live line: the transmitter of `seal`, and the receiver of `check`.
+ghost use Rattle.box_command.specs.ReplaysBox.{KeepsFloorThroughout, BoxDiskCause};
+ghost use Rattle.link_live.specs.LiveCommand.{around, LivesBox, PortCauses};
+ghost use Rattle.link_live.specs.Protocols.{served, seal_boxed, seal_rest, check_boxed, check_rest};
+
+use crate::command::{LiveLink, live_line};
+use crate::link::{link_of, with_link};
+use crate::words::Linked;
+use check_receiver::Checker;
+use live_port::Port;
+use replay_status::Status;
+use seal_transmitter::Sealer;
+use yasir_io::{SlotDisk, Source};
+
+/// How many silent ticks come after a device's whole line beyond the receiver's delay, so that its
+/// last burst is closed and its trailer leaves.
+const SEAL_REST: u32 = 6;
+
+/// How many silent ticks come after a link's whole line, so that the verdict on its last burst
+/// falls and all that the receiver holds back leaves.
+const CHECK_REST: u32 = 320;
+
+// The transmitter on the line.
+macro_rules! seal_by {
+    (
+        [$rules:ty, $mac:ty, $word:literal, $delay:literal],
+        $link:expr, $dir:expr, $key:expr, $port:expr, $disk:expr
+    ) => {
+        live_line::<Sealer<$rules, $mac, $word>, K, P, D>(
+            &LiveLink {
+                link: $link,
+                dir: $dir,
+                rest: $delay + SEAL_REST,
+            },
+            $key,
+            $port,
+            $disk,
+        )
+    };
+}
+
+// The receiver on the line.
+macro_rules! check_by {
+    (
+        [$rules:ty, $mac:ty, $word:literal, $delay:literal],
+        $link:expr, $dir:expr, $key:expr, $port:expr, $disk:expr
+    ) => {
+        live_line::<Checker<$rules, $mac, $word, $delay>, K, P, D>(
+            &LiveLink {
+                link: $link,
+                dir: $dir,
+                rest: CHECK_REST,
+            },
+            $key,
+            $port,
+            $disk,
+        )
+    };
+}
+
+/// Seals the frames of a device's live line.
+pub fn seal<K: Source, P: Port, D: SlotDisk>(
+    of: Linked,
+    key: &mut K,
+    port: &mut P,
+    disk: &mut D,
+) -> Status
+    ensures seals { LivesBox K.Source P.Port D.SlotDisk (seal_boxed of.proto of.profile)
+        (served of) of.dir (seal_rest of.profile) key.old key.new
+        (around port.old disk.old) (around port.new disk.new) result }
+    ensures any_moment { KeepsFloorThroughout D.SlotDisk (served of)
+        disk.old disk.new }
+    ensures disk { BoxDiskCause (D.faults disk.old) (D.faults disk.new) result }
+    ensures port { PortCauses P.Port port.old port.new result }
+{
+    let Linked {
+        proto,
+        profile,
+        dir,
+    } = of;
+    let link = link_of(proto, profile, dir);
+    with_link!(proto, profile, seal_by(link, dir, key, port, disk))
+}
+
+/// Checks the packets of a live link, by a receiver whose delay is 18 ticks, or 24 where words have
+/// four bytes and tags sixteen.
+pub fn check<K: Source, P: Port, D: SlotDisk>(
+    of: Linked,
+    key: &mut K,
+    port: &mut P,
+    disk: &mut D,
+) -> Status
+    ensures checks { LivesBox K.Source P.Port D.SlotDisk (check_boxed of.proto of.profile)
+        (served of) of.dir check_rest key.old key.new
+        (around port.old disk.old) (around port.new disk.new) result }
+    ensures any_moment { KeepsFloorThroughout D.SlotDisk (served of)
+        disk.old disk.new }
+    ensures disk { BoxDiskCause (D.faults disk.old) (D.faults disk.new) result }
+    ensures port { PortCauses P.Port port.old port.new result }
+{
+    let Linked {
+        proto,
+        profile,
+        dir,
+    } = of;
+    let link = link_of(proto, profile, dir);
+    with_link!(proto, profile, check_by(link, dir, key, port, disk))
+}

@@ -1,0 +1,77 @@
+//! The command of a box on a live line: read the key, load the journal, and drive the line through
+//! the box as it comes.
+ghost use Rattle.std.specs.Prelude.{◌≡◌, ◌≤◌};
+ghost use Rattle.sequence_journal.specs.Links.{IsLink};
+ghost use Rattle.box_command.specs.LinkBoxed.{boxed_of};
+ghost use Rattle.box_command.specs.ReplaysBox.{boxed_with, KeepsFloorThroughout, BoxDiskCause};
+ghost use Rattle.link_live.specs.LiveCommand.{around, RunsLine, LivesBox, PortCauses};
+
+use box_command::LineBox;
+use hmac_tag::Dir;
+use key_text::{KeyError, read_key};
+use live_filter::LiveBox;
+use live_port::Port;
+use replay_status::{Status, status_of};
+use sequence_journal::{Journal, LinkId, LoadError};
+use yasir_io::{SlotDisk, Source};
+
+/// The link of a box, its direction, and how many silent ticks come after a whole line.
+#[derive(Clone, Copy, Debug, PartialEq, Eq)]
+pub struct LiveLink {
+    pub link: LinkId,
+    pub dir: Dir,
+    pub rest: u32,
+}
+
+// Drives the line through a box with this key, over the journal of its link that the disk holds.
+fn live_keyed<B: LineBox, P: Port, D: SlotDisk>(
+    key: &[u8],
+    of: &LiveLink,
+    port: &mut P,
+    disk: &mut D,
+) -> Status
+    requires widths { B.widths_fit }
+    requires link { IsLink of.now.link }
+    requires of_box { of.now.link ≡ B.link_in of.now.dir }
+    ensures runs { RunsLine P.Port D.SlotDisk of.now.link
+        (boxed_with (boxed_of B.walking B.line_of) key.now of.now.dir) of.now.rest
+        (around port.old disk.old) (around port.new disk.new) result }
+    ensures any_moment { KeepsFloorThroughout D.SlotDisk of.now.link disk.old disk.new }
+    ensures disk { BoxDiskCause (D.faults disk.old) (D.faults disk.new) result }
+    ensures port { PortCauses P.Port port.old port.new result }
+{
+    let journal = match Journal::load(disk, &of.link) {
+        Ok(journal) => journal,
+        Err(LoadError::Fault) => return Status::JournalFault,
+        Err(LoadError::Bad { a, b }) => return Status::BadJournal { a, b },
+        Err(LoadError::WrongLink { slot }) => return Status::WrongLink { slot },
+    };
+    let mut live_box = LiveBox::<B>::new(key, of.dir, journal);
+    status_of(live_box.drive(of.rest, port, disk))
+}
+
+/// Reads a key, loads the journal of this link that the disk holds, and drives a line through a box
+/// of this link as it comes: what the box makes of each line of its text is written and flushed,
+/// its notes first, before the next read.
+pub fn live_line<B: LineBox, K: Source, P: Port, D: SlotDisk>(
+    of: &LiveLink,
+    key: &mut K,
+    port: &mut P,
+    disk: &mut D,
+) -> Status
+    requires widths { B.widths_fit }
+    requires link { IsLink of.now.link }
+    requires of_box { of.now.link ≡ B.link_in of.now.dir }
+    ensures lives { LivesBox K.Source P.Port D.SlotDisk (boxed_of B.walking B.line_of) of.now.link
+        of.now.dir of.now.rest key.old key.new (around port.old disk.old)
+        (around port.new disk.new) result }
+    ensures any_moment { KeepsFloorThroughout D.SlotDisk of.now.link disk.old disk.new }
+    ensures disk { BoxDiskCause (D.faults disk.old) (D.faults disk.new) result }
+    ensures port { PortCauses P.Port port.old port.new result }
+{
+    match read_key(key) {
+        Ok(text) => live_keyed::<B, P, D>(text.as_slice(), of, port, disk),
+        Err(KeyError::Fault) => Status::ReadFault,
+        Err(KeyError::Bad { place }) => Status::BadKey { place },
+    }
+}

@@ -1,0 +1,38 @@
+//! `link_live`: transmitter or receiver on a live line. Tick text comes on standard input, and what
+//! the box makes of each line of it leaves before the next read: the notes on standard error, and
+//! then the other line on standard output.
+//!
+//!     link_replay init rtu ab sent.journal
+//!     link_live seal rtu ab key.txt sent.journal
+#![tactic(auto)]
+
+mod boxes;
+mod command;
+mod fault_text;
+mod kept_line;
+mod link;
+mod over_files;
+mod program;
+mod words;
+
+pub use boxes::{check, seal};
+pub use command::{LiveLink, live_line};
+pub use fault_text::log_fault;
+pub use link::link_of;
+use live_port::Streams;
+pub use over_files::{NOT_GIVEN, run_over_files};
+pub use program::run;
+use std::process::ExitCode;
+pub use words::{Command, Linked, Profile, Proto, Usage, read_words};
+use yasir_io::{StderrSink, StdinSource, StdoutSink};
+
+fn main(rt: HostRuntime) -> ExitCode {
+    let mut input = StdinSource::new(rt.stdin());
+    let mut out = StdoutSink::new(rt.stdout());
+    let mut log = StderrSink::new(rt.stderr());
+    ExitCode::from(run_over_files(
+        &rt,
+        std::env::args(&rt),
+        &mut Streams::new(&mut input, &mut out, &mut log),
+    ))
+}

@@ -1,0 +1,143 @@
+//! The program over a file system: the files of the key and the journal are those whose paths are
+//! words.
+ghost use Rattle.std.specs.Prelude.{◌≡◌, ℕ, Option, IfOk, OnErr, IsErr, drop, map, option_map};
+ghost use Rattle.std.specs.Prelude.{slice_get};
+ghost use Rattle.std.specs.String.{string_bytes};
+ghost use Rattle.std.specs.Vec.Iter.{into_iter_items};
+ghost use Rattle.link_live.specs.declared.words.Command.{Command};
+ghost use Rattle.link_live.specs.Words.{Asks, word_in, key_place, journal_place};
+ghost use Rattle.link_live.specs.OverFiles.{words_after, IsKeyFile, IsJournalFile, RunsOverFiles};
+ghost use Rattle.link_live.specs.OverFiles.{EndsOverFiles};
+
+use crate::program::run;
+use crate::words::read_words;
+use live_port::Port;
+use replay_status::Status;
+use std::alloc::{AllocError, Global};
+use std::env::Args;
+use std::fs::File;
+use std::io;
+use std::rt::Files;
+use yasir_io::{FileSlots, FileSource, Lock, SlotDisk, SlotFile, Source};
+
+/// The exit status where the runtime refuses what a run needs: the places of the streams that are
+/// closed, the words, or memory for them.
+pub const NOT_GIVEN: u8 = 13;
+
+/// Which word is the path of the key's file, and which one that of the journal's.
+const KEY_PLACE: usize = 3;
+
+const JOURNAL_PLACE: usize = 4;
+
+// The words behind the program's name.
+fn words_after_name(alloc: Global, args: Args) -> Result<Vec<String>, AllocError>
+    ensures { IfOk result (λ words. words.items ≡ drop 1 (into_iter_items args)) }
+{
+    args.skip(1).collect(alloc)
+}
+
+// A copy of the word at a place, where there is one.
+fn word_at(words: &[String], place: usize) -> Result<Option<String>, AllocError>
+    ensures { IfOk result (λ word.
+        option_map string_bytes word ≡ slice_get (map string_bytes words.now) place) }
+{
+    match words.get(place) {
+        Some(word) => Ok(Some(word.clone()?)),
+        None => Ok(None),
+    }
+}
+
+// A copy of the word at a place, where the words ask for a command.
+fn path_at(words: &[String], place: usize) -> Result<Option<String>, AllocError>
+    ensures { IfOk result (λ path. (asked : Option Command) → Asks (map string_bytes words.now) asked
+        → option_map string_bytes path ≡ word_in (map string_bytes words.now) asked place) }
+{
+    match read_words(words) {
+        Ok(_) => word_at(words, place),
+        Err(_) => Ok(None),
+    }
+}
+
+// The file of the key.
+fn key_file<'a, R: Files>(files: &'a R, words: &[String]) -> Result<FileSource<'a, R>, AllocError>
+    ensures { IfOk result (λ key. (asked : Option Command) → Asks (map string_bytes words.now) asked
+        → IsKeyFile (word_in (map string_bytes words.now) asked key_place) key) }
+{
+    Ok(FileSource::new(files, path_at(words, KEY_PLACE)?))
+}
+
+// The file of the journal, which stands already.
+fn journal_file<'a, R: Files>(
+    files: &'a R,
+    words: &[String],
+) -> Result<FileSlots<'a, R>, AllocError>
+where
+    R::File: Lock,
+    ensures { IfOk result (λ disk. (asked : Option Command)
+        → Asks (map string_bytes words.now) asked
+        → IsJournalFile (word_in (map string_bytes words.now) asked journal_place) disk) }
+{
+    let path = path_at(words, JOURNAL_PLACE)?;
+    Ok(FileSlots::new(files, path, SlotFile::Standing))
+}
+
+// The program with these words.
+fn run_words<'a, R: Files + AllocGlobal, P: Port>(
+    system: &'a R,
+    words: &[String],
+    port: &mut P,
+) -> Result<Status, AllocError>
+where
+    R::File: Lock,
+    ensures runs { IfOk result (λ status. (asked : Option Command)
+        → Asks (map string_bytes words.now) asked
+        → RunsOverFiles ⟦<FileSource<'a, R> as Source>⟧ P.Port ⟦<FileSlots<'a, R> as SlotDisk>⟧
+        (map string_bytes words.now) asked port.old port.new status) }
+    ensures no_memory { OnErr result (port.new ≡ port.old) }
+{
+    let mut key = key_file(system, words)?;
+    let mut disk = journal_file(system, words)?;
+    Ok(run(words, &mut key, port, &mut disk))
+}
+
+// The system gives a file that is opened the least place that is free. These three take those of
+// standard streams that are closed, and are held as long as a run lasts: else the key would be read
+// as the input, or a note be written into the journal. A folder can be neither read nor written.
+fn take_places<R: Files>(files: &R) -> io::Result<(R::File, R::File, R::File)> {
+    let first = File::open(files, "/")?;
+    let second = File::open(files, "/")?;
+    Ok((first, second, File::open(files, "/")?))
+}
+
+/// The program with the words behind the first argument, its name: the key and the journal are
+/// files of this system. Returns the exit status.
+pub fn run_over_files<'a, R: Files + AllocGlobal, P: Port>(
+    system: &'a R,
+    args: io::Result<Args>,
+    port: &mut P,
+) -> u8
+where
+    R::File: Lock,
+    // Where the runtime gives no words, nothing is done.
+    ensures no_words { IsErr args → result ≡ NOT_GIVEN }
+    ensures untouched { IsErr args → port.new ≡ port.old }
+
+    // What was done, and the exit status, for each thing that the words may ask for.
+    ensures ends { IfOk args (λ given. (asked : Option Command) → Asks (words_after given) asked
+        → EndsOverFiles ⟦<FileSource<'a, R> as Source>⟧ P.Port ⟦<FileSlots<'a, R> as SlotDisk>⟧
+        (words_after given) asked port.old port.new result) }
+{
+    let Ok(_places) = take_places(system) else {
+        return NOT_GIVEN;
+    };
+    let Ok(args) = args else {
+        return NOT_GIVEN;
+    };
+    let Ok(words) = words_after_name(system.alloc(), args) else {
+        return NOT_GIVEN;
+    };
+    match run_words(system, words.as_slice(), port) {
+        Ok(status) => status.exit_status(),
+        Err(AllocError) => Status::NoMemory.exit_status(),
+    }
+}

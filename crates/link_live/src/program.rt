@@ -1,0 +1,74 @@
+//! The program over what it is handed: it reads its words, and runs the box that they ask for.
+ghost use Rattle.std.specs.Prelude.{◌≡◌, ◌↔◌, Option, Some, None, map};
+ghost use Rattle.std.specs.String.{string_bytes};
+ghost use Rattle.box_command.specs.ReplaysBox.{BoxDiskCause};
+ghost use Rattle.link_live.specs.LiveCommand.{around, PortCauses};
+ghost use Rattle.link_live.specs.Programs.{Does, KeepsDisk, Runs};
+ghost use Rattle.link_live.specs.Words.{Asks};
+ghost use Rattle.link_live.specs.declared.words.Command.{Command};
+
+use crate::boxes::{check, seal};
+use crate::fault_text::log_fault;
+use crate::words::{Command, read_words};
+use live_port::Port;
+use replay_status::Status;
+use yasir_io::{SlotDisk, Source};
+
+// What the words ask for; none where they fit no command.
+fn asked_by(words: &[String]) -> Option<Command>
+    ensures { Asks (map string_bytes words.now) result }
+{
+    match read_words(words) {
+        Ok(command) => Some(command),
+        Err(_) => None,
+    }
+}
+
+// What was asked for, but for the fault line.
+fn answer<K: Source, P: Port, D: SlotDisk>(
+    asked: Option<Command>,
+    key: &mut K,
+    port: &mut P,
+    disk: &mut D,
+) -> Status
+    ensures usage { (result ≡ Status.Usage) ↔ (asked ≡ None) }
+    ensures does { Does K.Source P.Port D.SlotDisk asked key.old key.new
+        (around port.old disk.old) (around port.new disk.new) result }
+    ensures any_moment { KeepsDisk D.SlotDisk asked disk.old disk.new }
+    ensures disk { BoxDiskCause (D.faults disk.old) (D.faults disk.new) result }
+    ensures port { PortCauses P.Port port.old port.new result }
+{
+    match asked {
+        Some(Command::Seal(of)) => seal(of, key, port, disk),
+        Some(Command::Check(of)) => check(of, key, port, disk),
+        None => Status::Usage,
+    }
+}
+
+/// The program: reads its words, those after the program's name, and runs the box that they ask for
+/// on a live line, whose input and outputs are the port. What the box makes of each line of text is
+/// written and flushed before the next read, the notes first. It takes no memory.
+pub fn run<K: Source, P: Port, D: SlotDisk>(
+    words: &[String],
+    key: &mut K,
+    port: &mut P,
+    disk: &mut D,
+) -> Status
+    // Usage comes exactly where the words ask for no command.
+    ensures usage { (result ≡ Status.Usage) ↔ Asks (map string_bytes words.now) None }
+
+    // What was read, written and kept, in one history of the port's calls, and the fault line
+    // behind it.
+    ensures runs { (asked : Option Command) → Asks (map string_bytes words.now) asked
+        → Runs K.Source P.Port D.SlotDisk asked key.old key.new (around port.old disk.old)
+        (around port.new disk.new) result }
+
+    // What a crash may leave of the disk, at any moment of the run or at its end.
+    ensures any_moment { (asked : Option Command) → Asks (map string_bytes words.now) asked
+        → KeepsDisk D.SlotDisk asked disk.old disk.new }
+{
+    let asked = asked_by(words);
+    let status = answer(asked, key, port, disk);
+    log_fault(port, &status);
+    status
+}

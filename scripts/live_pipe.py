@@ -1,0 +1,123 @@
+#!/usr/bin/env python3
+"""Runs both boxes of `link_live` behind one another on pipes, with a writer that waits for each answer before it goes on.
+
+    python3 scripts/live_pipe.py [PROGRAM] [BEFORE]
+
+A frame goes into `link_live seal`, tick by tick as a line has them, and no further tick is sent before the other line of all
+ticks so far has come: so a box that held anything back for its next read would stand still, and the run ends with a failure
+after 20 seconds. What `seal` wrote goes into `link_live check` in the same way. At the end each text must stand for the same
+ticks as the canonical text of `link_replay` over the same line, with the same notes and the same journal. It does so for
+both protocols, both profiles and both directions. It ends with 1 where anything differs. PROGRAM is
+crates/link_live/out/link_live and BEFORE crates/link_replay/out/link_replay where none is given.
+"""
+import os, select, subprocess, sys, tempfile, time
+
+ROOT = os.path.dirname(os.path.dirname(os.path.abspath(__file__)))
+KEY = b"000102030405060708090a0b0c0d0e0f\n"
+PATIENCE = 20
+# a request of Modbus RTU, and a frame of DNP3 of a header alone
+FRAMES = {"rtu": "01030000000ac5cd", "dnp3": "056405c901000004a657"}
+LINKS = {"rtu": "rtu", "rtu24": "rtu", "dnp3": "dnp3", "dnp24": "dnp3"}
+
+
+def ticks_of(text):
+    """The ticks of a tick text: a byte, or None for a silent tick."""
+    ticks = []
+    for line in text.decode().split("\n"):
+        if line.startswith("+"):
+            ticks += list(bytes.fromhex(line[1:]))
+        elif line.startswith("-"):
+            ticks += [None] * int(line[1:])
+    return ticks
+
+
+def lines_of(ticks):
+    """The lines of some ticks, one for each."""
+    return [b"-1\n" if tick is None else b"+%02x\n" % tick for tick in ticks]
+
+
+class Box:
+    """A run of `link_live`: a line goes in, and all that it decides is waited for."""
+
+    def __init__(self, program, words):
+        self.run = subprocess.Popen([program] + words, stdin=subprocess.PIPE, stdout=subprocess.PIPE, stderr=subprocess.PIPE)
+        self.text = b""
+        self.taken = 0
+
+    def come(self, count):
+        """Waits until so many ticks more have come; False where they don't."""
+        end = time.time() + PATIENCE
+        self.taken += count
+        while len(ticks_of(self.text)) < self.taken:
+            ready = select.select([self.run.stdout], [], [], max(0, end - time.time()))[0]
+            if not ready:
+                return False
+            got = os.read(self.run.stdout.fileno(), 65536)
+            if not got:
+                return False
+            self.text += got
+        return True
+
+    def pass_on(self, line, count):
+        self.run.stdin.write(line)
+        self.run.stdin.flush()
+        return self.come(count)
+
+    def end(self):
+        self.run.stdin.close()
+        rest = self.run.stdout.read()
+        notes = self.run.stderr.read()
+        return self.run.wait(), self.text + rest, notes
+
+
+def recorded(program, words, text):
+    run = subprocess.run([program] + words, input=text, capture_output=True)
+    return run.returncode, run.stdout, run.stderr
+
+
+def tried(live, replay, folder, word, direction, command, ticks):
+    """What differs between a live run and a recorded one; the ticks of the other line behind it."""
+    key = os.path.join(folder, "key")
+    open(key, "wb").write(KEY)
+    journals = [os.path.join(folder, "%s.%s.%s.%d" % (word, direction, command, n)) for n in (0, 1)]
+    for journal in journals:
+        subprocess.check_call([replay, "init", word, direction, journal])
+    box = Box(live, [command, word, direction, key, journals[0]])
+    stood = not all(box.pass_on(line, 1) for line in lines_of(ticks))
+    if stood:
+        box.run.kill()
+        return ["it stood still after %d of %d ticks" % (box.taken - 1, len(ticks))], []
+    status, text, notes = box.end()
+    right = recorded(replay, [command, word, direction, key, journals[1]], b"".join(lines_of(ticks)))
+    faults = []
+    if (status, notes) != (right[0], right[2]):
+        faults.append("status %d with notes %r, not %d with %r" % (status, notes, right[0], right[2]))
+    if ticks_of(text) != ticks_of(right[1]):
+        faults.append("the other line differs")
+    if open(journals[0], "rb").read() != open(journals[1], "rb").read():
+        faults.append("the journals differ")
+    return faults, ticks_of(text)
+
+
+def main():
+    live = sys.argv[1] if len(sys.argv) > 1 else os.path.join(ROOT, "crates", "link_live", "out", "link_live")
+    replay = sys.argv[2] if len(sys.argv) > 2 else os.path.join(ROOT, "crates", "link_replay", "out", "link_replay")
+    failed = 0
+    with tempfile.TemporaryDirectory() as folder:
+        for word, protocol in LINKS.items():
+            for direction in ("ab", "ba"):
+                frame = list(bytes.fromhex(FRAMES[protocol]))
+                ticks = (frame + [None] * 40) * 2
+                for command in ("seal", "check"):
+                    faults, ticks = tried(live, replay, folder, word, direction, command, ticks)
+                    for fault in faults:
+                        print("%s %s %s: %s" % (command, word, direction, fault))
+                    failed += len(faults)
+                    if faults:
+                        break
+    print("%d faults" % failed)
+    return 1 if failed else 0
+
+
+if __name__ == "__main__":
+    sys.exit(main())
