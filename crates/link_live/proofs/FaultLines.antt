@@ -1,5 +1,5 @@
 -- What a sink of one line keeps of a fault line.
-use Rattle.std.proofs.Common.{◌≡◌, ◌∙◌, ◌⊎◌, inl, inr, ℕ, ◌<◌, ◌≤◌, List, [], ◌++◌, length, take, Some}
+use Rattle.std.proofs.Common.{◌≡◌, ◌∙◌, inl, inr, ℕ, ◌<◌, ◌≤◌, List, [], ◌++◌, length, take, Some}
 use Rattle.std.proofs.Common.{sym, ap, arith, unwrap_or}
 use Rattle.std.proofs.lemmas.List.{take_all, take-append-le}
 use Rattle.replay_status.specs.Causes.{LogsFault, GotLine}

@@ -1,10 +1,10 @@
 -- From how a box was driven over a live line to what the status says of it.
-use Rattle.std.proofs.Common.{◌≡◌, ◌∙◌, ℕ, ◌≤◌, ◌⊎◌, inl, inr, List, [], ◌∷◌, ◌++◌, Option, Some, refl}
-use Rattle.std.proofs.Common.{sym, ap, subst, true, false}
+use Rattle.std.proofs.Common.{◌≡◌, ◌∙◌, ℕ, inl, inr, List, [], ◌∷◌, ◌++◌, Option, Some, refl}
+use Rattle.std.proofs.Common.{sym, ap, subst, true}
 use Rattle.yasir_io.specs.Causes.{Rose}
 use Rattle.yasir_io.specs.Disks.{Slots, OneImage, LeavesOnly}
 use Rattle.yasir_io.specs.declared.disk.SlotDisk.{Ghosts as SlotDisk}
-use Rattle.yasir_ticks.specs.Ticks.{Item, ticks_in}
+use Rattle.yasir_ticks.specs.Ticks.{ticks_in}
 use Rattle.yasir_ticks.specs.Ticks.Item.{tick}
 use Rattle.yasir_ticks.specs.declared.tick.Tick.{Tick}
 use Rattle.hmac_tag.specs.declared.dir.Dir.{Dir}
@@ -28,16 +28,13 @@ use Rattle.tick_drive.specs.declared.end.End.TheVariants.{Whole, Refused, TooLon
 use Rattle.tick_drive.specs.declared.end.End.TheVariants.{Stopped}
 use Rattle.tick_drive.proofs.ItemLaws.{ticks_in-append}
 use Rattle.replay_status.specs.Endings.{status_of}
-use Rattle.replay_status.specs.declared.status.Status.{Status}
-use Rattle.replay_status.specs.declared.status.Status.TheVariants.{WriteFault}
-use Rattle.box_command.specs.Boxes.{Boxed, IsBoxed, FailsBox}
+use Rattle.box_command.specs.Boxes.{Boxed, IsBoxed}
 use Rattle.box_command.specs.BoxLines.{ToldFloor}
 use Rattle.box_command.specs.LinkBoxed.{boxed_of}
 use Rattle.box_command.specs.ReplaysBox.{boxed_with, KeepsFloor, LeavesUptime, KeepsFloorThroughout}
 use Rattle.box_command.proofs.Floors.{told_before, keeps_floor, keeps_from_load, keeps_throughout}
 use Rattle.box_command.proofs.Walking.{walk-boxed}
 use Rattle.live_port.specs.History.{Event}
-use Rattle.live_port.specs.Order.{Handed, HandedFronts}
 use Rattle.live_port.specs.declared.port.Port.{Ghosts as Port}
 use Rattle.live_filter.specs.Filtering.{LiveOrigin, Filters}
 use Rattle.live_filter.specs.LiveLine.{Live, LiveGoes, HeardAt, HaltsAt, Drives}
