@@ -21,12 +21,11 @@ use Rattle.std.specs.Prelude.{Option, Some}
 use mir.Raw.{raw as bare}
 use base.Logic.{never, fst∗}
 use types.Logic.{sem}
-use types.Kit.{fsplit3}
+use types.Kit.{fsplit3, fpick}
 use denote.Steps.{heard}
 use denote.Memory.{lone}
 use denote.RawPtr.{null_ptr, in_a_block}
 use Rattle.core.proofs.alloc.Calls.{handle_tells}
-use Rattle.libc.specs.Heap.{chunk}
 use Rattle.std.specs.Box.Ownership.{box_owns}
 use Rattle.yasir_c.specs.Owning.{handle_owns}
 use Rattle.any_box.specs.declared.held_box.HeldBox.{HeldBox}
@@ -54,7 +53,7 @@ into_loose_spec 𝓤 𝓛 𝓜 𝓡 wired =
     qed 𝓛 ((raw (alive 𝓛 En.signature z.0.0 z.0.1) ⊛ ‵ (owns (types_at En.signature.params z.0.0) z.0.3 z.0.4)) ∷ raw (fact 𝓤 Has) ∷ []) ∵
     move ! (1 ∷ []) $ heard ! Has (λ has. split ! $ move ! (1 ∷ []) $ fsplit3 ! $ handle_out ! d z.0.4.0 (λ ws.
     rewrite ! 0 (λ (o : Option HeldBox). ‵ (handle_owns d.at o)) has.1 refl $
-    in_a_block ! d.at (λ p. box_owns (λ τ q. chunk τ q) R p has.0) (fst∗ 𝓤 (never 𝓤) (sem 𝓛 (chunk (bare (lone R.mir)) null_ptr))) (λ b o e.
+    fpick ! (λ freed. in_a_block ! d.at (λ p. box_owns (ghosts.dealloc_token freed) R p has.0) (fst∗ 𝓤 (never 𝓤) (sem 𝓛 (ghosts.dealloc_token freed (bare (lone R.mir)) null_ptr))) (λ b o e.
     move ! (1 ∷ []) $ handle_tells (al R Z LZ ghosts) ! a z.0.4.1.0 (λ h eh fits.
     let w : Val = word (block_ptr b o) in let ws' : z.0.4.0 ≡ w ∷ [] = subst (λ (p : Ptr). z.0.4.0 ≡ word p ∷ []) e ws in
     suffices ! (Run (w ∷ h ∷ [])) (subst (λ (us : List Val). ent 𝓤 (Run (w ∷ h ∷ [])) (Run us)) (sym (λ i. ws' i ++ (eh i ++ []))) (id⊢ 𝓤 (Run (w ∷ h ∷ [])))) $
@@ -66,4 +65,4 @@ into_loose_spec 𝓤 𝓛 𝓜 𝓡 wired =
     move ! (1 ∷ 0 ∷ []) $ loose_in R Z LZ ghosts ! b o h a has.0 $
     use0 𝓛 (raw (fact 𝓤 (d.value ≡ Some has.0))) (fact_i 𝓤 (d.value ≡ Some has.0) (emp 𝓤) has.1) $
     nothing ! $ nothing ! $ fjoin ! $ nothing ! $ fjoin ! $ keep ! (4 ∷ 0 ∷ 2 ∷ 1 ∷ []) $
-    by ! (leaves 𝓛 En hs c z (both (vptr b o) h) (record { at = block_ptr b o; alloc = a; value = has.0 }) (_, (_, tt)) (tt, (tt, tt)))))))))
+    by ! (leaves 𝓛 En hs c z (both (vptr b o) h) (record { at = block_ptr b o; alloc = a; value = has.0 }) (_, (_, tt)) (tt, (tt, tt))))))))))
