@@ -1,25 +1,18 @@
 //! What a device is: it hears ticks, and reads frames of them.
-use arrayvec::ArrayVec;
 use yasir_ticks::Tick;
 
-/// A frame that a device reads.
-#[derive(Drop)]
-pub struct FrameAt {
-    /// The tick of the frame's first byte.
-    pub start: u64,
-    pub bytes: ArrayVec<u8, 292>,
-}
-
 /// What a device heard of some ticks.
-#[derive(Drop)]
-pub struct Heard {
+#[derive(Clone, Copy, Debug, PartialEq, Eq)]
+pub struct Met {
     /// How many of the ticks it has taken.
     pub taken: usize,
-    /// The frame that was read in the last tick taken; with none it has taken all.
-    pub frame: Option<FrameAt>,
+    /// The tick of the first byte of the frame that was read in the last tick taken; with none the
+    /// device has taken all.
+    pub start: Option<u64>,
 }
 
-/// A device that listens to a line and reads frames of it.
+/// A device that listens to a line and reads frames of it. It lends the bytes of a frame that it has
+/// read, up to the next call that takes ticks.
 pub trait Device {
     ghost use Rattle.std.specs.Prelude.{◌≡◌, ℕ, ◌+◌, ◌<◌, ◌≤◌, List, [], ◌∷◌, ◌++◌, length, map};
     ghost use Rattle.std.specs.Prelude.{take, None};
@@ -27,7 +20,7 @@ pub trait Device {
     ghost use Rattle.yasir_ticks.specs.declared.tick.Tick.{Tick};
     ghost use Rattle.yasir_ticks.specs.declared.tick.Tick.TheVariants.{Byte};
     ghost use Rattle.yasir_ticks.specs.declared.TheConstants.{MAX_TICKS};
-    ghost use Rattle.device_model.specs.Frames.{FrameRead, frames_of};
+    ghost use Rattle.device_model.specs.Frames.{FrameRead, frames_lent};
 
     // What such a device reads of a line.
     ghost reads: { List Tick → List FrameRead };
@@ -38,76 +31,88 @@ pub trait Device {
     // How many ticks it has taken.
     ghost taken: { Self → ℕ };
 
+    // The bytes that it lends. They are those of a frame where the last call that took ticks says
+    // so.
+    ghost lent: { Self → List ℕ };
+
     /// A device that has heard nothing.
     fn fresh() -> Self
         ensures taken { taken result ≡ 0 }
         ensures stands { stands result [] }
         ensures nothing { reads [] ≡ [] };
 
-    /// Takes the next tick of the line. Returns the frame that is read in this very tick, and
-    /// `None` where none is.
-    fn step(&mut self, t: Tick) -> Option<FrameAt>
+    /// The bytes of the frame that was read in the last tick taken.
+    fn frame_bytes(&self) -> &[u8]
+        ensures bytes { result.now ≡ lent self.now }
+        ensures few { length result.now ≤ 292 };
+
+    /// Takes the next tick of the line. Returns the tick of the first byte of the frame that is
+    /// read in this very tick, whose bytes are lent then, and `None` where none is.
+    fn step_on(&mut self, t: Tick) -> Option<u64>
         requires { taken self.old < MAX_TICKS }
         ensures taken { taken self.new ≡ taken self.old + 1 }
         ensures stands { (line : List Tick) → stands self.old line
             → stands self.new (line ++ t ∷ []) }
         ensures answer { (line : List Tick) → stands self.old line
-            → reads (line ++ t ∷ []) ≡ reads line ++ frames_of result };
+            → reads (line ++ t ∷ []) ≡ reads line ++ frames_lent result (lent self.new) };
 
     /// Takes the next ticks, which have these bytes, up to the first one in which a frame is read.
-    fn hear_some(&mut self, bytes: &[u8]) -> Heard
+    fn hear_on(&mut self, bytes: &[u8]) -> Met
         requires { taken self.old + length bytes.now ≤ MAX_TICKS }
         ensures some { 0 < length bytes.now → 0 < result.taken }
         ensures within { result.taken ≤ length bytes.now }
-        ensures whole { result.frame ≡ None → result.taken ≡ length bytes.now }
+        ensures whole { result.start ≡ None → result.taken ≡ length bytes.now }
         ensures taken { taken self.new ≡ taken self.old + result.taken }
         ensures stands { (line : List Tick) → stands self.old line
             → stands self.new (line ++ map Byte (take result.taken bytes.now)) }
         ensures answer { (line : List Tick) → stands self.old line
             → reads (line ++ map Byte (take result.taken bytes.now))
-            ≡ reads line ++ frames_of result.frame }
-        ensures before { (n : ℕ) → n < result.taken → (line : List Tick) → stands self.old line
+            ≡ reads line ++ frames_lent result.start (lent self.new) }
+        ensures before { (n : ℕ) → n < result.taken → (line : List Tick)
+            → stands self.old line
             → reads (line ++ map Byte (take n bytes.now)) ≡ reads line }
     {
         for (at, byte) in bytes.iter().enumerate() {
-            if let Some(frame) = self.step(Tick::Byte(*byte)) {
-                return Heard {
+            if let Some(start) = self.step_on(Tick::Byte(*byte)) {
+                return Met {
                     taken: at + 1,
-                    frame: Some(frame),
+                    start: Some(start),
                 };
             }
         }
-        Heard {
+        Met {
             taken: bytes.len(),
-            frame: None,
+            start: None,
         }
     }
 
     /// Takes this many silent ticks, up to the first one in which a frame is read.
-    fn wait_some(&mut self, ticks: usize) -> Heard
+    fn wait_on(&mut self, ticks: usize) -> Met
         requires { taken self.old + ticks ≤ MAX_TICKS }
         ensures some { 0 < ticks → 0 < result.taken }
         ensures within { result.taken ≤ ticks }
-        ensures whole { result.frame ≡ None → result.taken ≡ ticks }
+        ensures whole { result.start ≡ None → result.taken ≡ ticks }
         ensures taken { taken self.new ≡ taken self.old + result.taken }
         ensures stands { (line : List Tick) → stands self.old line
             → stands self.new (line ++ silent result.taken) }
         ensures answer { (line : List Tick) → stands self.old line
-            → reads (line ++ silent result.taken) ≡ reads line ++ frames_of result.frame }
-        ensures before { (n : ℕ) → n < result.taken → (line : List Tick) → stands self.old line
+            → reads (line ++ silent result.taken)
+            ≡ reads line ++ frames_lent result.start (lent self.new) }
+        ensures before { (n : ℕ) → n < result.taken → (line : List Tick)
+            → stands self.old line
             → reads (line ++ silent n) ≡ reads line }
     {
         for at in 0..ticks {
-            if let Some(frame) = self.step(Tick::Silent) {
-                return Heard {
+            if let Some(start) = self.step_on(Tick::Silent) {
+                return Met {
                     taken: at + 1,
-                    frame: Some(frame),
+                    start: Some(start),
                 };
             }
         }
-        Heard {
+        Met {
             taken: ticks,
-            frame: None,
+            start: None,
         }
     }
 }

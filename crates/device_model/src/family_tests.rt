@@ -5,7 +5,7 @@ ghost use Rattle.device_model.specs.HuntFamily.{family_ticks};
 
 use super::*;
 use crate::tests::Part::{Bytes, Silence};
-use crate::tests::{DAMAGED, LONGEST_HEADER, Part, QUERY, RESET_LINK, line_of};
+use crate::tests::{DAMAGED, FrameAt, LONGEST_HEADER, Part, QUERY, RESET_LINK, frame_at, line_of};
 use std::alloc::{AllocError, Global};
 use std::test::Fail;
 use yasir_ticks::Tick;
@@ -25,8 +25,8 @@ fn rtu_readings(
 {
     let mut read = Vec::new(alloc);
     for (at, tick) in line.iter().enumerate() {
-        if let Some(frame) = device.step(*tick) {
-            read.push((at, frame))?;
+        if let Some(start) = device.step_on(*tick) {
+            read.push((at, frame_at(start, device.frame_bytes())))?;
         }
     }
     Ok(read)
@@ -42,8 +42,8 @@ fn dnp_readings(
 {
     let mut read = Vec::new(alloc);
     for (at, tick) in line.iter().enumerate() {
-        if let Some(frame) = device.step(*tick) {
-            read.push((at, frame))?;
+        if let Some(start) = device.step_on(*tick) {
+            read.push((at, frame_at(start, device.frame_bytes())))?;
         }
     }
     Ok(read)

@@ -1,9 +1,8 @@
 //! A device that hunts for frames among all bytes, and ignores silence.
 ghost use Rattle.std.specs.Prelude.{◌≡◌, ℕ, ◌<◌, ◌≤◌, length, slice_index};
 
-use crate::device::{Device, FrameAt, Heard};
+use crate::device::{Device, Met};
 use crate::hunted::Hunted;
-use crate::lending::{LendingDevice, Met, frame_copied, heard_copied};
 use arrayvec::ArrayVec;
 use line_rules::Head;
 use memchr::memchr;
@@ -61,7 +60,7 @@ fn bytes_before(byte: u8, bytes: &[u8]) -> usize
 
 impl<R: Hunted> HuntingDevice<R> {
     ghost use Rattle.std.specs.Prelude.{◌+◌, false, List, [], ◌∷◌, ◌++◌};
-    ghost use Rattle.device_model.specs.Frames.{frames_of, frames_lent};
+    ghost use Rattle.device_model.specs.Frames.{frames_lent};
     ghost use Rattle.device_model.specs.Hunt.{Timed};
     ghost use Rattle.std.specs.Prelude.{true, take};
     ghost use Rattle.device_model.specs.HuntingDevice.{TakesByte, TakesRun, MeetsEnd, next_by};
@@ -296,13 +295,15 @@ impl<R: Hunted> HuntingDevice<R> {
 
 impl<R: Hunted> Device for HuntingDevice<R> {
     ghost use Rattle.device_model.specs.Hunt.{hunt_line};
-    ghost use Rattle.device_model.specs.HuntingDevice.{HuntStandsFor};
+    ghost use Rattle.device_model.specs.HuntingDevice.{HuntStandsFor, frame_kept};
 
     ghost reads = { hunt_line R.FIRST R.SECOND R.rules };
 
     ghost stands = { HuntStandsFor R.LineRules R.FIRST R.SECOND };
 
     ghost taken = { λ d. d.ticks };
+
+    ghost lent = { frame_kept };
 
     fn fresh() -> Self {
         HuntingDevice {
@@ -313,31 +314,6 @@ impl<R: Hunted> Device for HuntingDevice<R> {
             frame: ArrayVec::new(),
         }
     }
-
-    #[inline]
-    fn step(&mut self, t: Tick) -> Option<FrameAt> {
-        let start = self.step_on(t);
-        frame_copied(start, self.frame_bytes())
-    }
-
-    #[inline(always)]
-    fn hear_some(&mut self, bytes: &[u8]) -> Heard {
-        let met = self.hear_on(bytes);
-        heard_copied(met, self.frame_bytes())
-    }
-
-    // Silence is nothing, however long.
-    #[inline]
-    fn wait_some(&mut self, ticks: usize) -> Heard {
-        let met = self.wait_on(ticks);
-        heard_copied(met, self.frame_bytes())
-    }
-}
-
-impl<R: Hunted> LendingDevice for HuntingDevice<R> {
-    ghost use Rattle.device_model.specs.HuntingDevice.{frame_kept};
-
-    ghost lent = { frame_kept };
 
     #[inline]
     fn frame_bytes(&self) -> &[u8] {

@@ -1,8 +1,7 @@
 //! A device that hunts for frames, and starts anew after a stated number of silent ticks.
-use crate::device::{Device, FrameAt};
+use crate::device::Device;
 use crate::hunted::Hunted;
 use crate::hunting::HuntingDevice;
-use crate::lending::{LendingDevice, frame_copied};
 use crate::silence::Silence;
 use yasir_ticks::{MAX_TICKS, Tick};
 
@@ -18,7 +17,7 @@ impl<R: Hunted> HuntingFamily<R> {
     ghost use Rattle.std.specs.Prelude.{◌≡◌, ℕ, ◌+◌, ◌<◌, ◌≤◌, ◌⊎◌, List, [], ◌∷◌, ◌++◌, length};
     ghost use Rattle.yasir_ticks.specs.declared.tick.Tick.{Tick};
     ghost use Rattle.yasir_ticks.specs.declared.tick.Tick.TheVariants.{Silent, Byte};
-    ghost use Rattle.device_model.specs.Frames.{frames_of, frames_lent};
+    ghost use Rattle.device_model.specs.Frames.{frames_lent};
     ghost use Rattle.device_model.specs.HuntFamily.{hunt_family, FamilyStandsFor, family_ticks};
     ghost use Rattle.device_model.specs.HuntFamily.{family_lent};
 
@@ -106,22 +105,5 @@ impl<R: Hunted> HuntingFamily<R> {
                 None
             }
         }
-    }
-
-    /// Takes the next tick, and returns a copy of the frame that is read in this step, if one is.
-    #[inline]
-    pub fn step(&mut self, t: Tick) -> Option<FrameAt>
-        requires { family_ticks self.old < MAX_TICKS }
-        ensures taken { family_ticks self.new ≡ family_ticks self.old + 1 }
-        ensures stands { (cut : ℕ) (line : List Tick)
-            → FamilyStandsFor R.LineRules R.FIRST R.SECOND cut self.old line
-            → FamilyStandsFor R.LineRules R.FIRST R.SECOND cut self.new (line ++ t ∷ []) }
-        ensures answer { (cut : ℕ) (line : List Tick)
-            → FamilyStandsFor R.LineRules R.FIRST R.SECOND cut self.old line
-            → hunt_family R.FIRST R.SECOND R.rules cut (line ++ t ∷ [])
-            ≡ hunt_family R.FIRST R.SECOND R.rules cut line ++ frames_of result }
-    {
-        let start = self.step_on(t);
-        frame_copied(start, self.frame_bytes())
     }
 }

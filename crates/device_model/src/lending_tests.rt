@@ -14,13 +14,7 @@ fn met(taken: usize, start: Option<u64>) -> Met {
     Met { taken, start }
 }
 
-fn waits<D: LendingDevice + Drop>(
-    rt: &impl Abort,
-    bytes: &[u8],
-    heard: Met,
-    waited: Met,
-    frame: &[u8],
-)
+fn waits<D: Device + Drop>(rt: &impl Abort, bytes: &[u8], heard: Met, waited: Met, frame: &[u8])
     requires { 2 + length bytes.now ≤ 100 }
 {
     let mut device = D::fresh();

@@ -1,11 +1,11 @@
 //! The devices that stand at the end of a serial line.
 //!
-//! A device takes a line tick by tick, and returns a frame in the step in which it reads it:
+//! A device takes a line tick by tick, and lends a frame in the step in which it reads it:
 //!
 //!     let mut device = RtuDevice::fresh();
 //!     for tick in &line {
-//!         if let Some(frame) = device.step(*tick) {
-//!             print(frame.start, &frame.bytes);
+//!         if let Some(start) = device.step_on(*tick) {
+//!             print(start, device.frame_bytes());
 //!         }
 //!     }
 #![tactic(auto)]
@@ -16,22 +16,20 @@ mod hunted;
 mod hunting;
 mod hunting_family;
 mod laws;
-mod lending;
 mod rtu;
 mod rtu_family;
 mod run;
 mod silence;
 
-pub use device::{Device, FrameAt, Heard};
+pub use device::{Device, Met};
 pub use dnp::{DnpDevice, DnpFamily};
 pub use hunted::Hunted;
 pub use hunting::HuntingDevice;
 pub use hunting_family::HuntingFamily;
 pub use laws::{forwarded_frames_are_read, hunts_by_cases, stated_devices_are_members};
-pub use lending::{LendingDevice, Met};
 pub use rtu::RtuDevice;
 pub use rtu_family::RtuFamily;
-pub use run::{hear_run, hear_run_on};
+pub use run::hear_run_on;
 
 #[cfg(test)]
 mod family_tests;

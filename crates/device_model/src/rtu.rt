@@ -1,6 +1,5 @@
 //! The Modbus RTU device of the standard.
-use crate::device::{Device, FrameAt, Heard};
-use crate::lending::{LendingDevice, Met, heard_copied};
+use crate::device::{Device, Met};
 use crate::rtu_family::RtuFamily;
 use yasir_ticks::{T1_5_TICKS, T3_5_TICKS, Tick};
 
@@ -13,7 +12,7 @@ pub struct RtuDevice {
 
 impl Device for RtuDevice {
     ghost use Rattle.device_model.specs.RtuReads.{rtu_reads};
-    ghost use Rattle.device_model.specs.RtuFamily.{RtuFamilyStandsFor, ticks_heard};
+    ghost use Rattle.device_model.specs.RtuFamily.{RtuFamilyStandsFor, bytes_lent, ticks_heard};
 
     ghost reads = { rtu_reads };
 
@@ -21,37 +20,13 @@ impl Device for RtuDevice {
 
     ghost taken = { λ d. ticks_heard d.family };
 
+    ghost lent = { λ d. bytes_lent d.family };
+
     fn fresh() -> Self {
         RtuDevice {
             family: RtuFamily::new(T3_5_TICKS, T1_5_TICKS - 1),
         }
     }
-
-    #[inline]
-    fn step(&mut self, t: Tick) -> Option<FrameAt> {
-        self.family.step(t)
-    }
-
-    #[inline]
-    fn hear_some(&mut self, bytes: &[u8]) -> Heard {
-        self.family.hear_some(bytes);
-        Heard {
-            taken: bytes.len(),
-            frame: None,
-        }
-    }
-
-    #[inline]
-    fn wait_some(&mut self, ticks: usize) -> Heard {
-        let met = self.family.wait_on(ticks);
-        heard_copied(met, self.family.frame_bytes())
-    }
-}
-
-impl LendingDevice for RtuDevice {
-    ghost use Rattle.device_model.specs.RtuFamily.{bytes_lent};
-
-    ghost lent = { λ d. bytes_lent d.family };
 
     #[inline]
     fn frame_bytes(&self) -> &[u8] {

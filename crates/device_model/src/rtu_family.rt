@@ -1,6 +1,5 @@
 //! Modbus RTU devices with other silences than the standard's.
-use crate::device::FrameAt;
-use crate::lending::{Met, frame_copied};
+use crate::device::Met;
 use crate::silence::Silence;
 use arrayvec::ArrayVec;
 use rtu_frame::is_frame;
@@ -32,7 +31,7 @@ impl RtuFamily {
     ghost use Rattle.yasir_ticks.specs.Ticks.{silent};
     ghost use Rattle.yasir_ticks.specs.declared.tick.Tick.{Tick};
     ghost use Rattle.yasir_ticks.specs.declared.tick.Tick.TheVariants.{Silent, Byte};
-    ghost use Rattle.device_model.specs.Frames.{frames_of, frames_lent};
+    ghost use Rattle.device_model.specs.Frames.{frames_lent};
     ghost use Rattle.device_model.specs.RtuFamily.{RtuFamilyStandsFor, rtu_family_reads};
     ghost use Rattle.device_model.specs.RtuFamily.{ticks_heard, bytes_lent, frame_at_end};
 
@@ -355,22 +354,5 @@ impl RtuFamily {
             }
             Tick::Silent => self.wait(),
         }
-    }
-
-    /// Takes the next tick, and returns a copy of the frame that is read in this step, if one is.
-    #[inline]
-    pub fn step(&mut self, t: Tick) -> Option<FrameAt>
-        requires { ticks_heard self.old < MAX_TICKS }
-        ensures taken { ticks_heard self.new ≡ ticks_heard self.old + 1 }
-        ensures stands { (cut gap : ℕ) (line : List Tick)
-            → RtuFamilyStandsFor cut gap self.old line
-            → RtuFamilyStandsFor cut gap self.new (line ++ t ∷ []) }
-        ensures answer { (cut gap : ℕ) (line : List Tick)
-            → RtuFamilyStandsFor cut gap self.old line
-            → rtu_family_reads cut gap (line ++ t ∷ [])
-            ≡ rtu_family_reads cut gap line ++ frames_of result }
-    {
-        let start = self.step_on(t);
-        frame_copied(start, self.frame_bytes())
     }
 }

@@ -3,38 +3,15 @@ ghost use Rattle.std.specs.Prelude.{◌≡◌, ℕ, ◌+◌, ◌<◌, ◌≤◌,
 ghost use Rattle.yasir_ticks.specs.TickRun.{run_ticks};
 ghost use Rattle.yasir_ticks.specs.declared.tick.Tick.{Tick};
 ghost use Rattle.yasir_ticks.specs.declared.TheConstants.{MAX_TICKS};
-ghost use Rattle.device_model.specs.Frames.{frames_of, frames_lent};
+ghost use Rattle.device_model.specs.Frames.{frames_lent};
 
-use crate::{Device, Heard, LendingDevice, Met};
+use crate::{Device, Met};
 use yasir_ticks::TickRun;
 
 /// A device takes the next ticks, which are those of this run, up to the first one in which a frame
 /// is read.
 #[inline(always)]
-pub fn hear_run<V: Device>(device: &mut V, run: TickRun<'_>) -> Heard
-    requires { V.taken device.old + length (run_ticks run) ≤ MAX_TICKS }
-    ensures some { 0 < length (run_ticks run.entry) → 0 < result.taken }
-    ensures within { result.taken ≤ length (run_ticks run.entry) }
-    ensures whole { result.frame ≡ None → result.taken ≡ length (run_ticks run.entry) }
-    ensures taken { V.taken device.new ≡ V.taken device.old + result.taken }
-    ensures stands { (line : List Tick) → V.stands device.old line
-        → V.stands device.new (line ++ take result.taken (run_ticks run.entry)) }
-    ensures answer { (line : List Tick) → V.stands device.old line
-        → V.reads (line ++ take result.taken (run_ticks run.entry))
-        ≡ V.reads line ++ frames_of result.frame }
-    ensures before { (n : ℕ) → n < result.taken → (line : List Tick) → V.stands device.old line
-        → V.reads (line ++ take n (run_ticks run.entry)) ≡ V.reads line }
-{
-    match run {
-        TickRun::Bytes(bytes) => device.hear_some(bytes),
-        TickRun::Silence(ticks) => device.wait_some(ticks as usize),
-    }
-}
-
-/// A device that lends its frames takes the next ticks, which are those of this run, up to the
-/// first one in which a frame is read.
-#[inline(always)]
-pub fn hear_run_on<V: LendingDevice>(device: &mut V, run: TickRun<'_>) -> Met
+pub fn hear_run_on<V: Device>(device: &mut V, run: TickRun<'_>) -> Met
     requires { V.taken device.old + length (run_ticks run) ≤ MAX_TICKS }
     ensures some { 0 < length (run_ticks run.entry) → 0 < result.taken }
     ensures within { result.taken ≤ length (run_ticks run.entry) }

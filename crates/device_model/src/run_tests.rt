@@ -2,6 +2,7 @@
 ghost use Rattle.std.specs.Prelude.{◌+◌, ◌<◌, ◌≤◌, length};
 
 use super::*;
+use crate::tests::{Heard, copied};
 use dnp_link_frame::{DnpBytes, Header, UserBytes, build};
 use rtu_frame::{RtuBytes, close};
 use std::test::Fail;
@@ -32,11 +33,9 @@ fn by_ticks<D: Device + Drop>(first: &[u8], pause: usize, second: &[u8], rest: u
             Tick::Silent
         };
         taken = at + 1;
-        if let Some(frame) = device.step(tick) {
-            return Heard {
-                taken,
-                frame: Some(frame),
-            };
+        let start = device.step_on(tick);
+        if start.is_some() {
+            return copied(&device, Met { taken, start });
         }
     }
     Heard { taken, frame: None }
@@ -47,29 +46,27 @@ fn by_runs<D: Device + Drop>(first: &[u8], pause: usize, second: &[u8], rest: us
     requires { length first.now + pause + length second.now + rest < 1000 }
 {
     let mut device = D::fresh();
-    let Heard { taken: a, frame } = device.hear_some(first);
-    if frame.is_some() {
-        return Heard { taken: a, frame };
+    let met = device.hear_on(first);
+    if met.start.is_some() {
+        return copied(&device, met);
     }
-    let Heard { taken: b, frame } = device.wait_some(pause);
-    if frame.is_some() {
-        return Heard {
-            taken: a + b,
-            frame,
-        };
+    let mut taken = met.taken;
+    let met = device.wait_on(pause);
+    taken += met.taken;
+    let start = met.start;
+    if start.is_some() {
+        return copied(&device, Met { taken, start });
     }
-    let Heard { taken: c, frame } = device.hear_some(second);
-    if frame.is_some() {
-        return Heard {
-            taken: a + b + c,
-            frame,
-        };
+    let met = device.hear_on(second);
+    taken += met.taken;
+    let start = met.start;
+    if start.is_some() {
+        return copied(&device, Met { taken, start });
     }
-    let Heard { taken: d, frame } = device.wait_some(rest);
-    Heard {
-        taken: a + b + c + d,
-        frame,
-    }
+    let met = device.wait_on(rest);
+    taken += met.taken;
+    let start = met.start;
+    copied(&device, Met { taken, start })
 }
 
 fn same<D: Device + Drop>(first: &[u8], pause: usize, second: &[u8], rest: usize) -> bool

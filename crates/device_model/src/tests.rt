@@ -1,7 +1,8 @@
 //! Tests of the stated devices: which frames each of them reads of a line, and when.
-ghost use Rattle.std.specs.Prelude.{◌<◌, length};
+ghost use Rattle.std.specs.Prelude.{◌≡◌, ◌<◌, ◌≤◌, length};
 
 use super::*;
+use arrayvec::ArrayVec;
 use dnp_link_frame::Dnp;
 use std::alloc::{AllocError, Global};
 use std::test::Fail;
@@ -40,6 +41,41 @@ pub fn line_of(alloc: Global, parts: &[Part]) -> Result<Vec<Tick>, AllocError> {
     Ok(line)
 }
 
+// A copy of a frame that a device has lent, and the tick of its first byte.
+#[derive(Drop)]
+pub struct FrameAt {
+    pub start: u64,
+    pub bytes: ArrayVec<u8, 292>,
+}
+
+pub fn frame_at(start: u64, lent: &[u8]) -> FrameAt
+    requires { length lent.now ≤ 292 }
+{
+    let mut bytes = ArrayVec::new();
+    bytes.try_extend_from_slice(lent).unwrap();
+    FrameAt { start, bytes }
+}
+
+// What a device heard of some ticks, with a copy of the frame.
+#[derive(Drop)]
+pub struct Heard {
+    pub taken: usize,
+    pub frame: Option<FrameAt>,
+}
+
+pub fn copied<D: Device>(device: &D, met: Met) -> Heard
+    ensures { result.taken ≡ met.taken }
+{
+    let frame = match met.start {
+        Some(start) => Some(frame_at(start, device.frame_bytes())),
+        None => None,
+    };
+    Heard {
+        taken: met.taken,
+        frame,
+    }
+}
+
 // The frames that are read of a line, each with the tick in whose step it is read.
 fn readings<D: Device + Drop>(
     alloc: Global,
@@ -50,8 +86,8 @@ fn readings<D: Device + Drop>(
     let mut device = D::fresh();
     let mut read = Vec::new(alloc);
     for (at, tick) in line.iter().enumerate() {
-        if let Some(frame) = device.step(*tick) {
-            read.push((at, frame))?;
+        if let Some(start) = device.step_on(*tick) {
+            read.push((at, frame_at(start, device.frame_bytes())))?;
         }
     }
     Ok(read)
@@ -168,11 +204,12 @@ fn runs<D: Device + Drop>(frame: &[u8]) -> [Heard; 3]
     requires { length frame.now < 1000 }
 {
     let mut device = D::fresh();
-    [
-        device.wait_some(3),
-        device.hear_some(frame),
-        device.wait_some(6),
-    ]
+    let met = device.wait_on(3);
+    let before = copied(&device, met);
+    let met = device.hear_on(frame);
+    let query = copied(&device, met);
+    let met = device.wait_on(6);
+    [before, query, copied(&device, met)]
 }
 
 #[test]

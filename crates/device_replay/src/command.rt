@@ -9,7 +9,7 @@ ghost use Rattle.replay_status.specs.Causes.{InputCause, SinkCause};
 ghost use Rattle.replay_status.specs.Flushes.{FlushesAtEnd};
 
 use crate::frame_lines::FrameLines;
-use device_model::LendingDevice;
+use device_model::Device;
 use replay_status::{Status, flush_both, status_of};
 use tick_drive::{End, drive_to_rest};
 use yasir_io::{Failed, Sink, Source, TextBuffer};
@@ -18,7 +18,7 @@ use yasir_io::{Failed, Sink, Source, TextBuffer};
 const REST: u32 = 4;
 
 // Drives the input into the device. The lines of its frames are on their way to `out`.
-fn drive_frames<V: LendingDevice, S: Source, O: Sink>(
+fn drive_frames<V: Device, S: Source, O: Sink>(
     device: &mut V,
     lines: &mut TextBuffer,
     input: &mut S,
@@ -39,7 +39,7 @@ fn drive_frames<V: LendingDevice, S: Source, O: Sink>(
 }
 
 /// Prints a line for each frame that a device reads from the input.
-pub fn read_frames<V: LendingDevice + Drop, S: Source, O: Sink, L: Sink>(
+pub fn read_frames<V: Device + Drop, S: Source, O: Sink, L: Sink>(
     input: &mut S,
     out: &mut O,
     log: &mut L,

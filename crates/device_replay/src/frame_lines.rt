@@ -10,7 +10,7 @@ ghost use Rattle.device_replay.specs.Lines.{frame_line};
 ghost use Rattle.device_replay.specs.FrameLines.{printing};
 
 use crate::text::write_read_line;
-use device_model::{LendingDevice, Met, hear_run_on};
+use device_model::{Device, Met, hear_run_on};
 use replay_status::Line;
 use tick_drive::{Consumer, Stop};
 use yasir_io::{Failed, Sink, TextBuffer};
@@ -63,7 +63,7 @@ impl<'a, V, O> FrameLines<'a, V, O> {
     }
 }
 
-impl<'a, V: LendingDevice, O: Sink> FrameLines<'a, V, O> {
+impl<'a, V: Device, O: Sink> FrameLines<'a, V, O> {
     // Hears a run up to a tick in which a frame is read, and adds its line. Says how many ticks.
     #[inline(always)]
     fn print_some(&mut self, run: TickRun<'_>) -> Result<usize, Stop>
@@ -106,7 +106,7 @@ impl<'a, V: LendingDevice, O: Sink> FrameLines<'a, V, O> {
     }
 }
 
-impl<'a, V: LendingDevice, O: Sink> Consumer for FrameLines<'a, V, O> {
+impl<'a, V: Device, O: Sink> Consumer for FrameLines<'a, V, O> {
     ghost use Rattle.device_replay.specs.FrameLinesLaws.{holds-none, holds-then};
 
     ghost meaning = { printing V.Device O.Sink };

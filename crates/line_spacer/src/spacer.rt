@@ -2,7 +2,7 @@
 use arrayvec::ArrayVec;
 use burst_walk::RunBytes;
 use circular_buffer::HeapCircularBuffer;
-use device_model::{LendingDevice, Met, hear_run_on};
+use device_model::{Device, Met, hear_run_on};
 use std::alloc::Global;
 use yasir_io::NoMemory;
 use yasir_ticks::{MAX_TICKS, Tick, TickRun};
@@ -44,7 +44,7 @@ pub struct Spacer<V, const GAP: usize> {
     rest: usize,
 }
 
-impl<V: LendingDevice, const GAP: usize> Spacer<V, GAP> {
+impl<V: Device, const GAP: usize> Spacer<V, GAP> {
     ghost use Rattle.std.specs.Prelude.{◌≡◌, ℕ, ◌+◌, ◌<◌, ◌≤◌, List, [], ◌∷◌, ◌++◌, length, drop};
     ghost use Rattle.std.specs.Prelude.{IfOk, ◌-◌, take, Some};
     ghost use Rattle.yasir_ticks.specs.TickRun.{run_ticks};

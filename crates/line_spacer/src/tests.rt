@@ -5,9 +5,7 @@ ghost use Rattle.yasir_ticks.specs.declared.TheConstants.{MAX_TICKS};
 
 use super::*;
 use burst_walk::RunBytes;
-use device_model::{
-    Device, DnpDevice, FrameAt, Hunted, HuntingFamily, LendingDevice, Met, RtuDevice,
-};
+use device_model::{Device, DnpDevice, Hunted, HuntingFamily, Met, RtuDevice};
 use dnp_link_frame::Dnp;
 use std::alloc::{AllocError, Global};
 use std::process::Abort;
@@ -21,6 +19,7 @@ struct ForgetfulDevice<R>(HuntingFamily<R>);
 
 impl<R: Hunted> Device for ForgetfulDevice<R> {
     ghost use Rattle.device_model.specs.HuntFamily.{hunt_family, FamilyStandsFor, family_ticks};
+    ghost use Rattle.device_model.specs.HuntFamily.{family_lent};
 
     ghost reads = { hunt_family R.FIRST R.SECOND R.rules 18 };
 
@@ -28,19 +27,11 @@ impl<R: Hunted> Device for ForgetfulDevice<R> {
 
     ghost taken = { λ d. family_ticks d.0 };
 
+    ghost lent = { λ d. family_lent d.0 };
+
     fn fresh() -> Self {
         ForgetfulDevice(HuntingFamily::new(18))
     }
-
-    fn step(&mut self, t: Tick) -> Option<FrameAt> {
-        self.0.step(t)
-    }
-}
-
-impl<R: Hunted> LendingDevice for ForgetfulDevice<R> {
-    ghost use Rattle.device_model.specs.HuntFamily.{family_lent};
-
-    ghost lent = { λ d. family_lent d.0 };
 
     fn frame_bytes(&self) -> &[u8] {
         self.0.frame_bytes()
@@ -65,21 +56,14 @@ impl Device for Deaf {
 
     ghost taken = { λ value. value.taken };
 
+    ghost lent = { λ value. value.calls };
+
     fn fresh() -> Self {
         Deaf {
             taken: 0,
             calls: [0; 3],
         }
     }
-
-    fn step(&mut self, _t: Tick) -> Option<FrameAt> {
-        self.taken += 1;
-        None
-    }
-}
-
-impl LendingDevice for Deaf {
-    ghost lent = { λ value. value.calls };
 
     fn frame_bytes(&self) -> &[u8] {
         &self.calls
@@ -126,7 +110,7 @@ trait Spaces {
         ensures taken { taken self.new ≡ taken self.old + result.taken };
 }
 
-impl<V: LendingDevice, const GAP: usize> Spaces for Spacer<V, GAP> {
+impl<V: Device, const GAP: usize> Spaces for Spacer<V, GAP> {
     ghost use Rattle.line_spacer.specs.Stands.{ticks_taken};
 
     ghost taken = { λ spacer. ticks_taken V.Device spacer };

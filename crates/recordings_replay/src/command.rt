@@ -12,7 +12,7 @@ ghost use Rattle.recordings_replay.specs.PrintsKeyed.{PrintsKeyed};
 ghost use Rattle.recordings_replay.specs.Recorded.{PrintsRecorded};
 
 use crate::printing::print_listing;
-use device_model::LendingDevice;
+use device_model::Device;
 use hmac_tag::Dir;
 use key_text::{KeyError, read_key};
 use replay_lists::{FrameBox, ReplayLists, list_recordings};
@@ -25,7 +25,7 @@ use yasir_io::{Sink, SlotDisk, Source};
 fn replay_keyed<
     S: FrameBox,
     C: FrameBox,
-    V: LendingDevice + Drop,
+    V: Device + Drop,
     K: Source,
     I: Source,
     O: Sink,
@@ -76,7 +76,7 @@ fn replay_keyed<
 pub fn replay_recordings<
     S: FrameBox,
     C: FrameBox,
-    V: LendingDevice + Drop,
+    V: Device + Drop,
     K: Source,
     I: Source,
     O: Sink,

@@ -11,7 +11,7 @@ use crate::frame_list::FrameList;
 use crate::lines::take_lent;
 use crate::replay_lists::{pass_run, step_into};
 use burst_walk::RunBytes;
-use device_model::{LendingDevice, hear_run_on};
+use device_model::{Device, hear_run_on};
 use yasir_io::NoMemory;
 use yasir_ticks::{Tick, TickRun};
 
@@ -65,7 +65,7 @@ pub(crate) fn take_front<B: FrameBox>(
 /// A device hears the first ticks of this run, up to the first one in which it reads a frame, which
 /// is compared. Returns how many.
 #[inline(always)]
-pub(crate) fn hear_front<V: LendingDevice>(
+pub(crate) fn hear_front<V: Device>(
     device: &mut V,
     read: &mut Comparison,
     passed: Passed<'_>,

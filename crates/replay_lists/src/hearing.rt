@@ -10,12 +10,12 @@ ghost use Rattle.replay_lists.specs.FrameList.{Holds, list_len};
 ghost use Rattle.replay_lists.specs.ReplayLists.{Listens, kept_reads};
 
 use crate::frame_list::FrameList;
-use device_model::LendingDevice;
+use device_model::Device;
 use yasir_io::NoMemory;
 
 // Keeps the frame that a device lends, if it has read one.
 #[inline]
-pub(crate) fn keep_lent<V: LendingDevice>(
+pub(crate) fn keep_lent<V: Device>(
     device: &V,
     start: Option<u64>,
     frames: &mut FrameList<u64>,
@@ -32,7 +32,7 @@ pub(crate) fn keep_lent<V: LendingDevice>(
 
 // A device hears bytes up to the first one in which it reads a frame, which is kept. Returns how
 // many.
-pub(crate) fn hear_some<V: LendingDevice>(
+pub(crate) fn hear_some<V: Device>(
     device: &mut V,
     frames: &mut FrameList<u64>,
     bytes: &[u8],
@@ -57,7 +57,7 @@ pub(crate) fn hear_some<V: LendingDevice>(
 // A device hears this many silent ticks, up to the first one in which it reads a frame, which is
 // kept. Returns how many.
 #[inline]
-pub(crate) fn wait_some<V: LendingDevice>(
+pub(crate) fn wait_some<V: Device>(
     device: &mut V,
     frames: &mut FrameList<u64>,
     ticks: usize,
@@ -80,7 +80,7 @@ pub(crate) fn wait_some<V: LendingDevice>(
 }
 
 // A device hears all of these bytes.
-fn hear_bytes<V: LendingDevice>(
+fn hear_bytes<V: Device>(
     device: &mut V,
     frames: &mut FrameList<u64>,
     bytes: &[u8],
@@ -102,7 +102,7 @@ fn hear_bytes<V: LendingDevice>(
 
 // A device hears this many silent ticks.
 #[inline(always)]
-pub(crate) fn hear_silence<V: LendingDevice>(
+pub(crate) fn hear_silence<V: Device>(
     device: &mut V,
     frames: &mut FrameList<u64>,
     ticks: usize,
@@ -126,7 +126,7 @@ pub(crate) fn hear_silence<V: LendingDevice>(
 // A device hears what a box answers to a run of this many ticks. It is kept separate from silence,
 // which is answered more often and comes without a call.
 #[inline(never)]
-fn hear_run<V: LendingDevice>(
+fn hear_run<V: Device>(
     device: &mut V,
     frames: &mut FrameList<u64>,
     count: usize,
@@ -147,7 +147,7 @@ fn hear_run<V: LendingDevice>(
 
 // A device hears what a box answers to a run of this many ticks: as many bytes, or silence.
 #[inline(always)]
-pub(crate) fn hear_answered<V: LendingDevice>(
+pub(crate) fn hear_answered<V: Device>(
     device: &mut V,
     frames: &mut FrameList<u64>,
     count: usize,

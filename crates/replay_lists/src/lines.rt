@@ -14,7 +14,7 @@ use crate::comparison::{Comparison, Passed, Read};
 use crate::frame_box::{FrameBox, Numbered};
 use crate::frame_list::FrameList;
 use crate::replay_lists::step_into;
-use device_model::LendingDevice;
+use device_model::Device;
 use yasir_io::NoMemory;
 use yasir_ticks::Tick;
 
@@ -60,7 +60,7 @@ pub(crate) fn take_silence<B: FrameBox>(
 
 // Compares the frame that a device lends, if it has read one.
 #[inline]
-pub(crate) fn take_lent<V: LendingDevice>(
+pub(crate) fn take_lent<V: Device>(
     device: &V,
     start: Option<u64>,
     read: &mut Comparison,
@@ -86,12 +86,7 @@ pub(crate) fn take_lent<V: LendingDevice>(
 
 // A device hears one tick.
 #[inline]
-fn hear_tick<V: LendingDevice>(
-    device: &mut V,
-    read: &mut Comparison,
-    passed: Passed<'_>,
-    tick: Tick,
-)
+fn hear_tick<V: Device>(device: &mut V, read: &mut Comparison, passed: Passed<'_>, tick: Tick)
     requires room { V.taken device.old < MAX_TICKS }
     requires few { read.old.read ≤ V.taken device.old }
     requires whole { IsWhole passed.frames.now }
@@ -103,7 +98,7 @@ fn hear_tick<V: LendingDevice>(
 }
 
 /// A device hears these ticks.
-pub(crate) fn hear_line<V: LendingDevice>(
+pub(crate) fn hear_line<V: Device>(
     device: &mut V,
     read: &mut Comparison,
     passed: Passed<'_>,
@@ -121,7 +116,7 @@ pub(crate) fn hear_line<V: LendingDevice>(
 }
 
 /// A device hears this many silent ticks.
-pub(crate) fn hear_rest<V: LendingDevice>(
+pub(crate) fn hear_rest<V: Device>(
     device: &mut V,
     read: &mut Comparison,
     passed: Passed<'_>,

@@ -6,7 +6,7 @@ ghost use Rattle.replay_lists.specs.Listed.{ListsRecordings, MayList};
 
 use crate::frame_box::FrameBox;
 use crate::replay_lists::ReplayLists;
-use device_model::LendingDevice;
+use device_model::Device;
 use tick_drive::{End, Stop, drive_to_rest};
 use yasir_io::{NoMemory, Sink, Source};
 
@@ -17,14 +17,7 @@ const LINK_REST: u32 = 320;
 /// Lists the frames of two recordings, which a mark parts in the input. Behind the one before it
 /// stand `device_rest` silent ticks, so that its last burst is judged and its trailer is sent.
 /// Nothing is written.
-pub fn list_recordings<
-    S: FrameBox,
-    C: FrameBox,
-    V: LendingDevice + Drop,
-    I: Source,
-    O: Sink,
-    L: Sink,
->(
+pub fn list_recordings<S: FrameBox, C: FrameBox, V: Device + Drop, I: Source, O: Sink, L: Sink>(
     device_rest: u32,
     lists: &mut ReplayLists<S, C, V>,
     input: &mut I,

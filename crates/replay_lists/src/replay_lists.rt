@@ -17,7 +17,7 @@ use crate::frame_list::FrameList;
 use crate::hearing::{hear_answered, keep_lent};
 use crate::lines::take_silence;
 use burst_walk::RunBytes;
-use device_model::LendingDevice;
+use device_model::Device;
 use hmac_tag::Dir;
 use std::alloc::Global;
 use tick_drive::{Consumer, Stop};
@@ -80,7 +80,7 @@ pub(crate) fn pass_run<B: FrameBox>(
 
 // One step of a device, whose frame is kept.
 #[inline]
-pub(crate) fn hear_into<V: LendingDevice>(
+pub(crate) fn hear_into<V: Device>(
     device: &mut V,
     frames: &mut FrameList<u64>,
     t: Tick,
@@ -109,7 +109,7 @@ pub struct ReplayLists<S, C, V> {
     marked: bool,
 }
 
-impl<S: FrameBox, C: FrameBox, V: LendingDevice + Drop> ReplayLists<S, C, V> {
+impl<S: FrameBox, C: FrameBox, V: Device + Drop> ReplayLists<S, C, V> {
     ghost use Rattle.yasir_ticks.specs.Ticks.Item.{tick as tick_item};
     ghost use Rattle.yasir_ticks.specs.TickRun.{run_items};
     ghost use Rattle.replay_lists.specs.ReplayLists.{Checks, HasListed, IsReady, lists_taken};
@@ -312,7 +312,7 @@ impl<S: FrameBox, C: FrameBox, V: LendingDevice + Drop> ReplayLists<S, C, V> {
     }
 }
 
-impl<S: FrameBox, C: FrameBox, V: LendingDevice + Drop> Consumer for ReplayLists<S, C, V> {
+impl<S: FrameBox, C: FrameBox, V: Device + Drop> Consumer for ReplayLists<S, C, V> {
     ghost use Rattle.replay_lists.specs.ReplayLists.{listing};
 
     ghost meaning = { listing S.FrameBox C.FrameBox V.Device };

@@ -23,7 +23,7 @@ use crate::frame_box::{FrameBox, Numbered};
 use crate::frame_list::FrameList;
 use crate::fronts::{hear_front, take_front};
 use crate::lines::{hear_line, hear_rest, take_line, take_silence};
-use device_model::LendingDevice;
+use device_model::Device;
 use hmac_tag::Dir;
 use std::alloc::Global;
 use tick_drive::{Consumer, Stop};
@@ -73,7 +73,7 @@ pub struct SessionLists<S, C, V> {
     timing: Timing,
 }
 
-impl<S: FrameBox, C: FrameBox, V: LendingDevice + Drop> SessionLists<S, C, V> {
+impl<S: FrameBox, C: FrameBox, V: Device + Drop> SessionLists<S, C, V> {
     /// Lists of no frame, and boxes that have taken no tick, for a key of any length, a direction,
     /// and the floors of transmitter and receiver.
     pub fn new(
@@ -258,7 +258,7 @@ impl<S: FrameBox, C: FrameBox, V: LendingDevice + Drop> SessionLists<S, C, V> {
     }
 }
 
-impl<S: FrameBox, C: FrameBox, V: LendingDevice + Drop> Consumer for SessionLists<S, C, V> {
+impl<S: FrameBox, C: FrameBox, V: Device + Drop> Consumer for SessionLists<S, C, V> {
     ghost meaning = { parting S.FrameBox C.FrameBox V.Device };
 
     #[inline(always)]

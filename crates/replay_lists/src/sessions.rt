@@ -5,14 +5,14 @@ ghost use Rattle.replay_lists.specs.SessionListed.{ListsLines, ListsSession, May
 
 use crate::frame_box::FrameBox;
 use crate::session_lists::SessionLists;
-use device_model::LendingDevice;
+use device_model::Device;
 use tick_drive::{End, Stop, drive_with_room};
 use yasir_io::{NoMemory, Source};
 use yasir_ticks::Tick;
 
 /// Lists the frames of three recordings, which two marks part in the input, each with its silence
 /// behind it.
-pub fn list_session<S: FrameBox, C: FrameBox, V: LendingDevice + Drop, I: Source>(
+pub fn list_session<S: FrameBox, C: FrameBox, V: Device + Drop, I: Source>(
     lists: &mut SessionLists<S, C, V>,
     input: &mut I,
 ) -> End
@@ -32,7 +32,7 @@ pub fn list_session<S: FrameBox, C: FrameBox, V: LendingDevice + Drop, I: Source
 }
 
 /// Lists the frames of three recordings in memory, each with its silence behind it.
-pub fn list_lines<S: FrameBox, C: FrameBox, V: LendingDevice + Drop>(
+pub fn list_lines<S: FrameBox, C: FrameBox, V: Device + Drop>(
     lists: &mut SessionLists<S, C, V>,
     device: &[Tick],
     link: &[Tick],

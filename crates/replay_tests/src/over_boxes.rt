@@ -7,7 +7,7 @@ use crate::outside::{Failing, STEADY, plan};
 use crate::reading::has_read;
 use box_command::{LineBox, replay_box};
 use check_receiver::Checker;
-use device_model::LendingDevice;
+use device_model::Device;
 use dnp_link_frame::Dnp;
 use hmac_tag::{Dir, HmacSha1, HmacSha256};
 use replay_status::{Ends, Status, write_fault};
@@ -266,7 +266,7 @@ pub fn compare_all(
 pub type Reading = (&'static [u8], &'static [u8], &'static [u8]);
 
 /// A device behind the receiver reads these frames of a link with these notes.
-pub fn has_passed<D: LendingDevice + Drop>(
+pub fn has_passed<D: Device + Drop>(
     rt: &impl Abort,
     alloc: Global,
     kind: BoxKind,

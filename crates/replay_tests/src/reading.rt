@@ -1,7 +1,7 @@
 //! Tests of a Modbus RTU device over recorded lines, and the calls that read a line in a test.
 use crate::outside::{BYTE_BY_BYTE, Failing, STEADY, plan};
 use crate::over_boxes::holds;
-use device_model::{LendingDevice, RtuDevice};
+use device_model::{Device, RtuDevice};
 use device_replay::read_frames;
 use replay_status::{Status, write_fault};
 use std::alloc::Global;
@@ -30,7 +30,7 @@ pub fn read(rt: &impl Abort, alloc: Global, text: &[u8], outside: &Failing) -> R
 }
 
 /// What a device reads of this text, with the fault line behind it.
-pub fn read_by<D: LendingDevice + Drop>(
+pub fn read_by<D: Device + Drop>(
     rt: &impl Abort,
     alloc: Global,
     text: &[u8],
@@ -47,7 +47,7 @@ pub fn read_by<D: LendingDevice + Drop>(
 }
 
 /// A device reads these frames of a line.
-pub fn has_read<D: LendingDevice + Drop>(
+pub fn has_read<D: Device + Drop>(
     rt: &impl Abort,
     alloc: Global,
     line: &[u8],

@@ -12,7 +12,7 @@ ghost use Rattle.session_audit.specs.Through.{verdict_through};
 use crate::judging::judge;
 use crate::link_boxes::{DEVICE_REST, LINK_REST};
 use crate::{Session, Verdict};
-use device_model::LendingDevice;
+use device_model::Device;
 use replay_lists::{Floors, FrameBox, SessionLists, Timing};
 use std::alloc::Global;
 use yasir_ticks::T3_5_TICKS;
@@ -30,7 +30,7 @@ fn timing_of(late: u8) -> Timing
 }
 
 /// Lists of no frame, for a session by a transmitter, a receiver that is so late, and a device.
-pub(crate) fn lists_for<S: FrameBox, C: FrameBox, V: LendingDevice + Drop>(
+pub(crate) fn lists_for<S: FrameBox, C: FrameBox, V: Device + Drop>(
     alloc: Global,
     late: u8,
     session: &Session<'_>,
@@ -50,7 +50,7 @@ pub(crate) fn lists_for<S: FrameBox, C: FrameBox, V: LendingDevice + Drop>(
 }
 
 /// The verdict on what was listed of the session's recordings.
-pub(crate) fn judge_lists<S: FrameBox, C: FrameBox, V: LendingDevice + Drop>(
+pub(crate) fn judge_lists<S: FrameBox, C: FrameBox, V: Device + Drop>(
     session: &Session<'_>,
     lists: &SessionLists<S, C, V>,
 ) -> Verdict

@@ -11,14 +11,14 @@ ghost use Rattle.session_audit.specs.Through.{verdict_through};
 use crate::judged_lists::{judge_lists, lists_for};
 use crate::link_boxes::with_boxes;
 use crate::{Session, Verdict};
-use device_model::LendingDevice;
+use device_model::Device;
 use replay_lists::{FrameBox, list_session};
 use std::alloc::Global;
 use tick_drive::End;
 use yasir_io::Source;
 
 // The verdict by a transmitter, a receiver that is so late, and a device.
-fn audit_input_by<S: FrameBox, C: FrameBox, V: LendingDevice + Drop, I: Source>(
+fn audit_input_by<S: FrameBox, C: FrameBox, V: Device + Drop, I: Source>(
     alloc: Global,
     late: u8,
     session: &Session<'_>,

@@ -9,7 +9,7 @@ ghost use Rattle.session_audit.specs.Through.{verdict_through};
 use crate::judged_lists::{judge_lists, lists_for};
 use crate::link_boxes::with_boxes;
 use crate::{Session, Verdict};
-use device_model::LendingDevice;
+use device_model::Device;
 use replay_lists::{FrameBox, NoMemory, list_lines};
 use std::alloc::Global;
 use yasir_ticks::Tick;
@@ -23,7 +23,7 @@ struct Lines<'a> {
 }
 
 // The verdict by a transmitter, a receiver that is so late, and a device.
-fn audit_by<S: FrameBox, C: FrameBox, V: LendingDevice + Drop>(
+fn audit_by<S: FrameBox, C: FrameBox, V: Device + Drop>(
     alloc: Global,
     late: u8,
     session: &Session<'_>,

@@ -9,7 +9,7 @@ ghost use Rattle.line_spacer.specs.Stands.{AnswersSpaced};
 ghost use Rattle.space_replay.specs.SpacedTexts.{most_waiting};
 
 use burst_walk::RunBytes;
-use device_model::LendingDevice;
+use device_model::Device;
 use line_spacer::{SpaceRun, Spacer};
 use std::alloc::Global;
 use yasir_io::NoMemory;
@@ -67,7 +67,7 @@ pub trait LineSpacer: Drop {
         ensures few { length result.now ≤ 292 };
 }
 
-impl<V: LendingDevice + Drop, const GAP: usize> LineSpacer for Spacer<V, GAP> {
+impl<V: Device + Drop, const GAP: usize> LineSpacer for Spacer<V, GAP> {
     ghost use Rattle.line_spacer.specs.Stands.{StandsFor, ticks_taken, bytes_lent};
 
     ghost reads = { V.reads };

@@ -53,8 +53,8 @@ fn starts_of(alloc: Global, line: &[Tick]) -> Result<Vec<u64>, AllocError>
     let mut device = RtuDevice::fresh();
     let mut starts = Vec::new(alloc);
     for tick in line {
-        if let Some(frame) = device.step(*tick) {
-            starts.push(frame.start)?;
+        if let Some(start) = device.step_on(*tick) {
+            starts.push(start)?;
         }
     }
     Ok(starts)

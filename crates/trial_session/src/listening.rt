@@ -3,7 +3,7 @@ ghost use Rattle.std.specs.Prelude.{◌≡◌, ℕ, ◌≤◌, List, length};
 ghost use Rattle.device_model.specs.Frames.{frames_lent};
 
 use arrayvec::ArrayVec;
-use device_model::LendingDevice;
+use device_model::Device;
 use yasir_ticks::MAX_TICKS;
 
 /// Bytes that a device is still to hear.
@@ -36,7 +36,7 @@ fn frames_in(start: Option<u64>) -> u64
     }
 }
 
-impl<V: LendingDevice + Drop> Listening<V> {
+impl<V: Device + Drop> Listening<V> {
     ghost use Rattle.std.specs.Prelude.{◌+◌, [], ◌++◌, map};
     ghost use Rattle.yasir_ticks.specs.Ticks.{silent};
     ghost use Rattle.yasir_ticks.specs.declared.tick.Tick.TheVariants.{Byte};

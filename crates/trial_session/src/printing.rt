@@ -5,7 +5,7 @@ ghost use Rattle.trial_session.specs.Summaries.{session_summary};
 ghost use Rattle.trial_session.specs.TrialLine.{worded, trial_line};
 
 use crate::{CountingBox, DrawnFrames, Summary, try_session};
-use device_model::LendingDevice;
+use device_model::Device;
 use replay_status::{Line, push_decimal};
 
 // Appends a word, and a number behind it, each with a blank before it.
@@ -42,7 +42,7 @@ fn trial_line(name: &[u8], seed: u32, count: u32, counted: Summary) -> Line
 
 /// Runs the session of this many frames from a seed, as `try_session` does, and returns its line,
 /// with the name of its protocol.
-pub fn session_line<R: DrawnFrames, S: CountingBox, C: CountingBox, V: LendingDevice + Drop>(
+pub fn session_line<R: DrawnFrames, S: CountingBox, C: CountingBox, V: Device + Drop>(
     name: &[u8],
     seed: u32,
     count: u32,

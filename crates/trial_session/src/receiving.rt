@@ -4,7 +4,7 @@ use crate::link::Link;
 use crate::listening::{Listening, Waiting};
 use crate::side::Side;
 use burst_walk::RunBytes;
-use device_model::LendingDevice;
+use device_model::Device;
 use yasir_ticks::{MAX_TICKS, TickRun};
 
 /// The receiver `C`, and the device `V` that hears what it lets through.
@@ -27,7 +27,7 @@ impl<C, V> Receiving<C, V> {
     }
 }
 
-impl<C: CountingBox, V: LendingDevice + Drop> Receiving<C, V> {
+impl<C: CountingBox, V: Device + Drop> Receiving<C, V> {
     ghost use Rattle.std.specs.Prelude.{◌≡◌, ◌+◌, ◌≤◌, List, [], ◌++◌, length};
     ghost use Rattle.yasir_ticks.specs.Ticks.{silent};
     ghost use Rattle.yasir_ticks.specs.TickRun.{run_ticks};

@@ -10,7 +10,7 @@ use crate::link::{Link, PERIOD};
 use crate::receiving::Receiving;
 use crate::side::Side;
 use crate::{CountingBox, DrawnFrames, Draws, Summary};
-use device_model::LendingDevice;
+use device_model::Device;
 use yasir_ticks::{MAX_TICKS, TickRun};
 
 #[cfg(test)]
@@ -42,7 +42,7 @@ fn draw_alteration(draws: &mut Draws, packet_len: usize) -> Alteration
     alteration_of(kind, place, value)
 }
 
-impl<S: CountingBox, C: CountingBox, V: LendingDevice + Drop> Session<S, C, V> {
+impl<S: CountingBox, C: CountingBox, V: Device + Drop> Session<S, C, V> {
     ghost use Rattle.std.specs.Prelude.{ℕ, suc};
     ghost use Rattle.trial_session.specs.DrawnFrames.{Drawing};
     ghost use Rattle.trial_session.specs.Runs.{HasRun, MayGoOn};
@@ -114,7 +114,7 @@ impl<S: CountingBox, C: CountingBox, V: LendingDevice + Drop> Session<S, C, V> {
 
 /// Runs the session of this many frames from a seed: drawn by the protocol `R`, sealed by `S`,
 /// checked by `C` and read by `V`. This many ticks follow a frame in its packet.
-pub fn try_session<R: DrawnFrames, S: CountingBox, C: CountingBox, V: LendingDevice + Drop>(
+pub fn try_session<R: DrawnFrames, S: CountingBox, C: CountingBox, V: Device + Drop>(
     seed: u32,
     count: u32,
     behind: usize,

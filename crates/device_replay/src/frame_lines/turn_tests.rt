@@ -2,7 +2,7 @@
 ghost use Rattle.std.specs.Prelude.{[]};
 
 use super::FrameLines;
-use device_model::{Device, FrameAt, LendingDevice, Met};
+use device_model::{Device, Met};
 use std::alloc::Global;
 use std::test::Fail;
 use tick_drive::{End, drive};
@@ -31,6 +31,8 @@ impl Device for Deaf {
 
     ghost taken = { λ value. value.taken };
 
+    ghost lent = { λ value. [] };
+
     fn fresh() -> Self {
         Deaf {
             taken: 0,
@@ -41,16 +43,6 @@ impl Device for Deaf {
             },
         }
     }
-
-    fn step(&mut self, _t: Tick) -> Option<FrameAt> {
-        self.calls.step = self.calls.step.saturating_add(1);
-        self.taken += 1;
-        None
-    }
-}
-
-impl LendingDevice for Deaf {
-    ghost lent = { λ value. [] };
 
     fn frame_bytes(&self) -> &[u8] {
         &[]

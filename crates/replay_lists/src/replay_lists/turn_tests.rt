@@ -6,7 +6,7 @@ use super::ReplayLists;
 use crate::frame_box::{FrameBox, FrameStep};
 use crate::recordings::list_recordings;
 use burst_walk::RunBytes;
-use device_model::{Device, FrameAt, LendingDevice, Met};
+use device_model::{Device, Met};
 use hmac_tag::Dir;
 use std::alloc::Global;
 use std::test::Fail;
@@ -102,22 +102,14 @@ impl Device for Deaf {
 
     ghost taken = { λ value. value.taken };
 
+    ghost lent = { λ value. [] };
+
     fn fresh() -> Self {
         Deaf {
             taken: 0,
             calls: NO_CALLS,
         }
     }
-
-    fn step(&mut self, _t: Tick) -> Option<FrameAt> {
-        self.calls.step = self.calls.step.saturating_add(1);
-        self.taken += 1;
-        None
-    }
-}
-
-impl LendingDevice for Deaf {
-    ghost lent = { λ value. [] };
 
     fn frame_bytes(&self) -> &[u8] {
         &[]

@@ -9,7 +9,7 @@ use crate::side::Side;
 use crate::{CountingBox, Fate};
 use burst_walk::{BoxStep, RunBytes};
 use check_receiver::Checker;
-use device_model::{Device, FrameAt, LendingDevice, Met, RtuDevice};
+use device_model::{Device, Met, RtuDevice};
 use hmac_tag::{Dir, HmacSha1};
 use link_box::LinkBox;
 use rtu_frame::Rtu;
@@ -106,21 +106,14 @@ impl<V: Device> Device for Counted<V> {
 
     ghost taken = { λ value. V.taken value.inner };
 
+    ghost lent = { λ value. V.lent value.inner };
+
     fn fresh() -> Self {
         Counted {
             inner: V::fresh(),
             turns: 0,
         }
     }
-
-    fn step(&mut self, t: Tick) -> Option<FrameAt> {
-        self.turn();
-        self.inner.step(t)
-    }
-}
-
-impl<V: LendingDevice> LendingDevice for Counted<V> {
-    ghost lent = { λ value. V.lent value.inner };
 
     fn frame_bytes(&self) -> &[u8] {
         self.inner.frame_bytes()

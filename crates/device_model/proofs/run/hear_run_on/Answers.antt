@@ -14,7 +14,7 @@ returns-in-Bytes-clause-stands g c = rw c.in-Bytes.is (λ line before.
 pub returns-in-Bytes-clause-answer : goal.returns-in-Bytes-clause-answer
 returns-in-Bytes-clause-answer g c = rw c.in-Bytes.is (λ line before.
     subst (λ l. g.V.Device.reads (line ++ l)
-    ≡ g.V.Device.reads line ++ frames_lent c.hear_on.result.start (g.V.LendingDevice.lent c.hear_on.new.self))
+    ≡ g.V.Device.reads line ++ frames_lent c.hear_on.result.start (g.V.Device.lent c.hear_on.new.self))
     (sym (take-map Byte c.hear_on.result.taken c.in-Bytes.bytes.now))
     (c.hear_on.ensures.answer line before))
 
@@ -40,7 +40,7 @@ returns-in-Silence-clause-stands g c = rw c.in-Silence.is (λ line before.
 pub returns-in-Silence-clause-answer : goal.returns-in-Silence-clause-answer
 returns-in-Silence-clause-answer g c = rw c.in-Silence.is (λ line before.
     subst (λ l. g.V.Device.reads (line ++ l)
-    ≡ g.V.Device.reads line ++ frames_lent c.wait_on.result.start (g.V.LendingDevice.lent c.wait_on.new.self))
+    ≡ g.V.Device.reads line ++ frames_lent c.wait_on.result.start (g.V.Device.lent c.wait_on.new.self))
     (sym (take-replicate c.wait_on.result.taken c.in-Silence.ticks Silent
     c.wait_on.ensures.within))
     (c.wait_on.ensures.answer line before))

@@ -15,7 +15,7 @@ returns-clause-hears g c =
     hears-lent g.V.Device c.args.passed.late c.args.passed.frames.now
     c.args.device.now c.hear_run_on-met.new.device c.args.read.now c.take_lent.new.read _
     (frames_lent c.hear_run_on-met.result.start
-    (g.V.LendingDevice.lent c.hear_run_on-met.new.device))
+    (g.V.Device.lent c.hear_run_on-met.new.device))
     (omega (arith, c.hear_run_on-met.ensures.taken, long))
     (omega (arith, c.take_lent.ensures.few, c.hear_run_on-met.ensures.some c.requires.some, long))
     c.hear_run_on-met.ensures.stands c.hear_run_on-met.ensures.answer c.take_lent.ensures.found

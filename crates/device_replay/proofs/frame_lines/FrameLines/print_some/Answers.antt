@@ -16,7 +16,7 @@ hear_run_on-taken-requires g c = omega (
 pub returns-in_default : goal.returns-in_default
 returns-in_default g c =
     let heard = c.hear_run_on-taken in
-    let lent : List ℕ = g.V.LendingDevice.lent heard.new.device in
+    let lent : List ℕ = g.V.Device.lent heard.new.device in
     none_read g.V.Device g.O.Sink _ _ c.args.run heard.result.taken (frames_lent heard.result.start lent)
     (heard.ensures.some c.requires.some) heard.ensures.within heard.ensures.taken
     heard.ensures.stands heard.ensures.answer (ap (λ s. frames_lent s lent) c.in_default.is) refl refl (record {
@@ -30,7 +30,7 @@ returns-in_default g c =
 pub returns-in-Ok : goal.returns-in-Ok
 returns-in-Ok g c =
     let heard = c.hear_run_on-taken in
-    let lent : List ℕ = g.V.LendingDevice.lent heard.new.device in
+    let lent : List ℕ = g.V.Device.lent heard.new.device in
     let pushed = c.in-Ok.ensures in
     one_read g.V.Device g.O.Sink _ _ c.args.run heard.result.taken (frames_lent heard.result.start lent)
     (heard.ensures.some c.requires.some) heard.ensures.within heard.ensures.taken
@@ -54,7 +54,7 @@ returns-in-Ok g c =
 pub returns-in-Err : goal.returns-in-Err
 returns-in-Err g c =
     let heard = c.hear_run_on-taken in
-    let lent : List ℕ = g.V.LendingDevice.lent heard.new.device in
+    let lent : List ℕ = g.V.Device.lent heard.new.device in
     let pushed = c.in-Err.ensures in
     one_failed g.V.Device g.O.Sink _ _ c.args.run heard.result.taken
     (frames_lent heard.result.start lent) (heard.ensures.some c.requires.some) heard.ensures.within

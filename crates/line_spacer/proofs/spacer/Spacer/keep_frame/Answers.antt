@@ -8,7 +8,7 @@ use Rattle.line_spacer.proofs.spacer.Spacer.keep_frame.Goals as goal
 pub returns-in-Ok-clause-sent : goal.returns-in-Ok-clause-sent
 returns-in-Ok-clause-sent g c = λ step s sent.
     let spacer = c.args.self.now in
-    let lent : List ℕ = g.V.LendingDevice.lent spacer.device in
+    let lent : List ℕ = g.V.Device.lent spacer.device in
     let read : FrameRead = record { start = c.args.start; frame = lent } in
     let none = ap length c.new-frame.ensures in
     let few = c.frame_bytes.ensures.few in
@@ -24,7 +24,7 @@ returns-in-Ok-clause-sent g c = λ step s sent.
 pub returns-in-Ok-clause-takes : goal.returns-in-Ok-clause-takes
 returns-in-Ok-clause-takes g c = λ step s sent.
     let spacer = c.args.self.now in
-    let lent : List ℕ = g.V.LendingDevice.lent spacer.device in
+    let lent : List ℕ = g.V.Device.lent spacer.device in
     queued-takes g.row.GAP spacer.queue.capacity step s
     _ spacer.rest spacer.queue.items (record { start = c.args.start; frame = lent }) sent
     (c.in-Ok.ensures.variant.0 refl)
@@ -32,7 +32,7 @@ returns-in-Ok-clause-takes g c = λ step s sent.
 pub returns-in-Err-clause-sent : goal.returns-in-Err-clause-sent
 returns-in-Err-clause-sent g c = λ step s sent.
     let spacer = c.args.self.now in
-    let lent : List ℕ = g.V.LendingDevice.lent spacer.device in
+    let lent : List ℕ = g.V.Device.lent spacer.device in
     rw (ap (λ q. q.items) c.in-Err.ensures.err.1)
     (full-sent g.row.GAP spacer.queue.capacity step s
     _ spacer.rest spacer.queue.items (record { start = c.args.start; frame = lent }) sent
@@ -41,7 +41,7 @@ returns-in-Err-clause-sent g c = λ step s sent.
 pub returns-in-Err-clause-takes : goal.returns-in-Err-clause-takes
 returns-in-Err-clause-takes g c = λ step s sent.
     let spacer = c.args.self.now in
-    let lent : List ℕ = g.V.LendingDevice.lent spacer.device in
+    let lent : List ℕ = g.V.Device.lent spacer.device in
     full-takes g.row.GAP spacer.queue.capacity step s
     _ spacer.rest spacer.queue.items (record { start = c.args.start; frame = lent }) sent
     (is-full (length spacer.queue.items) spacer.queue.capacity c.in-Err.ensures.variant.1)

@@ -37,11 +37,11 @@ returns-clause-stands g c = λ cap line stands.
     ∙ heard.ensures.before k before_end line stands.heard in
     let same : x ≡ take n all = ap (take n) c.front-front.ensures ∙ take-take n most all few in
     let is = heard.ensures.answer line stands.heard
-    ∙ ap (λ d. reads line ++ frames_lent heard.result.start (g.V.LendingDevice.lent d))
+    ∙ ap (λ d. reads line ++ frames_lent heard.result.start (g.V.Device.lent d))
     (sym c.send_some.ensures.device) in
     let answer : List Tick = answered n c.send_some.new.left.items in
     let as_long : length answer ≡ length x = c.send_some.ensures.long ∙ sym long in
-    let frames = frames_lent heard.result.start (g.V.LendingDevice.lent sent.device) in
+    let frames = frames_lent heard.result.start (g.V.Device.lent sent.device) in
     let fits = c.send_some.ensures.room ∙ stands.room in
     let accepted = accepted_of reads gap cap line in
     let run = c.send_some.ensures.sends (length line) accepted stands.sent in
@@ -87,18 +87,18 @@ returns-clause-answer g c = λ cap line stands.
     ∙ heard.ensures.before k before_end line stands.heard in
     let same : x ≡ take n all = ap (take n) c.front-front.ensures ∙ take-take n most all few in
     let is = heard.ensures.answer line stands.heard
-    ∙ ap (λ d. reads line ++ frames_lent heard.result.start (g.V.LendingDevice.lent d))
+    ∙ ap (λ d. reads line ++ frames_lent heard.result.start (g.V.Device.lent d))
     (sym c.send_some.ensures.device) in
     let answer : List Tick = answered n c.send_some.new.left.items in
     let as_long : length answer ≡ length x = c.send_some.ensures.long ∙ sym long in
-    let frames = frames_lent heard.result.start (g.V.LendingDevice.lent sent.device) in
+    let frames = frames_lent heard.result.start (g.V.Device.lent sent.device) in
     let fits = c.send_some.ensures.room ∙ stands.room in
     let accepted = accepted_of reads gap cap line in
     let run = c.send_some.ensures.sends (length line) accepted stands.sent in
     let before = run-before reads gap cap sent.queue.capacity fits line x frames some quiet is
     accepted (drop sent.sent sent.sending.items) sent.rest (frames_in sent.queue.items) answer
     as_long run.sent in
-    let lost = frames_lent c.keep-lost.result (g.V.LendingDevice.lent c.keep-lost.new.self.device) in
+    let lost = frames_lent c.keep-lost.result (g.V.Device.lent c.keep-lost.new.self.device) in
     let answers = run-answers reads gap cap sent.queue.capacity fits line x frames some quiet is
     answer lost as_long run.leave
     (c.keep-lost.ensures.takes (length line + (length x - 1)) (spaced reads gap cap line) before) in

@@ -1,5 +1,5 @@
 use Rattle.device_model.proofs.HuntSteps.{silence-stands, silence-reads, byte-stands, byte-reads}
-use Rattle.device_model.proofs.hunting.HuntingDeviceLendingDevice.step_on.Goals as goal
+use Rattle.device_model.proofs.hunting.HuntingDeviceDevice.step_on.Goals as goal
 
 pub returns-in-Byte-clause-stands : goal.returns-in-Byte-clause-stands
 returns-in-Byte-clause-stands g c = λ line heard.
