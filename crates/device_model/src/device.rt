@@ -48,7 +48,7 @@ pub trait Device {
 
     /// Takes the next tick of the line. Returns the tick of the first byte of the frame that is
     /// read in this very tick, whose bytes are lent then, and `None` where none is.
-    fn step_on(&mut self, t: Tick) -> Option<u64>
+    fn step(&mut self, t: Tick) -> Option<u64>
         requires { taken self.old < MAX_TICKS }
         ensures taken { taken self.new ≡ taken self.old + 1 }
         ensures stands { (line : List Tick) → stands self.old line
@@ -57,7 +57,7 @@ pub trait Device {
             → reads (line ++ t ∷ []) ≡ reads line ++ frames_lent result (lent self.new) };
 
     /// Takes the next ticks, which have these bytes, up to the first one in which a frame is read.
-    fn hear_on(&mut self, bytes: &[u8]) -> Met
+    fn hear(&mut self, bytes: &[u8]) -> Met
         requires { taken self.old + length bytes.now ≤ MAX_TICKS }
         ensures some { 0 < length bytes.now → 0 < result.taken }
         ensures within { result.taken ≤ length bytes.now }
@@ -73,7 +73,7 @@ pub trait Device {
             → reads (line ++ map Byte (take n bytes.now)) ≡ reads line }
     {
         for (at, byte) in bytes.iter().enumerate() {
-            if let Some(start) = self.step_on(Tick::Byte(*byte)) {
+            if let Some(start) = self.step(Tick::Byte(*byte)) {
                 return Met {
                     taken: at + 1,
                     start: Some(start),
@@ -87,7 +87,7 @@ pub trait Device {
     }
 
     /// Takes this many silent ticks, up to the first one in which a frame is read.
-    fn wait_on(&mut self, ticks: usize) -> Met
+    fn wait(&mut self, ticks: usize) -> Met
         requires { taken self.old + ticks ≤ MAX_TICKS }
         ensures some { 0 < ticks → 0 < result.taken }
         ensures within { result.taken ≤ ticks }
@@ -103,7 +103,7 @@ pub trait Device {
             → reads (line ++ silent n) ≡ reads line }
     {
         for at in 0..ticks {
-            if let Some(start) = self.step_on(Tick::Silent) {
+            if let Some(start) = self.step(Tick::Silent) {
                 return Met {
                     taken: at + 1,
                     start: Some(start),

@@ -25,7 +25,7 @@ fn rtu_readings(
 {
     let mut read = Vec::new(alloc);
     for (at, tick) in line.iter().enumerate() {
-        if let Some(start) = device.step_on(*tick) {
+        if let Some(start) = device.step(*tick) {
             read.push((at, frame_at(start, device.frame_bytes())))?;
         }
     }
@@ -42,7 +42,7 @@ fn dnp_readings(
 {
     let mut read = Vec::new(alloc);
     for (at, tick) in line.iter().enumerate() {
-        if let Some(start) = device.step_on(*tick) {
+        if let Some(start) = device.step(*tick) {
             read.push((at, frame_at(start, device.frame_bytes())))?;
         }
     }

@@ -280,7 +280,7 @@ impl<R: Hunted> HuntingDevice<R> {
 
     // The next byte of the line.
     #[inline]
-    pub(crate) fn hear(&mut self, at: u64, byte: u8) -> Option<u64>
+    pub(crate) fn hear_byte(&mut self, at: u64, byte: u8) -> Option<u64>
         ensures { TakesByte R.LineRules R.FIRST R.SECOND self.old self.new
             (record { tick = at; byte = byte })
             (frames_lent result self.new.frame.items) }
@@ -321,17 +321,17 @@ impl<R: Hunted> Device for HuntingDevice<R> {
     }
 
     #[inline]
-    fn step_on(&mut self, t: Tick) -> Option<u64> {
+    fn step(&mut self, t: Tick) -> Option<u64> {
         let at = self.ticks;
         self.ticks += 1;
         match t {
-            Tick::Byte(byte) => self.hear(at, byte),
+            Tick::Byte(byte) => self.hear_byte(at, byte),
             Tick::Silent => None,
         }
     }
 
     #[inline]
-    fn hear_on(&mut self, bytes: &[u8]) -> Met {
+    fn hear(&mut self, bytes: &[u8]) -> Met {
         let from = self.ticks;
         let mut taken = 0;
         while taken < bytes.len() {
@@ -357,7 +357,7 @@ impl<R: Hunted> Device for HuntingDevice<R> {
 
     // Silence is nothing, however long.
     #[inline]
-    fn wait_on(&mut self, ticks: usize) -> Met {
+    fn wait(&mut self, ticks: usize) -> Met {
         self.ticks += ticks as u64;
         Met {
             taken: ticks,

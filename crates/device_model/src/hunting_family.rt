@@ -36,7 +36,7 @@ impl<R: Hunted> HuntingFamily<R> {
     }
 
     #[inline]
-    fn hear(&mut self, byte: u8) -> Option<u64>
+    fn hear_byte(&mut self, byte: u8) -> Option<u64>
         requires { family_ticks self.old < MAX_TICKS }
         ensures taken { family_ticks self.new ≡ family_ticks self.old + 1 }
         ensures stands { (cut : ℕ) (line : List Tick)
@@ -51,11 +51,11 @@ impl<R: Hunted> HuntingFamily<R> {
         self.silence.end();
         let at = self.device.ticks;
         self.device.ticks += 1;
-        self.device.hear(at, byte)
+        self.device.hear_byte(at, byte)
     }
 
     #[inline]
-    fn wait(&mut self)
+    fn wait_tick(&mut self)
         requires { family_ticks self.old < MAX_TICKS }
         ensures taken { family_ticks self.new ≡ family_ticks self.old + 1 }
         ensures stands { (cut : ℕ) (line : List Tick)
@@ -86,7 +86,7 @@ impl<R: Hunted> HuntingFamily<R> {
     /// read in this very tick, which is lent then, and `None` where none is. Fewer than `MAX_TICKS`
     /// ticks were taken before.
     #[inline]
-    pub fn step_on(&mut self, t: Tick) -> Option<u64>
+    pub fn step(&mut self, t: Tick) -> Option<u64>
         requires { family_ticks self.old < MAX_TICKS }
         ensures taken { family_ticks self.new ≡ family_ticks self.old + 1 }
         ensures stands { (cut : ℕ) (line : List Tick)
@@ -99,9 +99,9 @@ impl<R: Hunted> HuntingFamily<R> {
             ++ frames_lent result (family_lent self.new) }
     {
         match t {
-            Tick::Byte(byte) => self.hear(byte),
+            Tick::Byte(byte) => self.hear_byte(byte),
             Tick::Silent => {
-                self.wait();
+                self.wait_tick();
                 None
             }
         }

@@ -18,9 +18,9 @@ fn waits<D: Device + Drop>(rt: &impl Abort, bytes: &[u8], heard: Met, waited: Me
     requires { 2 + length bytes.now ≤ 100 }
 {
     let mut device = D::fresh();
-    assert_eq!(rt; device.step_on(Tick::Silent), None);
-    assert_eq!(rt; device.hear_on(bytes), heard);
-    assert_eq!(rt; device.wait_on(9), waited);
+    assert_eq!(rt; device.step(Tick::Silent), None);
+    assert_eq!(rt; device.hear(bytes), heard);
+    assert_eq!(rt; device.wait(9), waited);
     assert_eq!(rt; device.frame_bytes(), frame);
 }
 

@@ -4,7 +4,7 @@
 //!
 //!     let mut device = RtuDevice::fresh();
 //!     for tick in &line {
-//!         if let Some(start) = device.step_on(*tick) {
+//!         if let Some(start) = device.step(*tick) {
 //!             print(start, device.frame_bytes());
 //!         }
 //!     }
@@ -29,7 +29,7 @@ pub use hunting_family::HuntingFamily;
 pub use laws::{forwarded_frames_are_read, hunts_by_cases, stated_devices_are_members};
 pub use rtu::RtuDevice;
 pub use rtu_family::RtuFamily;
-pub use run::hear_run_on;
+pub use run::hear_run;
 
 #[cfg(test)]
 mod family_tests;

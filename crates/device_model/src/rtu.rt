@@ -34,13 +34,13 @@ impl Device for RtuDevice {
     }
 
     #[inline]
-    fn step_on(&mut self, t: Tick) -> Option<u64> {
-        self.family.step_on(t)
+    fn step(&mut self, t: Tick) -> Option<u64> {
+        self.family.step(t)
     }
 
     #[inline]
-    fn hear_on(&mut self, bytes: &[u8]) -> Met {
-        self.family.hear_some(bytes);
+    fn hear(&mut self, bytes: &[u8]) -> Met {
+        self.family.hear(bytes);
         Met {
             taken: bytes.len(),
             start: None,
@@ -48,7 +48,7 @@ impl Device for RtuDevice {
     }
 
     #[inline]
-    fn wait_on(&mut self, ticks: usize) -> Met {
-        self.family.wait_on(ticks)
+    fn wait(&mut self, ticks: usize) -> Met {
+        self.family.wait(ticks)
     }
 }

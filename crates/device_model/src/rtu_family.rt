@@ -172,7 +172,7 @@ impl RtuFamily {
     }
 
     #[inline]
-    fn hear(&mut self, byte: u8)
+    fn hear_byte(&mut self, byte: u8)
         requires { ticks_heard self.old < MAX_TICKS }
         ensures taken { ticks_heard self.new ≡ ticks_heard self.old + 1 }
         ensures quiet { self.new.silence.quiet ≡ 0 }
@@ -192,7 +192,7 @@ impl RtuFamily {
     }
 
     #[inline]
-    fn wait(&mut self) -> Option<u64>
+    fn wait_tick(&mut self) -> Option<u64>
         requires { ticks_heard self.old < MAX_TICKS }
         ensures taken { ticks_heard self.new ≡ ticks_heard self.old + 1 }
         ensures cut { self.new.silence.cut ≡ self.old.silence.cut }
@@ -249,14 +249,14 @@ impl RtuFamily {
         let Some((first, rest)) = bytes.split_first() else {
             return;
         };
-        self.hear(*first);
+        self.hear_byte(*first);
         self.go_on_some(rest);
     }
 
     /// Takes the next ticks, which have these bytes. A frame is read in none of them. At most
     /// `MAX_TICKS` ticks were then taken.
     #[inline(always)]
-    pub fn hear_some(&mut self, bytes: &[u8])
+    pub fn hear(&mut self, bytes: &[u8])
         requires { ticks_heard self.old + length bytes.now ≤ MAX_TICKS }
         ensures taken { ticks_heard self.new ≡ ticks_heard self.old + length bytes.now }
         ensures stands { (cut gap : ℕ) (line : List Tick)
@@ -276,7 +276,7 @@ impl RtuFamily {
 
     /// Takes this many silent ticks, up to the first one in which a frame is read, which is lent
     /// then. At most `MAX_TICKS` ticks were then taken.
-    pub fn wait_on(&mut self, ticks: usize) -> Met
+    pub fn wait(&mut self, ticks: usize) -> Met
         requires { ticks_heard self.old + ticks ≤ MAX_TICKS }
         ensures some { 0 < ticks → 0 < result.taken }
         ensures within { result.taken ≤ ticks }
@@ -309,7 +309,7 @@ impl RtuFamily {
             };
         }
         self.rest(left - 1);
-        if let Some(start) = self.wait() {
+        if let Some(start) = self.wait_tick() {
             return Met {
                 taken: left,
                 start: Some(start),
@@ -336,7 +336,7 @@ impl RtuFamily {
     /// read in this very tick, which is lent then, and `None` where none is. Fewer than `MAX_TICKS`
     /// ticks were taken before.
     #[inline]
-    pub fn step_on(&mut self, t: Tick) -> Option<u64>
+    pub fn step(&mut self, t: Tick) -> Option<u64>
         requires { ticks_heard self.old < MAX_TICKS }
         ensures taken { ticks_heard self.new ≡ ticks_heard self.old + 1 }
         ensures stands { (cut gap : ℕ) (line : List Tick)
@@ -349,10 +349,10 @@ impl RtuFamily {
     {
         match t {
             Tick::Byte(byte) => {
-                self.hear(byte);
+                self.hear_byte(byte);
                 None
             }
-            Tick::Silent => self.wait(),
+            Tick::Silent => self.wait_tick(),
         }
     }
 }

@@ -11,7 +11,7 @@ use yasir_ticks::TickRun;
 /// A device takes the next ticks, which are those of this run, up to the first one in which a frame
 /// is read.
 #[inline(always)]
-pub fn hear_run_on<V: Device>(device: &mut V, run: TickRun<'_>) -> Met
+pub fn hear_run<V: Device>(device: &mut V, run: TickRun<'_>) -> Met
     requires { V.taken device.old + length (run_ticks run) ≤ MAX_TICKS }
     ensures some { 0 < length (run_ticks run.entry) → 0 < result.taken }
     ensures within { result.taken ≤ length (run_ticks run.entry) }
@@ -26,7 +26,7 @@ pub fn hear_run_on<V: Device>(device: &mut V, run: TickRun<'_>) -> Met
         → V.reads (line ++ take n (run_ticks run.entry)) ≡ V.reads line }
 {
     match run {
-        TickRun::Bytes(bytes) => device.hear_on(bytes),
-        TickRun::Silence(ticks) => device.wait_on(ticks as usize),
+        TickRun::Bytes(bytes) => device.hear(bytes),
+        TickRun::Silence(ticks) => device.wait(ticks as usize),
     }
 }

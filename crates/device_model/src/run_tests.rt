@@ -33,7 +33,7 @@ fn by_ticks<D: Device + Drop>(first: &[u8], pause: usize, second: &[u8], rest: u
             Tick::Silent
         };
         taken = at + 1;
-        let start = device.step_on(tick);
+        let start = device.step(tick);
         if start.is_some() {
             return copied(&device, Met { taken, start });
         }
@@ -46,24 +46,24 @@ fn by_runs<D: Device + Drop>(first: &[u8], pause: usize, second: &[u8], rest: us
     requires { length first.now + pause + length second.now + rest < 1000 }
 {
     let mut device = D::fresh();
-    let met = device.hear_on(first);
+    let met = device.hear(first);
     if met.start.is_some() {
         return copied(&device, met);
     }
     let mut taken = met.taken;
-    let met = device.wait_on(pause);
+    let met = device.wait(pause);
     taken += met.taken;
     let start = met.start;
     if start.is_some() {
         return copied(&device, Met { taken, start });
     }
-    let met = device.hear_on(second);
+    let met = device.hear(second);
     taken += met.taken;
     let start = met.start;
     if start.is_some() {
         return copied(&device, Met { taken, start });
     }
-    let met = device.wait_on(rest);
+    let met = device.wait(rest);
     taken += met.taken;
     let start = met.start;
     copied(&device, Met { taken, start })

@@ -86,7 +86,7 @@ fn readings<D: Device + Drop>(
     let mut device = D::fresh();
     let mut read = Vec::new(alloc);
     for (at, tick) in line.iter().enumerate() {
-        if let Some(start) = device.step_on(*tick) {
+        if let Some(start) = device.step(*tick) {
             read.push((at, frame_at(start, device.frame_bytes())))?;
         }
     }
@@ -204,11 +204,11 @@ fn runs<D: Device + Drop>(frame: &[u8]) -> [Heard; 3]
     requires { length frame.now < 1000 }
 {
     let mut device = D::fresh();
-    let met = device.wait_on(3);
+    let met = device.wait(3);
     let before = copied(&device, met);
-    let met = device.hear_on(frame);
+    let met = device.hear(frame);
     let query = copied(&device, met);
-    let met = device.wait_on(6);
+    let met = device.wait(6);
     [before, query, copied(&device, met)]
 }
 

@@ -10,7 +10,7 @@ ghost use Rattle.device_replay.specs.Lines.{frame_line};
 ghost use Rattle.device_replay.specs.FrameLines.{printing};
 
 use crate::text::write_read_line;
-use device_model::{Device, Met, hear_run_on};
+use device_model::{Device, Met, hear_run};
 use replay_status::Line;
 use tick_drive::{Consumer, Stop};
 use yasir_io::{Failed, Sink, TextBuffer};
@@ -72,7 +72,7 @@ impl<'a, V: Device, O: Sink> FrameLines<'a, V, O> {
         ensures { GivesSome (printing V.Device O.Sink) self.old self.new (run_items run.entry)
             result }
     {
-        let Met { taken, start } = hear_run_on(self.device, run);
+        let Met { taken, start } = hear_run(self.device, run);
         let Some(start) = start else {
             return Ok(taken);
         };

@@ -2,7 +2,7 @@
 use arrayvec::ArrayVec;
 use burst_walk::RunBytes;
 use circular_buffer::HeapCircularBuffer;
-use device_model::{Device, Met, hear_run_on};
+use device_model::{Device, Met, hear_run};
 use std::alloc::Global;
 use yasir_io::NoMemory;
 use yasir_ticks::{MAX_TICKS, Tick, TickRun};
@@ -179,7 +179,7 @@ impl<V: Device, const GAP: usize> Spacer<V, GAP> {
             (frames_lent result.lost (bytes_lent V.lent self.new)) }
     {
         let tick = self.send();
-        let read = self.device.step_on(t);
+        let read = self.device.step(t);
         let lost = self.keep(read);
         SpaceStep { tick, lost }
     }
@@ -248,7 +248,7 @@ impl<V: Device, const GAP: usize> Spacer<V, GAP> {
             return self.take_one(first, left);
         }
         let front = run.front(most);
-        let Met { taken, start } = hear_run_on(&mut self.device, front);
+        let Met { taken, start } = hear_run(&mut self.device, front);
         self.send_some(taken, left);
         let lost = self.keep(start);
         SpaceRun { taken, lost }

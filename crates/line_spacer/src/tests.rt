@@ -37,8 +37,8 @@ impl<R: Hunted> Device for ForgetfulDevice<R> {
         self.0.frame_bytes()
     }
 
-    fn step_on(&mut self, t: Tick) -> Option<u64> {
-        self.0.step_on(t)
+    fn step(&mut self, t: Tick) -> Option<u64> {
+        self.0.step(t)
     }
 }
 
@@ -69,13 +69,13 @@ impl Device for Deaf {
         &self.calls
     }
 
-    fn step_on(&mut self, _t: Tick) -> Option<u64> {
+    fn step(&mut self, _t: Tick) -> Option<u64> {
         self.calls[2] = self.calls[2].saturating_add(1);
         self.taken += 1;
         None
     }
 
-    fn hear_on(&mut self, bytes: &[u8]) -> Met {
+    fn hear(&mut self, bytes: &[u8]) -> Met {
         self.calls[0] = self.calls[0].saturating_add(1);
         self.taken += bytes.len() as u64;
         Met {
@@ -84,7 +84,7 @@ impl Device for Deaf {
         }
     }
 
-    fn wait_on(&mut self, ticks: usize) -> Met {
+    fn wait(&mut self, ticks: usize) -> Met {
         self.calls[1] = self.calls[1].saturating_add(1);
         self.taken += ticks as u64;
         Met {

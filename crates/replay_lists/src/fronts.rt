@@ -11,7 +11,7 @@ use crate::frame_list::FrameList;
 use crate::lines::take_lent;
 use crate::replay_lists::{pass_run, step_into};
 use burst_walk::RunBytes;
-use device_model::{Device, hear_run_on};
+use device_model::{Device, hear_run};
 use yasir_io::NoMemory;
 use yasir_ticks::{Tick, TickRun};
 
@@ -80,7 +80,7 @@ pub(crate) fn hear_front<V: Device>(
     ensures hears { HearsOn V.Device passed.entry.late passed.entry.frames.now device.old
         device.new read.old read.new (take result (run_ticks run.entry)) }
 {
-    let met = hear_run_on(device, run);
+    let met = hear_run(device, run);
     take_lent(device, met.start, read, passed);
     met.taken
 }

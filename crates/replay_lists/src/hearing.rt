@@ -47,7 +47,7 @@ pub(crate) fn hear_some<V: Device>(
         → Listens V.Device device.old frames.old line
         → Listens V.Device device.new frames.new (line ++ map Byte (take n bytes.now))) }
 {
-    let met = device.hear_on(bytes);
+    let met = device.hear(bytes);
     match keep_lent(device, met.start, frames) {
         Ok(()) => Ok(met.taken),
         Err(NoMemory) => Err(NoMemory),
@@ -72,7 +72,7 @@ pub(crate) fn wait_some<V: Device>(
         → Listens V.Device device.old frames.old line
         → Listens V.Device device.new frames.new (line ++ silent n)) }
 {
-    let met = device.wait_on(ticks);
+    let met = device.wait(ticks);
     match keep_lent(device, met.start, frames) {
         Ok(()) => Ok(met.taken),
         Err(NoMemory) => Err(NoMemory),

@@ -93,7 +93,7 @@ fn hear_tick<V: Device>(device: &mut V, read: &mut Comparison, passed: Passed<'_
     ensures { HearsOn V.Device passed.entry.late passed.entry.frames.now device.old device.new
         read.old read.new (tick ∷ []) }
 {
-    let start = device.step_on(tick);
+    let start = device.step(tick);
     take_lent(device, start, read, passed);
 }
 

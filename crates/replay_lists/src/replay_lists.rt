@@ -91,7 +91,7 @@ pub(crate) fn hear_into<V: Device>(
     ensures ok { OnOk result ((line : List Tick) → Listens V.Device device.old frames.old line
         → Listens V.Device device.new frames.new (line ++ t ∷ [])) }
 {
-    let start = device.step_on(t);
+    let start = device.step(t);
     keep_lent(device, start, frames)
 }
 

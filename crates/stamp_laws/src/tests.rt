@@ -53,7 +53,7 @@ fn starts_of(alloc: Global, line: &[Tick]) -> Result<Vec<u64>, AllocError>
     let mut device = RtuDevice::fresh();
     let mut starts = Vec::new(alloc);
     for tick in line {
-        if let Some(start) = device.step_on(*tick) {
+        if let Some(start) = device.step(*tick) {
             starts.push(start)?;
         }
     }

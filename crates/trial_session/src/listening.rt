@@ -74,7 +74,7 @@ impl<V: Device + Drop> Listening<V> {
     {
         let mut at = 0;
         while at < bytes.len() {
-            let met = self.device.hear_on(&bytes[at..]);
+            let met = self.device.hear(&bytes[at..]);
             self.read += frames_in(met.start);
             at += met.taken;
         }
@@ -91,7 +91,7 @@ impl<V: Device + Drop> Listening<V> {
     {
         let mut at = 0;
         while at < ticks {
-            let met = self.device.wait_on(ticks - at);
+            let met = self.device.wait(ticks - at);
             self.read += frames_in(met.start);
             at += met.taken;
         }

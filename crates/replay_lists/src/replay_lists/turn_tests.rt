@@ -115,13 +115,13 @@ impl Device for Deaf {
         &[]
     }
 
-    fn step_on(&mut self, _t: Tick) -> Option<u64> {
+    fn step(&mut self, _t: Tick) -> Option<u64> {
         self.calls.step = self.calls.step.saturating_add(1);
         self.taken += 1;
         None
     }
 
-    fn hear_on(&mut self, bytes: &[u8]) -> Met {
+    fn hear(&mut self, bytes: &[u8]) -> Met {
         self.calls.bytes = self.calls.bytes.saturating_add(1);
         self.taken += bytes.len() as u64;
         Met {
@@ -130,7 +130,7 @@ impl Device for Deaf {
         }
     }
 
-    fn wait_on(&mut self, ticks: usize) -> Met {
+    fn wait(&mut self, ticks: usize) -> Met {
         self.calls.silence = self.calls.silence.saturating_add(1);
         self.taken += ticks as u64;
         Met {

@@ -119,19 +119,19 @@ impl<V: Device> Device for Counted<V> {
         self.inner.frame_bytes()
     }
 
-    fn step_on(&mut self, t: Tick) -> Option<u64> {
+    fn step(&mut self, t: Tick) -> Option<u64> {
         self.turn();
-        self.inner.step_on(t)
+        self.inner.step(t)
     }
 
-    fn hear_on(&mut self, bytes: &[u8]) -> Met {
+    fn hear(&mut self, bytes: &[u8]) -> Met {
         self.turn();
-        self.inner.hear_on(bytes)
+        self.inner.hear(bytes)
     }
 
-    fn wait_on(&mut self, ticks: usize) -> Met {
+    fn wait(&mut self, ticks: usize) -> Met {
         self.turn();
-        self.inner.wait_on(ticks)
+        self.inner.wait(ticks)
     }
 }
 

@@ -4,6 +4,6 @@ use Rattle.replay_lists.proofs.hearing.wait_some.Goals as goal
 
 pub returns-in-Ok-clause-ok : goal.returns-in-Ok-clause-ok
 returns-in-Ok-clause-ok g c =
-    listens-more g.V.Device c.args.device.now c.wait_on-met.new.self c.args.frames.now
-    c.keep_lent.new.frames (silent c.wait_on-met.result.taken) _
-    c.wait_on-met.ensures.stands c.wait_on-met.ensures.answer c.in-Ok.ensures.kept
+    listens-more g.V.Device c.args.device.now c.wait-met.new.self c.args.frames.now
+    c.keep_lent.new.frames (silent c.wait-met.result.taken) _
+    c.wait-met.ensures.stands c.wait-met.ensures.answer c.in-Ok.ensures.kept

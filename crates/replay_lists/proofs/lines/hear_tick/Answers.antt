@@ -8,7 +8,7 @@ take_lent-requires-clause-room g c = omega (arith, c.requires.few, c.requires.ro
 
 pub returns : goal.returns
 returns g c = hears-lent g.V.Device c.args.passed.late c.args.passed.frames.now
-    c.args.device.now c.step_on-start.new.self c.args.read.now c.take_lent.new.read _
-    (frames_lent c.step_on-start.result (g.V.Device.lent c.step_on-start.new.self))
-    c.step_on-start.ensures.taken c.take_lent.ensures.few c.step_on-start.ensures.stands
-    c.step_on-start.ensures.answer c.take_lent.ensures.found
+    c.args.device.now c.step-start.new.self c.args.read.now c.take_lent.new.read _
+    (frames_lent c.step-start.result (g.V.Device.lent c.step-start.new.self))
+    c.step-start.ensures.taken c.take_lent.ensures.few c.step-start.ensures.stands
+    c.step-start.ensures.answer c.take_lent.ensures.found

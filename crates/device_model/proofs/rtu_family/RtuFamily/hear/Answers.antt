@@ -1,31 +1,14 @@
-use Rattle.std.proofs.Common.{sym, ◌∙◌}
-use Rattle.device_model.proofs.RtuFamilyLaws.{begins, goes_on}
+use Rattle.std.proofs.Common.{take, arith}
+use Rattle.device_model.proofs.RtuRuns.{bytes-unread, bytes-kept}
 use Rattle.device_model.proofs.rtu_family.RtuFamily.hear.Goals as goal
 
-pub returns-then-has_parted-clause-stands : goal.returns-then-has_parted-clause-stands
-returns-then-has_parted-clause-stands c = λ cut gap line heard.
-    (begins cut gap c.args.self.now c.begin.new.self line heard c.begin.ensures.cut
-    c.begin.ensures.gap c.begin.ensures.ticks c.args.byte
-    (sym c.has_parted.ensures ∙ c.if-has_parted.true) c.begin.ensures.quiet c.begin.ensures.start
-    c.begin.ensures.broken c.begin.ensures.bytes).stands
+pub returns-then-ticks-eq0-clause-stands : goal.returns-then-ticks-eq0-clause-stands
+returns-then-ticks-eq0-clause-stands c = λ cut gap line heard.
+    bytes-kept cut gap c.args.self.now c.go_on_some.new.self line c.args.bytes.now heard
+    c.go_on_some.ensures.silence c.go_on_some.ensures.gap c.go_on_some.ensures.ticks
+    (omega arith) c.go_on_some.ensures.start c.go_on_some.ensures.broken
+    c.go_on_some.ensures.bytes
 
-pub returns-then-has_parted-clause-answer : goal.returns-then-has_parted-clause-answer
-returns-then-has_parted-clause-answer c = λ cut gap line heard.
-    (begins cut gap c.args.self.now c.begin.new.self line heard c.begin.ensures.cut
-    c.begin.ensures.gap c.begin.ensures.ticks c.args.byte
-    (sym c.has_parted.ensures ∙ c.if-has_parted.true) c.begin.ensures.quiet c.begin.ensures.start
-    c.begin.ensures.broken c.begin.ensures.bytes).is
-
-pub returns-clause-stands : goal.returns-clause-stands
-returns-clause-stands c = λ cut gap line heard.
-    (goes_on cut gap c.args.self.now c.go_on.new.self line heard c.go_on.ensures.cut
-    c.go_on.ensures.gap c.go_on.ensures.ticks c.args.byte
-    (sym c.has_parted.ensures ∙ c.if-has_parted.false) c.go_on.ensures.quiet c.go_on.ensures.start
-    c.go_on.ensures.broken c.go_on.ensures.bytes).stands
-
-pub returns-clause-answer : goal.returns-clause-answer
-returns-clause-answer c = λ cut gap line heard.
-    (goes_on cut gap c.args.self.now c.go_on.new.self line heard c.go_on.ensures.cut
-    c.go_on.ensures.gap c.go_on.ensures.ticks c.args.byte
-    (sym c.has_parted.ensures ∙ c.if-has_parted.false) c.go_on.ensures.quiet c.go_on.ensures.start
-    c.go_on.ensures.broken c.go_on.ensures.bytes).is
+pub returns-then-ticks-eq0-clause-answer : goal.returns-then-ticks-eq0-clause-answer
+returns-then-ticks-eq0-clause-answer c = λ cut gap n line heard.
+    bytes-unread cut gap c.args.self.now line (take n c.args.bytes.now) heard

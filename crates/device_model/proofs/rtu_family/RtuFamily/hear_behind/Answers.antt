@@ -11,11 +11,11 @@ returns-clause-stands c = λ cut gap line heard.
     append_assoc line (Byte c.in-Some.first.now ∷ []) (map (λ b. Byte b) c.in-Some.rest.now)
     ∙ ap (λ y. line ++ map (λ b. Byte b) y) (sym c.in-Some.ensures.cases.0) in
     subst (RtuFamilyStandsFor cut gap c.go_on_some.new.self) joined
-    (bytes-kept cut gap c.hear.new.self c.go_on_some.new.self
+    (bytes-kept cut gap c.hear_byte.new.self c.go_on_some.new.self
     (line ++ Byte c.in-Some.first.now ∷ []) c.in-Some.rest.now
-    (c.hear.ensures.stands cut gap line heard)
+    (c.hear_byte.ensures.stands cut gap line heard)
     c.go_on_some.ensures.silence c.go_on_some.ensures.gap c.go_on_some.ensures.ticks
-    c.hear.ensures.quiet c.go_on_some.ensures.start c.go_on_some.ensures.broken
+    c.hear_byte.ensures.quiet c.go_on_some.ensures.start c.go_on_some.ensures.broken
     c.go_on_some.ensures.bytes)
 
 pub returns-clause-answer : goal.returns-clause-answer

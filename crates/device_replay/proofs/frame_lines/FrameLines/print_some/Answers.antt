@@ -5,8 +5,8 @@ use Rattle.tick_drive.proofs.Causes.{cause_none}
 use Rattle.device_replay.proofs.Printing.{none_read, one_read, one_failed}
 use Rattle.device_replay.proofs.frame_lines.FrameLines.print_some.Goals as goal
 
-pub hear_run_on-taken-requires : goal.hear_run_on-taken-requires
-hear_run_on-taken-requires g c = omega (
+pub hear_run-taken-requires : goal.hear_run-taken-requires
+hear_run-taken-requires g c = omega (
   arith,
   c.requires.may.room,
   ap length (ticks_in-run
@@ -15,7 +15,7 @@ hear_run_on-taken-requires g c = omega (
 
 pub returns-in_default : goal.returns-in_default
 returns-in_default g c =
-    let heard = c.hear_run_on-taken in
+    let heard = c.hear_run-taken in
     let lent : List ℕ = g.V.Device.lent heard.new.device in
     none_read g.V.Device g.O.Sink _ _ c.args.run heard.result.taken (frames_lent heard.result.start lent)
     (heard.ensures.some c.requires.some) heard.ensures.within heard.ensures.taken
@@ -29,7 +29,7 @@ returns-in_default g c =
 
 pub returns-in-Ok : goal.returns-in-Ok
 returns-in-Ok g c =
-    let heard = c.hear_run_on-taken in
+    let heard = c.hear_run-taken in
     let lent : List ℕ = g.V.Device.lent heard.new.device in
     let pushed = c.in-Ok.ensures in
     one_read g.V.Device g.O.Sink _ _ c.args.run heard.result.taken (frames_lent heard.result.start lent)
@@ -53,7 +53,7 @@ returns-in-Ok g c =
 
 pub returns-in-Err : goal.returns-in-Err
 returns-in-Err g c =
-    let heard = c.hear_run_on-taken in
+    let heard = c.hear_run-taken in
     let lent : List ℕ = g.V.Device.lent heard.new.device in
     let pushed = c.in-Err.ensures in
     one_failed g.V.Device g.O.Sink _ _ c.args.run heard.result.taken

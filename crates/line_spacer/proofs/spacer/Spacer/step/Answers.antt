@@ -16,10 +16,10 @@ returns-clause-stands g c = λ cap line stands.
     (accepted_of reads gap cap line) stands.sent in
     let room = c.send-tick.ensures.room ∙ stands.room in
     record {
-      heard = rw c.keep-lost.ensures.device (c.step_on-read.ensures.stands line heard);
+      heard = rw c.keep-lost.ensures.device (c.step-read.ensures.stands line heard);
       room = c.keep-lost.ensures.room ∙ room;
-      sent = step-sent reads gap cap old.queue.capacity line c.args.t (frames_lent c.step_on-read.result (g.V.Device.lent c.step_on-read.new.self))
-          (c.step_on-read.ensures.answer line heard) room
+      sent = step-sent reads gap cap old.queue.capacity line c.args.t (frames_lent c.step-read.result (g.V.Device.lent c.step-read.new.self))
+          (c.step-read.ensures.answer line heard) room
           (drop new.sent new.sending.items) new.rest (frames_in new.queue.items)
           (c.keep-lost.ensures.sent (length line) (spaced reads gap cap line) sends.sent);
     }
@@ -33,6 +33,6 @@ returns-clause-answer g c = λ cap line stands.
     let sends = c.send-tick.ensures.sends (length line)
     (accepted_of reads gap cap line) stands.sent in
     let room = c.send-tick.ensures.room ∙ stands.room in
-    step-answers reads gap cap old.queue.capacity line c.args.t (frames_lent c.step_on-read.result (g.V.Device.lent c.step_on-read.new.self))
-    (c.step_on-read.ensures.answer line heard) room c.send-tick.result (frames_lent c.keep-lost.result (g.V.Device.lent c.keep-lost.new.self.device))
+    step-answers reads gap cap old.queue.capacity line c.args.t (frames_lent c.step-read.result (g.V.Device.lent c.step-read.new.self))
+    (c.step-read.ensures.answer line heard) room c.send-tick.result (frames_lent c.keep-lost.result (g.V.Device.lent c.keep-lost.new.self.device))
     sends.leaves (c.keep-lost.ensures.takes (length line) (spaced reads gap cap line) sends.sent)

@@ -10,27 +10,27 @@ pub loop-at-preserved : goal.loop-at-preserved
 loop-at-preserved g c =
     let at = c.loop-at.at in
     let bytes = c.args.bytes.now in
-    let n = c.hear_on-met.result.taken in
+    let n = c.hear-met.result.taken in
     let before = c.loop-at.invariant in
     let left = ap length (take_rest bytes at) ∙ length-drop at bytes in
-    let within = c.hear_on-met.ensures.within in (
+    let within = c.hear-met.ensures.within in (
       omega (arith, before.0, left, within),
       omega (
         arith,
         before.1,
         c.frames_in.ensures.few,
-        c.hear_on-met.ensures.taken,
-        c.hear_on-met.ensures.some,
+        c.hear-met.ensures.taken,
+        c.hear-met.ensures.some,
         left,
         c.loop-at-test.true,
       ),
-      omega (arith, c.hear_on-met.ensures.taken, before.2),
+      omega (arith, c.hear-met.ensures.taken, before.2),
       λ line heard.
           let so = before.3 line heard in
           subst (HasHeard g.V.Device _) (bytes-more at n bytes line)
           (hears-run g.V.Device c.loop-at.self _ _ _ _ _ c.frames_in.result refl
-          (c.hear_on-met.ensures.stands _ so.stands)
-          (c.hear_on-met.ensures.answer _ so.stands)
+          (c.hear-met.ensures.stands _ so.stands)
+          (c.hear-met.ensures.answer _ so.stands)
           (c.frames_in.ensures.value _) so refl),
     )
 

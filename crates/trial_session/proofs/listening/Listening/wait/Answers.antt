@@ -8,24 +8,24 @@ use Rattle.trial_session.proofs.listening.Listening.wait.Goals as goal
 pub loop-at-preserved : goal.loop-at-preserved
 loop-at-preserved g c =
     let at = c.loop-at.at in
-    let n = c.wait_on-met.result.taken in
+    let n = c.wait-met.result.taken in
     let before = c.loop-at.invariant in (
-      omega (arith, before.0, c.wait_on-met.ensures.within),
+      omega (arith, before.0, c.wait-met.ensures.within),
       omega (
         arith,
         before.1,
         c.frames_in.ensures.few,
-        c.wait_on-met.ensures.taken,
-        c.wait_on-met.ensures.some,
+        c.wait-met.ensures.taken,
+        c.wait-met.ensures.some,
         c.loop-at-test.true,
       ),
-      omega (arith, c.wait_on-met.ensures.taken, before.2),
+      omega (arith, c.wait-met.ensures.taken, before.2),
       λ line heard.
           let so = before.3 line heard in
           subst (HasHeard g.V.Device _) (silence-more at n line)
           (hears-run g.V.Device c.loop-at.self _ _ _ _ _ c.frames_in.result refl
-          (c.wait_on-met.ensures.stands _ so.stands)
-          (c.wait_on-met.ensures.answer _ so.stands)
+          (c.wait-met.ensures.stands _ so.stands)
+          (c.wait-met.ensures.answer _ so.stands)
           (c.frames_in.ensures.value _) so refl),
     )
 

@@ -1,6 +1,6 @@
 use Rattle.std.proofs.Common.{◌≤◌, ◌-◌, [], length, take}
 use Rattle.device_model.specs.HuntingDevice.{TakesRun}
-use Rattle.device_model.proofs.hunting.HuntingDeviceDevice.hear_on.Given as goal
+use Rattle.device_model.proofs.hunting.HuntingDeviceDevice.hear.Given as goal
 
 abbrev pub invariant-loop-taken : goal.invariant-loop-taken
 invariant-loop-taken g l = (l.taken ≤ length l.bytes)

@@ -1,7 +1,7 @@
 use Rattle.std.proofs.Common.{◌∙◌, sym}
 use Rattle.std.proofs.lemmas.List.{append-nil}
 use Rattle.device_model.proofs.HuntSteps.{silences-stand, silences-read}
-use Rattle.device_model.proofs.hunting.HuntingDeviceDevice.wait_on.Goals as goal
+use Rattle.device_model.proofs.hunting.HuntingDeviceDevice.wait.Goals as goal
 
 pub returns-clause-stands : goal.returns-clause-stands
 returns-clause-stands g c = λ line heard.

@@ -1,7 +1,7 @@
 use Rattle.std.proofs.Common.{map, take}
 use Rattle.yasir_ticks.specs.declared.tick.Tick.TheVariants.{Byte}
 use Rattle.device_model.proofs.Runs.{IsQuiet}
-use Rattle.device_model.proofs.device.Device.hear_on.Given as goal
+use Rattle.device_model.proofs.device.Device.hear.Given as goal
 
 abbrev pub invariant-loop-at : goal.invariant-loop-at
 invariant-loop-at g l =

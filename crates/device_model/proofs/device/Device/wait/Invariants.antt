@@ -1,6 +1,6 @@
 use Rattle.yasir_ticks.specs.Ticks.{silent}
 use Rattle.device_model.proofs.Runs.{IsQuiet}
-use Rattle.device_model.proofs.device.Device.wait_on.Given as goal
+use Rattle.device_model.proofs.device.Device.wait.Given as goal
 
 abbrev pub invariant-loop-at : goal.invariant-loop-at
 invariant-loop-at g l =

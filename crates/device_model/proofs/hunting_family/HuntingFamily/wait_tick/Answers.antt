@@ -1,6 +1,6 @@
 use Rattle.std.proofs.Common.{◌∙◌, ◌+◌, sym, refl}
 use Rattle.device_model.proofs.HuntFamilyLaws.{waits, loses}
-use Rattle.device_model.proofs.hunting_family.HuntingFamily.wait.Goals as goal
+use Rattle.device_model.proofs.hunting_family.HuntingFamily.wait_tick.Goals as goal
 
 pub returns-then-not-wait-clause-stands : goal.returns-then-not-wait-clause-stands
 returns-then-not-wait-clause-stands g c = λ cut line heard.

@@ -6,7 +6,7 @@ use Rattle.device_model.specs.Hunt.{hunt_line}
 use Rattle.device_model.specs.HuntingDevice.{TakesRun}
 use Rattle.device_model.proofs.HuntRuns.{no-run, part-joined, part-ended, not-true, not-false}
 use Rattle.device_model.proofs.HuntRuns.{run-stands, run-reads, run-unread-front}
-use Rattle.device_model.proofs.hunting.HuntingDeviceDevice.hear_on.Goals as goal
+use Rattle.device_model.proofs.hunting.HuntingDeviceDevice.hear.Goals as goal
 
 pub loop-taken-init : goal.loop-taken-init
 loop-taken-init g c = (
