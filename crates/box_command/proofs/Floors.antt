@@ -87,14 +87,6 @@ module _ {D : Type 0} (d : SlotDisk D) (link : LinkId) (journal : Journal) (old 
       (subst (λ n. LeavesOnly d.moment d.left_since loaded new (HasFloorAtLeast link n)) floor_is
       (since_load begun new same drive one)))
 
--- as the journal was loaded, and no more
-pub load_keeps : {D : Type 0} (d : SlotDisk D) (link : LinkId) (old loaded : D)
-    → ((slots : Slots) (floor : ℕ) → d.told old ≡ Some slots
-    → OneImage (d.told old) (d.may_leave old) → floor_of link slots ≡ Some floor
-    → LeavesOnly d.moment d.left_since old loaded (KeepsLoadable link slots floor))
-    → KeepsFloorThroughout d link old loaded
-load_keeps d link old loaded loading one slots floor told is = loading slots floor told one is
-
 pub disk_cause_of_end : (before now : ℕ) (end : End)
     → IsDiskCause before now (is_journal_fault (answer_of end))
     → BoxDiskCause before now (status_of end)

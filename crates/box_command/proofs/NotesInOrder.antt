@@ -1,6 +1,6 @@
 -- The lines of two lists, merged by their steps.
 use Rattle.std.proofs.Common.{◌≡◌, ◌∙◌, ◌⊎◌, ℕ, zero, suc, ◌+◌, ◌<◌, ◌≤◌, inl, inr, List, [], ◌∷◌, ◌++◌}
-use Rattle.std.proofs.Common.{cond, eqb, true, false, length, get_or, drop, refl, sym, ap, subst, arith}
+use Rattle.std.proofs.Common.{eqb, true, false, length, get_or, drop, refl, sym, ap, subst, arith}
 use Rattle.std.proofs.Common.{append_assoc, append-nil, add-one, drop-cons}
 use Rattle.std.proofs.lemmas.Bool.{ne_eqb, eq-eqb, cases_lt}
 use Rattle.replay_lists.specs.FrameList.{Kept}
@@ -186,11 +186,6 @@ module _ (n : ℕ) (a b : List (Kept ℕ)) (text : List ℕ) (i j : ℕ) (d : Ke
       }
 
 -- ---- the start and the end
-
-pub none-merged : (n : ℕ) (a b : List (Kept ℕ)) → AreInOrder 0 n a → AreInOrder 0 n b
-    → MergedTo n a b [] 0 0
-none-merged n a b first second =
-    record { is = refl; first_in_order = first; second_in_order = second }
 
 pub all-merged : (n : ℕ) (a b : List (Kept ℕ)) (text : List ℕ) (i j : ℕ) → length a ≤ i
     → length b ≤ j → MergedTo n a b text i j → text ≡ lines_before n a b

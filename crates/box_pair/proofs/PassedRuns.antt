@@ -1,13 +1,12 @@
 -- Runs that the boxes of a pair take at once.
-use Rattle.std.proofs.Common.{◌≡◌, ◌∙◌, ℕ, ◌+◌, ◌≤◌, List, [], ◌∷◌, ◌++◌, length, take, refl, sym, ap}
+use Rattle.std.proofs.Common.{◌≡◌, ◌∙◌, ℕ, ◌+◌, ◌≤◌, List, [], length, take, sym, ap}
 use Rattle.std.proofs.Common.{subst, arith}
-use Rattle.std.proofs.lemmas.List.{append-nil, length-replicate, length-take, length-take-le}
+use Rattle.std.proofs.lemmas.List.{length-replicate, length-take, length-take-le}
 use Rattle.std.proofs.lemmas.List.{take-replicate, take-take}
 use Rattle.yasir_ticks.specs.Ticks.{silent}
 use Rattle.yasir_ticks.specs.declared.tick.Tick.{Tick}
 use Rattle.yasir_ticks.specs.declared.tick.Tick.TheVariants.{Silent}
 use Rattle.burst_walk.specs.Answered.{answered}
-use Rattle.burst_walk.proofs.Runs.{run-none}
 use Rattle.link_box.specs.declared.box_trait.LinkBox.{Ghosts as LinkBox}
 use Rattle.link_box.specs.Runs.{TakesRun}
 use Rattle.box_pair.specs.Pairs.{HasPassed}
@@ -42,20 +41,6 @@ module _ {S A : Type 0} (boxed : LinkBox S A) (old new : S) where
         link = link;
         takes = takes;
       })
-
--- no tick
-pub passed-none : {S A : Type 0} (boxed : LinkBox S A) (old : S) (lent : List ℕ) → lent ≡ []
-    → HasPassed boxed old old [] (answered 0 lent)
-passed-none boxed old lent none =
-    subst (λ l. HasPassed boxed old old [] (answered 0 l)) (sym none) (record {
-      counted = omega arith;
-      link = refl;
-      takes = λ last setup line stands. record {
-        stands = subst (λ l. boxed.stands old last setup l) (sym (append-nil line)) stands;
-        answers = run-none (boxed.walking.walker setup) boxed.walking.brief
-            (boxed.walking.begun setup) line;
-      };
-    })
 
 -- ---- the fronts of both lines, as long as each other
 

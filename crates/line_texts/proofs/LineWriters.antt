@@ -72,10 +72,6 @@ silence_joined old new n none still is = joins old new (silent n) (are_silent n)
     (silence_is new still ∙ ap silent is ∙ sym (replicate-append-replicate old.silence n Silent)
     ∙ ap (λ l. l ++ silent n) (sym (silence_is old none)))
 
-pub nothing_joined : (writer : LineWriter) (run : List Tick) → run ≡ []
-    → Takes writer writer run []
-nothing_joined writer run none = rw none (joins writer writer [] tt (sym (append-nil _)))
-
 -- ticks that fill a line
 pub bytes_filled : (old new : LineWriter) (line x : List ℕ) → AreTicks (map Byte x)
     → old.silence ≡ 0 → new.count ≡ 0 → new.silence ≡ 0

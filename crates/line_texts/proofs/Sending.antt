@@ -4,10 +4,10 @@ use Rattle.std.proofs.Common.{Result, Ok, Err, refl, sym}
 use Rattle.std.proofs.Common.{ap, subst, append_assoc, append-nil}
 use Rattle.std.specs.Io.KnownBytes.{append_known}
 use Rattle.yasir_io.specs.Output.{Buffered, GotPrefix}
-use Rattle.std.specs.Prelude.{OnOk, OnErr}
+use Rattle.std.specs.Prelude.{OnOk}
 use Rattle.std.proofs.lemmas.Result.{on_ok_weaker, on_err_weaker}
-use Rattle.yasir_io.proofs.OutputLemmas.{append_known-nil, append_known-twice, always_on_err}
-use Rattle.yasir_io.proofs.OutputLemmas.{nothing_written, printed}
+use Rattle.yasir_io.proofs.OutputLemmas.{append_known-nil, append_known-twice}
+use Rattle.yasir_io.proofs.OutputLemmas.{printed}
 use Rattle.yasir_ticks.specs.Ticks.{AreTicks}
 use Rattle.yasir_ticks.specs.CanonicalText.{canonical_text}
 use Rattle.yasir_ticks.specs.declared.tick.Tick.{Tick}
@@ -81,10 +81,6 @@ front_of_nothing known text = record {
   all = refl;
 }
 
-pub whole_front : (start now : Option (List ℕ)) (text more : List ℕ) → now ≡ append_known start text
-    → GotPrefix start now (text ++ more)
-whole_front start now text more got = record { front = text; rest = more; got = got; all = refl }
-
 pub part_before : (start now : Option (List ℕ)) (text more : List ℕ) → GotPrefix start now text
     → GotPrefix start now (text ++ more)
 part_before start now text more got = record {
@@ -102,21 +98,6 @@ pub on_ok_both : {T E A B C : Type 0} (r : Result T E) → (A → B → C) → O
     → OnOk r C
 on_ok_both (Ok x) both a b = both a b
 on_ok_both (Err e) both a b = tt
-
--- a note was pushed, and nothing else
-pub only_note : {T E : Type 0} (result : Result T E) (out log0 log1 : Option (List ℕ))
-    (ticks notes_wait notes : List ℕ)
-    → OnOk result (Buffered log0 log1 notes_wait notes) → OnErr result (GotPrefix log0 log1 notes)
-    → PushesTexts (sink_texts out log0) (sink_texts out log1) ticks notes_wait (ticks ++ []) notes
-    result
-only_note result out log0 log1 ticks notes_wait notes goes stops = record {
-  text_goes = always_on_ok result (subst (Buffered out out ticks) (sym (append-nil ticks))
-      (nothing_written out ticks));
-  text_stops = always_on_err result (front_of_nothing out (ticks ++ []));
-  notes_go = goes;
-  notes_stop = stops;
-  notes_first = inl (refl, always_on_ok result (sym (append-nil ticks)));
-}
 
 -- a note was pushed, and then the texts were
 pub texts_after_note : {T E : Type 0} (result : Result T E)

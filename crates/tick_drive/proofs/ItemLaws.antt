@@ -1,8 +1,7 @@
 -- Ticks among items, and how many a run has.
 use Rattle.std.proofs.Common.{◌≡◌, ℕ, suc, zero, ◌+◌, ◌≤◌, List, [], ◌∷◌, ◌++◌, length, take, drop}
-use Rattle.std.proofs.Common.{map, replicate, length-append, append-nil, refl, ap, sym, ◌∙◌, arith}
-use Rattle.std.proofs.lemmas.List.{length-take, length-take-le, drop-map, take-map}
-use Rattle.tick_drive.specs.Items.{byte_items}
+use Rattle.std.proofs.Common.{map, replicate, length-append, append-nil, refl, ap, sym, ◌∙◌}
+use Rattle.std.proofs.lemmas.List.{length-take-le, drop-map, take-map}
 use Rattle.yasir_ticks.specs.Ticks.{Item, ticks_in}
 use Rattle.yasir_ticks.specs.Ticks.Item.{tick, mark}
 use Rattle.yasir_ticks.specs.TickRun.{run_ticks, run_items}
@@ -34,12 +33,6 @@ length-ticks_in-bytes (b ∷ bytes) = ap suc (length-ticks_in-bytes bytes)
 pub length-ticks_in-silence : (n : ℕ) → length (ticks_in (replicate n (tick Silent))) ≡ n
 length-ticks_in-silence zero = refl
 length-ticks_in-silence (suc n) = ap suc (length-ticks_in-silence n)
-
-pub length-ticks_in-take : (bytes : List ℕ) (i : ℕ) → i ≤ length bytes
-    → length (ticks_in (byte_items (take i bytes))) ≡ i
-length-ticks_in-take bytes i within =
-    length-ticks_in-bytes (take i bytes) ∙ let long : length (take i bytes) ≡ i =
-    omega (arith, length-take i bytes, within) in long
 
 -- the items of a run without its first ticks
 pub run_items-behind : (run rest : TickRun) (n : ℕ) → run_ticks rest ≡ drop n (run_ticks run)

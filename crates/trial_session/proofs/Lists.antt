@@ -1,6 +1,6 @@
 -- Ticks up to a place, and silence behind it.
 use Rattle.std.proofs.Common.{◌≡◌, ◌∙◌, ℕ, ◌-◌, List, ◌++◌, length, take, ap, sym, arith, min}
-use Rattle.std.proofs.Common.{⊎_elim, ◌<◌, zero, suc, refl}
+use Rattle.std.proofs.Common.{⊎_elim}
 use Rattle.std.proofs.lemmas.Bool.{cases_lt}
 use Rattle.std.proofs.lemmas.List.{take_all}
 use Rattle.yasir_ticks.specs.Ticks.{silent}
@@ -16,8 +16,3 @@ cut-off ticks place from long is =
     (λ beyond. take_all from ticks (omega arith) ∙ sym (take_all place ticks (omega arith)))
     (cases_lt place 640) in
     ap (λ l. l ++ silent (640 - from)) front ∙ ap (λ n. take place ticks ++ silent n) rest
-
--- what isn't 0 is more
-pub some-of : (n : ℕ) → (n ≡ 0 → ⊥) → 0 < n
-some-of zero not = absurd (not refl)
-some-of (suc n) not = omega arith
