@@ -22,7 +22,7 @@ use Rattle.link_verdicts.specs.declared.note.RefusedWhy.{RefusedWhy}
 use Rattle.check_receiver.specs.Between.{IsWhole, verdict_told}
 use Rattle.check_receiver.specs.Checkings.{PassesWith}
 use Rattle.check_receiver.specs.Stands.{MacHolds, HasTaken}
-use Rattle.check_receiver.specs.Turning.{Turned, closed_at}
+use Rattle.check_receiver.specs.Turning.{Turned, TurnedRefused}
 use Rattle.check_receiver.specs.declared.checker.Checker.{Checker}
 use Rattle.burst_walk.specs.declared.box_step.BoxStep.{BoxStep}
 use Rattle.link_verdicts.specs.declared.note.CheckNote.{CheckNote}
@@ -97,7 +97,7 @@ module _ {R M : Type 0} (proto : LineRules R) (macs : Mac M) {B D : ℕ} (old : 
 
   pub decide-refuses : (why : RefusedWhy) → Judges proto macs old last (Err why)
       → (new : Checker R M B D) (step : BoxStep CheckNote)
-      → Turned proto (closed_at new.earliest_start told) new Silent step.tick
+      → TurnedRefused proto told new step.tick
       → ((link : List Tick) → CutStandsFor proto told.cut link
       → new.earliest_start ≡ length link + told.until
       + left_of rules (live_bytes_so_far rules link))
@@ -106,8 +106,7 @@ module _ {R M : Type 0} (proto : LineRules R) (macs : Mac M) {B D : ℕ} (old : 
       → HasTaken proto macs new last setup line t step
   decide-refuses why judges new step turned earliest noted =
       let link : List Tick = line ++ t ∷ [] in
-      let T : Checker R M B D → Type 0 = λ v. Turned proto (closed_at new.earliest_start v) new
-      Silent step.tick in
+      let T : Checker R M B D → Type 0 = λ v. TurnedRefused proto v new step.tick in
       let E : Checker R M B D → Type 0 = λ v. CutStandsFor proto v.cut link
       → new.earliest_start ≡ length link + v.until + left_of rules (live_bytes_so_far rules link) in
       let N : Checker R M B D → Type 0 = λ v. CutStandsFor proto v.cut link

@@ -82,14 +82,15 @@ module _ {R M : Type 0} (proto : LineRules R) (macs : Mac M) {B D : ℕ} (setup 
       clear.clear ∙ (let whole : D ≡ D - length {A = Tick} [] = omega arith in ap silent whole) in
       let flows = flow proto macs gone new Silent step.tick clear.turned left [] stands ring_is
       (λ some. absurd (omega arith)) (λ some. absurd (omega arith))
-      (λ some. absurd (omega arith)) in
+      (λ refused some. absurd (omega arith)) in
       let Rest : ℕ → Type 0 = λ o. Rests proto.rules base.passed m base.earliest_start left [] o
       emissions in
       let rests : Rest (owed_by base.outlet) = subst Rest (sym none)
       (come-rests profile proto.rules setup.floor m (bursts (line ++ t ∷ [])) state emissions
       (Some d) come base.passed left free) in
       let goes = rest-drops proto profile (timely proto macs B setup wide) setup.floor line t state
-      emissions base.passed left [] (owed_by base.outlet) new.outlet step.tick flows rests
+      emissions base.passed left [] (owed_by base.outlet) base.outlet new.outlet step.tick flows
+      rests
       (λ some. absurd (omega arith)) d NoHead is come now in
       let whose = ap (λ x. last_of x) come.is ∙ last_of-more come.settled d in
       assembled proto macs setup line t gone new Silent step clear.turned word_is wide delay_is
@@ -97,7 +98,7 @@ module _ {R M : Type 0} (proto : LineRules R) (macs : Mac M) {B D : ℕ} (setup 
       (noted ∙ ap (λ o. Some (Dropped (start_in o) NoHead)) whose) flows.stands
       (ring-waits proto macs gone new step.tick clear.turned [] ring_is (omega arith)
       (omega arith))
-      (omega arith) refl refl mac_stands tt
+      (omega arith) refl refl mac_stands tt (λ refused some. absurd (omega arith))
 
 -- ---- a header that is too short
 

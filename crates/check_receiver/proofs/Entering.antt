@@ -20,7 +20,7 @@ use Rattle.spoiler.specs.Outlet.{owed_by}
 use Rattle.hmac_tag.specs.declared.tag.Mac.{Ghosts as Mac}
 use Rattle.link_format.specs.Setup.{Setup}
 use Rattle.link_verdicts.proofs.Judging.{head-bad}
-use Rattle.link_verdicts.proofs.Opened.{opens-of, long-of, more-of, unowed-of, room-of, joined-last}
+use Rattle.link_verdicts.proofs.Opened.{opens-of, long-of, more-of, unowed-of, joined-last}
 use Rattle.link_verdicts.proofs.Opened.{goes-as, live-goes, live-gap, live-adds, live-before}
 use Rattle.link_verdicts.proofs.Opened.{live-after}
 use Rattle.link_verdicts.proofs.Opening.{length-silent}
@@ -69,7 +69,7 @@ module _ {R M : Type 0} (proto : LineRules R) (macs : Mac M) {B D : ℕ} (old : 
       let whole : n ≡ D = until small in
       let other : (n == 0) ≡ false = ne_eqb n 0 (λ zero'. omega arith) in
       let turn = moved proto base new (Byte b) step.tick turned left live between.walks.outlet_is
-      between.walks.ring_is (unowed-of it) other (more-of it) (room-of it) in
+      between.walks.ring_is (unowed-of it) other (more-of it) in
       let goes = live-goes it b between.is_cut
       (λ header. ⊎_elim (λ good. good)
       (λ bad. absurd (never (head-bad rules (live_bytes rules e) header bad)))
@@ -98,7 +98,7 @@ module _ {R M : Type 0} (proto : LineRules R) (macs : Mac M) {B D : ℕ} (old : 
       (left ++ bytes_in (take 1 live)) entered (Some e) None
       (goes-as (Byte b) step.tick old.passed (owed_by new.outlet) old.earliest_start goes refl
       turn.answer_is it.walked.opens.1 turn.unowed refl)
-      noted turn.stands ring (omega arith) (omega arith) waits mac_stands mac_holds
+      noted turn.stands ring (omega arith) (omega arith) waits mac_stands mac_holds tt
 
 module _ {R M : Type 0} (proto : LineRules R) (macs : Mac M) {B D : ℕ} (old : Checker R M B D)
     (last : ℕ) (setup : Setup) (line : List Tick) (b : ℕ)

@@ -19,8 +19,8 @@ use Rattle.frame_ending.specs.Stands.{StandsFor as CutStandsFor, ticks_taken as 
 use Rattle.frame_ending.proofs.Dividing.{longer-line}
 use Rattle.frame_ending.proofs.Running.{extra-tick}
 use Rattle.delay_ring.specs.DelayRing.{ring_ticks}
-use Rattle.spoiler.specs.declared.outlet.Outlet.{Outlet}
-use Rattle.spoiler.specs.Outlet.{StandsFor as OutletStandsFor, owed_by}
+use Rattle.spoiler.specs.Outlet.{Refuses, owed_by}
+use Rattle.spoiler.proofs.Standing.{stands-unowed}
 use Rattle.burst_walk.specs.Causal.{going_on}
 use Rattle.burst_walk.specs.Walk.{Noted}
 use Rattle.burst_walk.proofs.Coming.{notes-step, note-now}
@@ -42,7 +42,7 @@ use Rattle.link_verdicts.specs.declared.note.RefusedWhy.TheVariants.{Trailer}
 use Rattle.link_verdicts.specs.Holding.{trailer_so_far}
 use Rattle.link_verdicts.specs.Going.{Goes}
 use Rattle.link_verdicts.proofs.Opened.{IsOpen, opens-of, may-of, long-of, more-of, unowed-of}
-use Rattle.link_verdicts.proofs.Opened.{room-of, trailer-long as grown, goes-as, joined}
+use Rattle.link_verdicts.proofs.Opened.{bytes-of, bytes-next, trailer-long as grown, goes-as, joined}
 use Rattle.link_verdicts.proofs.Opened.{joined-last, extra-end, extra-bytes, extra-adds, extra-goes}
 use Rattle.link_verdicts.proofs.Opened.{extra-breaks, whole-checked, whole-tick, whole-refuses}
 use Rattle.link_verdicts.proofs.Opened.{whole-passes}
@@ -53,7 +53,7 @@ use Rattle.check_receiver.specs.Arrivals.{bytes_come}
 use Rattle.check_receiver.specs.Between.{IsBetween, IsWhole}
 use Rattle.check_receiver.specs.Checkings.{PassesWith}
 use Rattle.check_receiver.specs.Stands.{MacHolds, Walks, HasTaken}
-use Rattle.check_receiver.specs.Turning.{Turned, closed_at}
+use Rattle.check_receiver.specs.Turning.{Turned, TurnedRefused, refused as refused_with}
 use Rattle.check_receiver.specs.declared.arriving.Arriving.{Arriving}
 use Rattle.check_receiver.specs.declared.checker.Checker.{Checker}
 use Rattle.burst_walk.specs.declared.box_step.BoxStep.{BoxStep}
@@ -204,16 +204,15 @@ module _ {R M : Type 0} (proto : LineRules R) (macs : Mac M) {B D : ℕ} (old : 
       ne_eqb old.until 0 (λ zero'. omega arith)
 
   turn : (base new : Checker R M B D) (answer : Tick) → Turned proto base new Silent answer
-      → base.outlet ≡ old.outlet → base.ring ≡ old.ring → base.until ≡ old.until
-      → Moved proto left live new.outlet answer
-  turn base new answer turned outlet ring until =
-      let O : Outlet R → Type 0 = λ x. OutletStandsFor proto x left in
+      → owed_by base.outlet ≡ owed_by old.outlet → base.ring ≡ old.ring → base.until ≡ old.until
+      → Moved proto left live base.outlet new.outlet answer
+  turn base new answer turned owes ring until =
+      let none : owed_by base.outlet ≡ 0 = owes ∙ unowed-of it in
       let U : ℕ → Type 0 = λ n. (n == 0) ≡ false in
       moved proto base new Silent answer turned left live
-      (subst O (sym outlet) hears.walks.outlet_is)
+      (stands-unowed proto base.outlet left none)
       (ap (λ x. ring_ticks x) ring ∙ hears.walks.ring_is)
-      (ap (λ x. owed_by x) outlet ∙ unowed-of it) (subst U (sym until) another) (more-of it)
-      (room-of it)
+      none (subst U (sym until) another) (more-of it)
 
   -- what has left then
   abbrev after : List ℕ
@@ -279,12 +278,12 @@ module _ {R M : Type 0} (proto : LineRules R) (macs : Mac M) {B D : ℕ} (old : 
       noted turn'.stands
       (ring-waits proto macs old new step.tick turned live hears.walks.ring_is (omega arith)
       hears.walks.few)
-      (omega arith) (omega arith) waits hears.mac_stands mac_holds'
+      (omega arith) (omega arith) waits hears.mac_stands mac_holds' tt
 
   -- ---- it refuses the burst
 
   module _ (new : Checker R M B D) (step : BoxStep CheckNote)
-      (turned : Turned proto (closed_at new.earliest_start old) new Silent step.tick)
+      (refuses : TurnedRefused proto old new step.tick)
       (earliest : new.earliest_start ≡ length (line ++ t ∷ []) + old.until
       + left_of rules (live_bytes_so_far rules (line ++ t ∷ [])))
       (why : RefusedWhy)
@@ -297,8 +296,9 @@ module _ {R M : Type 0} (proto : LineRules R) (macs : Mac M) {B D : ℕ} (old : 
         false after (drop 1 live) 0 None (get_or live 0 Silent) (Some (Refused e.start why))
         → HasTaken proto macs new last setup line t step
     refused-taken goes =
-        let base : Checker R M B D = closed_at new.earliest_start old in
-        let turn' = turn base new step.tick turned refl refl refl in
+        let base : Checker R M B D = refused_with old refuses.outlet new.earliest_start in
+        let turned = refuses.turned in
+        let turn' = turn base new step.tick turned refuses.owed refl refl in
         let lacks = ap (λ o. left_of rules (live_bytes_in rules o)) next-last in
         let line_long = longer-line line t in
         let long = until-long in
@@ -318,6 +318,12 @@ module _ {R M : Type 0} (proto : LineRules R) (macs : Mac M) {B D : ℕ} (old : 
         (ring-waits proto macs base new step.tick turned live hears.walks.ring_is (omega arith)
         hears.walks.few)
         (omega arith) (omega arith) refl hears.mac_stands tt
+        (λ stays some. subst (λ v. proto.stands v (after ++ bytes_in (drop 1 live)))
+        (sym turn'.keeps)
+        (subst (λ x. Refuses proto refuses.outlet x)
+        (ap (λ o. live_bytes_in rules o) next-last
+        ∙ (extra-bytes it b is-extra ∙ sym (bytes-next it ∙ bytes-of it)))
+        (refuses.knows (line ++ t ∷ []) hears.cuts)))
 
     -- inside the pause,
     pub break-taken : why ≡ Trailer → m < live_end rules d + pause_len
@@ -435,4 +441,4 @@ module _ {R M : Type 0} (proto : LineRules R) (macs : Mac M) {B D : ℕ} (old : 
           turn'.stands
           (ring-waits proto macs base new step.tick turned live hears.walks.ring_is (omega arith)
           hears.walks.few)
-          (omega arith) (omega arith) refl hears.mac_stands tt
+          (omega arith) (omega arith) refl hears.mac_stands tt (λ stays some. absurd cc)

@@ -16,8 +16,6 @@ use Rattle.yasir_ticks.specs.declared.tick.Tick.TheVariants.{Silent, Byte}
 use Rattle.line_rules.specs.declared.line_rules.LineRules.{Ghosts as LineRules}
 use Rattle.frame_ending.specs.Stands.{StandsFor as CutStandsFor}
 use Rattle.frame_ending.specs.declared.burst_cut.BurstCut.{BurstCut}
-use Rattle.spoiler.specs.Outlet.{StandsFor as OutletStandsFor, has_room}
-use Rattle.spoiler.specs.declared.outlet.Outlet.{Outlet}
 use Rattle.burst_walk.specs.Answered.{answered}
 use Rattle.burst_walk.proofs.Runs.{run-none}
 use Rattle.hmac_tag.specs.declared.tag.Mac.{Ghosts as Mac}
@@ -25,7 +23,7 @@ use Rattle.link_format.specs.Profile.{profile_of}
 use Rattle.link_format.specs.Setup.{Setup}
 use Rattle.sequence_journal.specs.declared.numbers.TheConstants.{LIMIT}
 use Rattle.link_verdicts.specs.Checking.{checker, at_floor, brief_note}
-use Rattle.check_receiver.specs.Runs.{HasTakenRun, HaveRoom, IsFront}
+use Rattle.check_receiver.specs.Runs.{HasTakenRun, IsFront}
 use Rattle.check_receiver.specs.Stands.{StandsAt}
 use Rattle.check_receiver.specs.declared.checker.Checker.{Checker}
 
@@ -135,25 +133,6 @@ not-owed n none =
     (λ some. let there = lt-ltb 0 n some in absurd cc)
     (λ few. omega arith)
     (cases_lt 0 n)
-
--- the bytes of a run have all left, since there is room for them
-pub all-left : {R : Type 0} (proto : LineRules R) (new : Outlet R) (x left : List ℕ) (n : ℕ)
-    → n ≤ length left → OutletStandsFor proto new (x ++ take n left)
-    → (n < length left → has_room proto new ≡ false) → HaveRoom proto.rules x left
-    → OutletStandsFor proto new (x ++ left)
-all-left proto new x left n within stands short room =
-    ⊎_elim
-    (λ less.
-    let full = proto.fullness new.rules (x ++ take n left) stands.bytes in
-    let open' = room n less in
-    let none : proto.is_full new.rules ≡ false = full ∙ open' in
-    let there : has_room proto new ≡ true = ap not none in
-    let no = short less in
-    absurd cc)
-    (λ all.
-    let P : List ℕ → Type 0 = λ y. OutletStandsFor proto new (x ++ y) in
-    subst P (take_all n left all) stands)
-    (cases_lt n (length left))
 
 -- the receiver after no tick
 pub none-taken : {R M : Type 0} (proto : LineRules R) (macs : Mac M) {B D : ℕ}

@@ -1,7 +1,7 @@
 -- How the machine's parts are together after a step.
 use Rattle.std.proofs.Common.{◌≡◌, ◌∙◌, ℕ, ◌+◌, ◌-◌, ◌<◌, ◌≤◌, ◌==◌, true, false, List, [], ◌∷◌}
 use Rattle.std.proofs.Common.{◌++◌, length, drop, get_or, refl, sym, ap, subst, arith, Option, Some}
-use Rattle.std.proofs.Common.{None, IfSome, is_some}
+use Rattle.std.proofs.Common.{None, IfSome, IfNone, is_some}
 use Rattle.std.proofs.lemmas.Bool.{ne_eqb}
 use Rattle.yasir_ticks.specs.Ticks.{silent, bytes_in}
 use Rattle.yasir_ticks.specs.Bursts.{Burst}
@@ -10,7 +10,7 @@ use Rattle.yasir_ticks.specs.declared.tick.Tick.TheVariants.{Silent}
 use Rattle.line_rules.specs.declared.line_rules.LineRules.{Ghosts as LineRules}
 use Rattle.frame_ending.specs.Stands.{StandsFor as CutStandsFor}
 use Rattle.delay_ring.specs.DelayRing.{ring_ticks}
-use Rattle.spoiler.specs.Outlet.{StandsFor as OutletStandsFor, owed_by}
+use Rattle.spoiler.specs.Outlet.{StandsFor as OutletStandsFor, Refuses, owed_by}
 use Rattle.burst_walk.specs.Answers.{AnswersTick}
 use Rattle.hmac_tag.specs.declared.tag.Mac.{Ghosts as Mac}
 use Rattle.hmac_tag.specs.Tag.{direction_number}
@@ -60,15 +60,16 @@ module _ {R M : Type 0} (proto : LineRules R) (macs : Mac M) {B D : ℕ} where
       (ring_is : ring_ticks base.ring ≡ live ++ silent (D - length live)) where
     pub flow : (0 < length live → owed_by base.outlet ≡ 0)
         → (0 < length live → (base.until == 0) ≡ is_none (drop 1 live))
-        → (0 < length live
-        → length (left ++ bytes_in live) ≤ proto.rules.room (left ++ bytes_in live))
-        → Flows proto base.passed left live (owed_by base.outlet) new.outlet answer
-    flow unowed last room =
+        → (base.passed ≡ false → 0 < length live
+        → Refuses proto base.outlet (left ++ bytes_in live))
+        → Flows proto base.passed left live (owed_by base.outlet) base.outlet new.outlet answer
+    flow unowed last knows =
         let P : Tick → Type 0 = λ u. HasTurned proto base.outlet new.outlet (base.until == 0)
         base.passed left answer u in
         let first = ap (λ l. get_or l 0 Silent) ring_is ∙ ring-first live (D - length live) in
         flows proto base.passed left live base.outlet new.outlet (base.until == 0) answer unowed
-        last room (subst P first (turned.out left stands))
+        last (λ there at_last refused. knows refused there)
+        (subst P first (turned.out left stands))
 
   pub ring-waits : (base new : Checker R M B D) (answer : Tick)
       → Turned proto base new Silent answer → (live : List Tick)
@@ -95,9 +96,12 @@ module _ {R M : Type 0} (proto : LineRules R) (macs : Mac M) {B D : ℕ} where
         → base.until ≡ length live → base.waits ≡ is_some waiting
         → ((text : List ℕ) × macs.stands base.mac setup.key text)
         → IfSome waiting (λ d. MacHolds proto macs setup base.mac base.arriving d)
+        → IfNone waiting (base.passed ≡ false → 0 < length live
+        → Refuses proto new.outlet (left ++ bytes_in live))
         → HasTaken proto macs new number setup line t step
     assembled base new entering step turned word_is wide delay_is direction_is cuts number left live
-        waiting told goes noted stands ring_is few until_is waits_is mac_stands mac_holds =
+        waiting told goes noted stands ring_is few until_is waits_is mac_stands mac_holds
+        knows =
         let P : Checker R M B D → Type 0 = λ v. HasTaken proto macs v number setup line t step in
         let N : Option CheckNote → Type 0 = λ n. AnswersTick
         (checker (profile_of proto macs B LIMIT setup) proto.rules) brief_note
@@ -116,6 +120,7 @@ module _ {R M : Type 0} (proto : LineRules R) (macs : Mac M) {B D : ℕ} where
               live = live;
               walked = goes.walked;
               outlet_is = stands;
+              knows = knows;
               ring_is = ring_is;
               few = few;
               until_is = until_is;

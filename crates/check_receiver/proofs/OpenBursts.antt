@@ -9,7 +9,7 @@ use Rattle.line_rules.specs.declared.line_rules.LineRules.{Ghosts as LineRules}
 use Rattle.delay_ring.specs.DelayRing.{ring_ticks}
 use Rattle.delay_ring.specs.declared.delay_ring.DelayRing.{DelayRing}
 use Rattle.spoiler.specs.declared.outlet.Outlet.{Outlet}
-use Rattle.spoiler.specs.Outlet.{StandsFor as OutletStandsFor, owed_by}
+use Rattle.spoiler.specs.Outlet.{StandsFor as OutletStandsFor, owed_by, refused_by}
 use Rattle.hmac_tag.specs.declared.tag.Mac.{Ghosts as Mac}
 use Rattle.link_format.specs.Profile.{profile_of}
 use Rattle.link_format.specs.Setup.{Setup}
@@ -64,22 +64,23 @@ turned-any : {R : Type 0} (proto : LineRules R) (old new : Outlet R) (p q : Bool
     (answer u : Tick) → HasTurned proto old new false p x answer u
     → HasTurned proto old new false q x answer u
 turned-any proto old new p q x answer Silent turned = turned
-turned-any proto old new p q x answer (Byte b) turned = turned
+turned-any proto old new p q x answer (Byte b) turned =
+    λ knows. turned (λ at_last refused. absurd cc)
 
 pub record Moved {R : Type 0} (proto : LineRules R) (left : List ℕ) (live : List Tick)
-    (new : Outlet R) (answer : Tick) : Type 0 where
+    (old new : Outlet R) (answer : Tick) : Type 0 where
   pub stands : OutletStandsFor proto new (left ++ bytes_in (take 1 live))
   pub answer_is : answer ≡ get_or live 0 Silent
   pub unowed : owed_by new ≡ 0
+  pub keeps : refused_by new ≡ refused_by old
 
 pub moved : {R M : Type 0} (proto : LineRules R) {B D : ℕ} (base new : Checker R M B D)
     (entering answer : Tick) → Turned proto base new entering answer
     → (left : List ℕ) (live : List Tick) → OutletStandsFor proto base.outlet left
     → ring_ticks base.ring ≡ live ++ silent (D - length live) → owed_by base.outlet ≡ 0
     → (base.until == 0) ≡ false → 1 < length live
-    → length (left ++ bytes_in live) ≤ proto.rules.room (left ++ bytes_in live)
-    → Moved proto left live new.outlet answer
-moved proto {B} {D} base new entering answer turned left live stands ring_is none other more room =
+    → Moved proto left live base.outlet new.outlet answer
+moved proto {B} {D} base new entering answer turned left live stands ring_is none other more =
     let first = ap (λ l. get_or l 0 Silent) ring_is ∙ ring-first live (D - length live) in
     let P : Bool → Type 0 = λ l. HasTurned proto base.outlet new.outlet l base.passed left answer
     (get_or (ring_ticks base.ring) 0 Silent) in
@@ -88,11 +89,12 @@ moved proto {B} {D} base new entering answer turned left live stands ring_is non
     let turn : Q (get_or live 0 Silent) = subst Q first (turned-any proto base.outlet new.outlet
     base.passed false left answer (get_or (ring_ticks base.ring) 0 Silent) still) in
     let flow = flows proto false left live base.outlet new.outlet false answer (λ there. none)
-    (λ there. sym (some-left live more)) (λ there. room) turn in
+    (λ there. sym (some-left live more)) (λ there at_last refused. absurd cc) turn in
     record {
       stands = subst (λ x. OutletStandsFor proto new.outlet x) (flow.after_is none) flow.stands;
       answer_is = flow.answer_is
           ∙ (ap (λ n. get_or (leaves proto.rules false left live n) 0 Silent) none
           ∙ leaves-front proto.rules false left live 0 (omega arith));
       unowed = flow.unowed more;
+      keeps = flow.keeps (omega arith);
     }

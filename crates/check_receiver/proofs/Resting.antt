@@ -1,8 +1,9 @@
 -- A tick that begins no burst, where no verdict is open.
 use Rattle.std.proofs.Common.{◌≡◌, ◌∙◌, ◌⊎◌, ⊎_elim, ℕ, ◌-◌, false, List, [], ◌∷◌, ◌++◌, length}
-use Rattle.std.proofs.Common.{drop, sym, ap, subst, arith, Option, None}
+use Rattle.std.proofs.Common.{◌<◌, drop, sym, ap, subst, arith, Option, None, IfNone}
 use Rattle.std.proofs.lemmas.List.{length-drop, append-nil}
 use Rattle.yasir_ticks.specs.Bursts.{Burst, bursts}
+use Rattle.yasir_ticks.specs.Ticks.{bytes_in}
 use Rattle.yasir_ticks.specs.declared.tick.Tick.{Tick}
 use Rattle.yasir_ticks.specs.declared.tick.Tick.TheVariants.{Silent, Byte}
 use Rattle.line_rules.specs.Rules.{Rules}
@@ -12,7 +13,7 @@ use Rattle.frame_ending.specs.Cuts.{cut_of}
 use Rattle.frame_ending.specs.declared.cut.Cut.{Cut}
 use Rattle.frame_ending.specs.declared.cut.Cut.TheVariants.{Live, Extra}
 use Rattle.frame_ending.proofs.Running.{divided-running, byte-lives, byte-over}
-use Rattle.spoiler.specs.Outlet.{owed_by}
+use Rattle.spoiler.specs.Outlet.{Refuses, owed_by}
 use Rattle.burst_walk.specs.HasCome.{HasCome}
 use Rattle.burst_walk.proofs.Coming.{RunsOn, closed-or-runs_on, come-runs_on, come-silent}
 use Rattle.hmac_tag.specs.declared.tag.Mac.{Ghosts as Mac}
@@ -22,7 +23,7 @@ use Rattle.sequence_journal.specs.declared.numbers.TheConstants.{LIMIT}
 use Rattle.link_verdicts.specs.Verdicts.{CheckState}
 use Rattle.link_verdicts.specs.Checking.{checker, at_floor}
 use Rattle.link_verdicts.specs.Holding.{HasWalked}
-use Rattle.link_verdicts.proofs.Resting.{causal, rest-goes}
+use Rattle.link_verdicts.proofs.Resting.{causal, rest-goes, knows-more}
 use Rattle.check_receiver.specs.Between.{IsBetween}
 use Rattle.check_receiver.specs.Stands.{HasTaken}
 use Rattle.check_receiver.specs.Turning.{Turned}
@@ -86,11 +87,14 @@ rest-taken proto macs {B} {D} old last setup line t cut between new step turned 
     (bursts line) state old.passed between.walks.left between.walks.live (owed_by old.outlet) o in
     let none = waiting-none between.walks.waiting (sym between.walks.waits_is ∙ closed) in
     let walked : W None = subst W none between.walks.walked in
+    let K : Option Burst → Type 0 = λ o. IfNone o (old.passed ≡ false → 0 < length between.walks.live
+    → Refuses proto old.outlet (between.walks.left ++ bytes_in between.walks.live)) in
+    let knows : K None = subst K none between.walks.knows in
     let time = timely proto macs B setup between.wide in
     let until = between.one_less ∙ ap (λ k. k - 1) between.walks.until_is in
     let flows = flow proto macs old new Silent step.tick turned between.walks.left
     between.walks.live between.walks.outlet_is between.walks.ring_is walked.unowed
-    (λ there. until-last between.walks.live old.until until there) walked.room in
+    (λ there. until-last between.walks.live old.until until there) knows in
     let less = length-drop 1 between.walks.live in
     let one = between.one_less in
     let until_is = between.walks.until_is in
@@ -100,10 +104,12 @@ rest-taken proto macs {B} {D} old last setup line t cut between new step turned 
     between.delay_is between.direction_is between.cuts last flows.after
     (drop 1 between.walks.live) None None
     (rest-goes proto profile time setup.floor line t state walked.emissions old.passed
-    between.walks.left between.walks.live (owed_by old.outlet) new.outlet step.tick flows
+    between.walks.left between.walks.live (owed_by old.outlet) old.outlet new.outlet step.tick flows
     walked.rests walked.room
     (comes proto profile time setup.floor state line t walked.emissions walked.come begins))
     noted flows.stands
     (ring-waits proto macs old new step.tick turned between.walks.live between.walks.ring_is
     (omega arith) between.walks.few)
     (omega arith) (omega arith) closed between.walks.mac_stands tt
+    (knows-more proto (length line) old.earliest_start walked.emissions old.passed between.walks.left
+    between.walks.live (owed_by old.outlet) old.outlet new.outlet step.tick flows knows)

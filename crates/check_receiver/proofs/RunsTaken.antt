@@ -1,7 +1,7 @@
 -- The receiver after a run of ticks.
 use Rattle.std.proofs.Common.{◌≡◌, ◌∙◌, ℕ, zero, suc, ◌+◌, ◌-◌, ◌<◌, ◌≤◌, Bool, true, false, List}
 use Rattle.std.proofs.Common.{[], ◌∷◌, ◌++◌, inr, length, take, drop, map, refl, sym, ap, subst}
-use Rattle.std.proofs.Common.{arith, append_assoc, Option, Some, None, IfSome, ⊎_elim, is_some}
+use Rattle.std.proofs.Common.{arith, append_assoc, Option, Some, None, IfSome, IfNone, ⊎_elim, is_some}
 use Rattle.std.proofs.lemmas.Bool.{cases_lt}
 use Rattle.std.proofs.lemmas.List.{append-nil, length-drop, take-append-le, drop-append-le}
 use Rattle.std.proofs.lemmas.List.{take-append-drop, replicate-append-replicate}
@@ -10,8 +10,7 @@ use Rattle.yasir_ticks.specs.Bursts.{Burst, bursts}
 use Rattle.yasir_ticks.specs.declared.tick.Tick.{Tick}
 use Rattle.yasir_ticks.specs.declared.tick.Tick.TheVariants.{Silent, Byte}
 use Rattle.yasir_ticks.proofs.SilenceLaws.{bytes_in-append, bytes_in-silent}
-use Rattle.line_rules.specs.Rules.{Rules, head_of, fills_room}
-use Rattle.line_rules.specs.RulesLaws.{IsLawful}
+use Rattle.line_rules.specs.Rules.{Rules, head_of}
 use Rattle.line_rules.specs.declared.head.Head.TheVariants.{Good, Short}
 use Rattle.line_rules.specs.declared.line_rules.LineRules.{Ghosts as LineRules}
 use Rattle.frame_ending.specs.Cuts.{cuts_after}
@@ -22,8 +21,8 @@ use Rattle.frame_ending.specs.declared.burst_cut.BurstCut.{BurstCut}
 use Rattle.frame_ending.specs.declared.cut.Cut.TheVariants.{Live, Extra}
 use Rattle.delay_ring.specs.DelayRing.{ring_ticks, AreAlike}
 use Rattle.delay_ring.specs.declared.delay_ring.DelayRing.{DelayRing}
-use Rattle.spoiler.specs.Outlet.{StandsFor as OutletStandsFor, owed_by}
-use Rattle.spoiler.specs.declared.outlet.Outlet.{Outlet}
+use Rattle.spoiler.specs.Outlet.{Refuses, owed_by}
+use Rattle.spoiler.proofs.Standing.{stands-unowed}
 use Rattle.burst_walk.specs.Answered.{answered}
 use Rattle.hmac_tag.specs.declared.tag.Mac.{Ghosts as Mac}
 use Rattle.link_format.specs.Profile.{Profile, profile_of, delay}
@@ -32,11 +31,10 @@ use Rattle.sequence_journal.specs.declared.numbers.TheConstants.{LIMIT}
 use Rattle.link_verdicts.specs.Verdicts.{CheckState, after_live}
 use Rattle.link_verdicts.specs.Holding.{HasWalked, trailer_so_far}
 use Rattle.link_verdicts.specs.Timely.{IsTimely}
-use Rattle.link_verdicts.proofs.Flow.{room-before}
 use Rattle.link_verdicts.proofs.Judging.{head-short}
 use Rattle.link_verdicts.proofs.Settling.{after-long}
 use Rattle.check_receiver.specs.Arrivals.{bytes_come}
-use Rattle.check_receiver.specs.Runs.{HasTakenRun, BeginNone, IsFront, HaveRoom, KeepsHeader}
+use Rattle.check_receiver.specs.Runs.{HasTakenRun, BeginNone, IsFront, KeepsHeader}
 use Rattle.check_receiver.specs.Stands.{MacHolds, StandsAt}
 use Rattle.check_receiver.specs.declared.checker.Checker.{Checker}
 use Rattle.check_receiver.proofs.LiveRuns.{LiveRun, live-run}
@@ -47,44 +45,13 @@ use Rattle.check_receiver.proofs.RunTicks.{RunsTo, front-answered, answered-byte
 use Rattle.check_receiver.proofs.OpenBursts.{timely, open-walks}
 use Rattle.check_receiver.proofs.TrailerRuns.{trailer-run}
 use Rattle.check_receiver.specs.declared.arriving.Arriving.{Arriving}
-use Rattle.link_verdicts.proofs.Opened.{IsOpen, last-of, may-of, long-of, room-of, bare-of}
+use Rattle.link_verdicts.proofs.Opened.{IsOpen, last-of, may-of, long-of, unowed-of, bare-of}
 use Rattle.link_verdicts.proofs.Opened.{trailer-long, nothing-after}
 use Rattle.check_receiver.proofs.Lending.{ring-whole}
 
 no-ticks : (x : List Tick) → length x ≡ 0 → x ≡ []
 no-ticks [] none = refl
 no-ticks (t ∷ x) none = absurd (omega arith)
-
--- there is room for each of the first of bytes that have room
-rooms : (rules : Rules) → IsLawful rules → (x left rest : List ℕ)
-    → length (left ++ (x ++ rest)) ≤ rules.room (left ++ (x ++ rest)) → (n : ℕ) → n < length x
-    → fills_room rules (left ++ take n x) ≡ false
-rooms rules lawful [] left rest fits n few = absurd (omega arith)
-rooms rules lawful (b ∷ x) left rest fits zero few =
-    ap (λ y. fills_room rules y) (append-nil left)
-    ∙ room-before rules lawful left b (x ++ rest) fits
-rooms rules lawful (b ∷ x) left rest fits (suc n) few =
-    let P : List ℕ → Type 0 = λ y. length y ≤ rules.room y in
-    ap (λ y. fills_room rules y) (sym (append_assoc left (b ∷ []) (take n x)))
-    ∙ rooms rules lawful x (left ++ b ∷ []) rest
-    (subst P (sym (append_assoc left (b ∷ []) (x ++ rest))) fits) n (omega arith)
-
--- the bytes that leave a ring have room
-leaving-room : (rules : Rules) → IsLawful rules → (left : List ℕ) (live Q : List Tick) (g k : ℕ)
-    (x : List ℕ) → Q ≡ live ++ silent g → take k Q ≡ answered k x
-    → length (left ++ bytes_in live) ≤ rules.room (left ++ bytes_in live) → HaveRoom rules left x
-leaving-room rules lawful left live Q g k x is front fits =
-    let rest : List ℕ = bytes_in (drop k Q) in
-    let bytes : x ++ rest ≡ bytes_in live =
-    ap (λ y. y ++ rest) (sym (answered-bytes k x) ∙ ap (λ l. bytes_in l) (sym front))
-    ∙ (sym (bytes_in-append (take k Q) (drop k Q))
-    ∙ (ap (λ l. bytes_in l) (take-append-drop k Q ∙ is)
-    ∙ (bytes_in-append live (silent g)
-    ∙ (ap (λ y. bytes_in live ++ y) (ap (λ l. bytes_in l) (sym (append-nil (silent g)))
-    ∙ bytes_in-silent g [])
-    ∙ append-nil (bytes_in live))))) in
-    let P : List ℕ → Type 0 = λ y. length (left ++ y) ≤ rules.room (left ++ y) in
-    rooms rules lawful x left rest (subst P (sym bytes) fits)
 
 -- silence enters a ring, and as many of its live ticks leave
 ring-rest : (live : List Tick) (D k : ℕ) → k ≤ length live → length live ≤ D
@@ -124,18 +91,13 @@ module _ {R M : Type 0} (proto : LineRules R) (macs : Mac M) {B D : ℕ} (old : 
   Runs run passes y l owing waiting answer =
       RunsTo profile rules setup.floor line run state passes y l owing waiting answer
 
-  runs-as : (run : List Tick) (p q : Bool) (y : List ℕ) (l : List Tick) (k n : ℕ)
-      (waiting : Option Burst) (answer : List Tick) → Runs run p y l k waiting answer → q ≡ p
-      → n ≡ k → Runs run q y l n waiting answer
-  runs-as run p q y l k n waiting answer runs passes_is owing_is =
-      subst (λ j. Runs run q y l j waiting answer) (sym owing_is)
-      (subst (λ r. Runs run r y l k waiting answer) (sym passes_is) runs)
-
   -- The receiver has taken a run, by what has changed in it.
   made : (run answer : List Tick) (mac : M) (arriving : Arriving B) (ring : DelayRing D)
-      (outlet : Outlet R) (until : ℕ) (waiting : Option Burst) (y : List ℕ) (l : List Tick)
-      → CutStandsFor proto cut (line ++ run)
-      → Runs run old.passed y l (owed_by outlet) waiting answer → OutletStandsFor proto outlet y
+      (until : ℕ) (waiting : Option Burst) (y : List ℕ) (l : List Tick)
+      → CutStandsFor proto cut (line ++ run) → Runs run old.passed y l 0 waiting answer
+      → owed_by old.outlet ≡ 0
+      → IfNone waiting (old.passed ≡ false → 0 < length l
+      → Refuses proto old.outlet (y ++ bytes_in l))
       → ring_ticks ring ≡ l ++ silent (D - length l) → length l ≤ D → until ≡ length l
       → old.waits ≡ is_some waiting → ((text : List ℕ) × macs.stands mac setup.key text)
       → IfSome waiting (λ d. MacHolds proto macs setup mac arriving d)
@@ -145,12 +107,12 @@ module _ {R M : Type 0} (proto : LineRules R) (macs : Mac M) {B D : ℕ} (old : 
         mac = mac;
         arriving = arriving;
         ring = ring;
-        outlet = outlet;
         until = until;
       }) last setup line run answer
-  made run answer mac arriving ring outlet until waiting y l cuts runs outlet_is ring_is few
-      until_is
+  made run answer mac arriving ring until waiting y l cuts runs unowed knows ring_is few until_is
       waits_is mac_stands mac_holds =
+      let W : ℕ → Type 0 = λ n. HasWalked profile rules setup.floor (length (line ++ run))
+      (bursts (line ++ run)) state old.passed y l n waiting in
       record {
         stands = record {
           word_is = stands.word_is;
@@ -162,8 +124,9 @@ module _ {R M : Type 0} (proto : LineRules R) (macs : Mac M) {B D : ℕ} (old : 
             waiting = waiting;
             left = y;
             live = l;
-            walked = runs.walked;
-            outlet_is = outlet_is;
+            walked = subst W (sym unowed) runs.walked;
+            outlet_is = stands-unowed proto old.outlet y unowed;
+            knows = knows;
             ring_is = ring_is;
             few = few;
             until_is = until_is;
@@ -237,26 +200,42 @@ module _ {R M : Type 0} (proto : LineRules R) (macs : Mac M) {B D : ℕ} (old : 
       let empty : live ≡ [] = no-ticks live (sym stands.walks.until_is ∙ none) in
       let walked : Walked [] 0 None =
       subst (λ l. Walked l 0 None) empty (walked-rests rests unowed) in
-      made run (silent (length run)) old.mac old.arriving old.ring old.outlet old.until None left []
+      made run (silent (length run)) old.mac old.arriving old.ring old.until None left []
       cuts
-      (runs-as run old.passed old.passed left [] 0 (owed_by old.outlet) None (silent (length run))
-      (idle-run proto profile time setup.floor state old.passed run line left walked begin) refl
-      unowed)
-      stands.walks.outlet_is
+      (idle-run proto profile time setup.floor state old.passed run line left walked begin)
+      unowed (λ refused some. absurd (omega arith))
       (stands.walks.ring_is ∙ ap (λ l. l ++ silent (D - length l)) empty)
       (omega arith) none rests stands.walks.mac_stands tt
 
-  module _ (ring : DelayRing D) (outlet : Outlet R) (c : ℕ) (x : List ℕ) (until : ℕ)
-      (within : c ≤ D) (alike : AreAlike (take c (ring_ticks old.ring)))
-      (lends : (y : List ℕ) → OutletStandsFor proto old.outlet y → HaveRoom proto.rules y x
-      → OutletStandsFor proto outlet (y ++ x))
-      (unowed : owed_by outlet ≡ 0) where
+  -- ---- live ticks leave
+
+  -- where no verdict is open, the outlet knows all bytes of a refused burst while they leave
+  knows-still : (k : ℕ) → old.waits ≡ false → k ≤ length live → old.passed ≡ false
+      → 0 < length (drop k live)
+      → Refuses proto old.outlet ((left ++ bytes_in (take k live)) ++ bytes_in (drop k live))
+  knows-still k rests few refused some =
+      let K : Option Burst → Type 0 = λ o. IfNone o (old.passed ≡ false → 0 < length live
+      → Refuses proto old.outlet (left ++ bytes_in live)) in
+      let waiting = waiting-none stands.walks.waiting (sym stands.walks.waits_is ∙ rests) in
+      let knows : K None = subst K waiting stands.walks.knows in
+      let same : (left ++ bytes_in (take k live)) ++ bytes_in (drop k live) ≡ left ++ bytes_in live =
+      append_assoc left (bytes_in (take k live)) (bytes_in (drop k live))
+      ∙ ap (λ l. left ++ l) (sym (bytes_in-append (take k live) (drop k live))
+      ∙ ap (λ l. bytes_in l) (take-append-drop k live)) in
+      let P : List ℕ → Type 0 = λ y. Refuses proto old.outlet y in
+      let less = length-drop k live in
+      subst P (sym same) (knows refused (omega arith))
+
+  module _ (ring : DelayRing D) (c : ℕ) (x : List ℕ) (until : ℕ)
+      (within : c ≤ D) (alike : AreAlike (take c (ring_ticks old.ring))) where
     -- So many silent ticks have entered the ring, and as many of its live ticks have left.
     entered : (run : List Tick) (k : ℕ) (arriving : Arriving B) (waiting : Option Burst)
         (passes : Bool) → k ≤ c → k ≤ length live → CutStandsFor proto cut (line ++ run)
         → IsFront (ring_ticks old.ring) k x
         → ring_ticks ring ≡ drop k (ring_ticks old.ring ++ silent k) → until ≡ old.until - k
-        → length (left ++ bytes_in live) ≤ rules.room (left ++ bytes_in live)
+        → owed_by old.outlet ≡ 0
+        → IfNone waiting (old.passed ≡ false → 0 < length (drop k live)
+        → Refuses proto old.outlet ((left ++ bytes_in (take k live)) ++ bytes_in (drop k live)))
         → Runs run passes (left ++ bytes_in (take k live)) (drop k live) 0 waiting (take k live)
         → old.passed ≡ passes → old.waits ≡ is_some waiting
         → IfSome waiting (λ d. MacHolds proto macs setup old.mac arriving d)
@@ -265,12 +244,10 @@ module _ {R M : Type 0} (proto : LineRules R) (macs : Mac M) {B D : ℕ} (old : 
           cut = cut;
           arriving = arriving;
           ring = ring;
-          outlet = outlet;
           until = until;
         }) last setup line run (answered k x)
-    entered run k arriving waiting passes few less cuts is ring_is until_is room runs passes_is
-        waits
-        mac_holds =
+    entered run k arriving waiting passes few less cuts is ring_is until_is unowed knows runs
+        passes_is waits mac_holds =
         let count = stands.walks.until_is in
         let most = stands.walks.few in
         let size = ring-whole old.ring in
@@ -278,26 +255,20 @@ module _ {R M : Type 0} (proto : LineRules R) (macs : Mac M) {B D : ℕ} (old : 
         sym (ap (λ l. take k l) stands.walks.ring_is
         ∙ take-append-le k live (silent (D - length live)) less) in
         let leaves : take k Q ≡ answered k x = front-answered Q c k x few (omega arith) alike is in
-        let bytes : bytes_in (take k live) ≡ x =
-        ap (λ l. bytes_in l) (first ∙ leaves) ∙ answered-bytes k x in
         let fewer = length-drop k live in
-        let L : List ℕ → Type 0 = λ y. OutletStandsFor proto outlet (left ++ y) in
+        let P : Bool → Type 0 = λ p. Runs run p (left ++ bytes_in (take k live)) (drop k live) 0
+        waiting (take k live) in
         let A : List Tick → Type 0 = λ l. HasTakenRun proto macs
         (record old {
           cut = cut;
           arriving = arriving;
           ring = ring;
-          outlet = outlet;
           until = until;
         }) last setup line run l in
         subst A (first ∙ leaves)
-        (made run (take k live) old.mac arriving ring outlet until waiting
-        (left ++ bytes_in (take k live)) (drop k live) cuts
-        (runs-as run passes old.passed (left ++ bytes_in (take k live)) (drop k live) 0
-        (owed_by outlet) waiting (take k live) runs passes_is unowed)
-        (subst L (sym bytes) (lends left stands.walks.outlet_is
-        (leaving-room rules proto.lawful left live Q (D - length live) k x stands.walks.ring_is
-        leaves room)))
+        (made run (take k live) old.mac arriving ring until waiting
+        (left ++ bytes_in (take k live)) (drop k live) cuts (subst P (sym passes_is) runs) unowed
+        knows
         (ring_is
         ∙ (ap (λ l. drop k (l ++ silent k)) stands.walks.ring_is ∙ ring-rest live D k less most))
         (omega arith) (omega arith) waits stands.walks.mac_stands mac_holds)
@@ -309,15 +280,14 @@ module _ {R M : Type 0} (proto : LineRules R) (macs : Mac M) {B D : ℕ} (old : 
         → BeginNone rules line run → IsFront (ring_ticks old.ring) k x
         → ring_ticks ring ≡ drop k (ring_ticks old.ring ++ silent k) → until ≡ old.until - k
         → HasTakenRun proto macs
-        (record old { cut = cut; ring = ring; outlet = outlet; until = until }) last setup line run
-        (answered k x)
+        (record old { cut = cut; ring = ring; until = until }) last setup line run (answered k x)
     flow-counted run k long rests owes less few cuts begin is ring_is until_is =
         let walked = walked-rests rests owes in
         let count = stands.walks.until_is in
         let T : ℕ → Type 0 = λ j. Runs run old.passed (left ++ bytes_in (take j live)) (drop j live)
         0 None (take j live) in
-        entered run k old.arriving None old.passed few (omega arith) cuts is ring_is until_is
-        (walked.room (omega arith))
+        entered run k old.arriving None old.passed few (omega arith) cuts is ring_is until_is owes
+        (knows-still k rests (omega arith))
         (subst T long (flow-run proto profile time setup.floor state old.passed run line left live
         walked begin (omega arith)))
         refl rests tt
@@ -329,8 +299,8 @@ module _ {R M : Type 0} (proto : LineRules R) (macs : Mac M) {B D : ℕ} (old : 
         → CutStandsFor proto cut (line ++ silent n) → IsFront (ring_ticks old.ring) n x
         → ring_ticks ring ≡ drop n (ring_ticks old.ring ++ silent n) → until ≡ old.until - n
         → HasTakenRun proto macs
-        (record old { cut = cut; ring = ring; outlet = outlet; until = until }) last setup line
-        (silent n) (answered n x)
+        (record old { cut = cut; ring = ring; until = until }) last setup line (silent n)
+        (answered n x)
     pause-taken n waits good few within_pause cuts is ring_is until_is =
         let it = open-burst waits in
         let long = long-of it in
@@ -338,7 +308,7 @@ module _ {R M : Type 0} (proto : LineRules R) (macs : Mac M) {B D : ℕ} (old : 
         let delay_is = stands.delay_is in
         let wide = stands.wide in
         entered (silent n) n old.arriving (Some (opened waits).0) false few (omega arith) cuts is
-        ring_is until_is (room-of it)
+        ring_is until_is (unowed-of it) tt
         (pause-run proto profile setup.floor state (opened waits).0 (head-opened waits good) n line
         left live (open-bare waits) (omega arith) (omega arith))
         it.walked.opens.1 waits (mac_holds-opened waits)
@@ -359,7 +329,6 @@ module _ {R M : Type 0} (proto : LineRules R) (macs : Mac M) {B D : ℕ} (old : 
           cut = cut;
           arriving = arriving;
           ring = ring;
-          outlet = outlet;
           until = until;
         }) last setup line (map (λ b. Byte b) bytes) (answered (length bytes) x)
     trailer-taken bytes arriving waits few behind left_over cuts are_extra takes is ring_is
@@ -381,7 +350,7 @@ module _ {R M : Type 0} (proto : LineRules R) (macs : Mac M) {B D : ℕ} (old : 
         let C : List ℕ → Type 0 = λ y. macs.stands old.mac setup.key
         (rules.label ∷ setup.direction ∷ y) in
         entered (map (λ b. Byte b) bytes) (length bytes) arriving (Some after.burst) false few
-        (omega arith) cuts is ring_is until_is (room-of it) after.runs it.walked.opens.1 waits
+        (omega arith) cuts is ring_is until_is (unowed-of it) tt after.runs it.walked.opens.1 waits
         (record {
           mac_is = subst C (sym after.bytes) before.mac_is;
           come = takes room ∙ (ap (λ y. y ++ bytes) before.come ∙ sym after.trailer);
@@ -389,12 +358,9 @@ module _ {R M : Type 0} (proto : LineRules R) (macs : Mac M) {B D : ℕ} (old : 
 
   -- ---- live bytes come of the burst whose verdict is open
 
-  module _ (ring : DelayRing D) (outlet : Outlet R) (c : ℕ) (x : List ℕ) (until : ℕ)
-      (E : List Tick) (within : c ≤ length (ring_ticks old.ring ++ E))
-      (alike : AreAlike (take c (ring_ticks old.ring ++ E)))
-      (lends : (y : List ℕ) → OutletStandsFor proto old.outlet y → HaveRoom proto.rules y x
-      → OutletStandsFor proto outlet (y ++ x))
-      (unowed : owed_by outlet ≡ 0) where
+  module _ (ring : DelayRing D) (c : ℕ) (x : List ℕ) (until : ℕ) (E : List Tick)
+      (within : c ≤ length (ring_ticks old.ring ++ E))
+      (alike : AreAlike (take c (ring_ticks old.ring ++ E))) where
     module _ (bytes : List ℕ) (mac : M) (waits : old.waits ≡ true) (any : 0 < length bytes)
         (few : length bytes ≤ c)
         (along : take (length bytes) (ring_ticks old.ring ++ map (λ b. Byte b) bytes)
@@ -470,35 +436,22 @@ module _ {R M : Type 0} (proto : LineRules R) (macs : Mac M) {B D : ℕ} (old : 
           }
 
       pub follow-taken : HasTakenRun proto macs
-          (record old { cut = cut; mac = mac; ring = ring; outlet = outlet; until = until }) last
-          setup line run (answered k x)
+          (record old { cut = cut; mac = mac; ring = ring; until = until }) last setup line run
+          (answered k x)
       follow-taken =
           let leaves = along ∙ front-answered (Q ++ E) c k x few within alike is in
           let after = live-runs in
           let full = after.full (inr any) in
           let size = delay-is in
           let delay_is = stands.delay_is in
-          let rest : List ℕ = bytes_in after.ticks in
-          let bytes_left : bytes_in (take k (Q ++ run)) ≡ x =
-          ap (λ l. bytes_in l) leaves ∙ answered-bytes k x in
-          let Fits : List ℕ → Type 0 = λ y. length y ≤ rules.room y in
-          let fits_still : Fits (left ++ (x ++ rest)) =
-          subst Fits (ap (λ y. (left ++ y) ++ rest) bytes_left ∙ append_assoc left x rest)
-          (after.runs.walked.room (omega arith)) in
-          let Left : List ℕ → Type 0 = λ y. OutletStandsFor proto outlet (left ++ y) in
-          let lent : Left (bytes_in (take k (Q ++ run))) = subst Left (sym bytes_left)
-          (lends left stands.walks.outlet_is
-          (rooms rules proto.lawful x left rest fits_still)) in
+          let P : Bool → Type 0 = λ p. Runs run p (left ++ bytes_in (take k (Q ++ run))) after.ticks 0
+          (Some after.burst) (take k (Q ++ run)) in
           let A : List Tick → Type 0 = λ l. HasTakenRun proto macs
-          (record old { cut = cut; mac = mac; ring = ring; outlet = outlet; until = until }) last
-          setup line run l in
+          (record old { cut = cut; mac = mac; ring = ring; until = until }) last setup line run l in
           subst A leaves
-          (made run (take k (Q ++ run)) mac old.arriving ring outlet until (Some after.burst)
+          (made run (take k (Q ++ run)) mac old.arriving ring until (Some after.burst)
           (left ++ bytes_in (take k (Q ++ run))) after.ticks cuts
-          (runs-as run false old.passed (left ++ bytes_in (take k (Q ++ run))) after.ticks 0
-          (owed_by outlet) (Some after.burst) (take k (Q ++ run)) after.runs it.walked.opens.1
-          unowed)
-          lent
+          (subst P (sym it.walked.opens.1) after.runs) (unowed-of it) tt
           (ring_is
           ∙ (sym after.ring
           ∙ ap (λ n. after.ticks ++ silent (n - length after.ticks)) (sym delay-is)))

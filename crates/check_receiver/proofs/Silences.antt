@@ -1,6 +1,6 @@
 -- A silent tick.
 use Rattle.std.proofs.Common.{◌≡◌, ◌∙◌, ℕ, ◌+◌, ◌-◌, ◌<◌, ◌≤◌, true, false, List, [], ◌∷◌}
-use Rattle.std.proofs.Common.{◌++◌, length, drop, ap, subst, arith, refl}
+use Rattle.std.proofs.Common.{◌++◌, length, drop, ap, sym, subst, arith, refl}
 use Rattle.std.proofs.Common.{Option, Some, None, IfSome}
 use Rattle.std.proofs.lemmas.List.{length-drop}
 use Rattle.yasir_ticks.specs.Bursts.{Burst}
@@ -14,7 +14,8 @@ use Rattle.frame_ending.specs.SoFar.{last_burst, start_in, start_so_far, live_by
 use Rattle.frame_ending.specs.SoFar.{live_bytes_so_far}
 use Rattle.frame_ending.proofs.LastBurst.{last_burst-silent}
 use Rattle.frame_ending.proofs.Dividing.{longer-line}
-use Rattle.spoiler.specs.Outlet.{owed_by}
+use Rattle.spoiler.specs.Outlet.{Refuses, owed_by}
+use Rattle.spoiler.proofs.Standing.{stands-unowed}
 use Rattle.hmac_tag.specs.declared.tag.Mac.{Ghosts as Mac}
 use Rattle.link_format.specs.Profile.{Profile, profile_of, delay}
 use Rattle.link_format.specs.Setup.{Setup}
@@ -22,12 +23,12 @@ use Rattle.sequence_journal.specs.declared.numbers.TheConstants.{LIMIT}
 use Rattle.link_verdicts.specs.Emissions.{owed}
 use Rattle.link_verdicts.specs.declared.note.CheckNote.TheVariants.{Refused}
 use Rattle.link_verdicts.specs.declared.note.RefusedWhy.TheVariants.{Trailer}
-use Rattle.link_verdicts.proofs.Opened.{opens-of, last-of, long-of, more-of, unowed-of, room-of}
-use Rattle.link_verdicts.proofs.Opened.{goes-as}
+use Rattle.link_verdicts.proofs.Opened.{opens-of, last-of, long-of, more-of, unowed-of, bytes-of}
+use Rattle.link_verdicts.proofs.Opened.{goes-as, bytes-next}
 use Rattle.link_verdicts.proofs.Opened.{silent-goes, silent-breaks}
 use Rattle.check_receiver.specs.Between.{IsBetween}
 use Rattle.check_receiver.specs.Stands.{MacHolds, HasTaken}
-use Rattle.check_receiver.specs.Turning.{Turned, closed_at}
+use Rattle.check_receiver.specs.Turning.{Turned, TurnedRefused, refused}
 use Rattle.check_receiver.specs.declared.checker.Checker.{Checker}
 use Rattle.burst_walk.specs.declared.box_step.BoxStep.{BoxStep}
 use Rattle.link_verdicts.specs.declared.note.CheckNote.{CheckNote}
@@ -67,7 +68,7 @@ module _ {R M : Type 0} (proto : LineRules R) (macs : Mac M) {B D : ℕ} (old : 
       let more = more-of it in
       let turn = moved proto old new Silent step.tick turned left live between.walks.outlet_is
       between.walks.ring_is (unowed-of it)
-      (not-last proto macs old last setup line Silent cut between more) more (room-of it) in
+      (not-last proto macs old last setup line Silent cut between more) more in
       let Coded : Option Burst → Type 0 = λ o. IfSome o
       (λ e. MacHolds proto macs setup old.mac old.arriving e) in
       let less = length-drop 1 live in
@@ -82,7 +83,8 @@ module _ {R M : Type 0} (proto : LineRules R) (macs : Mac M) {B D : ℕ} (old : 
       (silent-goes it few header) refl turn.answer_is it.walked.opens.1 turn.unowed refl)
       noted turn.stands
       (ring-waits proto macs old new step.tick turned live between.walks.ring_is (omega arith) most)
-      (omega arith) (omega arith) waits between.walks.mac_stands (subst Coded is between.walks.mac_holds)
+      (omega arith) (omega arith) waits between.walks.mac_stands
+      (subst Coded is between.walks.mac_holds) tt
 
 module _ {R M : Type 0} (proto : LineRules R) (macs : Mac M) {B D : ℕ} (old : Checker R M B D)
     (last : ℕ) (setup : Setup) (line : List Tick) (cut : Cut)
@@ -110,7 +112,7 @@ module _ {R M : Type 0} (proto : LineRules R) (macs : Mac M) {B D : ℕ} (old : 
     (last : ℕ) (setup : Setup) (line : List Tick) (cut : Cut)
     (between : IsBetween proto macs old last setup line Silent cut) (new : Checker R M B D)
     (step : BoxStep CheckNote)
-    (turned : Turned proto (closed_at new.earliest_start old) new Silent step.tick)
+    (refuses : TurnedRefused proto old new step.tick)
     (earliest : new.earliest_start ≡ length (line ++ Silent ∷ []) + old.until
     + left_of proto.rules (live_bytes_so_far proto.rules (line ++ Silent ∷ [])))
     (noted : step.note ≡ Some (Refused (start_so_far (line ++ Silent ∷ [])) Trailer)) where
@@ -128,10 +130,12 @@ module _ {R M : Type 0} (proto : LineRules R) (macs : Mac M) {B D : ℕ} (old : 
       let live : List Tick = between.walks.live in
       let it = open-walks between.walks between.wide d is in
       let more = more-of it in
-      let base : Checker R M B D = closed_at new.earliest_start old in
-      let turn = moved proto base new Silent step.tick turned left live between.walks.outlet_is
-      between.walks.ring_is (unowed-of it)
-      (not-last proto macs old last setup line Silent cut between more) more (room-of it) in
+      let base : Checker R M B D = refused old refuses.outlet new.earliest_start in
+      let turned = refuses.turned in
+      let none : owed_by refuses.outlet ≡ 0 = refuses.owed ∙ unowed-of it in
+      let turn = moved proto base new Silent step.tick turned left live
+      (stands-unowed proto refuses.outlet left none) between.walks.ring_is none
+      (not-last proto macs old last setup line Silent cut between more) more in
       let whose = waits-last proto macs old last setup line cut between d is in
       let lacks = ap (λ o. left_of proto.rules (live_bytes_in proto.rules o)) whose in
       let line_long = longer-line line Silent in
@@ -142,12 +146,17 @@ module _ {R M : Type 0} (proto : LineRules R) (macs : Mac M) {B D : ℕ} (old : 
       let same : new.earliest_start
       ≡ live_end proto.rules d + delay refusing + owed proto.rules d = omega arith in
       let less = length-drop 1 live in
+      let left' : List ℕ = left ++ bytes_in (take 1 live) in
       assembled proto macs setup line Silent base new Silent step turned between.word_is
       between.wide between.delay_is between.direction_is between.cuts last
-      (left ++ bytes_in (take 1 live)) (drop 1 live) None (Some (Refused d.start Trailer))
+      left' (drop 1 live) None (Some (Refused d.start Trailer))
       (goes-as Silent step.tick old.passed (owed_by new.outlet) new.earliest_start
       (silent-breaks it behind) refl turn.answer_is it.walked.opens.1 turn.unowed same)
       (noted ∙ ap (λ o. Some (Refused (start_in o) Trailer)) whose) turn.stands
       (ring-waits proto macs base new step.tick turned live between.walks.ring_is (omega arith)
       between.walks.few)
       (let few = between.walks.few in omega arith) (omega arith) refl between.walks.mac_stands tt
+      (λ stays some. subst (λ v. proto.stands v (left' ++ bytes_in (drop 1 live))) (sym turn.keeps)
+      (subst (λ x. Refuses proto refuses.outlet x)
+      (ap (λ o. live_bytes_in proto.rules o) whose ∙ sym (bytes-next it ∙ bytes-of it))
+      (refuses.knows (line ++ Silent ∷ []) between.cuts)))

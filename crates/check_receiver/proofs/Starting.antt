@@ -1,7 +1,7 @@
 -- The first byte of a burst.
 use Rattle.std.proofs.Common.{◌≡◌, ◌∙◌, ℕ, ◌+◌, ◌-◌, ◌<◌, ◌≤◌, ◌==◌, true, false, List, [], ◌∷◌}
 use Rattle.std.proofs.Common.{◌++◌, length, take, drop, get_or, refl, sym, ap, subst, arith, ⊎_elim}
-use Rattle.std.proofs.Common.{Option, Some, None, is_some}
+use Rattle.std.proofs.Common.{Option, Some, None, IfNone, is_some}
 use Rattle.std.proofs.lemmas.Bool.{cases_Bool}
 use Rattle.std.proofs.lemmas.List.{append-nil, length-drop}
 use Rattle.yasir_ticks.specs.Ticks.{silent, bytes_in}
@@ -23,7 +23,9 @@ use Rattle.frame_ending.proofs.Pauses.{up_to_byte-le}
 use Rattle.frame_ending.proofs.Running.{byte-starts, start-bytes}
 use Rattle.delay_ring.specs.DelayRing.{ring_ticks}
 use Rattle.spoiler.specs.declared.outlet.Outlet.{Outlet}
-use Rattle.spoiler.specs.Outlet.{StandsFor as OutletStandsFor, owed_by, filled, filled_bytes}
+use Rattle.spoiler.specs.Outlet.{StandsFor as OutletStandsFor, Refuses, owed_by, filled}
+use Rattle.spoiler.specs.Outlet.{filled_bytes}
+use Rattle.spoiler.proofs.Standing.{stands-unowed}
 use Rattle.burst_walk.specs.HasCome.{HasCome}
 use Rattle.burst_walk.proofs.Coming.{closed-or-runs_on, come-alone, waiting-may}
 use Rattle.hmac_tag.specs.declared.tag.Mac.{Ghosts as Mac}
@@ -43,7 +45,7 @@ use Rattle.link_verdicts.proofs.Beginning.{opens-begun}
 use Rattle.link_verdicts.proofs.Judging.{head-bad, checked-busy, checked-bad}
 use Rattle.link_verdicts.proofs.Opened.{whole-bytes, nothing-after, last_of-more}
 use Rattle.link_verdicts.proofs.Opening.{open-goes, length-silent}
-use Rattle.link_verdicts.proofs.Resting.{causal, rest-drops}
+use Rattle.link_verdicts.proofs.Resting.{causal, rest-drops, knows-more}
 use Rattle.link_verdicts.proofs.Rings.{ring-first, ring-begun}
 use Rattle.link_verdicts.proofs.Settling.{after-long}
 use Rattle.check_receiver.specs.Arrivals.{bytes_come}
@@ -118,6 +120,14 @@ module _ {R M : Type 0} (proto : LineRules R) (macs : Mac M) {B D : ℕ} (old : 
   resting : Walked None
   resting = subst Walked none-waits between.walks.walked
 
+  known : old.passed ≡ false → 0 < length between.walks.live
+      → Refuses proto old.outlet (between.walks.left ++ bytes_in between.walks.live)
+  known =
+      let K : Option Burst → Type 0 = λ o. IfNone o (old.passed ≡ false
+      → 0 < length between.walks.live
+      → Refuses proto old.outlet (between.walks.left ++ bytes_in between.walks.live)) in
+      subst K none-waits between.walks.knows
+
   begins : HasCome (checker profile rules) (at_floor setup.floor) m (bursts (line ++ Byte b ∷ []))
       state resting.emissions (Some e)
   begins = come-alone (checker profile rules)
@@ -142,7 +152,7 @@ module _ {R M : Type 0} (proto : LineRules R) (macs : Mac M) {B D : ℕ} (old : 
         let until = between.one_less ∙ ap (λ k. k - 1) between.walks.until_is in
         let flows = flow proto macs old new Silent step.tick turned left live
         between.walks.outlet_is between.walks.ring_is resting.unowed
-        (λ there. until-last live old.until until there) resting.room in
+        (λ there. until-last live old.until until there) known in
         let less = length-drop 1 live in
         let fewer = between.one_less in
         let until_is = between.walks.until_is in
@@ -152,13 +162,16 @@ module _ {R M : Type 0} (proto : LineRules R) (macs : Mac M) {B D : ℕ} (old : 
         between.wide between.delay_is between.direction_is between.cuts last flows.after
         (drop 1 live) None (Some (Dropped e.start Busy))
         (rest-drops proto profile time setup.floor line (Byte b) state resting.emissions old.passed
-        left live (owed_by old.outlet) new.outlet step.tick flows resting.rests resting.room e Busy
+        left live (owed_by old.outlet) old.outlet new.outlet step.tick flows resting.rests
+        resting.room e Busy
         (checked-busy profile rules state e early) begins refl)
         (noted ∙ ap (λ o. Some (Dropped (start_in o) Busy)) last-is) flows.stands
         (ring-waits proto macs old new step.tick turned live between.walks.ring_is (omega arith)
         between.walks.few)
         (omega arith) (omega arith)
         (between.walks.waits_is ∙ ap (λ o. is_some o) none-waits) between.walks.mac_stands tt
+        (knows-more proto m old.earliest_start resting.emissions old.passed left live
+        (owed_by old.outlet) old.outlet new.outlet step.tick flows known)
 
   -- ---- nothing is left to leave
 
@@ -172,7 +185,7 @@ module _ {R M : Type 0} (proto : LineRules R) (macs : Mac M) {B D : ℕ} (old : 
   ends = begun-end profile rules proto.lawful m b bytes
 
   module _ (mac : M) (arriving : Arriving B) (outlet : Outlet R)
-      (begun : OutletStandsFor proto outlet []) (unowed : owed_by outlet ≡ 0)
+      (unowed : owed_by outlet ≡ 0)
       (free : old.earliest_start ≤ m) (new : Checker R M B D) (step : BoxStep CheckNote) where
     -- another burst begins
     abbrev base : Checker R M B D
@@ -183,6 +196,9 @@ module _ {R M : Type 0} (proto : LineRules R) (macs : Mac M) {B D : ℕ} (old : 
       arriving = arriving;
       outlet = outlet;
     }
+
+    begun : OutletStandsFor proto outlet []
+    begun = stands-unowed proto outlet [] unowed
 
     -- its one byte is a header that isn't good
     pub start-bad : TurnedClear proto base new step.tick
@@ -226,7 +242,7 @@ module _ {R M : Type 0} (proto : LineRules R) (macs : Mac M) {B D : ℕ} (old : 
           let Q : ℕ → Type 0 = λ k. (step.tick ≡ tick_or_silence (filled rules [] k))
           × OutletStandsFor proto new.outlet ([] ++ filled_bytes (filled rules [] k))
           × (owed_by new.outlet ≡ k - 1) in
-          let out : Q 0 = subst Q unowed turn in
+          let out : Q 0 = subst Q unowed (turn.0, turn.1, turn.2) in
           let none : owed_by new.outlet ≡ 0 - 1 = out.2 in
           (out.0, out.1, omega arith)
 
@@ -299,6 +315,7 @@ module _ {R M : Type 0} (proto : LineRules R) (macs : Mac M) {B D : ℕ} (old : 
           between.word_is between.wide between.delay_is between.direction_is between.cuts last []
           entered (Some e) None goes noted quiet.1 ring (omega arith) (omega arith) refl
           (rules.label ∷ setup.direction ∷ live_bytes rules e, mac_holds.mac_is) mac_holds
+          tt
 
   -- its MAC and its trailer
   pub start-mac_holds : (mac : M) (arriving : Arriving B) → bytes_come arriving ≡ []

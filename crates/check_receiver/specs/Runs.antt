@@ -3,7 +3,7 @@ use Rattle.std.specs.Prelude.{◌≡◌, ◌⊎◌, ℕ, ◌<◌, ◌≤◌, tru
 use Rattle.std.specs.Prelude.{take, slice_index_or}
 use Rattle.yasir_ticks.specs.declared.tick.Tick.{Tick}
 use Rattle.yasir_ticks.specs.declared.tick.Tick.TheVariants.{Silent, Byte}
-use Rattle.line_rules.specs.Rules.{Rules, fills_room}
+use Rattle.line_rules.specs.Rules.{Rules}
 use Rattle.line_rules.specs.declared.line_rules.LineRules.{Ghosts as LineRules}
 use Rattle.frame_ending.specs.declared.cut.Cut.TheVariants.{Live, Extra}
 use Rattle.frame_ending.specs.Cuts.{cut_of}
@@ -41,10 +41,6 @@ pub record IsFront (ticks : List Tick) (most : ℕ) (x : List ℕ) : Type 0 wher
   pub within : length x ≤ most
   pub bytes : map Byte x ≡ take (length x) ticks
   pub all : length x < most → slice_index_or ticks (length x) Silent ≡ Silent
-
--- After these bytes there is room for each of those.
-abbrev pub HaveRoom : Rules → List ℕ → List ℕ → Type 0
-HaveRoom rules x more = (n : ℕ) → n < length more → fills_room rules (x ++ take n more) ≡ false
 
 -- After these bytes a header that is whole stays a good one with each of those.
 abbrev pub KeepsHeader : Rules → List ℕ → List ℕ → Type 0

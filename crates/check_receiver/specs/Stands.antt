@@ -1,7 +1,7 @@
 -- What a receiver stands for.
-use Rattle.std.specs.Prelude.{◌≡◌, ℕ, ◌+◌, ◌-◌, ◌≤◌, Bool, List, ◌∷◌, ◌++◌, [], length}
-use Rattle.std.specs.Prelude.{Option, IfSome, is_some}
-use Rattle.yasir_ticks.specs.Ticks.{silent}
+use Rattle.std.specs.Prelude.{◌≡◌, ℕ, ◌+◌, ◌-◌, ◌<◌, ◌≤◌, Bool, false, List, ◌∷◌, ◌++◌, []}
+use Rattle.std.specs.Prelude.{length, Option, IfSome, IfNone, is_some}
+use Rattle.yasir_ticks.specs.Ticks.{silent, bytes_in}
 use Rattle.yasir_ticks.specs.Bursts.{Burst, bursts}
 use Rattle.yasir_ticks.specs.declared.tick.Tick.{Tick}
 use Rattle.line_rules.specs.declared.line_rules.LineRules.{Ghosts as LineRules}
@@ -10,7 +10,7 @@ use Rattle.frame_ending.specs.Stands.{StandsFor as CutStandsFor, ticks_taken as 
 use Rattle.delay_ring.specs.declared.delay_ring.DelayRing.{DelayRing}
 use Rattle.delay_ring.specs.DelayRing.{ring_ticks}
 use Rattle.spoiler.specs.declared.outlet.Outlet.{Outlet}
-use Rattle.spoiler.specs.Outlet.{StandsFor as OutletStandsFor, owed_by}
+use Rattle.spoiler.specs.Outlet.{StandsFor as OutletStandsFor, Refuses, owed_by}
 use Rattle.hmac_tag.specs.declared.tag.Mac.{Ghosts as Mac}
 use Rattle.hmac_tag.specs.Tag.{direction_number}
 use Rattle.link_format.specs.NumberedFrame.{last_number}
@@ -49,6 +49,9 @@ module _ {R M : Type 0} (proto : LineRules R) (macs : Mac M) where
         (length line) (bursts line) (record { floor = last; earliest_start = earliest }) passes
         left live (owed_by outlet) waiting
     pub outlet_is : OutletStandsFor proto outlet left
+    -- all bytes of a refused burst are known while they leave
+    pub knows : IfNone waiting (passes ≡ false → 0 < length live
+        → Refuses proto outlet (left ++ bytes_in live))
     pub ring_is : ring_ticks ring ≡ live ++ silent (D - length live)
     pub few : length live ≤ D
     pub until_is : until ≡ length live

@@ -6,7 +6,10 @@ use Rattle.line_rules.specs.declared.line_rules.LineRules.{Ghosts as LineRules}
 use Rattle.delay_ring.specs.declared.delay_ring.DelayRing.{DelayRing}
 use Rattle.delay_ring.specs.DelayRing.{ring_ticks}
 use Rattle.yasir_ticks.specs.Ticks.{silent}
-use Rattle.spoiler.specs.Outlet.{StandsFor as OutletStandsFor}
+use Rattle.frame_ending.specs.SoFar.{live_bytes_so_far}
+use Rattle.frame_ending.specs.Stands.{StandsFor as CutStandsFor}
+use Rattle.spoiler.specs.Outlet.{StandsFor as OutletStandsFor, Refuses, owed_by}
+use Rattle.spoiler.specs.declared.outlet.Outlet.{Outlet}
 use Rattle.link_verdicts.specs.Turns.{HasTurned}
 use Rattle.check_receiver.specs.declared.checker.Checker.{Checker}
 
@@ -34,6 +37,19 @@ pub record TurnedClear {R M : Type 0} {B D : ℕ} (proto : LineRules R) (old new
 abbrev pub with_until : {R M : Type 0} {B D : ℕ} → ℕ → Checker R M B D → Checker R M B D
 with_until n old = record old { until = n }
 
--- no verdict is open, and the next burst may start from this tick on
-abbrev pub closed_at : {R M : Type 0} {B D : ℕ} → ℕ → Checker R M B D → Checker R M B D
-closed_at earliest old = record old { waits = false; earliest_start = earliest }
+-- with this outlet, no verdict is open, and the next burst may start from this tick on
+abbrev pub refused : {R M : Type 0} {B D : ℕ} → Checker R M B D → Outlet R → ℕ → Checker R M B D
+refused old outlet earliest = record old {
+  waits = false;
+  earliest_start = earliest;
+  outlet = outlet;
+}
+
+-- the outlet knows all bytes of the burst that is refused, and then a silent tick has entered
+pub record TurnedRefused {R M : Type 0} {B D : ℕ} (proto : LineRules R) (old new : Checker R M B D)
+    (answer : Tick) : Type 0 where
+  pub outlet : Outlet R
+  pub knows : (line : List Tick) → CutStandsFor proto old.cut line
+      → Refuses proto outlet (live_bytes_so_far proto.rules line)
+  pub owed : owed_by outlet ≡ owed_by old.outlet
+  pub turned : Turned proto (refused old outlet new.earliest_start) new Silent answer

@@ -219,13 +219,7 @@ impl<R: LineRules, M: Mac, const B: usize, const D: usize> Checker<R, M, B, D> {
         ensures { Turned R.LineRules self.old self.new t result }
     {
         match self.ring.turn(t) {
-            Tick::Byte(byte) => {
-                // there is always room for the byte of a frame's room
-                if !self.outlet.has_room() {
-                    return Tick::Byte(byte);
-                }
-                Tick::Byte(self.outlet.emit(byte, self.until == 0, self.passed))
-            }
+            Tick::Byte(byte) => Tick::Byte(self.outlet.emit(byte, self.until == 0, self.passed)),
             Tick::Silent => match self.outlet.fill() {
                 Some(byte) => Tick::Byte(byte),
                 None => Tick::Silent,

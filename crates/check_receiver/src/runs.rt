@@ -6,8 +6,7 @@ ghost use Rattle.yasir_ticks.specs.declared.TheConstants.{MAX_TICKS};
 ghost use Rattle.frame_ending.specs.Stands.{ticks_taken as ticks_cut};
 ghost use Rattle.frame_ending.specs.Stands.{StandsFor as CutStandsFor};
 ghost use Rattle.delay_ring.specs.DelayRing.{ring_ticks, AreAlike};
-ghost use Rattle.spoiler.specs.Outlet.{StandsFor as OutletStandsFor, owed_by};
-ghost use Rattle.check_receiver.specs.Runs.{BeginNone, IsFront, HaveRoom};
+ghost use Rattle.check_receiver.specs.Runs.{BeginNone, IsFront};
 ghost use Rattle.frame_ending.specs.Cuts.{cut_of};
 ghost use Rattle.frame_ending.specs.declared.cut.Cut.TheVariants.{Start};
 ghost use Rattle.line_rules.specs.Rules.{head_of};
@@ -17,7 +16,6 @@ use burst_walk::RunBytes;
 use delay_ring::DelayRing;
 use frame_ending::BurstCut;
 use line_rules::{Head, LineRules};
-use spoiler::Outlet;
 
 // Takes the first of these bytes, one a tick, as far as they are alike, all live or none, and begin
 // no burst. Returns how many.
@@ -75,22 +73,12 @@ pub fn begin_well<R: LineRules>(bytes: &[u8]) -> bool
 // Lends the bytes that leave in the next ticks, this many and none of them a burst's last one. The
 // ticks are alike, and where they are silent it lends none.
 #[inline]
-pub fn lend<R: LineRules, const D: usize>(
-    ring: &DelayRing<D>,
-    outlet: &mut Outlet<R>,
-    count: usize,
-    left: &mut RunBytes,
-)
+pub fn lend<const D: usize>(ring: &DelayRing<D>, count: usize, left: &mut RunBytes)
     requires within { count ≤ D }
     requires empty { left.old.items ≡ [] }
-    ensures front { IsFront (ring_ticks ring.now) count left.new.items }
-    ensures stands { (x : List ℕ) → OutletStandsFor R.LineRules outlet.old x
-        → HaveRoom R.rules x left.new.items
-        → OutletStandsFor R.LineRules outlet.new (x ++ left.new.items) }
-    ensures owed { owed_by outlet.new ≡ 0 }
+    ensures { IsFront (ring_ticks ring.now) count left.new.items }
 {
     let _ = left.try_extend_from_slice(ring.front_bytes(count));
-    outlet.emit_some(left.as_slice());
 }
 
 // How many bytes a run has at most.
@@ -115,10 +103,16 @@ pub fn alike_along<const D: usize>(ring: &DelayRing<D>, bytes: &[u8]) -> usize
     most
 }
 
-// Puts in what leaves while this many of these bytes come: the bytes that leave the ring, up to the
-// first silent tick, and behind those of a whole ring the bytes themselves.
+// Lends the bytes that leave while this many of these bytes come, none of them a burst's last one:
+// those that leave the ring, up to the first silent tick, and behind those of a whole ring the bytes
+// themselves.
 #[inline]
-fn leave_along<const D: usize>(ring: &DelayRing<D>, bytes: &[u8], count: usize, left: &mut RunBytes)
+pub fn lend_along<const D: usize>(
+    ring: &DelayRing<D>,
+    bytes: &[u8],
+    count: usize,
+    left: &mut RunBytes,
+)
     requires within { count ≤ length bytes.now }
     requires most { count ≤ 64 }
     requires empty { left.old.items ≡ [] }
@@ -131,26 +125,4 @@ fn leave_along<const D: usize>(ring: &DelayRing<D>, bytes: &[u8], count: usize, 
     }
     let behind = &bytes[..count - D];
     let _ = left.try_extend_from_slice(behind);
-}
-
-// Lends the bytes that leave while this many of these bytes come, none of them a burst's last one.
-#[inline]
-pub fn lend_along<R: LineRules, const D: usize>(
-    ring: &DelayRing<D>,
-    outlet: &mut Outlet<R>,
-    bytes: &[u8],
-    count: usize,
-    left: &mut RunBytes,
-)
-    requires within { count ≤ length bytes.now }
-    requires most { count ≤ 64 }
-    requires empty { left.old.items ≡ [] }
-    ensures front { IsFront (ring_ticks ring.now ++ map Byte bytes.now) count left.new.items }
-    ensures stands { (x : List ℕ) → OutletStandsFor R.LineRules outlet.old x
-        → HaveRoom R.rules x left.new.items
-        → OutletStandsFor R.LineRules outlet.new (x ++ left.new.items) }
-    ensures owed { owed_by outlet.new ≡ 0 }
-{
-    leave_along(ring, bytes, count, left);
-    outlet.emit_some(left.as_slice());
 }

@@ -255,30 +255,6 @@ is_whole-is_frame x bytes =
     ∙ sym (and_left _ _ (and_right _ _ apart)))
     (cases_eq (length x) (size_by (length_byte x)))
 
-pub ends_right-push : (x : List ℕ) (b : ℕ) → AreBytes (x ++ b ∷ [])
-    → ends_right (length x + 1) (length_byte x) (register_of (running_block (x ++ b ∷ [])))
-    ≡ has_right_ending (x ++ b ∷ [])
-unfolding has_right_ending
-ends_right-push x b bytes =
-    let longer : length (x ++ b ∷ []) ≡ length x + 1 = length_push x b in
-    ⊎_elim
-    (λ few.
-    and_left _ _ (and_right _ _
-    (ne_eqb (length x + 1) (size_by (length_byte x)) (λ e. omega arith)))
-    ∙ sym (and_left _ _ (and_right _ _
-    (ne_eqb (length (x ++ b ∷ [])) (size_by (length_byte (x ++ b ∷ []))) (λ e. omega arith)))))
-    (λ there.
-    let len : length_byte (x ++ b ∷ []) ≡ length_byte x =
-    length_byte-append x (b ∷ []) (omega arith) in
-    ap (λ t. (nat_le 5 (length_byte x) && length x + 1 == size_by (length_byte x)) && t)
-    (residue_decides (running_block (x ++ b ∷ []))
-    (All-drop (λ c. c < 256) (block_start (length (x ++ b ∷ []))) (x ++ b ∷ []) bytes))
-    ∙ (ap (λ n. (nat_le 5 (length_byte x) && n == size_by (length_byte x))
-    && ends_in_crc (running_block (x ++ b ∷ []))) (sym longer)
-    ∙ ap (λ n. (nat_le 5 n && length (x ++ b ∷ []) == size_by n)
-    && ends_in_crc (running_block (x ++ b ∷ []))) (sym len)))
-    (cases_lt (length x) 9)
-
 -- ---- a value and its bytes
 
 pub dnp_fresh : DnpStandsFor (record {
@@ -357,20 +333,16 @@ dnp_good value x stands =
     stands.check
     ∙ is_whole-is_frame x stands.bytes))))
 
-pub dnp_ends_right : (value : Dnp) (next b : ℕ) (x : List ℕ) → DnpStandsFor value x → b < 256
-    → next ≡ register_after value.len value.register b
-    → ends_right (value.len + 1) value.len_byte next ≡ has_right_ending (x ++ b ∷ [])
-dnp_ends_right value next b x stands byte is =
-    let bytes : AreBytes (x ++ b ∷ []) = All-push (λ n. n < 256) x b stands.bytes byte in
-    let register : next ≡ register_of (running_block (x ++ b ∷ [])) =
-    is ∙ (ap (λ k. register_after k value.register b) stands.count
-    ∙ (ap (λ r. register_after (length x) r b) stands.check ∙ sym (register_of-push x b))) in
-    ap (λ r. ends_right (value.len + 1) value.len_byte r) register
-    ∙ (ap (λ k. ends_right (k + 1) value.len_byte (register_of (running_block (x ++ b ∷ []))))
-    stands.count
-    ∙ (ap (λ l. ends_right (length x + 1) l (register_of (running_block (x ++ b ∷ []))))
-    stands.tells
-    ∙ ends_right-push x b bytes))
+pub dnp_ends_right : (value : Dnp) (x : List ℕ) → DnpStandsFor value x
+    → ends_right value.len value.len_byte value.register ≡ has_right_ending x
+unfolding has_right_ending
+dnp_ends_right value x stands =
+    ap (λ r. ends_right value.len value.len_byte r) stands.check
+    ∙ (ap (λ n. ends_right n value.len_byte (register_of (running_block x))) stands.count
+    ∙ (ap (λ l. ends_right (length x) l (register_of (running_block x))) stands.tells
+    ∙ ap (λ t. (nat_le 5 (length_byte x) && length x == size_by (length_byte x)) && t)
+    (residue_decides (running_block x)
+    (All-drop (λ c. c < 256) (block_start (length x)) x stands.bytes))))
 
 pub dnp_fresh-room : is_full_dnp (record {
   len = 0;

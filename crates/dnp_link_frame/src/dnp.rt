@@ -3,7 +3,7 @@ use crate::crc::FIRST_REGISTER;
 use crate::size::{HEADER_LEN, LONGEST, room_by, size_by};
 use crate::steps::{
     BLOCK_LEN, blocks_at_beginning, ends_right, head_by, header_after, is_header, is_whole,
-    len_byte_after, register_after,
+    len_byte_after,
 };
 use crate::table::{after_byte, after_bytes};
 use line_rules::{Head, LineRules};
@@ -285,12 +285,20 @@ impl LineRules for Dnp {
     }
 
     #[inline]
-    fn spoiled(&self, b: u8) -> u8 {
-        let register = register_after(self.len, self.register, b);
-        if ends_right(self.len + 1, self.len_byte, register) {
-            b ^ 1
-        } else {
-            b
+    fn ends_right(&self) -> bool {
+        ends_right(self.len, self.len_byte, self.register)
+    }
+
+    #[inline]
+    fn fork(&self) -> Dnp {
+        Dnp {
+            len: self.len,
+            len_byte: self.len_byte,
+            room: self.room,
+            block_left: self.block_left,
+            register: self.register,
+            header_right: self.header_right,
+            blocks_right: self.blocks_right,
         }
     }
 }

@@ -1,13 +1,11 @@
 //! What one more byte does to what is kept of the bytes so far.
 ghost use Rattle.std.specs.Prelude.{◌≡◌, ◌&&◌};
-ghost use Rattle.dnp_link_frame.specs.Steps.{begins_block, register_before};
-ghost use Rattle.dnp_link_frame.specs.Steps.{register_after, fits_header, is_header, head_by};
+ghost use Rattle.dnp_link_frame.specs.Steps.{fits_header, is_header, head_by};
 ghost use Rattle.dnp_link_frame.specs.Steps.{blocks_at_beginning, len_byte_after, is_whole};
 ghost use Rattle.dnp_link_frame.specs.Steps.{ends_right};
 
-use crate::crc::{FIRST_REGISTER, RESIDUE};
+use crate::crc::RESIDUE;
 use crate::size::{BLOCK_DATA_LEN, COUNTED_OF_HEADER, CRC_LEN, HEADER_LEN, size_by};
-use crate::table::after_byte;
 use line_rules::Head;
 
 // The two bytes that a frame begins with.
@@ -15,33 +13,6 @@ pub(crate) const START: [u8; 2] = [0x05, 0x64];
 
 // How many bytes a whole block of user data has, its CRC counted.
 pub(crate) const BLOCK_LEN: u16 = BLOCK_DATA_LEN + CRC_LEN;
-
-// Whether the byte after this many is the first of a block of user data.
-#[inline]
-fn begins_block(len: u16) -> bool
-    ensures { result ≡ begins_block len }
-{
-    len >= HEADER_LEN && (len - HEADER_LEN) % BLOCK_LEN == 0
-}
-
-// The register that the block of the next byte begins with, where it begins with that byte, or has
-// come to.
-#[inline]
-fn register_before(len: u16, register: u16) -> u16
-    ensures { result ≡ register_before len register }
-{
-    if begins_block(len) {
-        return FIRST_REGISTER;
-    }
-    register
-}
-
-#[inline]
-pub(crate) fn register_after(len: u16, register: u16, byte: u8) -> u16
-    ensures { result ≡ register_after len register byte }
-{
-    after_byte(register_before(len, register), byte)
-}
 
 // Whether a header may have this byte after this many; the register is the one that it leaves.
 #[inline]

@@ -122,6 +122,15 @@ fn largest_frame_cut_at_every_length(rt: HostRuntime) {
     assert_eq!(rt; (rules.head(), rules.left()), (Head::Good, 0));
 }
 
+// What is sent for a last byte after these bytes, where all are to be no frame.
+fn last_after<R: LineRules>(rules: &R, last: u8) -> u8 {
+    let mut all = rules.fork();
+    if !all.full() {
+        all.take(last);
+    }
+    if all.ends_right() { last ^ 1 } else { last }
+}
+
 // These bytes, and the zeros that are sent for what they lack, the last one spoiled.
 fn filled<R: LineRules>(bytes: &[u8]) -> R {
     let mut rules = R::fresh();
@@ -130,8 +139,11 @@ fn filled<R: LineRules>(bytes: &[u8]) -> R {
         if rules.full() {
             break;
         }
-        let byte = if after == 0 { rules.spoiled(0) } else { 0 };
-        rules.take(byte);
+        if after == 0 && last_after(&rules, 0) == 1 {
+            rules.take(1);
+        } else {
+            rules.take(0);
+        }
     }
     rules
 }
@@ -148,14 +160,14 @@ fn filled_frames_are_wrong(rt: HostRuntime) {
     assert!(rt; rules.full() && !rules.good());
 }
 
-// What is sent for a last byte after these bytes, where all are to be no frame.
+// The same, where there is room for it.
 fn spoiled_after<R: LineRules>(bytes: &[u8], last: u8) -> Option<u8> {
     let mut rules = R::fresh();
     rules.take_some(bytes);
     if rules.full() {
         return None;
     }
-    Some(rules.spoiled(last))
+    Some(last_after(&rules, last))
 }
 
 #[test]

@@ -84,8 +84,15 @@ impl<R: LineRules> LineRules for Counted<R> {
         self.inner.left()
     }
 
-    fn spoiled(&self, b: u8) -> u8 {
-        self.inner.spoiled(b)
+    fn ends_right(&self) -> bool {
+        self.inner.ends_right()
+    }
+
+    fn fork(&self) -> Self {
+        Counted {
+            inner: self.inner.fork(),
+            calls: self.calls,
+        }
     }
 }
 

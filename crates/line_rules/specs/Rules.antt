@@ -25,6 +25,9 @@ pub record Rules : Type 0 where
 abbrev pub is_frame_of : Rules → List ℕ → Bool
 is_frame_of rules x = rules.is_frame x
 
+abbrev pub has_right_ending_of : Rules → List ℕ → Bool
+has_right_ending_of rules x = rules.has_right_ending x
+
 abbrev pub spoil_of : Rules → List ℕ → ℕ → ℕ
 spoil_of rules h c = rules.spoil h c
 

@@ -86,7 +86,14 @@ impl LineRules for FourBytes {
         0
     }
 
-    fn spoiled(&self, b: u8) -> u8 {
-        if b == 0 { b ^ 1 } else { b }
+    fn ends_right(&self) -> bool {
+        self.last == 0
+    }
+
+    fn fork(&self) -> FourBytes {
+        FourBytes {
+            len: self.len,
+            last: self.last,
+        }
     }
 }

@@ -3,7 +3,7 @@ ghost use Rattle.std.specs.Prelude.{◌≡◌, ℕ, ◌<◌, ◌≤◌, Bool, tr
 ghost use Rattle.std.specs.Prelude.{length, take};
 ghost use Rattle.line_rules.specs.Bytes.{AreBytes};
 ghost use Rattle.line_rules.specs.Rules.{Rules, fills_room, is_frame_of, head_of, left_of};
-ghost use Rattle.line_rules.specs.Rules.{spoil_of};
+ghost use Rattle.line_rules.specs.Rules.{has_right_ending_of};
 ghost use Rattle.line_rules.specs.RulesLaws.{IsLawful, IsHeaded, IsFramed, IsFilling, HasNumbers};
 ghost use Rattle.line_rules.specs.Spoiling.{IsSpoiling};
 
@@ -105,9 +105,12 @@ pub trait LineRules: Drop {
     fn left(&self) -> u16
         ensures { (x : List ℕ) → stands self.now x → result ≡ left_of rules x };
 
-    /// What is sent after these bytes in place of `b`, where `b` would be the last byte and all of
-    /// them are to be no frame. There must be room for it.
-    fn spoiled(&self, b: u8) -> u8
-        requires { is_full self.now ≡ false }
-        ensures { (x : List ℕ) → stands self.now x → result ≡ spoil_of rules x b };
+    /// Whether the bytes end as a frame's do, in the check of what comes before it. Where they do
+    /// and are to be no frame, the last of them is sent with its lowest bit turned.
+    fn ends_right(&self) -> bool
+        ensures { (x : List ℕ) → stands self.now x → result ≡ has_right_ending_of rules x };
+
+    /// A second value that stands for the same bytes.
+    fn fork(&self) -> Self
+        ensures { (x : List ℕ) → stands self.now x → stands result x };
 }

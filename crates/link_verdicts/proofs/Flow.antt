@@ -1,5 +1,5 @@
 -- One turn: what leaves, and what then is still to leave.
-use Rattle.std.proofs.Common.{◌≡◌, ◌∙◌, ℕ, zero, suc, ◌-◌, ◌<◌, ◌≤◌, Bool, false, List, [], ◌∷◌}
+use Rattle.std.proofs.Common.{◌≡◌, ◌∙◌, ℕ, zero, suc, ◌-◌, ◌<◌, ◌≤◌, Bool, true, false, List, [], ◌∷◌}
 use Rattle.std.proofs.Common.{◌++◌, length, length-append, take, drop, get_or, refl, sym, ap, arith}
 use Rattle.std.proofs.Common.{append_assoc, subst}
 use Rattle.std.proofs.Common.{Option, Some}
@@ -12,8 +12,8 @@ use Rattle.line_rules.specs.Rules.{Rules, fills_room}
 use Rattle.line_rules.specs.RulesLaws.{IsLawful}
 use Rattle.line_rules.specs.declared.line_rules.LineRules.{Ghosts as LineRules}
 use Rattle.spoiler.specs.declared.outlet.Outlet.{Outlet}
-use Rattle.spoiler.specs.Outlet.{StandsFor as OutletStandsFor, owed_by, emitted, owed_after, filled}
-use Rattle.spoiler.specs.Outlet.{filled_bytes}
+use Rattle.spoiler.specs.Outlet.{StandsFor as OutletStandsFor, Refuses, owed_by, refused_by}
+use Rattle.spoiler.specs.Outlet.{emitted, owed_after, filled, filled_bytes}
 use Rattle.link_verdicts.specs.Leaving.{is_none, leaves}
 use Rattle.link_verdicts.specs.Turns.{HasTurned, tick_or_silence}
 use Rattle.link_verdicts.proofs.Leavings.{leaves-none, leaves-silent, leaves-byte, fill_out-zero}
@@ -41,8 +41,9 @@ room-before rules lawful x b y room =
 
 module _ {R : Type 0} (proto : LineRules R) (passes : Bool) where
   -- What has left, where a turn has answered so: what is still to leave is all but the first tick.
-  pub record Flows (left : List ℕ) (live : List Tick) (owed : ℕ) (new : Outlet R) (answer : Tick) :
-      Type 0 where
+  -- While live ticks are to leave, the outlet keeps what it knows of the burst.
+  pub record Flows (left : List ℕ) (live : List Tick) (owed : ℕ) (old new : Outlet R)
+      (answer : Tick) : Type 0 where
     pub after : List ℕ
     pub stands : OutletStandsFor proto new after
     pub answer_is : answer ≡ get_or (leaves proto.rules passes left live owed) 0 Silent
@@ -51,6 +52,7 @@ module _ {R : Type 0} (proto : LineRules R) (passes : Bool) where
     pub bytes : 0 < length live → after ++ bytes_in (drop 1 live) ≡ left ++ bytes_in live
     pub after_is : owed ≡ 0 → after ≡ left ++ bytes_in (take 1 live)
     pub unowed : 1 < length live → owed_by new ≡ 0
+    pub keeps : 0 < length live → refused_by new ≡ refused_by old
 
   -- nothing is to leave but a fill
   flows-fill : (left : List ℕ) (old new : Outlet R) (owed : ℕ) (answer : Tick)
@@ -58,7 +60,7 @@ module _ {R : Type 0} (proto : LineRules R) (passes : Bool) where
       → (answer ≡ tick_or_silence (filled proto.rules left owed))
       × OutletStandsFor proto new (left ++ filled_bytes (filled proto.rules left owed))
       × (owed_by new ≡ owed - 1)
-      → Flows left [] owed new answer
+      → Flows left [] owed old new answer
   flows-fill left old new zero answer is turned =
       let none = leaves-none proto.rules passes left 0 ∙ fill_out-zero proto.rules left in
       record {
@@ -70,6 +72,7 @@ module _ {R : Type 0} (proto : LineRules R) (passes : Bool) where
         bytes = λ some. absurd (omega arith);
         after_is = λ unowed. sym (append-nil left);
         unowed = λ some. absurd (omega arith);
+        keeps = λ some. absurd (omega arith);
       }
   flows-fill left old new (suc zero) answer is turned =
       let some = leaves-none proto.rules passes left 1 ∙ fill_out-suc proto.rules left 0 in
@@ -82,6 +85,7 @@ module _ {R : Type 0} (proto : LineRules R) (passes : Bool) where
         bytes = λ some. absurd (omega arith);
         after_is = λ unowed. absurd (omega arith);
         unowed = λ some. absurd (omega arith);
+        keeps = λ some. absurd (omega arith);
       }
   flows-fill left old new (suc (suc k)) answer is turned =
       let filling : filled proto.rules left (suc (suc k)) ≡ Some 0 =
@@ -104,24 +108,25 @@ module _ {R : Type 0} (proto : LineRules R) (passes : Bool) where
         bytes = λ some. absurd (omega arith);
         after_is = λ unowed. absurd (omega arith);
         unowed = λ some. absurd (omega arith);
+        keeps = λ some. absurd (omega arith);
       }
 
   -- One turn.
   pub flows : (left : List ℕ) (live : List Tick) (old new : Outlet R) (last : Bool) (answer : Tick)
       → (0 < length live → owed_by old ≡ 0)
       → (0 < length live → last ≡ is_none (drop 1 live))
-      → (0 < length live
-      → length (left ++ bytes_in live) ≤ proto.rules.room (left ++ bytes_in live))
+      → (0 < length live → last ≡ true → passes ≡ false
+      → Refuses proto old (left ++ bytes_in live))
       → HasTurned proto old new last passes left answer (get_or live 0 Silent)
-      → Flows left live (owed_by old) new answer
-  flows left [] old new last answer unowed is room turned =
-      flows-fill left old new (owed_by old) answer refl turned
-  flows left (Silent ∷ live) old new last answer unowed is room turned =
+      → Flows left live (owed_by old) old new answer
+  flows left [] old new last answer unowed is knows turned =
+      flows-fill left old new (owed_by old) answer refl (turned.0, turned.1, turned.2)
+  flows left (Silent ∷ live) old new last answer unowed is knows turned =
       let none : owed_by old ≡ 0 = unowed (omega arith) in
       let P : ℕ → Type 0 = λ k. (answer ≡ tick_or_silence (filled proto.rules left k))
       × OutletStandsFor proto new (left ++ filled_bytes (filled proto.rules left k))
       × (owed_by new ≡ k - 1) in
-      let quiet : P 0 = subst P none turned in
+      let quiet : P 0 = subst P none (turned.0, turned.1, turned.2) in
       let first = leaves-silent proto.rules passes left live (owed_by old) in
       record {
         after = left;
@@ -132,15 +137,21 @@ module _ {R : Type 0} (proto : LineRules R) (passes : Bool) where
         bytes = λ some. refl;
         after_is = λ some. sym (append-nil left);
         unowed = λ some. quiet.2;
+        keeps = λ some. turned.3 none;
       }
-  flows left (Byte b ∷ live) old new last answer unowed is room turned =
+  flows left (Byte b ∷ live) old new last answer unowed is knows turned =
       let rules : Rules = proto.rules in
-      let fits = room-before rules proto.lawful left b (bytes_in live) (room (omega arith)) in
       let lasts : last ≡ is_none live = is (omega arith) in
+      let all : is_none live ≡ true → left ++ b ∷ bytes_in live ≡ left ++ b ∷ [] =
+      λ none. ap (λ l. left ++ b ∷ bytes_in l) (none-left live none) in
+      let whole : last ≡ true → passes ≡ false → Refuses proto old (left ++ b ∷ []) =
+      λ at_last refused. subst (λ y. Refuses proto old y) (all (sym lasts ∙ at_last))
+      (knows (omega arith) at_last refused) in
+      let turn = turned whole in
       let P : Bool → Type 0 = λ l. (answer ≡ Byte (emitted rules left b l passes))
       × OutletStandsFor proto new (left ++ b ∷ [])
       × (owed_by new ≡ owed_after rules left b l passes) in
-      let out : P (is_none live) = subst P lasts (turned fits) in
+      let out : P (is_none live) = subst P lasts (turn.0, turn.1, turn.2) in
       let first = leaves-byte rules passes left b live (owed_by old) in
       record {
         after = left ++ b ∷ [];
@@ -151,8 +162,13 @@ module _ {R : Type 0} (proto : LineRules R) (passes : Bool) where
         bytes = λ some. append_assoc left (b ∷ []) (bytes_in live);
         after_is = λ some. refl;
         unowed = λ some. out.2 ∙ unowed-some live some;
+        keeps = λ some. turn.3;
       }
     where
+      none-left : (live : List Tick) → is_none live ≡ true → live ≡ []
+      none-left [] none = refl
+      none-left (t ∷ live) none = absurd cc
+
       unowed-some : (live : List Tick) → 1 < length (Byte b ∷ live)
           → owed_after proto.rules left b (is_none live) passes ≡ 0
       unowed-some [] some = absurd (omega arith)

@@ -139,6 +139,13 @@ module _ {R : Type 0} {proto : LineRules R} {profile : Profile} {floor : ℕ} {s
   pub unowed-of : owing ≡ 0
   unowed-of = let many = more-of in it.walked.unowed (omega arith)
 
+  -- its live bytes are those that have left and those that are still to leave
+  pub bytes-of : left ++ bytes_in live ≡ live_bytes rules d
+  bytes-of =
+      ap (λ x. left ++ bytes_in x) opens-of.live_is
+      ∙ (ap (λ x. x ++ bytes_in (drop (m - d.start) (as_it_came profile rules d))) opens-of.left_is
+      ∙ whole-bytes profile rules d (m - d.start))
+
   pub room-of : length (left ++ bytes_in live) ≤ rules.room (left ++ bytes_in live)
   room-of = let many = more-of in it.walked.room (omega arith)
 
@@ -167,15 +174,17 @@ module _ {R : Type 0} {proto : LineRules R} {profile : Profile} {floor : ℕ} {s
       ap (λ l. get_or l 0 Silent) opens-of.live_is
       ∙ (get_or-drop k whole 0 Silent ∙ ap (λ j. get_or whole j Silent) here)
 
+  pub bytes-next : after ++ bytes_in (drop 1 live) ≡ left ++ bytes_in live
+  bytes-next =
+      append_assoc left (bytes_in (take 1 live)) (bytes_in (drop 1 live))
+      ∙ ap (λ l. left ++ l) (sym (bytes_in-append (take 1 live) (drop 1 live))
+      ∙ ap (λ l. bytes_in l) (take-append-drop 1 live))
+
   room-next : length (after ++ bytes_in (drop 1 live))
       ≤ rules.room (after ++ bytes_in (drop 1 live))
   room-next =
       let Fits : List ℕ → Type 0 = λ x. length x ≤ rules.room x in
-      let same : after ++ bytes_in (drop 1 live) ≡ left ++ bytes_in live =
-      append_assoc left (bytes_in (take 1 live)) (bytes_in (drop 1 live))
-      ∙ ap (λ l. left ++ l) (sym (bytes_in-append (take 1 live) (drop 1 live))
-      ∙ ap (λ l. bytes_in l) (take-append-drop 1 live)) in
-      subst Fits (sym same) room-of
+      subst Fits (sym bytes-next) room-of
 
   -- ---- silence
 

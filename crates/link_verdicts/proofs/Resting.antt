@@ -1,6 +1,6 @@
 -- One more tick where no verdict is open after it, or none falls.
-use Rattle.std.proofs.Common.{◌≡◌, ◌∙◌, ℕ, ◌+◌, ◌-◌, ◌<◌, ◌≤◌, Bool, List, [], ◌∷◌}
-use Rattle.std.proofs.Common.{◌++◌, length, drop, get_or, sym, ap, arith, subst}
+use Rattle.std.proofs.Common.{◌≡◌, ◌∙◌, ℕ, ◌+◌, ◌-◌, ◌<◌, ◌≤◌, Bool, false, List, []}
+use Rattle.std.proofs.Common.{◌∷◌, ◌++◌, length, drop, get_or, sym, ap, arith, subst}
 use Rattle.std.proofs.Common.{Option, Some, None, IfSome}
 use Rattle.std.proofs.lemmas.List.{append-nil, length-drop, get_or-drop}
 use Rattle.yasir_ticks.specs.Ticks.{bytes_in}
@@ -11,7 +11,7 @@ use Rattle.line_rules.specs.Rules.{Rules}
 use Rattle.line_rules.specs.declared.line_rules.LineRules.{Ghosts as LineRules}
 use Rattle.frame_ending.proofs.Dividing.{longer-line}
 use Rattle.spoiler.specs.declared.outlet.Outlet.{Outlet}
-use Rattle.spoiler.specs.Outlet.{owed_by}
+use Rattle.spoiler.specs.Outlet.{Refuses, owed_by}
 use Rattle.burst_walk.specs.Laid.{tick_at}
 use Rattle.burst_walk.specs.Walk.{Walker, walked, emitted}
 use Rattle.burst_walk.specs.Causal.{IsCausal}
@@ -35,8 +35,8 @@ use Rattle.link_verdicts.specs.Leaving.{leaves}
 use Rattle.link_verdicts.proofs.Flow.{Flows}
 
 module _ {R : Type 0} (proto : LineRules R) (m earliest : ℕ) (emissions : List Burst)
-    (passes : Bool) (left : List ℕ) (live : List Tick) (owed : ℕ) (new : Outlet R) (answer : Tick)
-    (flow : Flows proto passes left live owed new answer) where
+    (passes : Bool) (left : List ℕ) (live : List Tick) (owed : ℕ) (old new : Outlet R)
+    (answer : Tick) (flow : Flows proto passes left live owed old new answer) where
   abbrev rules : Rules
   rules = proto.rules
 
@@ -46,10 +46,10 @@ module _ {R : Type 0} (proto : LineRules R) (m earliest : ℕ) (emissions : List
   -- all that is to leave is one tick nearer
   pub rests-more : Rests rules passes m earliest left live owed emissions
       → Rests rules passes (m + 1) earliest flow.after (drop 1 live) (owed_by new) emissions
-  rests-more old = record {
+  rests-more before = record {
     shows = λ i later.
         let one : i - m ≡ 1 + (i - (m + 1)) = omega arith in
-        old.shows i (omega arith)
+        before.shows i (omega arith)
         ∙ (ap (λ k. get_or to_leave k Silent) one
         ∙ (sym (get_or-drop 1 to_leave (i - (m + 1)) Silent)
         ∙ ap (λ l. get_or l (i - (m + 1)) Silent) (sym flow.rest)));
@@ -57,15 +57,15 @@ module _ {R : Type 0} (proto : LineRules R) (m earliest : ℕ) (emissions : List
         let long = ap length flow.rest in
         let less = length-drop 1 to_leave in
         let there : 0 < length to_leave = omega arith in
-        let end = old.ends there in
+        let end = before.ends there in
         omega arith;
   }
 
   pub rests-answer : Rests rules passes m earliest left live owed emissions
       → tick_at emissions m ≡ answer
-  rests-answer old =
+  rests-answer before =
       let none : m - m ≡ 0 = omega arith in
-      old.shows m (omega arith)
+      before.shows m (omega arith)
       ∙ (ap (λ k. get_or to_leave k Silent) none ∙ sym flow.answer_is)
 
   pub room-more : (0 < length live
@@ -78,6 +78,17 @@ module _ {R : Type 0} (proto : LineRules R) (m earliest : ℕ) (emissions : List
       let there : 0 < length live = omega arith in
       let P : List ℕ → Type 0 = λ x. length x ≤ rules.room x in
       subst P (sym (flow.bytes there)) (room there)
+
+  -- what the outlet knows of a refused burst it keeps
+  pub knows-more : (passes ≡ false → 0 < length live → Refuses proto old (left ++ bytes_in live))
+      → passes ≡ false → 0 < length (drop 1 live)
+      → Refuses proto new (flow.after ++ bytes_in (drop 1 live))
+  knows-more knows refused some =
+      let less = length-drop 1 live in
+      let there : 0 < length live = omega arith in
+      let P : List ℕ → Type 0 = λ x. Refuses proto new x in
+      let V : R → Type 0 = λ v. proto.stands v (left ++ bytes_in live) in
+      subst P (sym (flow.bytes there)) (subst V (sym (flow.keeps there)) (knows refused there))
 
   pub unowed-more : 0 < length (drop 1 live) → owed_by new ≡ 0
   unowed-more some = let less = length-drop 1 live in
@@ -156,8 +167,8 @@ module _ {R : Type 0} (proto : LineRules R) (profile : Profile)
 
     -- ---- where none is open, and all that bursts emit goes on to leave
 
-    module _ (passes : Bool) (left : List ℕ) (live : List Tick) (owed : ℕ) (new : Outlet R)
-        (answer : Tick) (flow : Flows proto passes left live owed new answer)
+    module _ (passes : Bool) (left : List ℕ) (live : List Tick) (owed : ℕ) (old new : Outlet R)
+        (answer : Tick) (flow : Flows proto passes left live owed old new answer)
         (rests : Rests proto.rules passes m s.earliest_start left live owed emissions)
         (room : 0 < length live
         → length (left ++ bytes_in live) ≤ proto.rules.room (left ++ bytes_in live)) where
@@ -171,18 +182,18 @@ module _ {R : Type 0} (proto : LineRules R) (profile : Profile)
       rest-walked come = record {
         emissions = emissions;
         come = come;
-        room = room-more proto m s.earliest_start emissions passes left live owed new answer flow
-            room;
-        unowed = unowed-more proto m s.earliest_start emissions passes left live owed new answer
-            flow;
+        room = room-more proto m s.earliest_start emissions passes left live owed old new answer
+            flow room;
+        unowed = unowed-more proto m s.earliest_start emissions passes left live owed old new
+            answer flow;
         opens = tt;
-        rests = rests-more proto m s.earliest_start emissions passes left live owed new answer flow
-            rests;
+        rests = rests-more proto m s.earliest_start emissions passes left live owed old new answer
+            flow rests;
       }
 
       rest-answer : tick_at emissions m ≡ answer
-      rest-answer = rests-answer proto m s.earliest_start emissions passes left live owed new answer
-          flow rests
+      rest-answer = rests-answer proto m s.earliest_start emissions passes left live owed old new
+          answer flow rests
 
       -- no verdict falls
       pub rest-goes : HasCome w begun m ds s emissions None → Then None

@@ -1,12 +1,12 @@
 -- What the outlet makes of the tick that is to leave.
-use Rattle.std.specs.Prelude.{◌≡◌, ℕ, ◌-◌, Bool, false, List, ◌∷◌, [], ◌++◌, Option, Some, None}
+use Rattle.std.specs.Prelude.{◌≡◌, ℕ, ◌-◌, Bool, true, false, List, ◌∷◌, [], ◌++◌, Option, Some}
+use Rattle.std.specs.Prelude.{None}
 use Rattle.yasir_ticks.specs.declared.tick.Tick.{Tick}
 use Rattle.yasir_ticks.specs.declared.tick.Tick.TheVariants.{Silent, Byte}
-use Rattle.line_rules.specs.Rules.{fills_room}
 use Rattle.line_rules.specs.declared.line_rules.LineRules.{Ghosts as LineRules}
 use Rattle.spoiler.specs.declared.outlet.Outlet.{Outlet}
-use Rattle.spoiler.specs.Outlet.{StandsFor as OutletStandsFor, owed_by, emitted, owed_after}
-use Rattle.spoiler.specs.Outlet.{filled, filled_bytes}
+use Rattle.spoiler.specs.Outlet.{StandsFor as OutletStandsFor, Refuses, owed_by, refused_by}
+use Rattle.spoiler.specs.Outlet.{emitted, owed_after, filled, filled_bytes}
 
 -- the tick of a byte, or silence where there is none
 abbrev pub tick_or_silence : Option ℕ → Tick
@@ -14,15 +14,17 @@ tick_or_silence None = Silent
 tick_or_silence (Some b) = Byte b
 
 -- After these bytes a byte goes through the outlet, the last one or not, and silence lets a fill
--- out.
+-- out. All bytes of a burst that isn't passed are known to the outlet before the last one leaves.
 abbrev pub HasTurned : {R : Type 0} → LineRules R → Outlet R → Outlet R → Bool → Bool → List ℕ
     → Tick → Tick → Type 0
 HasTurned proto old new last passes x answer Silent =
     (answer ≡ tick_or_silence (filled proto.rules x (owed_by old)))
     × OutletStandsFor proto new (x ++ filled_bytes (filled proto.rules x (owed_by old)))
     × (owed_by new ≡ owed_by old - 1)
+    × (owed_by old ≡ 0 → refused_by new ≡ refused_by old)
 HasTurned proto old new last passes x answer (Byte b) =
-    fills_room proto.rules x ≡ false
+    (last ≡ true → passes ≡ false → Refuses proto old (x ++ b ∷ []))
     → (answer ≡ Byte (emitted proto.rules x b last passes))
     × OutletStandsFor proto new (x ++ b ∷ [])
     × (owed_by new ≡ owed_after proto.rules x b last passes)
+    × (refused_by new ≡ refused_by old)

@@ -3,6 +3,7 @@ use check_receiver::Checker;
 use delay_ring::DelayRing;
 use dnp_link_frame::Dnp;
 use hmac_tag::{HmacSha1, HmacSha256};
+use line_rules::LineRules;
 use rtu_frame::Rtu;
 use seal_transmitter::Sealer;
 use spoiler::Outlet;
@@ -91,23 +92,20 @@ const _: () = prove!(size_of::<Checker<Rtu, HmacSha256, 4, 24>>() <= CHECKER_MOS
 const _: () = prove!(size_of::<Checker<Dnp, HmacSha256, 4, 24>>() <= CHECKER_MOST);
 
 // What leaves for the bytes 01 7e 80, which have a right ending and are no frame.
-fn last_byte(passed: bool) -> Option<u8> {
+fn last_byte(passed: bool) -> u8 {
     let mut outlet = Outlet::<Rtu>::new();
     outlet.begin();
     for byte in [0x01, 0x7e] {
-        if !outlet.has_room() {
-            return None;
-        }
         outlet.emit(byte, false, false);
     }
-    if !outlet.has_room() {
-        return None;
-    }
-    Some(outlet.emit(0x80, true, passed))
+    let mut all = Rtu::fresh();
+    all.take_some(&[0x01, 0x7e, 0x80]);
+    outlet.refuse(all);
+    outlet.emit(0x80, true, passed)
 }
 
 #[test]
 fn a_right_ending_is_spoiled(rt: HostRuntime) {
-    assert_eq!(rt; last_byte(false), Some(0x81));
-    assert_eq!(rt; last_byte(true), Some(0x80));
+    assert_eq!(rt; last_byte(false), 0x81);
+    assert_eq!(rt; last_byte(true), 0x80);
 }

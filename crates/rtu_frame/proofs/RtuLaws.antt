@@ -131,16 +131,11 @@ rtu_good value x stands =
     ∙ (ap (λ r. nat_le 4 (length x) && nat_eq r 0) stands.check
     ∙ is_frame_by_crc x stands.bytes stands.short)
 
--- after one more byte the register tells a right ending
-pub rtu_ends_right : (value : Rtu) (next b : ℕ) (x : List ℕ) → RtuStandsFor value x → b < 256
-    → next ≡ byte_step 0xA001 value.register b
-    → nat_eq next 0 ≡ has_right_ending (x ++ b ∷ [])
-rtu_ends_right value next b x stands byte is =
-    let y : List ℕ = x ++ b ∷ [] in
-    let register : next ≡ crc_rtu y =
-    is ∙ (ap (λ r. byte_step 0xA001 r b) stands.check
-    ∙ sym (crc-append 0xA001 (lit≤ tt) (lit< tt) 0xFFFF x b)) in
-    ap (λ r. nat_eq r 0) register
-    ∙ same_from_decides (nat_eq (crc_rtu y) 0) (has_right_ending y)
-    (right_ending_by_crc y (All-push (λ n. n < 256) x b stands.bytes byte))
-    (has_right_ending-true y, has_right_ending-from y)
+-- the register tells a right ending
+pub rtu_ends_right : (value : Rtu) (x : List ℕ) → RtuStandsFor value x
+    → nat_eq value.register 0 ≡ has_right_ending x
+rtu_ends_right value x stands =
+    ap (λ r. nat_eq r 0) stands.check
+    ∙ same_from_decides (nat_eq (crc_rtu x) 0) (has_right_ending x)
+    (right_ending_by_crc x stands.bytes)
+    (has_right_ending-true x, has_right_ending-from x)

@@ -99,7 +99,8 @@ mod tests {
         if rules.full() {
             return None;
         }
-        Some(rules.spoiled(last))
+        rules.take(last);
+        Some(if rules.ends_right() { last ^ 1 } else { last })
     }
 
     #[test]

@@ -107,8 +107,15 @@ impl LineRules for Rtu {
     }
 
     #[inline]
-    fn spoiled(&self, b: u8) -> u8 {
-        let register = after_byte(self.register, b);
-        if register == 0 { b ^ 1 } else { b }
+    fn ends_right(&self) -> bool {
+        self.register == 0
+    }
+
+    #[inline]
+    fn fork(&self) -> Rtu {
+        Rtu {
+            len: self.len,
+            register: self.register,
+        }
     }
 }

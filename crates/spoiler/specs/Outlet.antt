@@ -9,19 +9,20 @@ use Rattle.spoiler.specs.declared.outlet.Outlet.{Outlet}
 abbrev pub owed_by : {R : Type 0} → Outlet R → ℕ
 owed_by value = value.owed
 
--- whether the last byte of the burst is still to leave
-abbrev pub is_open : {R : Type 0} → Outlet R → Bool
-is_open value = value.open
+-- the rules' value for all bytes of the last burst that was refused
+abbrev pub refused_by : {R : Type 0} → Outlet R → R
+refused_by value = value.refused
 
--- whether there is room for a further byte
-abbrev pub has_room : {R : Type 0} → LineRules R → Outlet R → Bool
-has_room proto value = not (proto.is_full value.rules)
+-- these are all bytes of that burst
+abbrev pub Refuses : {R : Type 0} → LineRules R → Outlet R → List ℕ → Type 0
+Refuses proto value x = proto.stands (refused_by value) x
 
--- These bytes of the burst, and of its fill, have come to leave. Where a fill is owed, it has as
--- many bytes as the frame lacks.
+-- These bytes of the burst, and of its fill, have come to leave. Where a fill is owed, they are all
+-- bytes of the burst and those of its fill so far, and the fill has as many bytes more as the frame
+-- lacks.
 pub record StandsFor {R : Type 0} (proto : LineRules R) (value : Outlet R) (x : List ℕ) : Type 0
   where
-    pub bytes : proto.stands value.rules x
+    pub bytes : 0 < value.owed → Refuses proto value x
     pub owes : 0 < value.owed → value.owed ≡ left_of proto.rules x
 
 -- What leaves for a byte that comes after these: spoiled where it is the last one of a frame that

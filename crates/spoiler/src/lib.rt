@@ -4,10 +4,14 @@
 //! Three bytes leave as they are. The last one of a refused frame leaves spoiled:
 //!
 //!     let mut outlet = Outlet::<FourBytes>::new();
+//!     let mut all = FourBytes::fresh();
 //!     outlet.begin();
 //!     for byte in [1, 2, 3] {
+//!         all.take(byte);
 //!         assert_eq!(rt; outlet.emit(byte, false, false), byte);
 //!     }
+//!     all.take(0);
+//!     outlet.refuse(all);
 //!     assert_eq!(rt; outlet.emit(0, true, false), 1);
 #![tactic(auto)]
 

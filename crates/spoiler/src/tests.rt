@@ -1,20 +1,20 @@
 //! A test of the spoiled ending.
 use super::*;
-use line_rules::FourBytes;
+use line_rules::{FourBytes, LineRules};
 
-// What leaves for these bytes, of which the last is the burst's last one; `None` where the outlet
-// is still busy then.
+// What leaves for these bytes, of which the last is the burst's last one; `None` where a fill is
+// owed then.
 fn last_of(bytes: &[u8], passed: bool) -> Option<u8> {
     let mut outlet = Outlet::<FourBytes>::new();
     outlet.begin();
+    let mut all = FourBytes::fresh();
+    all.take_some(bytes);
+    outlet.refuse(all);
     let mut byte = 1;
     for place in 0..bytes.len() {
-        if !outlet.has_room() || !outlet.busy() {
-            return None;
-        }
         byte = outlet.emit(bytes[place], place + 1 == bytes.len(), passed);
     }
-    if outlet.busy() || outlet.fill().is_some() {
+    if outlet.owes() || outlet.fill().is_some() {
         return None;
     }
     Some(byte)
@@ -26,5 +26,4 @@ fn only_a_right_ending_is_spoiled(rt: HostRuntime) {
     assert_eq!(rt; last_of(b"\x01\x02\x03\x00", false), Some(1));
     assert_eq!(rt; last_of(b"\x01\x02\x03\x07", false), Some(7));
     assert_eq!(rt; last_of(b"\x00", false), Some(1));
-    assert_eq!(rt; last_of(b"", false), None);
 }

@@ -72,7 +72,7 @@ impl<R: LineRules, M: Mac, const B: usize, const D: usize> Checker<R, M, B, D> {
             return 0;
         }
         let entering = &part[..taken];
-        lend_along(&self.ring, &mut self.outlet, bytes, taken, left);
+        lend_along(&self.ring, bytes, taken, left);
         self.mac.update(entering);
         self.ring.pass_bytes(entering);
         let whole = D as u8;
@@ -106,7 +106,7 @@ impl<R: LineRules, M: Mac, const B: usize, const D: usize> Checker<R, M, B, D> {
         let part = &bytes[..count];
         let taken = self.cut.pass_over_some(part);
         let heard = &part[..taken];
-        lend(&self.ring, &mut self.outlet, taken, left);
+        lend(&self.ring, taken, left);
         self.ring.pass_silence(taken);
         self.arriving.take_some(heard);
         self.until -= taken as u8;
@@ -135,7 +135,7 @@ impl<R: LineRules, M: Mac, const B: usize, const D: usize> Checker<R, M, B, D> {
         }
         let most = (ticks as usize).min(until + PAUSE - D).min(until);
         let count = self.ring.front_alike(most.min(D));
-        lend(&self.ring, &mut self.outlet, count, left);
+        lend(&self.ring, count, left);
         self.ring.pass_silence(count);
         self.cut.wait_some(count as u32);
         self.until -= count as u8;
@@ -160,7 +160,7 @@ impl<R: LineRules, M: Mac, const B: usize, const D: usize> Checker<R, M, B, D> {
         let most = bytes.len().min(usize::from(self.until) - 1).min(D);
         let count = self.ring.front_alike(most);
         let taken = cut_some(&mut self.cut, &bytes[..count]);
-        lend(&self.ring, &mut self.outlet, taken, left);
+        lend(&self.ring, taken, left);
         self.ring.pass_silence(taken);
         self.until -= taken as u8;
         taken
@@ -243,7 +243,7 @@ impl<R: LineRules, M: Mac, const B: usize, const D: usize> Checker<R, M, B, D> {
         }
         let most = (ticks as usize).min(still).min(D);
         let count = self.ring.front_alike(most);
-        lend(&self.ring, &mut self.outlet, count, left);
+        lend(&self.ring, count, left);
         self.ring.pass_silence(count);
         self.cut.wait_some(count as u32);
         self.until -= count as u8;

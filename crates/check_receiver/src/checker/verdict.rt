@@ -38,7 +38,7 @@ impl<R: LineRules, M: Mac, const B: usize, const D: usize> Checker<R, M, B, D> {
     ghost use Rattle.std.specs.Prelude.{drop, bytes_eq};
     ghost use Rattle.std.specs.Int.{w64, to_be_bytes};
     ghost use Rattle.link_verdicts.specs.Holding.{trailer_so_far};
-    ghost use Rattle.check_receiver.specs.Turning.{Turned, TurnedClear};
+    ghost use Rattle.check_receiver.specs.Turning.{Turned, TurnedClear, TurnedRefused};
     ghost use Rattle.check_receiver.specs.Between.{IsWhole};
     ghost use Rattle.check_receiver.specs.Between.{verdict_told};
 
@@ -150,11 +150,7 @@ impl<R: LineRules, M: Mac, const B: usize, const D: usize> Checker<R, M, B, D> {
     // The burst is refused.
     pub(super) fn refuse(&mut self, why: RefusedWhy) -> BoxStep<CheckNote>
         requires room { ticks_cut self.old.cut ≤ MAX_TICKS }
-        ensures turned { Turned R.LineRules (record self.old {
-          waits = false;
-          earliest_start = self.new.earliest_start;
-        })
-            self.new Silent result.tick }
+        ensures turned { TurnedRefused R.LineRules self.old self.new result.tick }
         ensures earliest { (line : List Tick) → CutStandsFor R.LineRules self.old.cut line
             → self.new.earliest_start ≡ length line + self.old.until
             + left_of R.rules (live_bytes_so_far R.rules line) }
@@ -166,6 +162,7 @@ impl<R: LineRules, M: Mac, const B: usize, const D: usize> Checker<R, M, B, D> {
         self.earliest_start = self.cut.ticks()
             + u64::from(self.until)
             + u64::from(self.cut.rules().left());
+        self.outlet.refuse(self.cut.rules().fork());
         let start = self.cut.start();
         self.pass_by(Some(CheckNote::Refused { start, why }))
     }

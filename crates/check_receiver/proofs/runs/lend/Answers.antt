@@ -1,12 +1,11 @@
-use Rattle.std.proofs.Common.{◌≡◌, ◌∙◌, ◌++◌, sym, ap, subst, arith, length, List, ℕ, take}
+use Rattle.std.proofs.Common.{◌≡◌, ◌∙◌, ◌++◌, sym, ap, subst, arith, length, List, ℕ}
 use Rattle.delay_ring.specs.DelayRing.{ring_ticks}
-use Rattle.spoiler.specs.Outlet.{StandsFor as OutletStandsFor}
 use Rattle.check_receiver.specs.Runs.{IsFront}
-use Rattle.check_receiver.proofs.Lending.{of-ok, all-left}
+use Rattle.check_receiver.proofs.Lending.{of-ok}
 use Rattle.check_receiver.proofs.runs.lend.Goals as goal
 
-pub returns-clause-front : goal.returns-clause-front
-returns-clause-front g c =
+pub returns : goal.returns
+returns g c =
     let front : List ℕ = c.front_bytes.result.now in
     let within = c.front_bytes.ensures.within in
     let most = c.requires.within in
@@ -23,15 +22,3 @@ returns-clause-front g c =
       bytes = c.front_bytes.ensures.bytes;
       all = c.front_bytes.ensures.all;
     })
-
-pub returns-clause-stands : goal.returns-clause-stands
-returns-clause-stands g c = λ x stands room.
-    let left : List ℕ = c.try_extend_from_slice.new.self.items in
-    let same = c.as_slice.ensures.value in
-    let long = ap length same in
-    let within = c.emit_some.ensures.within in
-    let P : List ℕ → Type 0 = λ y. OutletStandsFor g.R.LineRules c.emit_some.new.self
-    (x ++ take c.emit_some.result y) in
-    all-left g.R.LineRules c.emit_some.new.self x left c.emit_some.result (omega arith)
-    (subst P same (c.emit_some.ensures.stands x stands))
-    (λ less. c.emit_some.ensures.all (omega arith)) room

@@ -1,19 +1,61 @@
-use Rattle.std.proofs.Common.{◌++◌, ap, subst, arith, length, List, ℕ, take}
-use Rattle.spoiler.specs.Outlet.{StandsFor as OutletStandsFor}
-use Rattle.check_receiver.proofs.Lending.{all-left}
+use Rattle.std.proofs.Common.{◌≡◌, ◌∙◌, ◌-◌, ◌≤◌, ◌++◌, sym, ap, subst, arith, length, List, ℕ}
+use Rattle.std.proofs.Common.{take, map}
+use Rattle.std.proofs.lemmas.List.{length-take-le}
+use Rattle.yasir_ticks.specs.declared.tick.Tick.{Tick}
+use Rattle.yasir_ticks.specs.declared.tick.Tick.TheVariants.{Byte}
+use Rattle.delay_ring.specs.DelayRing.{ring_ticks}
+use Rattle.check_receiver.specs.Runs.{IsFront}
+use Rattle.check_receiver.proofs.Lending.{of-ok, ring-whole, front-along, whole-along}
 use Rattle.check_receiver.proofs.runs.lend_along.Goals as goal
 
-pub returns-clause-front : goal.returns-clause-front
-returns-clause-front g c = c.leave_along.ensures
+pub returns-then-front : goal.returns-then-front
+returns-then-front g c =
+    let Q : List Tick = ring_ticks c.args.ring.now in
+    let E : List Tick = map (λ b. Byte b) c.args.bytes.now in
+    let front : List ℕ = c.front_bytes-front.result.now in
+    let within = c.front_bytes-front.ensures.within in
+    let capped = c.min.ensures in
+    let most = c.requires.most in
+    let empty = c.requires.empty in
+    let none = ap length empty in
+    let items : c.try_extend_from_slice.new.self.items ≡ front =
+    of-ok c.try_extend_from_slice.result _
+    (c.try_extend_from_slice.ensures.variant.1 (omega arith)) c.try_extend_from_slice.ensures.ok
+    ∙ ap (λ y. y ++ front) empty in
+    let P : List ℕ → Type 0 = λ y. IsFront (Q ++ E) c.args.count y in
+    subst P (sym items)
+    (front-along Q E g.row.D c.args.count c.min.result front (ring-whole c.args.ring.now)
+    c.min.ensures c.if-front.true within c.front_bytes-front.ensures.bytes
+    c.front_bytes-front.ensures.all)
 
-pub returns-clause-stands : goal.returns-clause-stands
-returns-clause-stands g c = λ x stands room.
-    let left : List ℕ = c.leave_along.new.left.items in
-    let same = c.as_slice.ensures.value in
-    let long = ap length same in
-    let within = c.emit_some.ensures.within in
-    let P : List ℕ → Type 0 = λ y. OutletStandsFor g.R.LineRules c.emit_some.new.self
-    (x ++ take c.emit_some.result y) in
-    all-left g.R.LineRules c.emit_some.new.self x left c.emit_some.result (omega arith)
-    (subst P same (c.emit_some.ensures.stands x stands))
-    (λ less. c.emit_some.ensures.all (omega arith)) room
+pub returns : goal.returns
+returns g c =
+    let Q : List Tick = ring_ticks c.args.ring.now in
+    let bytes : List ℕ = c.args.bytes.now in
+    let front : List ℕ = c.front_bytes-front.result.now in
+    let within = c.front_bytes-front.ensures.within in
+    let capped = c.min.ensures in
+    let many = c.if-front.false in
+    let most = c.requires.most in
+    let few = c.requires.within in
+    let empty = c.requires.empty in
+    let none = ap length empty in
+    let size : length front ≡ g.row.D = omega arith in
+    let more : g.row.D ≤ c.args.count = omega arith in
+    let behind : List ℕ = take (c.args.count - g.row.D) bytes in
+    let part : length behind ≡ c.args.count - g.row.D =
+    length-take-le (c.args.count - g.row.D) bytes (omega arith) in
+    let first : c.try_extend_from_slice.new.self.items ≡ front =
+    of-ok c.try_extend_from_slice.result _
+    (c.try_extend_from_slice.ensures.variant.1 (omega arith)) c.try_extend_from_slice.ensures.ok
+    ∙ ap (λ y. y ++ front) empty in
+    let held = ap length first in
+    let items : c.try_extend_from_slice-2.new.self.items ≡ front ++ behind =
+    of-ok c.try_extend_from_slice-2.result _
+    (c.try_extend_from_slice-2.ensures.variant.1 (omega arith))
+    c.try_extend_from_slice-2.ensures.ok
+    ∙ ap (λ y. y ++ behind) first in
+    let P : List ℕ → Type 0 = λ y. IsFront (Q ++ map (λ b. Byte b) bytes) c.args.count y in
+    subst P (sym items)
+    (whole-along Q g.row.D c.args.count front bytes (ring-whole c.args.ring.now) size more few
+    c.front_bytes-front.ensures.bytes)

@@ -16,7 +16,7 @@ refuse-requires g c = (
 
 pub returns-in-Err-clause-cut : goal.returns-in-Err-clause-cut
 returns-in-Err-clause-cut g c =
-    ap (λ v. v.cut) c.refuse.ensures.turned.rest ∙ ap (λ v. v.cut) c.verdict.ensures.rest
+    ap (λ v. v.cut) c.refuse.ensures.turned.turned.rest ∙ ap (λ v. v.cut) c.verdict.ensures.rest
 
 pub returns-in-Err-clause-step : goal.returns-in-Err-clause-step
 returns-in-Err-clause-step g c = λ setup line t whole.

@@ -59,7 +59,6 @@ returns-clause-run g c = λ last setup line stands waits keeps.
       cut = c.go_on_some-taken.new.self;
       mac = c.update.new.self;
       ring = c.pass_bytes.new.self;
-      outlet = c.lend_along.new.outlet;
       until = g.row.D;
     } in
     let Len : ℕ → Type 0 = λ k. HasTakenRun g.R.LineRules g.M.Mac new last setup line
@@ -69,14 +68,14 @@ returns-clause-run g c = λ last setup line stands waits keeps.
     subst Ticks first
     (subst Len size
     (follow-taken g.R.LineRules g.M.Mac old last setup line stands c.go_on_some-taken.new.self
-    c.pass_bytes.new.self c.lend_along.new.outlet count items g.row.D E (omega arith)
-    c.alike_along-count.ensures.alike c.lend_along.ensures.stands c.lend_along.ensures.owed
+    c.pass_bytes.new.self count items g.row.D E (omega arith)
+    c.alike_along-count.ensures.alike 
     entering c.update.new.self waits (omega arith) (omega arith) along
     keeps-entering
     (c.go_on_some-taken.ensures.stands line stands.cuts)
     (c.go_on_some-taken.ensures.live line stands.cuts)
     (λ key text mac_is. c.update.ensures key text mac_is)
-    (subst F (sym size) c.lend_along.ensures.front) c.pass_bytes.ensures refl))
+    (subst F (sym size) c.lend_along.ensures) c.pass_bytes.ensures refl))
 
 pub returns-clause-silent : goal.returns-clause-silent
 returns-clause-silent g c = λ quiet.
@@ -85,4 +84,4 @@ returns-clause-silent g c = λ quiet.
     let whole = ring-whole c.args.self.now.ring in
     let some = c.args.self.now.ring.some in
     front-none (Q ++ E) c.go_on_some-taken.result c.lend_along.new.left.items
-    c.lend_along.ensures.front (first-along Q E (omega arith) ∙ quiet)
+    c.lend_along.ensures (first-along Q E (omega arith) ∙ quiet)

@@ -43,7 +43,6 @@ returns-clause-run g c = λ last setup line stands.
       cut = c.pass_over_some-taken.new.self;
       arriving = c.take_some.new.self;
       ring = c.pass_silence.new.self;
-      outlet = c.lend.new.outlet;
       until = old.until - taken;
     } in
     let Len : ℕ → Type 0 = λ k. HasTakenRun g.R.LineRules g.M.Mac new last setup line
@@ -53,11 +52,11 @@ returns-clause-run g c = λ last setup line stands.
     subst Ticks (take-take taken count c.args.bytes.now (omega arith))
     (subst Len size
     (trailer-taken g.R.LineRules g.M.Mac old last setup line stands c.pass_over_some-taken.new.self
-    c.pass_silence.new.self c.lend.new.outlet count items (old.until - taken) (omega arith)
-    c.front_alike-count.ensures.alike c.lend.ensures.stands c.lend.ensures.owed heard
+    c.pass_silence.new.self count items (old.until - taken) (omega arith)
+    c.front_alike-count.ensures.alike heard
     c.take_some.new.self c.requires.waits (omega arith) (omega arith) (omega arith)
     (c.pass_over_some-taken.ensures.stands line stands.cuts)
     (c.pass_over_some-taken.ensures.extra line stands.cuts)
     c.take_some.ensures
-    (subst F (sym size) c.lend.ensures.front) (subst G (sym size) c.pass_silence.ensures)
+    (subst F (sym size) c.lend.ensures) (subst G (sym size) c.pass_silence.ensures)
     (omega arith)))

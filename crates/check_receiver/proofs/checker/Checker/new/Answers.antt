@@ -9,6 +9,7 @@ use Rattle.sequence_journal.specs.declared.numbers.TheConstants.{LIMIT}
 use Rattle.link_verdicts.specs.Checking.{at_floor}
 use Rattle.link_verdicts.specs.Holding.{HasWalked}
 use Rattle.link_verdicts.proofs.Begun.{walked-begun}
+use Rattle.spoiler.proofs.Standing.{stands-unowed}
 use Rattle.check_receiver.proofs.checker.Checker.new.Goals as goal
 
 pub returns-clause-stands : goal.returns-clause-stands
@@ -28,9 +29,10 @@ returns-clause-stands g c = λ floor.
         waiting = None;
         left = [];
         live = [];
-        walked = subst W (sym c.new-3.ensures.owed)
+        walked = subst W (sym c.new-3.ensures)
             (walked-begun profile g.R.LineRules.rules setup.floor);
-        outlet_is = c.new-3.ensures.stands;
+        outlet_is = stands-unowed g.R.LineRules c.new-3.result [] c.new-3.ensures;
+        knows = λ refused some. absurd (omega arith);
         ring_is = c.new-2.ensures ∙ ap silent whole;
         few = omega arith;
         until_is = refl;

@@ -28,16 +28,15 @@ returns-clause-run g c = λ last setup line stands.
     let new = record old {
       cut = c.cut_some-taken.new.cut;
       ring = c.pass_silence.new.self;
-      outlet = c.lend.new.outlet;
       until = old.until - taken;
     } in
     let Ticks : List ℕ → Type 0 = λ y. HasTakenRun g.R.LineRules g.M.Mac new last setup line
     (map (λ b. Byte b) y) (answered taken items) in
     subst Ticks (take-take taken count c.args.bytes.now (omega arith))
     (flow-counted g.R.LineRules g.M.Mac old last setup line stands c.cut_some-taken.new.cut
-    c.pass_silence.new.self c.lend.new.outlet count items (old.until - taken) (omega arith)
-    c.front_alike-count.ensures.alike c.lend.ensures.stands c.lend.ensures.owed run taken size
+    c.pass_silence.new.self count items (old.until - taken) (omega arith)
+    c.front_alike-count.ensures.alike run taken size
     c.requires.rests c.requires.unowed (omega arith) (omega arith)
     (c.cut_some-taken.ensures.stands line stands.cuts)
-    (c.cut_some-taken.ensures.none line stands.cuts) c.lend.ensures.front c.pass_silence.ensures
+    (c.cut_some-taken.ensures.none line stands.cuts) c.lend.ensures c.pass_silence.ensures
     (omega arith))

@@ -24,8 +24,8 @@ returns-clause-run g c = λ last setup line stands.
     let widened = c.from-until.ensures in
     let more = c.if-until.false in
     pause-taken g.R.LineRules g.M.Mac old last setup line stands c.wait_some.new.self
-    c.pass_silence.new.self c.lend.new.outlet n c.lend.new.left.items (old.until - n)
-    (omega arith) c.front_alike-count.ensures.alike c.lend.ensures.stands c.lend.ensures.owed n
+    c.pass_silence.new.self n c.lend.new.left.items (old.until - n)
+    (omega arith) c.front_alike-count.ensures.alike n
     c.requires.waits (c.has_good_head.ensures c.if-not-has_good_head.false line stands.cuts)
-    (omega arith) (omega arith) (c.wait_some.ensures.stands line stands.cuts) c.lend.ensures.front
+    (omega arith) (omega arith) (c.wait_some.ensures.stands line stands.cuts) c.lend.ensures
     c.pass_silence.ensures (omega arith)

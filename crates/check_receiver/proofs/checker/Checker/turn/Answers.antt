@@ -1,30 +1,12 @@
-use Rattle.std.proofs.Common.{◌≡◌, ◌∙◌, ℕ, ◌++◌, refl, sym, ap, subst, not, ◌==◌, Option}
+use Rattle.std.proofs.Common.{◌≡◌, ◌∙◌, ℕ, ◌++◌, refl, sym, ap, subst, ◌==◌, Option}
 use Rattle.yasir_ticks.specs.declared.tick.Tick.{Tick}
 use Rattle.yasir_ticks.specs.declared.tick.Tick.TheVariants.{Silent, Byte}
-use Rattle.line_rules.specs.Rules.{fills_room}
-use Rattle.spoiler.specs.Outlet.{StandsFor as OutletStandsFor, filled_bytes}
+use Rattle.spoiler.specs.Outlet.{StandsFor as OutletStandsFor, refused_by, filled_bytes}
 use Rattle.link_verdicts.specs.Turns.{HasTurned, tick_or_silence}
 use Rattle.check_receiver.proofs.checker.Checker.turn.Goals as goal
 
-pub returns-then-not-has_room : goal.returns-then-not-has_room
-returns-then-not-has_room g c = record {
-  rest = refl;
-  ring = c.turn.ensures.ticks;
-  out = λ x stands.
-      let P : Tick → Type 0 = λ u. HasTurned g.R.LineRules c.args.self.now.outlet
-      c.args.self.now.outlet (c.args.self.now.until == 0) c.args.self.now.passed x
-      (Byte c.in-Byte.byte) u in
-      subst P (sym c.in-Byte.is ∙ c.turn.ensures.answer)
-      (λ fits.
-      let room : c.has_room.result ≡ not (fills_room g.R.LineRules.rules x) =
-      c.has_room.ensures.stands x stands in
-      let same = ap not fits in
-      let full = c.if-not-has_room.true in
-      absurd cc);
-}
-
-pub returns-else-not-has_room : goal.returns-else-not-has_room
-returns-else-not-has_room g c = record {
+pub returns-in-Byte : goal.returns-in-Byte
+returns-in-Byte g c = record {
   rest = refl;
   ring = c.turn.ensures.ticks;
   out = λ x stands.
@@ -32,10 +14,11 @@ returns-else-not-has_room g c = record {
       c.emit.new.self (c.args.self.now.until == 0) c.args.self.now.passed x
       (Byte c.emit.result) u in
       subst P (sym c.in-Byte.is ∙ c.turn.ensures.answer)
-      (λ fits. (
-        ap (λ b. Byte b) (c.emit.ensures.answer x stands),
-        c.emit.ensures.stands x stands,
-        c.emit.ensures.owed x stands,
+      (λ knows. (
+        ap (λ b. Byte b) (c.emit.ensures.answer x knows),
+        c.emit.ensures.stands x knows,
+        c.emit.ensures.owed x knows,
+        c.emit.ensures.refused,
       ));
 }
 
@@ -53,6 +36,7 @@ returns-in-Some g c = record {
         ap tick_or_silence (sym c.in-Some.is ∙ c.fill.ensures.answer x stands),
         subst Q (c.fill.ensures.answer x stands) (c.fill.ensures.stands x stands),
         c.fill.ensures.owed x stands,
+        λ none. ap refused_by (c.fill.ensures.unowed none),
       );
 }
 
@@ -69,5 +53,6 @@ returns-in-None g c = record {
         ap tick_or_silence (sym c.in-None.is ∙ c.fill.ensures.answer x stands),
         subst Q (c.fill.ensures.answer x stands) (c.fill.ensures.stands x stands),
         c.fill.ensures.owed x stands,
+        λ none. ap refused_by (c.fill.ensures.unowed none),
       );
 }

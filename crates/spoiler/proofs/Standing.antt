@@ -1,0 +1,13 @@
+-- What an outlet stands for.
+use Rattle.std.proofs.Common.{◌≡◌, ℕ, List, arith}
+use Rattle.line_rules.specs.declared.line_rules.LineRules.{Ghosts as LineRules}
+use Rattle.spoiler.specs.Outlet.{StandsFor, owed_by}
+use Rattle.spoiler.specs.declared.outlet.Outlet.{Outlet}
+
+-- where no fill is owed, for any bytes
+pub stands-unowed : {R : Type 0} (proto : LineRules R) (value : Outlet R) (x : List ℕ)
+    → owed_by value ≡ 0 → StandsFor proto value x
+stands-unowed proto value x none = record {
+  bytes = λ some. absurd (omega arith);
+  owes = λ some. absurd (omega arith);
+}
