@@ -57,7 +57,7 @@ no_key_refused text key met now place right is none = elim is.whole [
       absurd (omega (arith, long, all, short))
 ]
 
-no_journal_refused : (link : LinkId) (slots : Slots) (floor : ℕ) (a b : List ℕ) → IsLink link
+pub no_journal_refused : (link : LinkId) (slots : Slots) (floor : ℕ) (a b : List ℕ) → IsLink link
     → floor_of link slots ≡ Some floor → FindsNone (Some slots) a b → ⊥
 no_journal_refused link slots floor a b right has finds =
     let no_own : own_floor link finds.read ≡ None = no_own_floor link finds.read right finds.none in
@@ -75,7 +75,7 @@ other_link_has_no_floor None any old None (Some b) place wrong is = rw is refl
 other_link_has_no_floor None any old (Some a) None place wrong is = rw is refl
 other_link_has_no_floor None any old (Some a) (Some b) place wrong is = rw is refl
 
-wrong_link_refused : (link : LinkId) (slots : Slots) (floor : ℕ) (slot : List ℕ)
+pub wrong_link_refused : (link : LinkId) (slots : Slots) (floor : ℕ) (slot : List ℕ)
     → floor_of link slots ≡ Some floor → FindsOther link (Some slots) slot → ⊥
 wrong_link_refused link slots floor slot has finds =
     let no_floor : floor_of link finds.read ≡ None =

@@ -1,4 +1,4 @@
+pub mod Able
 pub mod Asking
-pub mod FaultLines
 pub mod Links
 pub mod LiveRuns

@@ -1,5 +1,5 @@
 -- The fault line of a status in the log of a port.
-use Rattle.std.specs.Prelude.{◌≡◌, ◌⊎◌, [], take, Result}
+use Rattle.std.specs.Prelude.{◌≡◌, ◌≢◌, ◌⊎◌, [], Result}
 use Rattle.yasir_io.specs.declared.Failed.{Failed}
 use Rattle.replay_status.specs.Statuses.{fault_line}
 use Rattle.replay_status.specs.declared.status.Status.{Status}
@@ -11,6 +11,6 @@ use Rattle.live_port.specs.declared.port.Port.{Ghosts as Port}
 -- where a call failed; where it has none, nothing was done.
 abbrev pub TellsFault : {P : Type 0} → Port P → P → P → Status → Type 0
 TellsFault p before after status =
-    ((take 640 (fault_line status) ≡ []) × (after ≡ before))
-    ⊎ ((result : Result (Unit {0}) Failed)
-    × Sends p before after Log (take 640 (fault_line status)) result)
+    ((fault_line status ≡ []) × (after ≡ before))
+    ⊎ ((fault_line status ≢ []) × (result : Result (Unit {0}) Failed)
+    × Sends p before after Log (fault_line status) result)

@@ -1,3 +1,4 @@
+pub mod Able
 pub mod FaultText
 pub mod LiveCommand
 pub mod OverFiles

@@ -9,7 +9,6 @@
 mod boxes;
 mod command;
 mod fault_text;
-mod kept_line;
 mod link;
 mod over_files;
 mod program;

@@ -2,6 +2,7 @@
 ghost use Rattle.std.specs.Prelude.{◌≡◌, ◌↔◌, Option, Some, None, map};
 ghost use Rattle.std.specs.String.{string_bytes};
 ghost use Rattle.box_command.specs.ReplaysBox.{BoxDiskCause};
+ghost use Rattle.link_live.specs.Able.{MayDo, IsCalm};
 ghost use Rattle.link_live.specs.LiveCommand.{around, PortCauses};
 ghost use Rattle.link_live.specs.Programs.{Does, KeepsDisk, Runs};
 ghost use Rattle.link_live.specs.Words.{Asks};
@@ -66,6 +67,12 @@ pub fn run<K: Source, P: Port, D: SlotDisk>(
     // What a crash may leave of the disk, at any moment of the run or at its end.
     ensures any_moment { (asked : Option Command) → Asks (map string_bytes words.now) asked
         → KeepsDisk D.SlotDisk asked disk.old disk.new }
+
+    // Where all that the box is given is right and nothing outside fails, it is done.
+    ensures done { (asked : Option Command) → Asks (map string_bytes words.now) asked
+        → MayDo K.Source P.Port D.SlotDisk asked key.old (around port.old disk.old)
+        → IsCalm K.Source P.Port D.SlotDisk key.old key.new (around port.old disk.old)
+        (around port.new disk.new) → result ≡ Status.Done }
 {
     let asked = asked_by(words);
     let status = answer(asked, key, port, disk);

@@ -1,5 +1,5 @@
 -- What a box has heard of a line, by one call more.
-use Rattle.std.proofs.Common.{◌≡◌, ◌∙◌, ℕ, suc, ◌+◌, ◌-◌, ◌<◌, ◌≤◌, List, [], ◌∷◌, ◌++◌, length, take}
+use Rattle.std.proofs.Common.{inl, ◌≡◌, ◌∙◌, ℕ, suc, ◌+◌, ◌-◌, ◌<◌, ◌≤◌, List, [], ◌∷◌, ◌++◌, length, take}
 use Rattle.std.proofs.Common.{drop, get_or, Option, Result, Ok, Err, true, false, refl, sym, ap, subst}
 use Rattle.std.proofs.Common.{arith, append-nil, append_assoc, drop-cons, length-append, length-drop}
 use Rattle.std.proofs.lemmas.List.{take-append-drop, take_all}
@@ -253,7 +253,7 @@ module _ {B N P D : Type 0} (b : LinkBox B N) (line_of : N → List ℕ) (p : Po
           front = text;
           later = bytes;
           is = refl;
-          ends = record { above = long.0; within = long.1; heard = has.heard };
+          ends = record { many = inl long; heard = has.heard };
         }
     feed_ends old_lines new_lines at bytes (TooLong Ticks count) answer origin text has =
         absurd (answer text has.has_read)

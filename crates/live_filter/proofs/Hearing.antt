@@ -1,5 +1,5 @@
 -- What a box has heard of a line whose bytes come, by one read more.
-use Rattle.std.proofs.Common.{◌≡◌, ◌∙◌, ℕ, ◌+◌, ◌<◌, ◌≤◌, List, [], ◌∷◌, ◌++◌, length, Option, Some}
+use Rattle.std.proofs.Common.{inr, ◌≡◌, ◌∙◌, ℕ, ◌+◌, ◌<◌, ◌≤◌, List, [], ◌∷◌, ◌++◌, length, Option, Some}
 use Rattle.std.proofs.Common.{None, Ok, Err, true, false, refl, sym, ap, subst}
 use Rattle.std.proofs.Common.{arith, append-nil, append_assoc, length-append}
 use Rattle.std.specs.Io.KnownBytes.{prepend_known, IsAtEnd}
@@ -24,6 +24,7 @@ use Rattle.live_port.specs.Order.{Handed}
 use Rattle.live_port.specs.declared.lines.LineReader.{LineReader}
 use Rattle.live_port.specs.declared.port.Output.{Output}
 use Rattle.live_port.specs.declared.port.Port.{Ghosts as Port}
+use Rattle.live_filter.specs.declared.live_box.TheConstants.{MAX_LIVE_BYTES}
 use Rattle.live_filter.specs.Filtering.{LiveOrigin, KeepsImages, made_at}
 use Rattle.live_filter.specs.FilteringLaws.{images_none}
 use Rattle.live_filter.specs.LiveLine.{Live, live_of, outside_of, read_further, IsReady, LiveGoes}
@@ -147,7 +148,7 @@ module _ {B N P D : Type 0} (b : LinkBox B N) (line_of : N → List ℕ) (p : Po
     module _ (lines0 lines1 : LineReader) (old at : Live B P D) (bytes : ℕ)
         (so : HearsSo lines0 lines1 old at bytes) where
       -- more bytes were read than may be
-      pub hears_too_much : 2147483648 < bytes
+      pub hears_too_much : MAX_LIVE_BYTES ≤ bytes
           → EndsHearing b line_of p d lines0 old at (TooLong Bytes bytes)
       hears_too_much above = record {
         more = so.more;
@@ -158,8 +159,7 @@ module _ {B N P D : Type 0} (b : LinkBox B N) (line_of : N → List ℕ) (p : Po
           later = [];
           is = sym (append-nil (origin.read ++ so.more));
           ends = record {
-            above = above;
-            within = omega (arith, so.count, length-append origin.read so.more);
+            many = inr (above, omega (arith, so.count, length-append origin.read so.more));
             heard = (so.heard.hears origin has).heard;
           };
         };

@@ -36,7 +36,7 @@ module _ (Heard Heard' : List Tick → Type 0) (Halts Halts' : Stop → List Tic
   }
   behind_by (TooLong Ticks count) front later ends = ticks_by count _ ends
   behind_by (TooLong Bytes count) front later ends =
-      record { above = ends.above; within = ends.within; heard = hears _ ends.heard }
+      record { many = ends.many; heard = hears _ ends.heard }
   behind_by (Stopped stop) front later ends = halts stop _ ends
   behind_by Whole front later ends = ends
   behind_by ReadFault front later ends = ends

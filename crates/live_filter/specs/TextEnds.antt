@@ -13,8 +13,8 @@ use Rattle.tick_drive.specs.declared.end.End.TheVariants.{Whole, Refused, TooLon
 use Rattle.tick_drive.specs.declared.end.End.TheVariants.{Stopped}
 use Rattle.tick_drive.specs.declared.end.TooMuch.TheVariants.{Ticks, Bytes}
 use Rattle.live_port.specs.Counted.{capped}
-use Rattle.live_port.specs.Lines.{RefusesText}
-use Rattle.live_filter.specs.declared.live_box.TheConstants.{MAX_LIVE_TICKS}
+use Rattle.live_port.specs.Lines.{RefusesText, EndsNoLine}
+use Rattle.live_filter.specs.declared.live_box.TheConstants.{MAX_LIVE_TICKS, MAX_LIVE_BYTES}
 
 -- The text is a right one, of items of which this holds.
 pub record IsRightOf (text : List ℕ) (Of : List Item → Type 0) : Type 0 where
@@ -44,11 +44,11 @@ module _ (Heard : List Tick → Type 0) (Halts : Stop → List Tick → Type 0) 
     pub above : MAX_LIVE_TICKS < count
     pub heard : Heard (ticks_in earlier)
 
-  -- A line of these bytes, or the whole of them, is longer than it may be; the lines that ended in
-  -- them were taken.
+  -- More bytes than may be end no line with ticks, or more were read in all; the lines that ended
+  -- in them were taken.
   pub record HasTooManyBytes (count : ℕ) (front : List ℕ) : Type 0 where
-    pub above : 2147483648 < count
-    pub within : count ≤ length front
+    pub many : ((2147483648 < count) × EndsNoLine front count)
+        ⊎ ((MAX_LIVE_BYTES ≤ count) × (count ≤ length front))
     pub heard : Heard (ticks_in (ended_items front))
 
   -- what an end says that comes behind the first bytes of a text

@@ -24,7 +24,7 @@ pub lines_behind : (whole part : List ℕ) → (lines_of whole).last ≡ []
 lines_behind whole part closed = lines_of-append whole part
     ∙ joins (lines_of whole) (lines_of part).ended (lines_of part).last closed
 
-abbrev items_in : Lines → List Item
+abbrev pub items_in : Lines → List Item
 items_in lines = flat_map (λ l. unwrap_or (line_items l) []) lines.ended
 
 pub ended_behind : (whole part : List ℕ) → (lines_of whole).last ≡ []

@@ -1,6 +1,6 @@
 -- What a reader of lines has read, by some bytes more.
-use Rattle.std.proofs.Common.{◌≡◌, ◌∙◌, ℕ, ◌+◌, ◌-◌, ◌<◌, ◌≤◌, List, [], ◌∷◌, ◌++◌, length}
-use Rattle.std.proofs.Common.{take, get_or, true, refl, ap, sym, subst}
+use Rattle.std.proofs.Common.{◌≡◌, ◌≢◌, ◌∙◌, ℕ, ◌+◌, ◌-◌, ◌<◌, ◌≤◌, List, [], ◌∷◌, ◌++◌, length}
+use Rattle.std.proofs.Common.{take, get_or, true, false, refl, ap, sym, subst}
 use Rattle.std.proofs.Common.{arith, append-nil, append_assoc, length-append}
 use Rattle.std.proofs.lemmas.List.{length-take-le}
 use Rattle.yasir_ticks.specs.Ticks.{Item, marks_in, items_of_run}
@@ -10,14 +10,17 @@ use Rattle.yasir_ticks.specs.Reader.{StandsFor, items_of_content}
 use Rattle.yasir_ticks.specs.Slices.{TakesUpTo, StopsAt}
 use Rattle.yasir_ticks.specs.declared.fault.BadTicks.{BadTicks}
 use Rattle.yasir_ticks.specs.declared.place.Content.{Content}
+use Rattle.yasir_ticks.specs.declared.place.Content.TheVariants.{NoTick, KeptBytes, SilentTicks}
+use Rattle.yasir_ticks.specs.declared.place.Content.TheVariants.{OneMark}
 use Rattle.yasir_ticks.specs.declared.reader.TickReader.{TickReader}
 use Rattle.yasir_ticks.specs.declared.run.Run.{Run}
-use Rattle.yasir_ticks.proofs.Lines.{lines_of-lf}
+use Rattle.yasir_ticks.proofs.Lines.{lines_of-lf, lines_of-more}
 use Rattle.tick_drive.proofs.Known.{text_last}
 use Rattle.live_port.specs.Counted.{capped}
 use Rattle.live_port.specs.Lines.{AreWholeLines, HasRead, ReadsLine, RefusesByte, RefusesText, lent}
+use Rattle.live_port.specs.Lines.{EndsNoLine}
 use Rattle.live_port.specs.declared.lines.LineReader.{LineReader}
-use Rattle.live_port.proofs.Behind.{whole_then, line_behind, capped_then, ended_behind}
+use Rattle.live_port.proofs.Behind.{items_in, whole_then, line_behind, capped_then, ended_behind}
 use Rattle.live_port.proofs.Behind.{refused_behind, fault_behind, text_behind, text_front, end_behind}
 
 nothing_whole : AreWholeLines []
@@ -27,6 +30,10 @@ nothing_whole = record { closed = refl; right = refl; unmarked = refl }
 nothing_last : (lines_of []).last ≡ []
 unfolding lines_of
 nothing_last = refl
+
+no_items : ended_items [] ≡ []
+unfolding lines_of
+no_items = refl
 
 one_line : line_after [] ≡ 1
 unfolding lines_of
@@ -43,6 +50,7 @@ read_none new stands fed first = record {
   fed = fed;
   counted = first ∙ sym (ap capped one_line);
   ends = λ _. nothing_last;
+  quiet = λ _. no_items;
 }
 
 pub renewed : (old new : LineReader) (text : List ℕ) → HasRead old text → old.ended ≡ true
@@ -62,6 +70,7 @@ renewed old new text has ended stands fed line =
           ∙ (ap (λ n. capped (line_after has.whole + (n - 1))) has.stands.at.counted
           ∙ ap capped (sym (line_behind has.whole has.part has.front.closed)))));
       ends = λ _. nothing_last;
+      quiet = λ _. no_items;
     }
 
 module _ (old : LineReader) (text bytes : List ℕ) (has : HasRead old text) (taken : ℕ) where
@@ -91,12 +100,37 @@ module _ (old : LineReader) (text bytes : List ℕ) (has : HasRead old text) (ta
       ap (λ l. (lines_of l).last) last
       ∙ ap (λ (l : Lines). l.last) (lines_of-lf (has.part ++ take (taken - 1) bytes))
 
+  -- a byte that is no LF ends no line
+  unended_by : taken ≤ length bytes → 0 < taken → get_or bytes (taken - 1) 0 ≢ 10
+      → ended_items (has.part ++ take (taken - 1) bytes) ≡ ended_items has.part
+      → ended_items own ≡ ended_items has.part
+  unended_by within some no_feed before =
+      ap ended_items (sym (text_last has.part bytes taken within some))
+      ∙ (ap (λ (l : Lines). items_in l) (lines_of-more (has.part ++ take (taken - 1) bytes)
+      (get_or bytes (taken - 1) 0) no_feed) ∙ before)
+
+  quiet_by : (new : TickReader) (content : Content)
+      → TakesUpTo old.reader bytes taken content new
+      → get_or bytes (taken - 1) 0 ≢ 10 → ended_items own ≡ ended_items has.part
+  quiet_by new NoTick takes no_feed =
+      takes.items 0 has.part has.stands ∙ append-nil (ended_items has.part)
+  quiet_by new KeptBytes takes no_feed =
+      let last = takes.last 0 has.part has.stands (λ e. cc) in
+      unended_by takes.within last.0 no_feed last.1
+  quiet_by new (SilentTicks n) takes no_feed =
+      let last = takes.last 0 has.part has.stands (λ e. cc) in
+      unended_by takes.within last.0 no_feed last.1
+  quiet_by new OneMark takes no_feed =
+      let last = takes.last 0 has.part has.stands (λ e. cc) in
+      unended_by takes.within last.0 no_feed last.1
+
   pub fed_line : (new : LineReader) (content : Content) → 0 < length bytes
       → TakesUpTo old.reader bytes taken content new.reader → new.since ≡ old.since + taken
-      → new.line ≡ old.line
+      → new.line ≡ old.line → old.ended ≡ false
       → (new.ended ≡ true → get_or bytes (taken - 1) 0 ≡ 10)
+      → (new.ended ≡ false → get_or bytes (taken - 1) 0 ≢ 10)
       → ReadsLine new text bytes taken (items_of_content content (lent new))
-  fed_line new content any takes fed line ended = record {
+  fed_line new content any takes fed line begun ended unended = record {
     some = takes.progress any;
     within = takes.within;
     has_read = record {
@@ -114,6 +148,7 @@ module _ (old : LineReader) (text bytes : List ℕ) (has : HasRead old text) (ta
       );
       counted = line ∙ has.counted;
       ends = λ e. closed_by takes.within (takes.progress any) (ended e);
+      quiet = λ e. quiet_by new.reader content takes (unended e) ∙ has.quiet begun;
     };
     ended = ended_is ∙ (ap (λ l. ended_items has.whole ++ l) (takes.items 0 has.part has.stands)
         ∙ (sym (append_assoc (ended_items has.whole) (ended_items has.part)
@@ -141,11 +176,18 @@ module _ (old : LineReader) (text bytes : List ℕ) (has : HasRead old text) (ta
             ∙ rw whole_is refl));
       }
 
--- a reader was fed no more bytes than its text has
-pub fed_within : (lines : LineReader) (text : List ℕ) → HasRead lines text
-    → lines.since ≤ length text
-fed_within lines text has =
-    omega (arith, has.fed, ap length has.is, length-append has.whole has.part)
+-- what a reader was fed in a line that has not ended
+pub fed_unended : (lines : LineReader) (text : List ℕ) (count : ℕ) → HasRead lines text
+    → lines.ended ≡ false → count ≡ lines.since → EndsNoLine text count
+fed_unended lines text count has begun counted = record {
+  whole = has.whole;
+  part = has.part;
+  is = has.is;
+  counted = counted ∙ has.fed;
+  none = ap ended_items has.is ∙ (ended_behind has.whole has.part has.front.closed
+      ∙ (ap (λ l. ended_items has.whole ++ l) (has.quiet begun)
+      ∙ append-nil (ended_items has.whole)));
+}
 
 -- the end of the text
 pub finished : (old : LineReader) (text : List ℕ) (run : Run) → HasRead old text

@@ -1,6 +1,6 @@
 -- What a reader of lines as they come has read.
-use Rattle.std.specs.Prelude.{◌≡◌, ℕ, ◌<◌, ◌≤◌, List, [], ◌++◌, length, take, true, Some, Result}
-use Rattle.std.specs.Prelude.{Ok, Err, slice_index}
+use Rattle.std.specs.Prelude.{◌≡◌, ℕ, ◌<◌, ◌≤◌, List, [], ◌++◌, length, take, true, false, Some}
+use Rattle.std.specs.Prelude.{Result, Ok, Err, slice_index}
 use Rattle.yasir_ticks.specs.Ticks.{Item, items_of_run, marks_in}
 use Rattle.yasir_ticks.specs.Reader.{StandsFor, items_of_content, lent_bytes}
 use Rattle.yasir_ticks.specs.TickText.{IsTickText, IsRefusedAfter, ended_items, all_items, lines_of}
@@ -31,6 +31,7 @@ pub record HasRead (lines : LineReader) (text : List ℕ) : Type 0 where
   pub fed : lines.since ≡ length part
   pub counted : lines.line ≡ capped (line_after whole)
   pub ends : lines.ended ≡ true → (lines_of part).last ≡ []
+  pub quiet : lines.ended ≡ false → ended_items part ≡ []
 
 -- the bytes of the line that ended last, where it was one of bytes
 abbrev pub lent : LineReader → List ℕ
@@ -53,6 +54,14 @@ pub record RefusesByte (text bytes : List ℕ) (bad : BadTicks) : Type 0 where
   pub line : bad.line ≡ capped (line_after (text ++ take taken bytes))
   pub why : bad.why ≡ fault_after (text ++ take taken bytes) (slice_index bytes taken)
 
+-- So many last bytes of a text end no line with ticks.
+pub record EndsNoLine (text : List ℕ) (count : ℕ) : Type 0 where
+  pub whole : List ℕ
+  pub part : List ℕ
+  pub is : text ≡ whole ++ part
+  pub counted : count ≡ length part
+  pub none : ended_items text ≡ ended_items whole
+
 -- The end comes of the text alone.
 abbrev pub IsOfText : End → Type 0
 IsOfText (Refused bad) = Unit {0}
@@ -65,7 +74,7 @@ FeedAnswer lines text bytes (Ok found) =
     ReadsLine lines text bytes found.taken (items_of_content found.content (lent lines))
 FeedAnswer lines text bytes (Err (Refused bad)) = RefusesByte text bytes bad
 FeedAnswer lines text bytes (Err (TooLong Bytes count)) =
-    (2147483648 < count) × (count ≤ length text)
+    (2147483648 < count) × EndsNoLine text count
 FeedAnswer lines text bytes (Err end) = ⊥
 
 -- The whole text is no right one.

@@ -6,7 +6,7 @@ ghost use Rattle.live_port.specs.Counted.{capped};
 use tick_drive::{End, TooMuch};
 use yasir_ticks::{BadTicks, Content, FedLine, Run, TickReader};
 
-/// The most bytes that a line may have. No right line has as many.
+/// The most bytes that may come one after the other and end no line with ticks.
 const MAX_LINE: u32 = 2_147_483_648;
 
 /// How many bytes were read, up to the end of a line at most, and what the line stands for that
@@ -69,7 +69,8 @@ impl LineReader {
 
     // Begins anew behind a line that has ended.
     fn renew(&mut self)
-        ensures { (text : List ℕ) → HasRead self.old text → HasRead self.new text }
+        ensures read { (text : List ℕ) → HasRead self.old text → HasRead self.new text }
+        ensures begun { self.new.ended ≡ false }
     {
         if !self.ended {
             return;

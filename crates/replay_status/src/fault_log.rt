@@ -109,8 +109,8 @@ fn fixed_line(text: &[u8]) -> Line
     line
 }
 
-// The fault line of a status, which is empty for the statuses that have none.
-fn fault_line(status: &Status) -> Line
+/// The fault line of a status, LF included. It is empty for the statuses that have none.
+pub fn fault_line(status: &Status) -> Line
     ensures { result.items ≡ fault_line status.now }
 {
     match status {

@@ -16,6 +16,6 @@ mod text;
 
 pub use ending::{flush_both, print_text, status_of};
 pub use ends::Ends;
-pub use fault_log::write_fault;
+pub use fault_log::{fault_line, write_fault};
 pub use status::Status;
 pub use text::{Line, push_decimal};

@@ -2,5 +2,5 @@ use Rattle.std.proofs.Common.{refl, arith}
 use Rattle.live_port.proofs.Reading.{renewed}
 use Rattle.live_port.proofs.lines.LineReader.renew.Goals as goal
 
-pub returns : goal.returns
-returns c = λ text has. renewed c.args.self.now _ text has (grind arith) c.new-self.ensures.stands refl (grind arith)
+pub returns-clause-read : goal.returns-clause-read
+returns-clause-read c = λ text has. renewed c.args.self.now _ text has (grind arith) c.new-self.ensures.stands refl (grind arith)
