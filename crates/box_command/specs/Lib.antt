@@ -8,6 +8,7 @@ pub mod SealLaws
 pub mod CheckLines
 pub mod CheckBoxed
 pub mod CheckLaws
+pub mod LinkBoxes
 pub mod BoxLines
 pub mod BoxLinesLaws
 pub mod DrivenBox

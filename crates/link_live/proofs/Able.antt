@@ -34,10 +34,11 @@ use Rattle.link_live.specs.Able.{IsLiveText, IsLivable, MayDo, IsCalm}
 use Rattle.link_live.specs.FaultText.{TellsFault}
 use Rattle.link_live.specs.LiveCommand.{Around, around, LivesBox, PortCauses}
 use Rattle.link_live.specs.Programs.{Does}
-use Rattle.link_live.specs.Protocols.{served, seal_boxed, seal_rest, check_boxed, check_rest}
+use Rattle.box_command.specs.LinkBoxes.{seal_boxed, seal_rest, check_boxed, check_rest}
+use Rattle.link_live.specs.Words.{served}
 use Rattle.link_live.specs.declared.words.Command.{Command}
 use Rattle.link_live.specs.declared.words.Command.TheVariants.{Seal, Check}
-use Rattle.link_live.proofs.Links.{link-right}
+use Rattle.link_words.proofs.Links.{link-right}
 
 -- what was read of a right text
 module _ (Heard : List Tick → Type 0) (Halts : Stop → List Tick → Type 0) (rest : ℕ)

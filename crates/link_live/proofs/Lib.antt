@@ -1,4 +1,3 @@
 pub mod Able
 pub mod Asking
-pub mod Links
 pub mod LiveRuns

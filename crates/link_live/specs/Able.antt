@@ -13,7 +13,7 @@ use Rattle.live_port.specs.declared.port.Output.{Output}
 use Rattle.live_port.specs.declared.port.Port.{Ghosts as Port}
 use Rattle.live_filter.specs.declared.live_box.TheConstants.{MAX_LIVE_TICKS, MAX_LIVE_BYTES}
 use Rattle.link_live.specs.LiveCommand.{Around}
-use Rattle.link_live.specs.Protocols.{served}
+use Rattle.link_live.specs.Words.{served}
 use Rattle.link_live.specs.declared.words.Command.{Command}
 use Rattle.link_live.specs.declared.words.Command.TheVariants.{Seal, Check}
 

@@ -3,5 +3,4 @@ pub mod FaultText
 pub mod LiveCommand
 pub mod OverFiles
 pub mod Programs
-pub mod Protocols
 pub mod Words

@@ -8,7 +8,8 @@ use Rattle.box_command.specs.ReplaysBox.{KeepsFloorThroughout, BoxDiskCause}
 use Rattle.live_port.specs.declared.port.Port.{Ghosts as Port}
 use Rattle.link_live.specs.FaultText.{TellsFault}
 use Rattle.link_live.specs.LiveCommand.{Around, around, LivesBox, PortCauses}
-use Rattle.link_live.specs.Protocols.{served, seal_boxed, seal_rest, check_boxed, check_rest}
+use Rattle.box_command.specs.LinkBoxes.{seal_boxed, seal_rest, check_boxed, check_rest}
+use Rattle.link_live.specs.Words.{served}
 use Rattle.link_live.specs.declared.words.Command.{Command}
 use Rattle.link_live.specs.declared.words.Command.TheVariants.{Seal, Check}
 

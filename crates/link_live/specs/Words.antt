@@ -1,25 +1,15 @@
 -- The words of the program's commands.
 use Rattle.std.specs.Prelude.{◌≡◌, ◌≢◌, ℕ, List, [], ◌∷◌, Option, Some, None, codes, slice_get}
-use Rattle.hmac_tag.specs.declared.dir.Dir.{Dir}
-use Rattle.hmac_tag.specs.declared.dir.Dir.TheVariants.{Ab, Ba}
-use Rattle.link_live.specs.declared.words.Proto.{Proto}
-use Rattle.link_live.specs.declared.words.Proto.TheVariants.{Rtu, Dnp3}
-use Rattle.link_live.specs.declared.words.Profile.{Profile}
-use Rattle.link_live.specs.declared.words.Profile.TheVariants.{Y18, Y24}
+use Rattle.sequence_journal.specs.declared.link.LinkId.{LinkId}
+use Rattle.link_words.specs.Links.{link_of}
+use Rattle.link_words.specs.Words.{link_word, dir_word}
 use Rattle.link_live.specs.declared.words.Linked.{Linked}
 use Rattle.link_live.specs.declared.words.Command.{Command}
 use Rattle.link_live.specs.declared.words.Command.TheVariants.{Seal, Check}
 
--- the word of a protocol on a link of a profile
-abbrev pub link_word : Proto → Profile → List ℕ
-link_word Rtu Y18 = codes "rtu"
-link_word Dnp3 Y18 = codes "dnp3"
-link_word Rtu Y24 = codes "rtu24"
-link_word Dnp3 Y24 = codes "dnp24"
-
-abbrev pub dir_word : Dir → List ℕ
-dir_word Ab = codes "ab"
-dir_word Ba = codes "ba"
+-- the link of a command, as its journals name it
+abbrev pub served : Linked → LinkId
+served of = link_of of.proto of.profile of.dir
 
 -- These words ask for a box: its name, a protocol and a profile, a direction, and the paths of its
 -- key and its journal.

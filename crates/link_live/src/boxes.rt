@@ -1,29 +1,23 @@
 //! The two boxes of a link on a live line: the transmitter of `seal`, and the receiver of `check`.
+ghost use Rattle.box_command.specs.LinkBoxes.{seal_boxed, seal_rest, check_boxed, check_rest};
 ghost use Rattle.box_command.specs.ReplaysBox.{KeepsFloorThroughout, BoxDiskCause};
 ghost use Rattle.link_live.specs.LiveCommand.{around, LivesBox, PortCauses};
-ghost use Rattle.link_live.specs.Protocols.{served, seal_boxed, seal_rest, check_boxed, check_rest};
+ghost use Rattle.link_live.specs.Words.{served};
 
 use crate::command::{LiveLink, live_line};
-use crate::link::{link_of, with_link};
 use crate::words::Linked;
+use box_command::{CHECK_REST, SEAL_REST};
 use check_receiver::Checker;
+use link_words::{link_of, with_link};
 use live_port::Port;
 use replay_status::Status;
 use seal_transmitter::Sealer;
 use yasir_io::{SlotDisk, Source};
 
-/// How many silent ticks come after a device's whole line beyond the receiver's delay, so that its
-/// last burst is closed and its trailer leaves.
-const SEAL_REST: u32 = 6;
-
-/// How many silent ticks come after a link's whole line, so that the verdict on its last burst
-/// falls and all that the receiver holds back leaves.
-const CHECK_REST: u32 = 320;
-
 // The transmitter on the line.
 macro_rules! seal_by {
     (
-        [$rules:ty, $mac:ty, $word:literal, $delay:literal],
+        [$rules:ty, $device:ty, $mac:ty, $word:literal, $delay:literal, $gap:literal],
         $link:expr, $dir:expr, $key:expr, $port:expr, $disk:expr
     ) => {
         live_line::<Sealer<$rules, $mac, $word>, K, P, D>(
@@ -42,7 +36,7 @@ macro_rules! seal_by {
 // The receiver on the line.
 macro_rules! check_by {
     (
-        [$rules:ty, $mac:ty, $word:literal, $delay:literal],
+        [$rules:ty, $device:ty, $mac:ty, $word:literal, $delay:literal, $gap:literal],
         $link:expr, $dir:expr, $key:expr, $port:expr, $disk:expr
     ) => {
         live_line::<Checker<$rules, $mac, $word, $delay>, K, P, D>(

@@ -9,7 +9,6 @@
 mod boxes;
 mod command;
 mod fault_text;
-mod link;
 mod over_files;
 mod program;
 mod words;
@@ -17,12 +16,12 @@ mod words;
 pub use boxes::{check, seal};
 pub use command::{LiveLink, live_line};
 pub use fault_text::log_fault;
-pub use link::link_of;
+pub use link_words::{Profile, Proto, Usage};
 use live_port::Streams;
 pub use over_files::{NOT_GIVEN, run_over_files};
 pub use program::run;
 use std::process::ExitCode;
-pub use words::{Command, Linked, Profile, Proto, Usage, read_words};
+pub use words::{Command, Linked, read_words};
 use yasir_io::{StderrSink, StdinSource, StdoutSink};
 
 fn main(rt: HostRuntime) -> ExitCode {

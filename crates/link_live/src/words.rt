@@ -1,31 +1,11 @@
 //! The words of the program: which box they ask for.
 ghost use Rattle.std.specs.Prelude.{◌≡◌, [], ◌∷◌, IfOk, OnErr, map};
 ghost use Rattle.std.specs.String.{string_bytes};
-ghost use Rattle.hmac_tag.specs.declared.dir.Dir.{Dir};
-ghost use Rattle.link_live.specs.declared.words.Profile.{Profile};
-ghost use Rattle.link_live.specs.declared.words.Proto.{Proto};
 ghost use Rattle.link_live.specs.declared.words.Command.{Command};
-ghost use Rattle.link_live.specs.Words.{IsCommand, link_word, dir_word};
+ghost use Rattle.link_live.specs.Words.{IsCommand};
 
 use hmac_tag::Dir;
-
-/// The protocol of a line.
-#[derive(Clone, Copy, Debug, PartialEq, Eq)]
-pub enum Proto {
-    /// Modbus RTU.
-    Rtu,
-    /// The link layer of DNP3.
-    Dnp3,
-}
-
-/// What follows a frame on a link.
-#[derive(Clone, Copy, Debug, PartialEq, Eq)]
-pub enum Profile {
-    /// Two bytes of the frame's number, and twelve of its tag, by HMAC-SHA-1.
-    Y18,
-    /// Four bytes of the frame's number, and sixteen of its tag, by HMAC-SHA-256.
-    Y24,
-}
+use link_words::{Profile, Proto, Usage, read_dir, read_link};
 
 /// The protocol, the profile and the direction of a link.
 #[derive(Clone, Copy, Debug, PartialEq, Eq)]
@@ -42,37 +22,6 @@ pub enum Command {
     Seal(Linked),
     /// Checks the packets of a live link, and hands on what passes.
     Check(Linked),
-}
-
-/// The words name no command.
-#[derive(Clone, Copy, Debug, PartialEq, Eq)]
-pub struct Usage;
-
-// The protocol and the profile that a word names.
-fn read_link(word: &str) -> Result<(Proto, Profile), Usage>
-    ensures ok { IfOk result (λ link. word.now ≡ link_word link.0 link.1) }
-    ensures usage { OnErr result ((proto : Proto) (profile : Profile)
-        → word.now ≡ link_word proto profile → ⊥) }
-{
-    match word {
-        "rtu" => Ok((Proto::Rtu, Profile::Y18)),
-        "dnp3" => Ok((Proto::Dnp3, Profile::Y18)),
-        "rtu24" => Ok((Proto::Rtu, Profile::Y24)),
-        "dnp24" => Ok((Proto::Dnp3, Profile::Y24)),
-        _ => Err(Usage),
-    }
-}
-
-// The direction that a word names.
-fn read_dir(word: &str) -> Result<Dir, Usage>
-    ensures ok { IfOk result (λ dir. word.now ≡ dir_word dir) }
-    ensures usage { OnErr result ((dir : Dir) → word.now ≡ dir_word dir → ⊥) }
-{
-    match word {
-        "ab" => Ok(Dir::Ab),
-        "ba" => Ok(Dir::Ba),
-        _ => Err(Usage),
-    }
 }
 
 // The command of five words: a box, and the paths of its key and its journal, which aren't empty.

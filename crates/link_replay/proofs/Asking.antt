@@ -6,35 +6,15 @@ use Rattle.std.proofs.lemmas.Fmt.{decimal_is_IsNumeral}
 use Rattle.std.specs.Prelude.{codes, decimal}
 use Rattle.std.specs.Str.Parse.{digits_value}
 use Rattle.hmac_tag.specs.declared.dir.Dir.{Dir}
-use Rattle.hmac_tag.specs.declared.dir.Dir.TheVariants.{Ab, Ba}
-use Rattle.link_replay.specs.Words.{dir_word, link_word, IsCommand, Asks, AreFloors}
-use Rattle.link_replay.specs.declared.words.Profile.{Profile}
-use Rattle.link_replay.specs.declared.words.Profile.TheVariants.{Y18, Y24}
-use Rattle.link_replay.specs.declared.words.Proto.{Proto}
-use Rattle.link_replay.specs.declared.words.Proto.TheVariants.{Rtu, Dnp3}
+use Rattle.link_words.specs.Words.{dir_word, link_word}
+use Rattle.link_words.proofs.Telling.{is_word, proto_by, profile_by, dir_by, proto-by, profile-by, dir-by}
+use Rattle.link_replay.specs.Words.{IsCommand, Asks, AreFloors}
+use Rattle.link_words.specs.declared.words.Profile.{Profile}
+use Rattle.link_words.specs.declared.words.Proto.{Proto}
 use Rattle.link_replay.specs.declared.words.Command.{Command}
 use Rattle.link_replay.specs.declared.words.Command.TheVariants.{Init, Read, Vectors, Seal, Check}
 use Rattle.link_replay.specs.declared.words.Command.TheVariants.{Replay, Trial, Space}
 use Rattle.link_replay.specs.declared.words.Command.TheVariants.{Audit, Duplex, Help, Version}
-
--- A word as one number, so that two words are told apart by a test.
-abbrev number_of : List ℕ → ℕ
-number_of [] = 0
-number_of (byte ∷ word) = byte + 256 * number_of word
-
-abbrev is_word : List ℕ → List ℕ → Bool
-is_word expected word = nat_eq (number_of word) (number_of expected)
-
-abbrev proto_by : List ℕ → Proto
-proto_by word =
-    cond (is_word (codes "dnp3") word) Dnp3 (cond (is_word (codes "dnp24") word) Dnp3 Rtu)
-
-abbrev profile_by : List ℕ → Profile
-profile_by word =
-    cond (is_word (codes "rtu24") word) Y24 (cond (is_word (codes "dnp24") word) Y24 Y18)
-
-abbrev dir_by : List ℕ → Dir
-dir_by word = cond (is_word (codes "ab") word) Ab Ba
 
 -- the command whose first word this is, with the five words behind it
 abbrev command_by : List ℕ → List ℕ → List ℕ → List ℕ → List ℕ → List ℕ → Command
@@ -71,22 +51,6 @@ word_at (suc n) (word ∷ words) = word_at n words
 abbrev command_in : List (List ℕ) → Command
 command_in words = command_by (word_at 0 words) (word_at 1 words) (word_at 2 words)
     (word_at 3 words) (word_at 4 words) (word_at 5 words)
-
-proto-by : (proto : Proto) (profile : Profile) → proto_by (link_word proto profile) ≡ proto
-proto-by Rtu Y18 = refl
-proto-by Rtu Y24 = refl
-proto-by Dnp3 Y18 = refl
-proto-by Dnp3 Y24 = refl
-
-profile-by : (proto : Proto) (profile : Profile) → profile_by (link_word proto profile) ≡ profile
-profile-by Rtu Y18 = refl
-profile-by Rtu Y24 = refl
-profile-by Dnp3 Y18 = refl
-profile-by Dnp3 Y24 = refl
-
-dir-by : (dir : Dir) → dir_by (dir_word dir) ≡ dir
-dir-by Ab = refl
-dir-by Ba = refl
 
 number-by : (n : ℕ) → n < 2 ^ 64 → digits_value 10 (decimal n) ≡ n
 number-by n within = (decimal_is_IsNumeral n within).1

@@ -22,13 +22,13 @@ use Rattle.session_audit.specs.declared.session.Session.{Session}
 use Rattle.session_audit.specs.declared.verdict.Verdict.{Verdict}
 use Rattle.session_audit.proofs.Auditing.{kind-so}
 use Rattle.recordings_replay.specs.Recorded.{PrintsItems}
-use Rattle.link_replay.specs.Protocols.{rules_of, link_profile_of, delay_of}
+use Rattle.link_words.specs.Links.{rules_of, link_profile_of, delay_of}
 use Rattle.link_replay.specs.ReadCommand.{device_reads}
-use Rattle.link_replay.specs.SealCommand.{seal_rest}
-use Rattle.link_replay.specs.declared.words.Profile.{Profile}
-use Rattle.link_replay.specs.declared.words.Profile.TheVariants.{Y18, Y24}
-use Rattle.link_replay.specs.declared.words.Proto.{Proto}
-use Rattle.link_replay.specs.declared.words.Proto.TheVariants.{Rtu, Dnp3}
+use Rattle.box_command.specs.LinkBoxes.{seal_rest}
+use Rattle.link_words.specs.declared.words.Profile.{Profile}
+use Rattle.link_words.specs.declared.words.Profile.TheVariants.{Y18, Y24}
+use Rattle.link_words.specs.declared.words.Proto.{Proto}
+use Rattle.link_words.specs.declared.words.Proto.TheVariants.{Rtu, Dnp3}
 
 -- ---- the session
 

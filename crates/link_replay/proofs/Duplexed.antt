@@ -23,8 +23,8 @@ use Rattle.box_command.specs.Recording.{EndsOtherwise}
 use Rattle.box_command.specs.declared.recording.Recorded.{Recorded}
 use Rattle.link_replay.specs.DuplexCommand.{DuplexesWith, Duplexes, duplex_texts}
 use Rattle.link_replay.specs.ReplayCommand.{IsListable}
-use Rattle.link_replay.specs.declared.words.Profile.{Profile}
-use Rattle.link_replay.specs.declared.words.Proto.{Proto}
+use Rattle.link_words.specs.declared.words.Profile.{Profile}
+use Rattle.link_words.specs.declared.words.Proto.{Proto}
 use Rattle.link_replay.proofs.KeyedRuns.{EndsAs, keyed_done}
 
 module _ {K S O L D : Type 0} (k : Source K) (s : Source S) (o : Sink O) (l : Sink L)

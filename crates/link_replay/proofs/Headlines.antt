@@ -34,13 +34,13 @@ use Rattle.recordings_replay.specs.Listing.{Listing}
 use Rattle.recordings_replay.specs.TellsOf.{TellsOf, device_rest}
 use Rattle.recordings_replay.proofs.Keying.{keyed-so}
 use Rattle.recordings_replay.proofs.Telling.{tells-of, few-bursts, few-before}
-use Rattle.link_replay.specs.Protocols.{rules_of}
+use Rattle.link_words.specs.Links.{rules_of}
 use Rattle.link_replay.specs.ReplayCommand.{ReplaysWith, replay_listing, replay_profile}
-use Rattle.link_replay.specs.SealCommand.{seal_rest}
-use Rattle.link_replay.specs.declared.words.Profile.{Profile}
-use Rattle.link_replay.specs.declared.words.Profile.TheVariants.{Y18, Y24}
-use Rattle.link_replay.specs.declared.words.Proto.{Proto}
-use Rattle.link_replay.specs.declared.words.Proto.TheVariants.{Rtu, Dnp3}
+use Rattle.box_command.specs.LinkBoxes.{seal_rest}
+use Rattle.link_words.specs.declared.words.Profile.{Profile}
+use Rattle.link_words.specs.declared.words.Profile.TheVariants.{Y18, Y24}
+use Rattle.link_words.specs.declared.words.Proto.{Proto}
+use Rattle.link_words.specs.declared.words.Proto.TheVariants.{Rtu, Dnp3}
 
 rtu-law : (profile : LinkProfile) (line link : List Tick)
     → ReadsWhatWasSealed rtu_rules rtu_reads 4 profile 0 0 line link

@@ -2,7 +2,6 @@ pub mod Asking
 pub mod Outcomes
 pub mod Flushing
 pub mod Headlines
-pub mod Links
 pub mod KeyedRuns
 pub mod Listable
 pub mod Duplexed

@@ -18,10 +18,10 @@ use Rattle.recordings_replay.proofs.Keying.{keyed-so}
 use Rattle.link_replay.specs.AuditCommand.{Audits, audited_line}
 use Rattle.link_replay.specs.ReplayCommand.{Replays, ReplaysWith, IsListable}
 use Rattle.link_replay.specs.ReplayCommand.{replay_listing}
-use Rattle.link_replay.specs.SealCommand.{seal_rest}
+use Rattle.box_command.specs.LinkBoxes.{seal_rest}
 use Rattle.link_replay.specs.declared.commands.audit.Audited.{Audited}
-use Rattle.link_replay.specs.declared.words.Profile.{Profile}
-use Rattle.link_replay.specs.declared.words.Proto.{Proto}
+use Rattle.link_words.specs.declared.words.Profile.{Profile}
+use Rattle.link_words.specs.declared.words.Proto.{Proto}
 use Rattle.link_replay.proofs.KeyedRuns.{EndsAs, keyed_done}
 
 module _ {K S O L D : Type 0} (k : Source K) (s : Source S) (o : Sink O) (l : Sink L)

@@ -17,8 +17,7 @@ use Rattle.link_replay.specs.Commands.{EndsWell}
 use Rattle.link_replay.specs.InitCommand.{MakesJournal, IsBlank}
 use Rattle.link_replay.specs.ReadCommand.{device_reads}
 use Rattle.replay_status.specs.PrintsText.{PrintsText}
-use Rattle.link_replay.specs.SealCommand.{seal_boxed, seal_rest}
-use Rattle.link_replay.specs.CheckCommand.{check_boxed, check_rest}
+use Rattle.box_command.specs.LinkBoxes.{seal_boxed, seal_rest, check_boxed, check_rest}
 use Rattle.replay_status.specs.declared.status.Status.{Status}
 use Rattle.replay_status.specs.declared.status.Status.TheVariants.{Done, WriteFault, JournalFault}
 use Rattle.replay_status.specs.declared.status.Status.TheVariants.{HasJournal}
@@ -30,8 +29,8 @@ use Rattle.replay_status.proofs.Logging.{sinks_after}
 use Rattle.replay_status.proofs.FlushLaws.{flushes_after}
 use Rattle.device_replay.proofs.Readable.{readable_done}
 use Rattle.box_command.proofs.Replayable.{replayable_done}
-use Rattle.link_replay.specs.Protocols.{link_of}
-use Rattle.link_replay.proofs.Links.{link-right}
+use Rattle.link_words.specs.Links.{link_of}
+use Rattle.link_words.proofs.Links.{link-right}
 use Rattle.space_replay.proofs.Readable.{spaced_done}
 use Rattle.link_replay.specs.SpaceCommand.{spaced_by}
 use Rattle.link_replay.specs.AuditCommand.{audited}

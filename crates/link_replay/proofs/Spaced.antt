@@ -22,11 +22,12 @@ use Rattle.replay_status.specs.declared.status.Status.TheVariants.{Done}
 use Rattle.space_replay.specs.SpacedTexts.{most_waiting}
 use Rattle.space_replay.specs.SpacesLine.{SpacesLine, space_rest}
 use Rattle.link_replay.specs.ReadCommand.{device_reads}
-use Rattle.link_replay.specs.SpaceCommand.{gap_of, spaced_by, SpacesBy}
-use Rattle.link_replay.specs.declared.words.Profile.{Profile}
-use Rattle.link_replay.specs.declared.words.Profile.TheVariants.{Y18, Y24}
-use Rattle.link_replay.specs.declared.words.Proto.{Proto}
-use Rattle.link_replay.specs.declared.words.Proto.TheVariants.{Rtu, Dnp3}
+use Rattle.link_words.specs.Links.{gap_of}
+use Rattle.link_replay.specs.SpaceCommand.{spaced_by, SpacesBy}
+use Rattle.link_words.specs.declared.words.Profile.{Profile}
+use Rattle.link_words.specs.declared.words.Profile.TheVariants.{Y18, Y24}
+use Rattle.link_words.specs.declared.words.Proto.{Proto}
+use Rattle.link_words.specs.declared.words.Proto.TheVariants.{Rtu, Dnp3}
 
 -- the silence behind an input is long enough
 all-leave : (proto : Proto) (profile : Profile) (line : List Tick) → AreTicks line

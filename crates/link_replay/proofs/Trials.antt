@@ -6,10 +6,10 @@ use Rattle.trial_session.specs.Boxes.{trial_setup}
 use Rattle.trial_session.specs.Telling.{Tells}
 use Rattle.trial_session.proofs.Tellings.{rtu-tells, dnp-tells}
 use Rattle.link_replay.specs.TrialCommand.{trial_link_profile, trial_counts}
-use Rattle.link_replay.specs.declared.words.Profile.{Profile}
-use Rattle.link_replay.specs.declared.words.Profile.TheVariants.{Y18, Y24}
-use Rattle.link_replay.specs.declared.words.Proto.{Proto}
-use Rattle.link_replay.specs.declared.words.Proto.TheVariants.{Rtu, Dnp3}
+use Rattle.link_words.specs.declared.words.Profile.{Profile}
+use Rattle.link_words.specs.declared.words.Profile.TheVariants.{Y18, Y24}
+use Rattle.link_words.specs.declared.words.Proto.{Proto}
+use Rattle.link_words.specs.declared.words.Proto.TheVariants.{Rtu, Dnp3}
 
 pub counts-tell : (proto : Proto) (profile : Profile) (seed count : ℕ) → count < 2 ^ 32
     → Tells (trial_counts proto profile seed count) count

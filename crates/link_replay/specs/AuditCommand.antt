@@ -21,12 +21,12 @@ use Rattle.session_audit.specs.declared.verdict.Verdict.{Verdict}
 use Rattle.session_audit.specs.declared.verdict.Verdict.TheVariants.{Clean, Forged, Differs}
 use Rattle.recordings_replay.specs.Keyed.{ReadsKeyFirst, LeavesAll}
 use Rattle.recordings_replay.specs.Recorded.{PrintsItems}
-use Rattle.link_replay.specs.Protocols.{rules_of, link_profile_of, delay_of}
+use Rattle.link_words.specs.Links.{rules_of, link_profile_of, delay_of}
 use Rattle.link_replay.specs.ReadCommand.{device_reads}
-use Rattle.link_replay.specs.SealCommand.{seal_rest}
+use Rattle.box_command.specs.LinkBoxes.{seal_rest}
 use Rattle.link_replay.specs.declared.commands.audit.Audited.{Audited}
-use Rattle.link_replay.specs.declared.words.Profile.{Profile}
-use Rattle.link_replay.specs.declared.words.Proto.{Proto}
+use Rattle.link_words.specs.declared.words.Profile.{Profile}
+use Rattle.link_words.specs.declared.words.Proto.{Proto}
 
 -- what the words of an audit name
 abbrev pub audited : Proto → Profile → Dir → ℕ → ℕ → Audited

@@ -14,7 +14,7 @@ use Rattle.replay_status.specs.Readable.{IsReadable}
 use Rattle.link_replay.specs.ReadCommand.{Reads}
 use Rattle.link_replay.specs.VectorsCommand.{Tabulates}
 use Rattle.box_command.specs.ReplaysBox.{BoxDiskCause, IsReplayable, KeepsFloorThroughout}
-use Rattle.link_replay.specs.Protocols.{link_of}
+use Rattle.link_words.specs.Links.{link_of}
 use Rattle.link_replay.specs.SealCommand.{Seals}
 use Rattle.link_replay.specs.CheckCommand.{Checks}
 use Rattle.link_replay.specs.ReplayCommand.{Replays, IsListable}

@@ -29,9 +29,9 @@ use Rattle.box_command.specs.SealLines.{seal_line}
 use Rattle.box_command.specs.KeptBox.{TimedBox}
 use Rattle.box_command.specs.TimedLines.{timed_lines}
 use Rattle.box_command.specs.Recording.{BothTexts, both_with, PrintsBoth}
-use Rattle.link_replay.specs.Protocols.{rules_of, link_profile_of}
-use Rattle.link_replay.specs.declared.words.Profile.{Profile}
-use Rattle.link_replay.specs.declared.words.Proto.{Proto}
+use Rattle.link_words.specs.Links.{rules_of, link_profile_of}
+use Rattle.link_words.specs.declared.words.Profile.{Profile}
+use Rattle.link_words.specs.declared.words.Proto.{Proto}
 
 -- the profile of a box that is set up so
 abbrev pub duplex_profile : Proto → Profile → Setup → LinkProfile

@@ -1,5 +1,4 @@
 pub mod Words
-pub mod Protocols
 pub mod InitCommand
 pub mod ReadCommand
 pub mod SpaceCommand

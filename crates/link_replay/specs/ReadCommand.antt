@@ -9,8 +9,8 @@ use Rattle.device_model.specs.RtuReads.{rtu_reads}
 use Rattle.device_replay.specs.PrintsFrames.{PrintsFrames}
 use Rattle.replay_status.specs.Outside.{Outside}
 use Rattle.replay_status.specs.declared.status.Status.{Status}
-use Rattle.link_replay.specs.declared.words.Proto.{Proto}
-use Rattle.link_replay.specs.declared.words.Proto.TheVariants.{Rtu, Dnp3}
+use Rattle.link_words.specs.declared.words.Proto.{Proto}
+use Rattle.link_words.specs.declared.words.Proto.TheVariants.{Rtu, Dnp3}
 
 -- what the device of a protocol reads of a line
 abbrev pub device_reads : Proto → List Tick → List FrameRead

@@ -29,10 +29,10 @@ use Rattle.recordings_replay.specs.Keyed.{ReadsKeyFirst, LeavesAll}
 use Rattle.recordings_replay.specs.Recorded.{IsRecorded, PrintsRecorded, device_line, link_ticks}
 use Rattle.recordings_replay.specs.TellsOf.{TellsOf}
 use Rattle.link_replay.specs.ReadCommand.{device_reads}
-use Rattle.link_replay.specs.SealCommand.{seal_rest}
-use Rattle.link_replay.specs.declared.words.Profile.{Profile}
-use Rattle.link_replay.specs.declared.words.Proto.{Proto}
-use Rattle.link_replay.specs.Protocols.{rules_of, link_profile_of}
+use Rattle.box_command.specs.LinkBoxes.{seal_rest}
+use Rattle.link_words.specs.declared.words.Profile.{Profile}
+use Rattle.link_words.specs.declared.words.Proto.{Proto}
+use Rattle.link_words.specs.Links.{rules_of, link_profile_of}
 
 -- the profile of a link with this key and direction, from new journals on
 abbrev pub replay_profile : Proto → Profile → Dir → List ℕ → LinkProfile

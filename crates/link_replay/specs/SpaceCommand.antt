@@ -14,15 +14,9 @@ use Rattle.replay_status.specs.declared.status.Status.TheVariants.{Done, NoMemor
 use Rattle.space_replay.specs.SpacedTexts.{spaced_texts, most_waiting}
 use Rattle.space_replay.specs.SpacesLine.{SpacesLine, space_rest}
 use Rattle.link_replay.specs.ReadCommand.{device_reads}
-use Rattle.link_replay.specs.declared.words.Profile.{Profile}
-use Rattle.link_replay.specs.declared.words.Profile.TheVariants.{Y18, Y24}
-use Rattle.link_replay.specs.declared.words.Proto.{Proto}
-
--- how many silent ticks a profile asks for between frames that are to be sealed: those that end a
--- frame, a pause, and a trailer fit into them
-abbrev pub gap_of : Profile → ℕ
-gap_of Y18 = 21
-gap_of Y24 = 27
+use Rattle.link_words.specs.declared.words.Profile.{Profile}
+use Rattle.link_words.specs.Links.{gap_of}
+use Rattle.link_words.specs.declared.words.Proto.{Proto}
 
 -- what is made of a line: the spaced line, and the lines of the frames that are lost
 abbrev pub spaced_by : Proto → Profile → LineAndNotes

@@ -14,12 +14,12 @@ use Rattle.trial_session.specs.Summaries.{trial_summary}
 use Rattle.trial_session.specs.Telling.{Tells}
 use Rattle.trial_session.specs.TrialLine.{trial_line}
 use Rattle.trial_session.specs.declared.summary.Summary.{Summary}
-use Rattle.link_replay.specs.Protocols.{rules_of, link_profile_of}
+use Rattle.link_words.specs.Links.{rules_of, link_profile_of}
 use Rattle.link_replay.specs.ReadCommand.{device_reads}
-use Rattle.link_replay.specs.Words.{link_word}
-use Rattle.link_replay.specs.declared.words.Profile.{Profile}
-use Rattle.link_replay.specs.declared.words.Proto.{Proto}
-use Rattle.link_replay.specs.declared.words.Proto.TheVariants.{Rtu, Dnp3}
+use Rattle.link_words.specs.Words.{link_word}
+use Rattle.link_words.specs.declared.words.Profile.{Profile}
+use Rattle.link_words.specs.declared.words.Proto.{Proto}
+use Rattle.link_words.specs.declared.words.Proto.TheVariants.{Rtu, Dnp3}
 
 -- how the frames of a protocol are drawn
 abbrev pub drawing_of : Proto → Drawing

@@ -2,30 +2,14 @@
 use Rattle.std.specs.Prelude.{◌≡◌, ◌≢◌, ◌⊎◌, ℕ, ◌^◌, ◌<◌, ◌≤◌, decimal, List, [], ◌∷◌, Option, Some}
 use Rattle.std.specs.Prelude.{None, codes, slice_get}
 use Rattle.hmac_tag.specs.declared.dir.Dir.{Dir}
-use Rattle.hmac_tag.specs.declared.dir.Dir.TheVariants.{Ab, Ba}
 use Rattle.sequence_journal.specs.declared.numbers.TheConstants.{LIMIT}
-use Rattle.link_replay.specs.declared.words.Proto.{Proto}
-use Rattle.link_replay.specs.declared.words.Proto.TheVariants.{Rtu, Dnp3}
-use Rattle.link_replay.specs.declared.words.Profile.{Profile}
-use Rattle.link_replay.specs.declared.words.Profile.TheVariants.{Y18, Y24}
+use Rattle.link_words.specs.declared.words.Proto.{Proto}
+use Rattle.link_words.specs.declared.words.Profile.{Profile}
+use Rattle.link_words.specs.Words.{proto_word, link_word, dir_word}
 use Rattle.link_replay.specs.declared.words.Command.{Command}
 use Rattle.link_replay.specs.declared.words.Command.TheVariants.{Init, Read, Vectors, Seal, Check}
 use Rattle.link_replay.specs.declared.words.Command.TheVariants.{Replay, Trial, Space}
 use Rattle.link_replay.specs.declared.words.Command.TheVariants.{Audit, Duplex, Help, Version}
-
-abbrev pub proto_word : Proto → List ℕ
-proto_word Rtu = codes "rtu"
-proto_word Dnp3 = codes "dnp3"
-
--- the word of a protocol on a link of a profile
-abbrev pub link_word : Proto → Profile → List ℕ
-link_word proto Y18 = proto_word proto
-link_word Rtu Y24 = codes "rtu24"
-link_word Dnp3 Y24 = codes "dnp24"
-
-abbrev pub dir_word : Dir → List ℕ
-dir_word Ab = codes "ab"
-dir_word Ba = codes "ba"
 
 -- These words ask for a box: its name, a protocol and a profile, a direction, and the paths of its
 -- key and its journal.

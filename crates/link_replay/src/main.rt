@@ -14,7 +14,6 @@ mod commands;
 mod duplex_tests;
 #[cfg(test)]
 mod failing;
-mod link;
 #[cfg(test)]
 mod long_recordings;
 mod over_files;
@@ -34,12 +33,11 @@ mod trial_tests;
 mod words;
 
 pub use hmac_tag::Dir;
+pub use link_words::{Profile, Proto, Usage};
 pub use over_files::{NOT_GIVEN, run_over_files};
 pub use program::run;
 use std::process::ExitCode;
-pub use words::{
-    Command, Profile, Proto, Usage, journal_word, key_word, makes_journal, read_words,
-};
+pub use words::{Command, journal_word, key_word, makes_journal, read_words};
 use yasir_io::{StderrSink, StdinSource, StdoutSink};
 
 fn main(rt: HostRuntime) -> ExitCode {

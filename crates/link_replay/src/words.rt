@@ -2,15 +2,13 @@
 ghost use Rattle.std.specs.Prelude.{◌≡◌, ◌↔◌, ℕ, ◌^◌, ◌<◌, ◌≤◌, [], ◌∷◌, None, IfOk, OnErr, IsTrue};
 ghost use Rattle.std.specs.Prelude.{map, codes, decimal};
 ghost use Rattle.std.specs.String.{string_bytes};
-ghost use Rattle.hmac_tag.specs.declared.dir.Dir.{Dir};
 ghost use Rattle.sequence_journal.specs.declared.numbers.TheConstants.{LIMIT};
-ghost use Rattle.link_replay.specs.declared.words.Profile.{Profile};
-ghost use Rattle.link_replay.specs.declared.words.Proto.{Proto};
 ghost use Rattle.link_replay.specs.declared.words.Command.{Command};
-ghost use Rattle.link_replay.specs.Words.{IsCommand, Asks, proto_word, link_word, dir_word};
+ghost use Rattle.link_replay.specs.Words.{IsCommand, Asks};
 ghost use Rattle.link_replay.specs.Words.{key_place, journal_place, AskForJournal};
 
 use hmac_tag::Dir;
+use link_words::{Profile, Proto, Usage, read_dir, read_link, read_proto};
 use sequence_journal::LIMIT;
 
 /// The most frames of a trial.
@@ -18,24 +16,6 @@ const MOST_FRAMES: u32 = 10_000;
 
 /// The greatest number of 32 bits.
 const MOST_OF_32_BITS: u64 = 4_294_967_295;
-
-/// The protocol of a line.
-#[derive(Clone, Copy, Debug, PartialEq, Eq)]
-pub enum Proto {
-    /// Modbus RTU.
-    Rtu,
-    /// The link layer of DNP3.
-    Dnp3,
-}
-
-/// What follows a frame on a link.
-#[derive(Clone, Copy, Debug, PartialEq, Eq)]
-pub enum Profile {
-    /// Two bytes of the frame's number, and twelve of its tag, by HMAC-SHA-1.
-    Y18,
-    /// Four bytes of the frame's number, and sixteen of its tag, by HMAC-SHA-256.
-    Y24,
-}
 
 /// What the program is asked to do.
 #[derive(Clone, Copy, Debug, PartialEq, Eq)]
@@ -64,50 +44,6 @@ pub enum Command {
     Help,
     /// Prints the program's name and version.
     Version,
-}
-
-/// The words name no command.
-#[derive(Clone, Copy, Debug, PartialEq, Eq)]
-pub struct Usage;
-
-// The protocol that a word names.
-fn read_proto(word: &str) -> Result<Proto, Usage>
-    ensures ok { IfOk result (λ proto. word.now ≡ proto_word proto) }
-    ensures usage { OnErr result ((proto : Proto) → word.now ≡ proto_word proto → ⊥) }
-{
-    match word {
-        "rtu" => Ok(Proto::Rtu),
-        "dnp3" => Ok(Proto::Dnp3),
-        _ => Err(Usage),
-    }
-}
-
-// The protocol and the profile that a word names.
-fn read_link(word: &str) -> Result<(Proto, Profile), Usage>
-    ensures ok { IfOk result (λ link. word.now ≡ link_word link.0 link.1) }
-    ensures usage { OnErr result ((proto : Proto) (profile : Profile)
-        → word.now ≡ link_word proto profile → ⊥) }
-{
-    match word {
-        "rtu24" => Ok((Proto::Rtu, Profile::Y24)),
-        "dnp24" => Ok((Proto::Dnp3, Profile::Y24)),
-        _ => match read_proto(word) {
-            Ok(proto) => Ok((proto, Profile::Y18)),
-            Err(Usage) => Err(Usage),
-        },
-    }
-}
-
-// The direction that a word names.
-fn read_dir(word: &str) -> Result<Dir, Usage>
-    ensures ok { IfOk result (λ dir. word.now ≡ dir_word dir) }
-    ensures usage { OnErr result ((dir : Dir) → word.now ≡ dir_word dir → ⊥) }
-{
-    match word {
-        "ab" => Ok(Dir::Ab),
-        "ba" => Ok(Dir::Ba),
-        _ => Err(Usage),
-    }
 }
 
 // The command of one word.

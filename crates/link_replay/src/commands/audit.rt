@@ -13,10 +13,9 @@ ghost use Rattle.link_replay.specs.AuditCommand.{Audits, audited_line, audited_v
 ghost use Rattle.link_replay.specs.AuditCommand.{verdict_line};
 ghost use Rattle.link_replay.specs.Commands.{HasCauses};
 
-use crate::link::link_of;
-use crate::{Profile, Proto};
 use hmac_tag::Dir;
 use key_text::{KeyError, read_key};
+use link_words::{Profile, Proto, link_of};
 use replay_status::{Ends, Line, Status, flush_both, push_decimal, status_of};
 use session_audit::{Session, Verdict, audit_input};
 use std::alloc::Global;

@@ -4,20 +4,15 @@ ghost use Rattle.replay_status.specs.Ends.{outside_before, outside_after};
 ghost use Rattle.box_command.specs.ReplaysBox.{KeepsFloorThroughout};
 ghost use Rattle.link_replay.specs.declared.words.Command.TheVariants.{Check};
 ghost use Rattle.link_replay.specs.Commands.{HasCauses};
-ghost use Rattle.link_replay.specs.Protocols.{link_of};
+ghost use Rattle.link_words.specs.Links.{link_of};
 ghost use Rattle.link_replay.specs.CheckCommand.{Checks};
 
-use crate::link::{link_of, with_link};
-use crate::{Profile, Proto};
-use box_command::replay_box;
+use box_command::{CHECK_REST, replay_box};
 use check_receiver::Checker;
 use hmac_tag::Dir;
+use link_words::{Profile, Proto, link_of, with_link};
 use replay_status::{Ends, Status};
 use yasir_io::{Sink, SlotDisk, Source};
-
-/// How many silent ticks come after a whole input, so that the verdict on its last burst falls
-/// and all that the receiver holds back leaves.
-const REST: u32 = 320;
 
 // The receiver over the input.
 macro_rules! check_by {
@@ -26,7 +21,7 @@ macro_rules! check_by {
         $link:expr, $dir:expr, $ends:expr
     ) => {
         replay_box::<Checker<$rules, $mac, $word, $delay>, K, S, O, L, D>(
-            $link, $dir, REST, $ends,
+            $link, $dir, CHECK_REST, $ends,
         )
     };
 }

@@ -12,12 +12,11 @@ ghost use Rattle.link_replay.specs.Commands.{HasCauses};
 ghost use Rattle.link_replay.specs.DuplexCommand.{DuplexesWith, DuplexesKeyed, Duplexes};
 ghost use Rattle.link_replay.specs.DuplexCommand.{both_in};
 
-use crate::link::with_link;
-use crate::{Profile, Proto};
 use box_command::{LineBox, print_both, record_both};
 use check_receiver::Checker;
 use hmac_tag::Dir;
 use key_text::{KeyError, read_key};
+use link_words::{Profile, Proto, with_link};
 use replay_status::{Ends, Status, status_of};
 use seal_transmitter::Sealer;
 use std::alloc::Global;

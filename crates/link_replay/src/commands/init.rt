@@ -7,11 +7,10 @@ ghost use Rattle.replay_status.specs.Ends.{outside_before, outside_after};
 ghost use Rattle.link_replay.specs.declared.words.Command.TheVariants.{Init};
 ghost use Rattle.link_replay.specs.Commands.{HasCauses};
 ghost use Rattle.link_replay.specs.InitCommand.{Inits};
-ghost use Rattle.link_replay.specs.Protocols.{link_of};
+ghost use Rattle.link_words.specs.Links.{link_of};
 
-use crate::link::link_of;
-use crate::{Profile, Proto};
 use hmac_tag::Dir;
+use link_words::{Profile, Proto, link_of};
 use replay_status::{Ends, Status, flush_both};
 use sequence_journal::{InitError, Journal};
 use yasir_io::{Sink, SlotDisk, Source};

@@ -5,9 +5,9 @@ ghost use Rattle.link_replay.specs.declared.words.Command.TheVariants.{Read};
 ghost use Rattle.link_replay.specs.Commands.{HasCauses};
 ghost use Rattle.link_replay.specs.ReadCommand.{Reads};
 
-use crate::Proto;
 use device_model::{DnpDevice, RtuDevice};
 use device_replay::read_frames;
+use link_words::Proto;
 use replay_status::{Ends, Status};
 use yasir_io::{Sink, SlotDisk, Source};
 

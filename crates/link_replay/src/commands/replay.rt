@@ -5,10 +5,9 @@ ghost use Rattle.link_replay.specs.declared.words.Command.TheVariants.{Replay};
 ghost use Rattle.link_replay.specs.Commands.{HasCauses};
 ghost use Rattle.link_replay.specs.ReplayCommand.{Replays};
 
-use crate::link::with_link;
-use crate::{Profile, Proto};
 use check_receiver::Checker;
 use hmac_tag::Dir;
+use link_words::{Profile, Proto, with_link};
 use recordings_replay::replay_recordings;
 use replay_status::{Ends, Status};
 use seal_transmitter::Sealer;

@@ -4,20 +4,15 @@ ghost use Rattle.replay_status.specs.Ends.{outside_before, outside_after};
 ghost use Rattle.box_command.specs.ReplaysBox.{KeepsFloorThroughout};
 ghost use Rattle.link_replay.specs.declared.words.Command.TheVariants.{Seal};
 ghost use Rattle.link_replay.specs.Commands.{HasCauses};
-ghost use Rattle.link_replay.specs.Protocols.{link_of};
+ghost use Rattle.link_words.specs.Links.{link_of};
 ghost use Rattle.link_replay.specs.SealCommand.{Seals};
 
-use crate::link::{link_of, with_link};
-use crate::{Profile, Proto};
-use box_command::replay_box;
+use box_command::{SEAL_REST, replay_box};
 use hmac_tag::Dir;
+use link_words::{Profile, Proto, link_of, with_link};
 use replay_status::{Ends, Status};
 use seal_transmitter::Sealer;
 use yasir_io::{Sink, SlotDisk, Source};
-
-/// How many silent ticks come after a whole input beyond the receiver's delay, so that its last
-/// burst is closed and its trailer leaves.
-const REST: u32 = 6;
 
 // The transmitter over the input.
 macro_rules! seal_by {
@@ -26,7 +21,7 @@ macro_rules! seal_by {
         $link:expr, $dir:expr, $ends:expr
     ) => {
         replay_box::<Sealer<$rules, $mac, $word>, K, S, O, L, D>(
-            $link, $dir, $delay + REST, $ends,
+            $link, $dir, $delay + SEAL_REST, $ends,
         )
     };
 }

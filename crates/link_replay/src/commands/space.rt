@@ -5,9 +5,8 @@ ghost use Rattle.link_replay.specs.declared.words.Command.TheVariants.{Space};
 ghost use Rattle.link_replay.specs.Commands.{HasCauses};
 ghost use Rattle.link_replay.specs.SpaceCommand.{Spaces};
 
-use crate::link::with_link;
-use crate::{Profile, Proto};
 use line_spacer::Spacer;
+use link_words::{Profile, Proto, with_link};
 use replay_status::{Ends, Status};
 use space_replay::space_frames;
 use std::alloc::Global;

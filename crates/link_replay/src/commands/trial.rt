@@ -5,11 +5,10 @@ ghost use Rattle.trial_session.specs.TrialLine.{trial_line};
 ghost use Rattle.link_replay.specs.declared.words.Command.TheVariants.{Trial};
 ghost use Rattle.link_replay.specs.Commands.{HasCauses};
 ghost use Rattle.link_replay.specs.TrialCommand.{trial_counts, Tries};
-ghost use Rattle.link_replay.specs.Words.{link_word};
+ghost use Rattle.link_words.specs.Words.{link_word};
 
-use crate::link::with_link;
-use crate::{Profile, Proto};
 use check_receiver::Checker;
+use link_words::{Profile, Proto, link_word, with_link};
 use replay_status::{Ends, Line, Status, print_text};
 use seal_transmitter::Sealer;
 use trial_session::session_line;
@@ -26,19 +25,6 @@ macro_rules! session_by {
             $name, $seed, $count, $delay - 1,
         )
     };
-}
-
-// The word of a protocol and a profile.
-fn link_word(proto: Proto, profile: Profile) -> &'static [u8]
-    ensures word { result.now ≡ link_word proto profile }
-    ensures short { length result.now ≤ 10 }
-{
-    match (proto, profile) {
-        (Proto::Rtu, Profile::Y18) => b"rtu",
-        (Proto::Dnp3, Profile::Y18) => b"dnp3",
-        (Proto::Rtu, Profile::Y24) => b"rtu24",
-        (Proto::Dnp3, Profile::Y24) => b"dnp24",
-    }
 }
 
 // The line of the session of this many frames from a seed, over a link.

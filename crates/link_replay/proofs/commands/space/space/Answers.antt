@@ -2,8 +2,8 @@ use Rattle.std.proofs.Common.{refl}
 use Rattle.link_replay.proofs.Flushing.{reads-input, disk-of-spacing}
 use Rattle.link_replay.proofs.Spaced.{spaces-by, outside-same}
 use Rattle.link_replay.specs.SpaceCommand.{spaced_by}
-use Rattle.link_replay.specs.declared.words.Profile.TheVariants.{Y18, Y24}
-use Rattle.link_replay.specs.declared.words.Proto.TheVariants.{Rtu, Dnp3}
+use Rattle.link_words.specs.declared.words.Profile.TheVariants.{Y18, Y24}
+use Rattle.link_words.specs.declared.words.Proto.TheVariants.{Rtu, Dnp3}
 use Rattle.link_replay.proofs.commands.space.space.Goals as goal
 
 pub returns-in-Rtu-Y18-clause-spaces : goal.returns-in-Rtu-Y18-clause-spaces

@@ -3,11 +3,11 @@ use Rattle.std.proofs.Common.{refl}
 use Rattle.hmac_tag.specs.declared.dir.Dir.{Dir}
 use Rattle.hmac_tag.specs.declared.dir.Dir.TheVariants.{Ab, Ba}
 use Rattle.sequence_journal.specs.Links.{IsLink}
-use Rattle.link_replay.specs.declared.words.Profile.{Profile}
-use Rattle.link_replay.specs.declared.words.Profile.TheVariants.{Y18, Y24}
-use Rattle.link_replay.specs.declared.words.Proto.{Proto}
-use Rattle.link_replay.specs.declared.words.Proto.TheVariants.{Rtu, Dnp3}
-use Rattle.link_replay.specs.Protocols.{link_of}
+use Rattle.link_words.specs.declared.words.Profile.{Profile}
+use Rattle.link_words.specs.declared.words.Profile.TheVariants.{Y18, Y24}
+use Rattle.link_words.specs.declared.words.Proto.{Proto}
+use Rattle.link_words.specs.declared.words.Proto.TheVariants.{Rtu, Dnp3}
+use Rattle.link_words.specs.Links.{link_of}
 
 pub link-right : (proto : Proto) (profile : Profile) (dir : Dir)
     → IsLink (link_of proto profile dir)

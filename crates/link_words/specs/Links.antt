@@ -1,4 +1,4 @@
--- The protocols and profiles of the program's commands.
+-- What the protocols and profiles of links are made of.
 use Rattle.std.specs.Prelude.{ℕ}
 use Rattle.line_rules.specs.Rules.{Rules}
 use Rattle.rtu_frame.specs.Rules.{rtu_rules}
@@ -10,10 +10,10 @@ use Rattle.link_format.specs.Y24.{y24}
 use Rattle.hmac_tag.specs.declared.dir.Dir.{Dir}
 use Rattle.hmac_tag.specs.Tag.{direction_number}
 use Rattle.sequence_journal.specs.declared.link.LinkId.{LinkId}
-use Rattle.link_replay.specs.declared.words.Profile.{Profile}
-use Rattle.link_replay.specs.declared.words.Profile.TheVariants.{Y18, Y24}
-use Rattle.link_replay.specs.declared.words.Proto.{Proto}
-use Rattle.link_replay.specs.declared.words.Proto.TheVariants.{Rtu, Dnp3}
+use Rattle.link_words.specs.declared.words.Profile.{Profile}
+use Rattle.link_words.specs.declared.words.Profile.TheVariants.{Y18, Y24}
+use Rattle.link_words.specs.declared.words.Proto.{Proto}
+use Rattle.link_words.specs.declared.words.Proto.TheVariants.{Rtu, Dnp3}
 
 -- the rules of a protocol
 abbrev pub rules_of : Proto → Rules
@@ -38,3 +38,9 @@ link_of proto profile dir = record {
   dir = direction_number dir;
   profile = delay_of profile;
 }
+
+-- how many silent ticks a profile asks for between frames that are to be sealed: those that end a
+-- frame, a pause, and a trailer fit into them
+abbrev pub gap_of : Profile → ℕ
+gap_of Y18 = 21
+gap_of Y24 = 27

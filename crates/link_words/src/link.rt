@@ -1,37 +1,19 @@
-//! The link of the words of a command, and what its protocol and profile are made of.
+//! The link of a protocol, a profile and a direction, and what a protocol and a profile are made of.
 ghost use Rattle.std.specs.Prelude.{◌≡◌};
 ghost use Rattle.sequence_journal.specs.Links.{IsLink};
-ghost use Rattle.link_replay.specs.Protocols.{link_of};
+ghost use Rattle.link_words.specs.Links.{link_of};
 
 use crate::{Profile, Proto};
 use hmac_tag::Dir;
+use line_rules::LineRules;
 use sequence_journal::LinkId;
-
-/// The link of a protocol, a profile and a direction, as its journals name it.
-pub fn link_of(proto: Proto, profile: Profile, dir: Dir) -> LinkId
-    ensures link { result ≡ link_of proto profile dir }
-    ensures right { IsLink result }
-{
-    LinkId {
-        label: match proto {
-            Proto::Rtu => 1,
-            Proto::Dnp3 => 2,
-        },
-        dir: match dir {
-            Dir::Ab => 0,
-            Dir::Ba => 1,
-        },
-        profile: match profile {
-            Profile::Y18 => 18,
-            Profile::Y24 => 24,
-        },
-    }
-}
 
 /// Does a command with what a protocol and a profile are made of, each row of which is here and
 /// nowhere else: the rules of the protocol and its device, the MAC, the bytes of a number on the
 /// link, the receiver's delay in ticks, and the silent ticks that a spacer leaves between frames.
-/// The command is a macro that takes such a row, and behind it what it is given here.
+/// The command is a macro that takes such a row, and behind it what it is given here. Who calls it
+/// depends on the crates of the types that the command takes of a row.
+#[macro_export]
 macro_rules! with_link {
     ($proto:expr, $profile:expr, $command:ident ($($given:expr),*)) => {
         match ($proto, $profile) {
@@ -63,4 +45,27 @@ macro_rules! with_link {
     };
 }
 
-pub(crate) use with_link;
+// The link in a direction, by its number.
+macro_rules! link_by {
+    (
+        [$rules:ty, $device:ty, $mac:ty, $word:literal, $delay:literal, $gap:literal], $dir:expr
+    ) => {
+        LinkId {
+            label: <$rules as LineRules>::LABEL,
+            dir: $dir,
+            profile: $delay,
+        }
+    };
+}
+
+/// The link of a protocol, a profile and a direction, as its journals name it.
+pub fn link_of(proto: Proto, profile: Profile, dir: Dir) -> LinkId
+    ensures link { result ≡ link_of proto profile dir }
+    ensures right { IsLink result }
+{
+    let dir = match dir {
+        Dir::Ab => 0,
+        Dir::Ba => 1,
+    };
+    with_link!(proto, profile, link_by(dir))
+}
