@@ -29,7 +29,7 @@ use Rattle.box_command.specs.Boxes.{Boxed}
 use Rattle.box_command.specs.ReplaysBox.{BoxDiskCause}
 use Rattle.box_command.proofs.Replayable.{no_key_refused, no_journal_refused, wrong_link_refused}
 use Rattle.live_port.specs.declared.port.Port.{Ghosts as Port}
-use Rattle.live_filter.specs.TextEnds.{HasTooManyTicks, HasTooManyBytes, EndsText}
+use Rattle.link_live.specs.TextEnds.{HasTooManyTicks, HasTooManyBytes, EndsText}
 use Rattle.link_live.specs.Able.{IsLiveText, IsLivable, MayDo, IsCalm}
 use Rattle.link_live.specs.FaultText.{TellsFault}
 use Rattle.link_live.specs.LiveCommand.{Around, around, LivesBox, PortCauses}

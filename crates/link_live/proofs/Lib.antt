@@ -1,3 +1,10 @@
 pub mod Able
 pub mod Asking
 pub mod LiveRuns
+pub mod Finishing
+pub mod Heard
+pub mod Hearing
+pub mod OneMore
+pub mod RunTicks
+pub mod Taken
+pub mod TextEndsLaws

@@ -36,9 +36,9 @@ use Rattle.box_command.proofs.Floors.{told_before, keeps_floor, keeps_from_load,
 use Rattle.box_command.proofs.Walking.{walk-boxed}
 use Rattle.live_port.specs.History.{Event}
 use Rattle.live_port.specs.declared.port.Port.{Ghosts as Port}
-use Rattle.live_filter.specs.Filtering.{LiveOrigin, Filters}
-use Rattle.live_filter.specs.LiveLine.{Live, LiveGoes, HeardAt, HaltsAt, Drives}
-use Rattle.live_filter.proofs.TextEndsLaws.{text_by}
+use Rattle.link_live.specs.Filtering.{LiveOrigin, Filters}
+use Rattle.link_live.specs.LiveLine.{Live, LiveGoes, HeardAt, HaltsAt, Drives}
+use Rattle.link_live.proofs.TextEndsLaws.{text_by}
 use Rattle.link_live.specs.LiveCommand.{Around, around, Carries, HaltsBox, EndsLine, RunsLine}
 use Rattle.link_live.specs.LiveCommand.{PortCauses}
 

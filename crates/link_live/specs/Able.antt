@@ -11,7 +11,7 @@ use Rattle.sequence_journal.specs.Slots.{floor_of}
 use Rattle.key_text.specs.KeyText.{IsKeyText}
 use Rattle.live_port.specs.declared.port.Output.{Output}
 use Rattle.live_port.specs.declared.port.Port.{Ghosts as Port}
-use Rattle.live_filter.specs.declared.live_box.TheConstants.{MAX_LIVE_TICKS, MAX_LIVE_BYTES}
+use Rattle.link_live.specs.declared.live_box.TheConstants.{MAX_LIVE_TICKS, MAX_LIVE_BYTES}
 use Rattle.link_live.specs.LiveCommand.{Around}
 use Rattle.link_live.specs.Words.{served}
 use Rattle.link_live.specs.declared.words.Command.{Command}

@@ -4,3 +4,7 @@ pub mod LiveCommand
 pub mod OverFiles
 pub mod Programs
 pub mod Words
+pub mod Filtering
+pub mod FilteringLaws
+pub mod LiveLine
+pub mod TextEnds

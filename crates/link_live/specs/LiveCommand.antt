@@ -29,7 +29,7 @@ use Rattle.box_command.specs.Sending.{made_by}
 use Rattle.live_port.specs.Order.{Handed, HandedFronts}
 use Rattle.live_port.specs.declared.port.Output.{Output}
 use Rattle.live_port.specs.declared.port.Port.{Ghosts as Port}
-use Rattle.live_filter.specs.TextEnds.{EndsText}
+use Rattle.link_live.specs.TextEnds.{EndsText}
 
 -- what a run is handed beside the key: the port of the line, and the journal's disk
 pub record Around (P D : Type 0) : Type 0 where

@@ -6,10 +6,10 @@ ghost use Rattle.box_command.specs.LinkBoxed.{boxed_of};
 ghost use Rattle.box_command.specs.ReplaysBox.{boxed_with, KeepsFloorThroughout, BoxDiskCause};
 ghost use Rattle.link_live.specs.LiveCommand.{around, RunsLine, LivesBox, PortCauses};
 
+use crate::live_box::LiveBox;
 use box_command::LineBox;
 use hmac_tag::Dir;
 use key_text::{KeyError, read_key};
-use live_filter::LiveBox;
 use live_port::Port;
 use replay_status::{Status, status_of};
 use sequence_journal::{Journal, LinkId, LoadError};

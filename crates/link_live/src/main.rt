@@ -6,17 +6,25 @@
 //!     link_live seal rtu ab key.txt sent.journal
 #![tactic(auto)]
 
+#[cfg(test)]
+mod box_tests;
 mod boxes;
 mod command;
 mod fault_text;
+mod filter;
+mod live_box;
 mod over_files;
 mod program;
+#[cfg(test)]
+mod tests;
 mod words;
 
 pub use boxes::{check, seal};
 pub use command::{LiveLink, live_line};
 pub use fault_text::log_fault;
+pub use filter::Filter;
 pub use link_words::{Profile, Proto, Usage};
+pub use live_box::{LiveBox, MAX_LIVE_BYTES, MAX_LIVE_TICKS};
 use live_port::Streams;
 pub use over_files::{NOT_GIVEN, run_over_files};
 pub use program::run;

@@ -1,0 +1,6 @@
+use Rattle.std.proofs.Common.{Ok}
+use Rattle.live_port.proofs.StreamLemmas.{wrote_untold}
+use Rattle.link_live.proofs.box_tests.ToldPortPort.write.Goals as goal
+
+pub returns-clause-wrote : goal.returns-clause-wrote
+returns-clause-wrote c = wrote_untold c.args.to c.args.piece.now (Ok tt)

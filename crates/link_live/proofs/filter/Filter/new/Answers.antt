@@ -1,0 +1,25 @@
+use Rattle.std.proofs.Common.{[], sym, subst}
+use Rattle.sequence_journal.specs.Journal.{journal_floor}
+use Rattle.link_format.specs.Setup.{setup_of}
+use Rattle.box_command.specs.LinkBoxed.{boxed_of}
+use Rattle.box_command.specs.BoxLines.{ToldFloor}
+use Rattle.box_command.specs.Sending.{made_by}
+use Rattle.box_command.proofs.Walking.{walk-boxed}
+use Rattle.live_port.proofs.Handing.{handed_none}
+use Rattle.link_live.proofs.filter.Filter.new.Goals as goal
+
+pub returns-clause-filters : goal.returns-clause-filters
+returns-clause-filters g c = λ history link told is fits.
+    let floor = journal_floor c.args.journal in
+    let setup = setup_of c.args.key.now c.args.dir floor in
+    let stands = c.new.ensures.stands floor in
+    let laws = walk-boxed g.B.LinkBox.walking g.B.LineBox.line_of setup
+    (g.met.B.LineBox.causal c.new.result floor setup [] stands) (g.met.B.LineBox.rising setup) in
+    record {
+      steps = stands;
+      number_is = sym laws.from_floor;
+      handed = handed_none (made_by (boxed_of g.B.LinkBox.walking g.B.LineBox.line_of setup))
+          history laws.no_tick laws.no_note;
+      link_is = is;
+      floor_told = subst (λ l. ToldFloor l floor told) is fits.floor;
+    }

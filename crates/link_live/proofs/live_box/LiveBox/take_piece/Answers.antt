@@ -1,0 +1,32 @@
+use Rattle.std.proofs.Common.{arith}
+use Rattle.std.proofs.lemmas.List.{nil_from_length}
+use Rattle.link_live.specs.LiveLine.{live_of}
+use Rattle.link_live.proofs.Heard.{so_none, so_more, so_ended, so_all}
+use Rattle.link_live.proofs.live_box.LiveBox.take_piece.Goals as goal
+
+pub loop-rest-init : goal.loop-rest-init
+loop-rest-init g c = so_none g.B.LinkBox g.B.LineBox.line_of g.P.Port g.D.SlotDisk
+    c.args.lines.now (live_of c.args.self.now c.args.port.now c.args.disk.now) c.args.piece.now
+    g.met.D.SlotDisk.only_now c.requires.ready
+
+pub loop-rest-preserved : goal.loop-rest-preserved
+loop-rest-preserved g c = so_more g.B.LinkBox g.B.LineBox.line_of g.P.Port g.D.SlotDisk
+    c.args.lines.now c.loop-rest.lines c.take_line.new.lines
+    (live_of c.args.self.now c.args.port.now c.args.disk.now)
+    (live_of c.loop-rest.self c.loop-rest.port c.loop-rest.disk)
+    (live_of c.take_line.new.self c.take_line.new.port c.take_line.new.disk) c.args.piece.now
+    c.loop-rest.rest.now c.loop-rest.invariant c.in-Ok.taken c.in-Ok.ensures
+
+pub returns-in-Err : goal.returns-in-Err
+returns-in-Err g c = so_ended g.B.LinkBox g.B.LineBox.line_of g.P.Port g.D.SlotDisk
+    c.args.lines.now c.loop-rest.lines c.take_line.new.lines
+    (live_of c.args.self.now c.args.port.now c.args.disk.now)
+    (live_of c.loop-rest.self c.loop-rest.port c.loop-rest.disk)
+    (live_of c.take_line.new.self c.take_line.new.port c.take_line.new.disk) c.args.piece.now
+    c.loop-rest.rest.now c.loop-rest.invariant c.in-Err.end c.in-Err.ensures
+
+pub returns : goal.returns
+returns g c = so_all g.B.LinkBox g.B.LineBox.line_of g.P.Port g.D.SlotDisk
+    c.args.lines.now c.loop-rest.lines (live_of c.args.self.now c.args.port.now c.args.disk.now)
+    (live_of c.loop-rest.self c.loop-rest.port c.loop-rest.disk) c.args.piece.now
+    c.loop-rest.rest.now c.loop-rest.invariant (nil_from_length c.loop-rest.rest.now (grind arith))

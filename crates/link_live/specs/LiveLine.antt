@@ -1,0 +1,220 @@
+-- A live line that is driven into a filter: what was read of it, and what is handed on.
+use Rattle.std.specs.Prelude.{◌≡◌, ℕ, ◌+◌, ◌<◌, ◌≤◌, List, [], ◌++◌, length, take, Option}
+use Rattle.std.specs.Prelude.{Result, Ok, Err, false}
+use Rattle.std.specs.Io.KnownBytes.{prepend_known, IsAtEnd}
+use Rattle.yasir_io.specs.Disks.{Slots}
+use Rattle.yasir_io.specs.declared.disk.SlotDisk.{Ghosts as SlotDisk}
+use Rattle.yasir_ticks.specs.Ticks.{Item, ticks_in}
+use Rattle.yasir_ticks.specs.TickText.{ended_items}
+use Rattle.yasir_ticks.specs.declared.tick.Tick.{Tick}
+use Rattle.link_box.specs.Stepping.{ServesLink}
+use Rattle.link_box.specs.declared.box_trait.LinkBox.{Ghosts as LinkBox}
+use Rattle.tick_drive.specs.Consumers.{Gives, IsDiskCause, is_journal_fault, is_write_fault}
+use Rattle.tick_drive.specs.Drive.{answer_of}
+use Rattle.tick_drive.specs.Input.{IsReadCause, is_read_fault}
+use Rattle.tick_drive.specs.declared.consumer.Stop.{Stop}
+use Rattle.tick_drive.specs.declared.end.End.{End}
+use Rattle.tick_drive.specs.declared.end.End.TheVariants.{Whole, TooLong, ReadFault}
+use Rattle.tick_drive.specs.declared.end.End.TheVariants.{Stopped}
+use Rattle.tick_drive.specs.declared.end.TooMuch.TheVariants.{Ticks}
+use Rattle.live_port.specs.History.{Event}
+use Rattle.live_port.specs.Lines.{HasRead}
+use Rattle.live_port.specs.declared.lines.LineReader.{LineReader}
+use Rattle.live_port.specs.declared.port.Port.{Ghosts as Port}
+use Rattle.link_live.specs.Filtering.{Outside, outside, LiveOrigin, Filters, StopsFilter}
+use Rattle.link_live.specs.Filtering.{KeepsImages, OutputCause, filtering}
+use Rattle.link_live.specs.declared.filter.Filter.{Filter}
+use Rattle.link_live.specs.declared.live_box.LiveBox.{LiveBox}
+use Rattle.link_live.specs.declared.live_box.TheConstants.{MAX_LIVE_TICKS}
+use Rattle.link_live.specs.TextEnds.{EndsWithin, EndsAtLast, EndsText}
+
+-- a box that counts its ticks, the port that it reads from and writes to, and the disk
+pub record Live (B P D : Type 0) : Type 0 where
+  pub live_box : LiveBox B
+  pub port : P
+  pub disk : D
+
+abbrev pub live_of : {B P D : Type 0} → LiveBox B → P → D → Live B P D
+live_of live_box port disk = record { live_box = live_box; port = port; disk = disk }
+
+abbrev pub outside_of : {B P D : Type 0} → Live B P D → Outside B P D
+outside_of at = outside at.live_box.filter at.port at.disk
+
+-- the same start, with more bytes read
+abbrev pub read_further : LiveOrigin → List ℕ → LiveOrigin
+read_further origin more = record origin { read = origin.read ++ more }
+
+-- What a box has heard of a line.
+module _ {B N : Type 0} (b : LinkBox B N) (line_of : N → List ℕ) where
+  -- The box has taken these ticks, and what it makes of them is handed on.
+  pub record HasHeard (filter : Filter B) (history : Option (List Event)) (slots : Option Slots)
+      (origin : LiveOrigin) (line : List Tick) : Type 0 where
+    pub items : List Item
+    pub are : ticks_in items ≡ line
+    pub filters : Filters b line_of filter history slots origin items
+
+  -- It was stopped at one of these ticks.
+  pub record StopsHearing (filter : Filter B) (history : Option (List Event)) (slots : Option Slots)
+      (stop : Stop) (origin : LiveOrigin) (line : List Tick) : Type 0 where
+    pub items : List Item
+    pub more : List Tick
+    pub are : ticks_in items ++ more ≡ line
+    pub stops : StopsFilter b line_of filter history slots stop origin items
+
+  -- The reader has read this text, and the box has heard the lines that ended in it.
+  pub record HasTaken (lines : LineReader) (live_box : LiveBox B) (history : Option (List Event))
+      (slots : Option Slots) (origin : LiveOrigin) (text : List ℕ) : Type 0 where
+    pub has_read : HasRead lines text
+    pub heard : HasHeard live_box.filter history slots origin (ticks_in (ended_items text))
+    pub count : live_box.ticks ≡ length (ticks_in (ended_items text))
+
+module _ {B N D : Type 0} (b : LinkBox B N) (d : SlotDisk D) where
+  -- The box may take more: it has counted its ticks, and its journal is that of its link.
+  pub record IsReady (live_box : LiveBox B) (disk : D) : Type 0 where
+    pub counted : b.taken live_box.filter.line_box ≡ live_box.ticks
+    pub few : live_box.ticks ≤ MAX_LIVE_TICKS
+    pub able : ServesLink (b.link_of live_box.filter.line_box) live_box.filter.journal (d.told disk)
+
+module _ {B P D : Type 0} (p : Port P) (d : SlotDisk D) where
+  -- What calls do beside, which ended so: the images are kept, and each fault has its cause.
+  pub record LiveGoes (old new : Live B P D) (end : End) : Type 0 where
+    pub images : KeepsImages p d (outside_of old) (outside_of new)
+    pub disk : IsDiskCause (d.faults old.disk) (d.faults new.disk) (is_journal_fault (answer_of end))
+    pub reads : IsReadCause (p.read_faults old.port) (p.read_faults new.port) (is_read_fault end)
+    pub outputs : OutputCause p old.port new.port (is_write_fault (answer_of end))
+
+module _ {B N P D : Type 0} (b : LinkBox B N) (line_of : N → List ℕ) (p : Port P) (d : SlotDisk D)
+  where
+    abbrev pub HeardAt : Live B P D → LiveOrigin → List Tick → Type 0
+    HeardAt at = HasHeard b line_of at.live_box.filter (p.history at.port) (d.told at.disk)
+
+    abbrev pub TakenAt : LineReader → Live B P D → LiveOrigin → List ℕ → Type 0
+    TakenAt lines at = HasTaken b line_of lines at.live_box (p.history at.port) (d.told at.disk)
+
+    abbrev pub HaltsAt : Live B P D → LiveOrigin → Stop → List Tick → Type 0
+    HaltsAt at origin stop = StopsHearing b line_of at.live_box.filter (p.history at.port)
+        (d.told at.disk) stop origin
+
+    abbrev pub EndsAt : Live B P D → End → LiveOrigin → List ℕ → Type 0
+    EndsAt at end origin = EndsWithin (HeardAt at origin) (HaltsAt at origin) end
+
+    abbrev pub LastAt : ℕ → Live B P D → End → LiveOrigin → List ℕ → Type 0
+    LastAt rest at end origin = EndsAtLast (HeardAt at origin) (HaltsAt at origin) rest end
+
+    -- A run was given to the box.
+    pub record Given (old new : Live B P D) (items : List Item) : Type 0 where
+      pub gives : Gives (filtering b line_of p d) (outside_of old) (outside_of new) items (Ok tt)
+      pub ready : IsReady b d new.live_box new.disk
+      pub count : new.live_box.ticks ≡ old.live_box.ticks + length (ticks_in items)
+
+    -- Its ticks with those before are too many, and nothing was done.
+    pub record HoldsBack (old new : Live B P D) (items : List Item) (count : ℕ) : Type 0 where
+      pub same : new ≡ old
+      pub sum : count ≡ old.live_box.ticks + length (ticks_in items)
+      pub above : MAX_LIVE_TICKS < count
+
+    -- what the answer says where a run was to be given to the box
+    abbrev pub GiveAnswer : Live B P D → Live B P D → List Item → Result (Unit {0}) End → Type 0
+    GiveAnswer old new items (Ok x) = Given old new items
+    GiveAnswer old new items (Err (TooLong Ticks count)) = HoldsBack old new items count
+    GiveAnswer old new items (Err (Stopped stop)) =
+        Gives (filtering b line_of p d) (outside_of old) (outside_of new) items (Err stop)
+    GiveAnswer old new items (Err end) = ⊥
+
+    -- Calls that read nothing took these bytes: whatever text was read before, this is behind it.
+    pub record TakesBytes (old_lines new_lines : LineReader) (old new : Live B P D)
+        (bytes : List ℕ) : Type 0 where
+      pub ready : IsReady b d new.live_box new.disk
+      pub goes : LiveGoes p d old new Whole
+      pub left : p.left new.port ≡ p.left old.port
+      pub takes : (origin : LiveOrigin) (text : List ℕ) → TakenAt old_lines old origin text
+          → TakenAt new_lines new origin (text ++ bytes)
+
+    -- They ended so in these bytes.
+    pub record EndsInBytes (old_lines : LineReader) (old new : Live B P D) (end : End)
+        (bytes : List ℕ) : Type 0 where
+      pub goes : LiveGoes p d old new end
+      pub left : p.left new.port ≡ p.left old.port
+      pub no_read : is_read_fault end ≡ false
+      pub ends : (origin : LiveOrigin) (text : List ℕ) → TakenAt old_lines old origin text
+          → EndsAt new end origin (text ++ bytes)
+
+    -- this many of these bytes were taken, at least one
+    pub record TakesFirst (old_lines new_lines : LineReader) (old new : Live B P D)
+        (bytes : List ℕ) (taken : ℕ) : Type 0 where
+      pub some : 0 < taken
+      pub within : taken ≤ length bytes
+      pub takes : TakesBytes old_lines new_lines old new (take taken bytes)
+
+    abbrev pub LineAnswer : LineReader → LineReader → Live B P D → Live B P D → List ℕ
+        → Result ℕ End → Type 0
+    LineAnswer old_lines new_lines old new bytes (Ok taken) =
+        TakesFirst old_lines new_lines old new bytes taken
+    LineAnswer old_lines new_lines old new bytes (Err end) =
+        EndsInBytes old_lines old new end bytes
+
+    abbrev pub PieceAnswer : LineReader → LineReader → Live B P D → Live B P D → List ℕ
+        → Result (Unit {0}) End → Type 0
+    PieceAnswer old_lines new_lines old new bytes (Ok x) =
+        TakesBytes old_lines new_lines old new bytes
+    PieceAnswer old_lines new_lines old new bytes (Err end) =
+        EndsInBytes old_lines old new end bytes
+
+    -- These bytes were read, behind those that were read before, and the box has heard their lines.
+    pub record Hears (old_lines new_lines : LineReader) (old new : Live B P D) (end : End)
+        (more : List ℕ) : Type 0 where
+      pub goes : LiveGoes p d old new end
+      pub came : p.left old.port ≡ prepend_known more (p.left new.port)
+      pub hears : (origin : LiveOrigin) → TakenAt old_lines old origin origin.read
+          → TakenAt new_lines new (read_further origin more) (origin.read ++ more)
+
+    -- The input ended behind these bytes.
+    pub record HearsAll (old_lines new_lines : LineReader) (old new : Live B P D) : Type 0 where
+      pub more : List ℕ
+      pub heard : Hears old_lines new_lines old new Whole more
+      pub ready : IsReady b d new.live_box new.disk
+      pub at_end : IsAtEnd (p.left new.port)
+
+    -- A read failed behind these bytes.
+    pub record FailsToHear (old_lines new_lines : LineReader) (old new : Live B P D) : Type 0 where
+      pub more : List ℕ
+      pub heard : Hears old_lines new_lines old new ReadFault more
+
+    -- It ended so inside these bytes.
+    pub record EndsHearing (old_lines : LineReader) (old new : Live B P D) (end : End) :
+        Type 0 where
+      pub more : List ℕ
+      pub goes : LiveGoes p d old new end
+      pub came : p.left old.port ≡ prepend_known more (p.left new.port)
+      pub ends : (origin : LiveOrigin) → TakenAt old_lines old origin origin.read
+          → EndsAt new end (read_further origin more) (origin.read ++ more)
+
+    abbrev pub HearAnswer : LineReader → LineReader → Live B P D → Live B P D
+        → Result (Unit {0}) End → Type 0
+    HearAnswer old_lines new_lines old new (Ok x) = HearsAll old_lines new_lines old new
+    HearAnswer old_lines new_lines old new (Err ReadFault) =
+        FailsToHear old_lines new_lines old new
+    HearAnswer old_lines new_lines old new (Err end) = EndsHearing old_lines old new end
+
+    -- The end of the text was taken, and this many silent ticks behind it, or it ended so there.
+    pub record Finishes (lines : LineReader) (rest : ℕ) (old new : Live B P D) (end : End) :
+        Type 0 where
+      pub goes : LiveGoes p d old new end
+      pub left : p.left new.port ≡ p.left old.port
+      pub ends : (origin : LiveOrigin) (text : List ℕ) → TakenAt lines old origin text
+          → LastAt rest new end origin text
+
+    abbrev pub FinishAnswer : LineReader → ℕ → Live B P D → Live B P D → Result (Unit {0}) End
+        → Type 0
+    FinishAnswer lines rest old new (Ok x) = Finishes lines rest old new Whole
+    FinishAnswer lines rest old new (Err end) = Finishes lines rest old new end
+
+    -- A live line was driven into a box that had taken none, and this was read of it.
+    pub record Drives (rest : ℕ) (old new : Live B P D) (end : End) : Type 0 where
+      pub text : List ℕ
+      pub came : p.left old.port ≡ prepend_known text (p.left new.port)
+      pub goes : LiveGoes p d old new end
+      pub ends : (origin : LiveOrigin) → old.live_box.ticks ≡ 0 → origin.read ≡ []
+          → HeardAt old origin []
+          → EndsText (HeardAt new (read_further origin text)) (HaltsAt new (read_further origin text))
+          rest (IsAtEnd (p.left new.port)) end text

@@ -1,0 +1,243 @@
+//! A filter over a live line: tick text that comes in pieces, each line of which goes to the box as
+//! soon as it has ended.
+ghost use Rattle.std.specs.Prelude.{◌≡◌, ◌<◌, ◌≤◌, List, [], length, Option};
+ghost use Rattle.yasir_io.specs.Disks.{Slots};
+ghost use Rattle.yasir_ticks.specs.Reader.{items_of_content};
+ghost use Rattle.yasir_ticks.specs.TickRun.{run_ticks, run_items};
+ghost use Rattle.yasir_ticks.specs.Ticks.{ticks_in, items_of_run};
+ghost use Rattle.sequence_journal.specs.declared.link.LinkId.{LinkId};
+ghost use Rattle.sequence_journal.specs.Journal.{journal_link, journal_floor, Fits};
+ghost use Rattle.link_format.specs.Setup.{setup_of};
+ghost use Rattle.live_port.specs.History.{Event};
+ghost use Rattle.live_port.specs.Lines.{HasRead};
+ghost use Rattle.link_live.specs.Filtering.{outside, Filters};
+ghost use Rattle.link_live.specs.LiveLine.{IsReady, GiveAnswer, LineAnswer, PieceAnswer};
+ghost use Rattle.link_live.specs.LiveLine.{HearAnswer, FinishAnswer, Drives};
+ghost use Rattle.link_live.specs.LiveLine.{live_of};
+
+use crate::filter::Filter;
+use box_command::LineBox;
+use hmac_tag::Dir;
+use live_port::{LineReader, Port, ReadBytes, read_on};
+use sequence_journal::Journal;
+use tick_drive::{End, TooMuch};
+use yasir_io::{Failed, SlotDisk};
+use yasir_ticks::{Content, Run, TickRun};
+
+/// How many ticks of a live line are taken at most.
+pub const MAX_LIVE_TICKS: u64 = 2_305_843_009_213_693_952;
+
+/// Behind how many bytes of a live line nothing more is read.
+pub const MAX_LIVE_BYTES: u64 = 4_611_686_018_427_387_904;
+
+// How many bytes are read at once at most.
+const PIECE: usize = 4096;
+
+// The ticks of a line of this content, the bytes of a `+` line being these.
+fn run_of(content: Content, bytes: &[u8]) -> TickRun<'_>
+    ensures { run_ticks result ≡ ticks_in (items_of_content content bytes.now) }
+{
+    match content {
+        Content::NoTick | Content::OneMark => TickRun::Silence(0),
+        Content::KeptBytes => TickRun::Bytes(bytes),
+        Content::SilentTicks(ticks) => TickRun::Silence(ticks),
+    }
+}
+
+// The ticks of a last line.
+fn run_of_last(last: &Run) -> TickRun<'_>
+    ensures { run_ticks result ≡ ticks_in (items_of_run last.now) }
+{
+    match last {
+        Run::Nothing | Run::Mark => TickRun::Silence(0),
+        Run::Bytes(bytes) => TickRun::Bytes(bytes),
+        Run::Silence(ticks) => TickRun::Silence(*ticks),
+    }
+}
+
+/// A filter that counts its ticks.
+#[derive(Drop)]
+pub struct LiveBox<B> {
+    filter: Filter<B>,
+    ticks: u64,
+}
+
+impl<B: LineBox> LiveBox<B> {
+    /// A box that has taken no tick, over this journal.
+    pub fn new(key: &[u8], dir: Dir, journal: Journal) -> LiveBox<B>
+        requires { B.widths_fit }
+        ensures none { result.ticks ≡ 0 }
+        ensures taken { B.taken result.filter.line_box ≡ 0 }
+        ensures journal { result.filter.journal ≡ journal }
+        ensures link { B.link_of result.filter.line_box ≡ B.link_in dir }
+        ensures filters { (history : Option (List Event)) (link : LinkId) (told : Option Slots)
+            → journal_link journal ≡ link → Fits journal told
+            → Filters B.LinkBox B.line_of result.filter history told (record {
+              start = history;
+              read = [];
+              link = link;
+              setup = setup_of key.now dir (journal_floor journal);
+            }) [] }
+    {
+        LiveBox {
+            filter: Filter::new(key, dir, journal),
+            ticks: 0,
+        }
+    }
+
+    // Gives a run to the box, unless its ticks with those before are too many.
+    fn give<P: Port, D: SlotDisk>(
+        &mut self,
+        port: &mut P,
+        disk: &mut D,
+        run: TickRun<'_>,
+    ) -> Result<(), End>
+        requires { IsReady B.LinkBox D.SlotDisk self.old disk.old }
+        ensures { GiveAnswer B.LinkBox B.line_of P.Port D.SlotDisk
+            (live_of self.old port.old disk.old) (live_of self.new port.new disk.new)
+            (run_items run.entry) result }
+    {
+        let sum = self.ticks + run.len() as u64;
+        if sum > MAX_LIVE_TICKS {
+            return Err(End::TooLong {
+                what: TooMuch::Ticks,
+                count: sum,
+            });
+        }
+        match self.filter.take_run(port, disk, run) {
+            Ok(()) => {}
+            Err(stop) => return Err(End::Stopped(stop)),
+        }
+        self.ticks = sum;
+        Ok(())
+    }
+
+    // Reads bytes of a piece up to the end of a line, or all of them, and gives what the line
+    // stands for to the box. Returns how many.
+    fn take_line<P: Port, D: SlotDisk>(
+        &mut self,
+        lines: &mut LineReader,
+        port: &mut P,
+        disk: &mut D,
+        bytes: &[u8],
+    ) -> Result<usize, End>
+        requires some { 0 < length bytes.now }
+        requires few { length bytes.now ≤ 65536 }
+        requires ready { IsReady B.LinkBox D.SlotDisk self.old disk.old }
+        ensures { LineAnswer B.LinkBox B.line_of P.Port D.SlotDisk lines.old lines.new
+            (live_of self.old port.old disk.old) (live_of self.new port.new disk.new) bytes.now
+            result }
+    {
+        let ReadBytes { taken, content } = match lines.feed(bytes) {
+            Ok(found) => found,
+            Err(end) => return Err(end),
+        };
+        let run = run_of(content, lines.line_bytes());
+        match self.give(port, disk, run) {
+            Ok(()) => Ok(taken),
+            Err(end) => Err(end),
+        }
+    }
+
+    // Gives all lines to the box that end in a piece.
+    fn take_piece<P: Port, D: SlotDisk>(
+        &mut self,
+        lines: &mut LineReader,
+        port: &mut P,
+        disk: &mut D,
+        piece: &[u8],
+    ) -> Result<(), End>
+        requires few { length piece.now ≤ 65536 }
+        requires ready { IsReady B.LinkBox D.SlotDisk self.old disk.old }
+        ensures { PieceAnswer B.LinkBox B.line_of P.Port D.SlotDisk lines.old lines.new
+            (live_of self.old port.old disk.old) (live_of self.new port.new disk.new) piece.now
+            result }
+    {
+        let mut rest = piece;
+        while !rest.is_empty() {
+            match self.take_line(lines, port, disk, rest) {
+                Ok(taken) => rest = &rest[taken..],
+                Err(end) => return Err(end),
+            }
+        }
+        Ok(())
+    }
+
+    // Reads the line to its end. What the box makes of the lines that have ended is handed on
+    // before each read.
+    fn hear<P: Port, D: SlotDisk>(
+        &mut self,
+        lines: &mut LineReader,
+        port: &mut P,
+        disk: &mut D,
+    ) -> Result<(), End>
+        requires { IsReady B.LinkBox D.SlotDisk self.old disk.old }
+        ensures { HearAnswer B.LinkBox B.line_of P.Port D.SlotDisk lines.old lines.new
+            (live_of self.old port.old disk.old) (live_of self.new port.new disk.new) result }
+    {
+        let mut buffer = [0; PIECE];
+        let mut bytes: u64 = 0;
+        while bytes < MAX_LIVE_BYTES {
+            let count = match read_on(port, &mut buffer) {
+                Ok(count) => count,
+                Err(Failed) => return Err(End::ReadFault),
+            };
+            if count == 0 {
+                return Ok(());
+            }
+            match self.take_piece(lines, port, disk, &buffer[..count]) {
+                Ok(()) => {}
+                Err(end) => return Err(end),
+            }
+            bytes += count as u64;
+        }
+        Err(End::TooLong {
+            what: TooMuch::Bytes,
+            count: bytes,
+        })
+    }
+
+    // Takes the end of the line, and this many silent ticks behind it.
+    fn finish<P: Port, D: SlotDisk>(
+        &mut self,
+        lines: LineReader,
+        rest: u32,
+        port: &mut P,
+        disk: &mut D,
+    ) -> Result<(), End>
+        requires { IsReady B.LinkBox D.SlotDisk self.old disk.old }
+        ensures { FinishAnswer B.LinkBox B.line_of P.Port D.SlotDisk lines rest
+            (live_of self.old port.old disk.old) (live_of self.new port.new disk.new) result }
+    {
+        let last = match lines.finish() {
+            Ok(run) => run,
+            Err(end) => return Err(end),
+        };
+        match self.give(port, disk, run_of_last(&last)) {
+            Ok(()) => {}
+            Err(end) => return Err(end),
+        }
+        match self.filter.take_run(port, disk, TickRun::Silence(rest)) {
+            Ok(()) => Ok(()),
+            Err(stop) => Err(End::Stopped(stop)),
+        }
+    }
+
+    /// Drives a live line to its end, and then this many silent ticks, into the box. The box has
+    /// taken none, and what it makes of each line is handed on as soon as this line has ended.
+    pub fn drive<P: Port, D: SlotDisk>(&mut self, rest: u32, port: &mut P, disk: &mut D) -> End
+        requires { IsReady B.LinkBox D.SlotDisk self.old disk.old }
+        ensures { Drives B.LinkBox B.line_of P.Port D.SlotDisk rest
+            (live_of self.old port.old disk.old) (live_of self.new port.new disk.new) result }
+    {
+        let mut lines = LineReader::new();
+        match self.hear(&mut lines, port, disk) {
+            Ok(()) => {}
+            Err(end) => return end,
+        }
+        match self.finish(lines, rest, port, disk) {
+            Ok(()) => End::Whole,
+            Err(end) => end,
+        }
+    }
+}

@@ -1,6 +1,0 @@
-use Rattle.std.proofs.Common.{Ok}
-use Rattle.live_port.proofs.StreamLemmas.{wrote_untold}
-use Rattle.live_filter.proofs.tests.ToldPortPort.write.Goals as goal
-
-pub returns-clause-wrote : goal.returns-clause-wrote
-returns-clause-wrote c = wrote_untold c.args.to c.args.piece.now (Ok tt)

@@ -1,4 +1,0 @@
-pub mod Filtering
-pub mod FilteringLaws
-pub mod TextEnds
-pub mod LiveLine
