@@ -83,7 +83,7 @@ defined_by walking noted = record {
   number = λ setup line. number_after walking setup line;
 }
 
--- The rules of the two protocols, and the codes of the two profiles.
+-- The rules of the two protocols, and the MACs of the two profiles.
 module _ (rtu : LineRules Rtu) (dnp : LineRules Dnp) (short : Mac (Hmac Sha1Hasher 20))
     (long : Mac (Hmac Sha256 32)) where
   -- the definition of each of the eight

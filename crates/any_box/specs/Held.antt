@@ -42,7 +42,7 @@ ticks_held held = held.ticks
 abbrev pub link_held : HeldBox → LinkId
 link_held held = journal_link held.journal
 
--- The rules of the two protocols, and the codes of the two profiles.
+-- The rules of the two protocols, and the MACs of the two profiles.
 module _ (rtu : LineRules Rtu) (dnp : LineRules Dnp) (short : Mac (Hmac Sha1Hasher 20))
     (long : Mac (Hmac Sha256 32)) where
   -- Set up so, a box has taken this line.

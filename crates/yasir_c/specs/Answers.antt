@@ -52,13 +52,13 @@ numbers_in (Some (OfChecker (Refused start why))) = of_burst 4 start (refused_nu
 numbers_in (Some (OfChecker (Dropped start why))) = of_burst 5 start (dropped_number why)
 
 -- the slot to be written: none, A or B
-abbrev pub slot_code : Slot → ℕ
-slot_code A = 1
-slot_code B = 2
+abbrev pub slot_number : Slot → ℕ
+slot_number A = 1
+slot_number B = 2
 
 abbrev pub commit_number : Option Commit → ℕ
 commit_number None = 0
-commit_number (Some commit) = slot_code commit.slot
+commit_number (Some commit) = slot_number commit.slot
 
 -- the bytes to be written there, or zeros
 abbrev pub commit_bytes : Option Commit → List ℕ

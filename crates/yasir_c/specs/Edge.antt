@@ -92,7 +92,7 @@ InitsBy numbers old new Is.OtherLink = ⊥
 InitsBy numbers old new Is.NoMemory = ⊥
 InitsBy numbers old new Is.Full = ⊥
 
--- The rules of the two protocols, and the codes of the two profiles.
+-- The rules of the two protocols, and the MACs of the two profiles.
 module _ (rtu : LineRules Rtu) (dnp : LineRules Dnp) (short : Mac (Hmac Sha1Hasher 20))
     (long : Mac (Hmac Sha256 32)) where
   -- A box begins from both slots of its journal, and the handle holds it.
