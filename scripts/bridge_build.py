@@ -47,11 +47,12 @@ def kit():
 
 def library():
     """Proves and builds the library, or what of it has changed, and its crates below."""
+    allocator = os.path.join(kit(), "c", "liblibc_c.a")
     if not library.built:
         print("bridge_build: proves and builds crates/yasir_c and what it stands on: many minutes the first time", file=sys.stderr)
         ran(["rt", "lib"], cwd=CRATE)
         library.built = True
-    return [LIBRARY, os.path.join(kit(), "c", "liblibc_c.a")]
+    return [LIBRARY, allocator]
 
 
 library.built = False
@@ -69,9 +70,9 @@ def build(name):
 def server():
     """The path of the server by libmodbus, built."""
     os.makedirs(OUT, exist_ok=True)
-    path = os.path.join(OUT, "server")
+    path, words = os.path.join(OUT, "server"), [compiler(), *FLAGS]
     try:
-        ran([compiler(), *FLAGS, os.path.join(BRIDGE, "server.c"), "-lmodbus", "-o", path])
+        ran([*words, os.path.join(BRIDGE, "server.c"), "-lmodbus", "-o", path])
     except Missing as why:
         raise Missing("libmodbus isn't installed: apt-get install libmodbus-dev\n%s" % why)
     return path

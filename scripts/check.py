@@ -53,6 +53,7 @@ CHECKS = [
     Check("guard", ("program", "libmodbus"), None, ["PROGRAM"], ["PROGRAM", "2000", "2"]),
     Check("clib_check", ("program", "library", "cc"), None, ["PROGRAM", "10000"], ["PROGRAM"]),
     Check("live", ("library", "libmodbus", "mbpoll"), None, None, []),
+    Check("live_kinds", ("library", "cc"), None, None, []),
     Check("captures", ("capture", "tshark"), None, [], []),
     Check("dissector_check", ("program", "tshark"), None, ["PROGRAM"], ["PROGRAM"]),
     Check("timeline_check", ("chromium",), None, [], []),

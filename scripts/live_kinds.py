@@ -1,0 +1,138 @@
+#!/usr/bin/env python3
+"""Runs the daemon of bridge/ over both protocols and profiles, at two rates, between a master and a device of its own.
+
+    python3 scripts/live_kinds.py [KIND..] [BAUD..]
+
+KIND is rtu, dnp3, rtu24 or dnp24, BAUD 9600 or 115200; all of them where none is given. Of each the line is as in live.py: a master, a
+bridge, an attacker, a bridge, a device, over pseudo-terminals, with the guard on. The device counts bytes: it takes as many as
+a request has, and acts on them at once. In a first session nobody attacks, and in a second one over the same journals ten sorts of
+things are done to the requests.
+
+The exit status is 0 only if each poll without an attack was answered (it may be tried ten times: a byte that this machine hands on too
+late breaks its frame), each sort of attack was done, all bytes that the device got are requests of the master, whole, in order and each
+at most once, and the journals' numbers are those of what was sealed and passed; 2 where something isn't installed. It is no part of the gate.
+"""
+import sys, tempfile, time
+
+import bridge_build
+from live_line import SORTS, Bridges, link_of, make_key
+from model import Dnp3, Rtu
+
+KINDS, RATES = ("rtu", "dnp3", "rtu24", "dnp24"), (9600, 115200)
+POLLS, TRIES, PATIENCE = 8, 10, 1.0
+TARGET, EVIL = 5, 666
+
+
+def request_of(kind, number, value):
+    """A request, of its own number, to put a value into the device's register."""
+    content = number.to_bytes(4, "big") + bytes((1, TARGET)) + value.to_bytes(2, "big")
+    if kind.startswith("rtu"):
+        body = bytes((1, 0x41)) + content
+        return body + Rtu.end(body)
+    header = bytes((0x05, 0x64, 5 + len(content), 0xC4, 1, 0, 2, 0))
+    return header + Dnp3.end(header) + content + Dnp3.end(content)
+
+
+class Session(Bridges):
+    """One uptime of both bridges between a master and a device, and what came to the device. `first` is the number of the master's
+    first request."""
+
+    def __init__(self, program, folder, link, old, make, first):
+        self.given, self.asked, self.replies, self.first = b"", [], b"", first
+        super().__init__(program, folder, link, old, make)
+        self.size = len(link.evil)
+        self.link = link
+        self.run(self.serve)
+
+    def serve(self):
+        """The device: it sends each request back. It counts bytes, and minds no silence."""
+        taken = 0
+        while not self.stopping.is_set():
+            content = self.b_device.come(0.2)
+            if content is None:
+                return
+            self.given += content
+            while len(self.given) - taken >= self.size:
+                self.b_device.write(self.given[taken:taken + self.size])
+                taken += self.size
+
+    def poll(self, value):
+        """Whether a request is answered."""
+        request = request_of(self.link.kind, self.first + len(self.asked), value)
+        self.asked.append(request)
+        self.a_device.write(request)
+        end = time.monotonic() + PATIENCE
+        while request not in self.replies and time.monotonic() < end:
+            self.replies += self.a_device.come(0.05) or b""
+        return request in self.replies
+
+    def surely(self, value):
+        """How many times the poll was tried until it was answered; None where it never was."""
+        return next((tries for tries in range(1, TRIES + 1) if self.poll(value)), None)
+
+    def device_got_requests_alone(self):
+        """Whether all that the device got are requests that the master sent, whole and in order, each at most once."""
+        got = [self.given[place:place + self.size] for place in range(0, len(self.given), self.size)]
+        places = [self.asked.index(request) if request in self.asked else -1 for request in got]
+        return -1 not in places and all(one < other for one, other in zip(places, places[1:]))
+
+
+def tried(program, kind, baud):
+    """What was wrong with one kind at one rate; prints what was seen."""
+    parity = "even" if kind.startswith("rtu") else "none"
+    link, wrong = link_of(kind, baud, parity, request_of(kind, 0, EVIL)), []
+
+    def see(holds, what):
+        if not holds:
+            wrong.append("%s at %d baud: %s" % (kind, baud, what))
+
+    with tempfile.TemporaryDirectory() as folder:
+        make_key(folder)
+        session = Session(program, folder, link, [], True, 1)
+        begun, tries = time.monotonic(), [session.surely(1000 + number) for number in range(POLLS)]
+        seconds = time.monotonic() - begun
+        old = list(session.attacker.seen["ab"])
+        see(session.end() == [0, 0], "a bridge ended with another status than 0")
+        see(None not in tries, "of the polls without an attack some were never answered: %s" % tries)
+        see(session.device_got_requests_alone(), "the device got other bytes than requests: %s" % session.given.hex())
+        if not old:
+            return wrong
+        session = Session(program, folder, link, old, False, 1000)
+        before = session.surely(2000)
+        session.attacker.quiet, polls, answered = False, 0, 0
+        while len(session.attacker.done) < len(SORTS) and polls < 80:
+            polls += 1
+            answered += session.poll(2000 + polls)
+        session.attacker.quiet = True
+        behind, done = session.surely(3000), session.attacker.done
+        see(session.end() == [0, 0], "a bridge ended with another status than 0")
+        see(before is not None and behind is not None, "no poll was answered before the attacks, or behind them")
+        see(len(done) == len(SORTS), "some attack wasn't done: %s" % dict(done))
+        see(session.device_got_requests_alone(), "the device got other bytes than requests: %s" % session.given.hex())
+        for kept, number, word, noted in session.numbers():
+            see(number == noted, "journal %s stands at %s, the last number that was %s is %s" % (kept, number, word, noted))
+        counted = sum(each or TRIES for each in tries)
+        print("%-5s %6d baud: %d polls without an attack took %d tries and %.0f ms each; under attack %d of %d were answered%s"
+              % (kind, baud, POLLS, counted, 1000 * seconds / counted, answered, polls, "; WRONG" if wrong else ""), flush=True)
+    return wrong
+
+
+def main():
+    words = sys.argv[1:]
+    kinds = [word for word in words if word in KINDS] or KINDS
+    rates = [int(word) for word in words if word.isdecimal() and int(word) in RATES] or RATES
+    if len([word for word in words if word not in KINDS and word not in map(str, RATES)]):
+        print(__doc__.strip(), file=sys.stderr)
+        return 1
+    program = bridge_build.build("bridge")
+    wrong = [what for kind in kinds for baud in rates for what in tried(program, kind, baud)]
+    for what in wrong:
+        print("WRONG  %s" % what)
+    return 1 if wrong else 0
+
+
+try:
+    sys.exit(main())
+except bridge_build.Missing as why:
+    print("live_kinds: something isn't installed, or can't be built:\n%s" % why, file=sys.stderr)
+    sys.exit(2)

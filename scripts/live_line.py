@@ -1,0 +1,199 @@
+"""A live line on one machine, of which live.py and live_kinds.py are made: pseudo-terminals, the two bridges, an attacker on the link
+between them, and what the journals and notes say afterwards.
+"""
+import collections, os, pty, re, select, signal, subprocess, sys, threading, time, tty
+
+PAUSE = 3
+SORTS = ("change", "repeat", "cut", "insert", "reorder", "reflect", "old session", "forge", "strip", "pause")
+
+# What stands on the link: the protocol and profile as the bridge's -p takes them, the baud, the seconds of a tick, how many bytes a
+# trailer has, the parity, and a frame that the attacker would have the device carry out.
+Link = collections.namedtuple("Link", "kind baud tick trailer parity evil")
+
+
+def link_of(kind, baud, parity, evil):
+    return Link(kind, baud, (10 if parity == "none" else 11) / baud, 20 if kind.endswith("24") else 14, parity, evil)
+
+
+class Port:
+    """A pseudo-terminal: `path` for a program, and the other end here. It is written at the rate of the line."""
+
+    def __init__(self, tick):
+        self.here, self.there = pty.openpty()
+        tty.setraw(self.here)
+        tty.setraw(self.there)
+        self.path = os.ttyname(self.there)
+        self.tick = tick
+        self.lock = threading.Lock()
+
+    def write(self, content):
+        """Each byte in a tick of its own, as far as this machine keeps time; silence is None."""
+        with self.lock:
+            due = time.monotonic()
+            for byte in content:
+                pause = due - time.monotonic()
+                if pause > 0:
+                    time.sleep(pause)
+                if byte is not None:
+                    os.write(self.here, bytes((byte,)))
+                due += self.tick
+
+    def come(self, seconds):
+        """What comes within some seconds; no bytes where nothing does, and None where the port is closed."""
+        ready, _, _ = select.select([self.here], [], [], seconds)
+        try:
+            return os.read(self.here, 512) if ready else b""
+        except OSError:
+            return None
+
+    def bursts(self, stopping, gap):
+        """What comes, cut where nothing comes for `gap` seconds."""
+        burst = b""
+        while not stopping.is_set():
+            content = self.come(gap if burst else 0.2)
+            if content is None:
+                return
+            if content:
+                burst += content
+            elif burst:
+                yield burst
+                burst = b""
+
+
+def packet(frame, trailer):
+    return [*frame, *[None] * PAUSE, *trailer]
+
+
+class Attacker:
+    """Sits on the link. Of a packet it knows the frame and the trailer, which is its last bytes. `old` is what it has recorded of an
+    earlier session. While it is `quiet` it hands each packet on as it came."""
+
+    def __init__(self, link, near, far, stopping, old):
+        self.link, self.near, self.far, self.stopping, self.old = link, near, far, stopping, old
+        self.turn, self.done, self.seen = 0, collections.Counter(), {"ab": [], "ba": []}
+        self.held = None
+        self.quiet = True
+
+    def run(self, way, source, target):
+        size = self.link.trailer
+        for burst in source.bursts(self.stopping, max(30 * self.link.tick, 0.03)):
+            if len(burst) <= size:
+                continue
+            frame, trailer = burst[:-size], burst[-size:]
+            self.seen[way].append((frame, trailer))
+            if way == "ba" or self.quiet:
+                target.write(packet(frame, trailer))
+            else:
+                self.attack(frame, trailer, target)
+
+    def attack(self, frame, trailer, target):
+        """One request comes to the server: something is done to it, or beside it."""
+        sort = SORTS[self.turn % len(SORTS)]
+        evil = self.link.evil
+        space = [None] * 60
+        if self.held:
+            # the packet that was held back comes behind a later one
+            late, self.held = self.held, None
+            target.write(packet(frame, trailer) + space + packet(*late))
+            self.done["reorder"] += 1
+            self.turn += 1
+            return
+        if sort == "change":
+            target.write(packet(evil, trailer))
+        elif sort == "repeat":
+            target.write(packet(frame, trailer) + space + packet(frame, trailer))
+        elif sort == "cut":
+            target.write(packet(frame, trailer[:-1]))
+        elif sort == "insert":
+            target.write(packet(evil + b"\0", trailer) + space)
+        elif sort == "reorder":
+            self.held = (frame, trailer)
+            return
+        elif sort == "reflect":
+            target.write(packet(*self.seen["ba"][-1]) + space + packet(frame, trailer))
+        elif sort == "old session":
+            target.write(packet(*self.old[0]) + space + packet(frame, trailer))
+        elif sort == "forge":
+            target.write(packet(evil, os.urandom(self.link.trailer)) + space + packet(frame, trailer))
+        elif sort == "strip":
+            target.write([*evil] + space + packet(frame, trailer))
+        elif sort == "pause":
+            target.write([*evil, *[None] * 6, *trailer] + space)
+        self.done[sort] += 1
+        self.turn += 1
+
+
+def started(words, log):
+    return subprocess.Popen(words, stdout=open(log, "w"), stderr=subprocess.STDOUT)
+
+
+def ended(process):
+    process.send_signal(signal.SIGTERM)
+    return process.wait(timeout=10)
+
+
+class Bridges:
+    """One uptime of both bridges, with the attacker between them. `a_device` and `b_device` are the ports of the two devices."""
+
+    def __init__(self, program, folder, link, old, make):
+        self.folder, self.stopping = folder, threading.Event()
+        self.a_device, self.a_link, self.b_link, self.b_device = (Port(link.tick) for _ in range(4))
+        self.attacker = Attacker(link, self.a_link, self.b_link, self.stopping, old)
+        self.threads = []
+        self.run(self.attacker.run, "ab", self.a_link, self.b_link)
+        self.run(self.attacker.run, "ba", self.b_link, self.a_link)
+        ends = ("a", "ab", self.a_device, self.a_link), ("b", "ba", self.b_device, self.b_link)
+        self.bridges = [started(self.words(program, link, *end, make), self.log(end[0])) for end in ends]
+        time.sleep(1.5)
+        if any(bridge.poll() is not None for bridge in self.bridges):
+            sys.exit("a bridge ended at once: %s%s" % (self.text("a"), self.text("b")))
+
+    def run(self, target, *words):
+        self.threads.append(threading.Thread(target=target, args=words, daemon=True))
+        self.threads[-1].start()
+
+    def words(self, program, link, end, direction, device, to_link, make):
+        path = os.path.join(self.folder, end)
+        words = [program, "-k", os.path.join(self.folder, "key.txt"), "-s", path + ".sent", "-r", path + ".got", "-d", direction,
+                 "-p", link.kind, "-b", str(link.baud), "-P", link.parity, "-H", "25", "-D", "40", "-w", path]
+        return words + (["-i"] if make else []) + [device.path, to_link.path]
+
+    def log(self, name):
+        return os.path.join(self.folder, name + ".log")
+
+    def text(self, name):
+        with open(self.log(name)) as file:
+            return file.read()
+
+    def end(self):
+        """Ends both bridges, and returns their statuses."""
+        statuses = [ended(bridge) for bridge in self.bridges]
+        self.stopping.set()
+        for thread in self.threads:
+            thread.join(timeout=2)
+        return statuses
+
+    def numbers(self):
+        """Of each of the four journals its name, its number, what was done with that, and the last number that the notes have."""
+        found = []
+        for end, word, kept in (("a", "sealed", "a.sent"), ("b", "passed", "b.got"), ("b", "sealed", "b.sent"), ("a", "passed", "a.got")):
+            found.append((kept, number_in(os.path.join(self.folder, kept)), word, last_number(self.text(end), word)))
+        return found
+
+
+def make_key(folder):
+    with open(os.path.join(folder, "key.txt"), "w") as file:
+        file.write("%s\n" % os.urandom(16).hex())
+
+
+def number_in(path):
+    """The number of a journal: the greater one of its two slots."""
+    with open(path, "rb") as file:
+        content = file.read()
+    slots = [content[first:first + 24] for first in (32, 56)]
+    return max(int.from_bytes(slot[:8], "big") for slot in slots if slot and slot[12:] == bytes(255 - b for b in slot[:12]))
+
+
+def last_number(notes, word):
+    found = re.findall(r"^%s (\d+) " % word, notes, re.M)
+    return int(found[-1]) if found else None
