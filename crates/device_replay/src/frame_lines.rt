@@ -1,17 +1,12 @@
 //! The consumer that drives a device and writes the lines of its frames.
-ghost use Rattle.std.specs.Prelude.{◌≡◌, ℕ, ◌<◌, ◌≤◌, List, length, ◌++◌, Option, OnOk, OnErr};
-ghost use Rattle.yasir_io.specs.Causes.{HasCause};
-ghost use Rattle.yasir_io.specs.Output.{Buffered, GotPrefix};
-ghost use Rattle.yasir_io.specs.TextBuffer.{waiting_bytes};
+ghost use Rattle.std.specs.Prelude.{◌≡◌, ◌<◌, length};
 ghost use Rattle.yasir_ticks.specs.TickRun.{run_ticks, run_items};
 ghost use Rattle.yasir_ticks.specs.declared.tick_run.TickRun.TheVariants.{Bytes, Silence};
 ghost use Rattle.tick_drive.specs.Consumers.{MayTake, GivesSome};
-ghost use Rattle.device_replay.specs.Lines.{frame_line};
 ghost use Rattle.device_replay.specs.FrameLines.{printing};
 
-use crate::text::write_read_line;
+use crate::text::push_read_line;
 use device_model::{Device, Met, hear_run};
-use replay_status::Line;
 use tick_drive::{Consumer, Stop};
 use yasir_io::{Failed, Sink, TextBuffer};
 use yasir_ticks::TickRun;
@@ -25,31 +20,6 @@ pub struct FrameLines<'a, V, O> {
     device: &'a mut V,
     lines: &'a mut TextBuffer,
     out: &'a mut O,
-}
-
-// Adds the line of a frame. It is kept separate from a step, since few ticks end a frame.
-#[inline(never)]
-fn push_frame<O: Sink>(
-    lines: &mut TextBuffer,
-    out: &mut O,
-    start: u64,
-    frame: &[u8],
-) -> Result<(), Failed>
-    requires { length frame.now ≤ 292 }
-    ensures ok { OnOk result ((held : Option (List ℕ)) (text : List ℕ)
-        → Buffered held (O.held out.old) (waiting_bytes lines.old) text
-        → Buffered held (O.held out.new) (waiting_bytes lines.new)
-        (text ++ frame_line (record { start = start; frame = frame.now }))) }
-    ensures err { OnErr result ((held : Option (List ℕ)) (text : List ℕ)
-        → Buffered held (O.held out.old) (waiting_bytes lines.old) text
-        → GotPrefix held (O.held out.new)
-        (text ++ frame_line (record { start = start; frame = frame.now }))) }
-    ensures cause { HasCause (O.faults out.old) (O.faults out.new) result }
-    ensures flushes { O.flushes out.new ≡ O.flushes out.old }
-{
-    let mut line = Line::new();
-    write_read_line(&mut line, start, frame);
-    lines.push(out, line.as_slice())
 }
 
 impl<'a, V, O> FrameLines<'a, V, O> {
@@ -76,7 +46,7 @@ impl<'a, V: Device, O: Sink> FrameLines<'a, V, O> {
         let Some(start) = start else {
             return Ok(taken);
         };
-        match push_frame(self.lines, self.out, start, self.device.frame_bytes()) {
+        match push_read_line(self.lines, self.out, start, self.device.frame_bytes()) {
             Ok(()) => Ok(taken),
             Err(Failed) => Err(Stop::WriteFault),
         }

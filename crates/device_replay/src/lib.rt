@@ -8,4 +8,4 @@ mod frame_lines;
 mod text;
 
 pub use command::read_frames;
-pub use text::{write_frame_line, write_read_line};
+pub use text::{push_read_line, write_frame_line};

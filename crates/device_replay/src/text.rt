@@ -1,34 +1,67 @@
 //! The text of the line that is printed for a frame.
-ghost use Rattle.std.specs.Prelude.{◌≡◌, ◌≤◌, [], length};
+ghost use Rattle.std.specs.Prelude.{◌≡◌, ℕ, ◌+◌, ◌≤◌, List, ◌++◌, length, Option, OnOk, OnErr};
+ghost use Rattle.yasir_io.specs.Causes.{HasCause};
+ghost use Rattle.yasir_io.specs.Output.{Buffered, GotPrefix};
+ghost use Rattle.yasir_io.specs.TextBuffer.{waiting_bytes};
 ghost use Rattle.device_replay.specs.Lines.{frame_line, frame_line_of};
 
-use replay_status::{Line, push_decimal};
+use arrayvec::ArrayVec;
+use replay_status::push_decimal;
+use yasir_io::{Failed, Sink, TextBuffer};
 use yasir_ticks::push_digits;
 
-/// Writes these words, at most 8 bytes, and behind them `S HEX` into an empty line: the tick of the
-/// first byte of a frame, and its bytes. The line is the caller's, since one that is answered is
-/// copied.
+// The most bytes that the line of a frame has: 8 of words, a number of 20 digits, a blank, 292
+// bytes in hex and an LF.
+const LONGEST_LINE: usize = 614;
+
+/// Appends these words, at most 8 bytes, and behind them `S HEX` and an LF: the tick of the first
+/// byte of a frame, and its bytes. There must be room for 614 bytes.
 #[inline]
-pub fn write_frame_line(line: &mut Line, words: &[u8], start: u64, bytes: &[u8])
-    requires empty { line.old.items ≡ [] }
+pub fn write_frame_line<const CAP: usize>(
+    text: &mut ArrayVec<u8, CAP>,
+    words: &[u8],
+    start: u64,
+    bytes: &[u8],
+)
+    requires room { length text.old.items + 614 ≤ CAP }
     requires words { length words.now ≤ 8 }
     requires frame { length bytes.now ≤ 292 }
-    ensures { line.new.items
-        ≡ frame_line_of words.now (record { start = start; frame = bytes.now }) }
+    ensures { text.new.items ≡ text.old.items
+        ++ frame_line_of words.now (record { start = start; frame = bytes.now }) }
 {
-    line.try_extend_from_slice(words).unwrap();
-    push_decimal(line, start);
-    line.push(b' ');
-    push_digits(line, bytes);
-    line.push(b'\n');
+    text.try_extend_from_slice(words).unwrap();
+    push_decimal(text, start);
+    text.push(b' ');
+    push_digits(text, bytes);
+    text.push(b'\n');
 }
 
-/// Writes `read at S HEX` into an empty line: the bytes of a frame that is read, and the tick of
-/// its first byte.
-pub fn write_read_line(line: &mut Line, start: u64, bytes: &[u8])
-    requires empty { line.old.items ≡ [] }
-    requires frame { length bytes.now ≤ 292 }
-    ensures { line.new.items ≡ frame_line (record { start = start; frame = bytes.now }) }
+/// Adds the line `read at S HEX` to a text on its way to a sink: the tick of the first byte of a
+/// frame that is read, and its bytes. The line is written where it waits.
+#[inline(never)]
+pub fn push_read_line<O: Sink>(
+    text: &mut TextBuffer,
+    out: &mut O,
+    start: u64,
+    bytes: &[u8],
+) -> Result<(), Failed>
+    requires { length bytes.now ≤ 292 }
+    ensures ok { OnOk result ((held : Option (List ℕ)) (before : List ℕ)
+        → Buffered held (O.held out.old) (waiting_bytes text.old) before
+        → Buffered held (O.held out.new) (waiting_bytes text.new)
+        (before ++ frame_line (record { start = start; frame = bytes.now }))) }
+    ensures err { OnErr result ((held : Option (List ℕ)) (before : List ℕ)
+        → Buffered held (O.held out.old) (waiting_bytes text.old) before
+        → GotPrefix held (O.held out.new)
+        (before ++ frame_line (record { start = start; frame = bytes.now }))) }
+    ensures cause { HasCause (O.faults out.old) (O.faults out.new) result }
+    ensures flushes { O.flushes out.new ≡ O.flushes out.old }
 {
-    write_frame_line(line, b"read at ", start, bytes);
+    match text.make_room(out, LONGEST_LINE) {
+        Ok(()) => {
+            write_frame_line(&mut text.text, b"read at ", start, bytes);
+            Ok(())
+        }
+        Err(Failed) => Err(Failed),
+    }
 }

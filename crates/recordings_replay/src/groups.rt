@@ -13,10 +13,9 @@ ghost use Rattle.replay_lists.specs.ReplayLists.{kept_reads};
 ghost use Rattle.recordings_replay.specs.Listing.{numbered_lines};
 ghost use Rattle.recordings_replay.specs.Printing.{AddsText, BreaksOff, on_the_way, line_if_forged};
 
-use crate::lines::write_numbered_line;
-use device_replay::write_read_line;
+use crate::lines::push_numbered_line;
+use device_replay::push_read_line;
 use replay_lists::{FrameList, Numbered, is_at_its_number};
-use replay_status::Line;
 use yasir_io::{Failed, Sink, TextBuffer};
 
 /// Adds a line for each of these frames, with their numbers.
@@ -38,9 +37,8 @@ pub fn push_numbered<O: Sink>(
     ensures flushes { O.flushes out.new ≡ O.flushes out.old }
 {
     for index in 0..frames.len() {
-        let mut line = Line::new();
-        write_numbered_line(&mut line, name, frames.head(index), frames.bytes(index));
-        let Ok(()) = text.push(out, line.as_slice()) else {
+        let (head, bytes) = (frames.head(index), frames.bytes(index));
+        let Ok(()) = push_numbered_line(text, out, name, head, bytes) else {
             return Err(Failed);
         };
     }
@@ -64,9 +62,7 @@ pub fn push_reads<O: Sink>(
     ensures flushes { O.flushes out.new ≡ O.flushes out.old }
 {
     for index in 0..frames.len() {
-        let mut line = Line::new();
-        write_read_line(&mut line, frames.head(index), frames.bytes(index));
-        let Ok(()) = text.push(out, line.as_slice()) else {
+        let Ok(()) = push_read_line(text, out, frames.head(index), frames.bytes(index)) else {
             return Err(Failed);
         };
     }
@@ -99,9 +95,7 @@ fn push_if_forged<O: Sink>(
     if is_at_its_number(sealed, 0, head.number, bytes) {
         return Ok(());
     }
-    let mut line = Line::new();
-    write_numbered_line(&mut line, b"forged", head, bytes);
-    match text.push(out, line.as_slice()) {
+    match push_numbered_line(text, out, b"forged", head, bytes) {
         Ok(()) => Ok(()),
         Err(Failed) => Err(Failed),
     }

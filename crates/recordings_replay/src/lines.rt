@@ -1,26 +1,68 @@
 //! The text of the line of a numbered frame.
-ghost use Rattle.std.specs.Prelude.{◌≡◌, ◌≤◌, [], length};
+ghost use Rattle.std.specs.Prelude.{◌≡◌, ◌+◌, ◌≤◌, ◌++◌, length, OnOk, OnErr};
+ghost use Rattle.yasir_io.specs.Causes.{HasCause};
+ghost use Rattle.yasir_io.specs.TextBuffer.{waiting_bytes};
 ghost use Rattle.recordings_replay.specs.Listing.{numbered_line};
+ghost use Rattle.recordings_replay.specs.Printing.{AddsText, BreaksOff, on_the_way};
 
+use arrayvec::ArrayVec;
 use replay_lists::Numbered;
-use replay_status::{Line, push_decimal};
+use replay_status::push_decimal;
+use yasir_io::{Failed, Sink, TextBuffer};
 use yasir_ticks::push_digits;
 
-/// Writes `NAME N at S HEX` into an empty line: the bytes of a frame, its number, and the tick of
-/// its first byte. The line is the caller's, since one that is returned is copied.
-pub(crate) fn write_numbered_line(line: &mut Line, name: &[u8], head: Numbered, bytes: &[u8])
-    requires empty { line.old.items ≡ [] }
+// The most bytes that the line of a numbered frame has: 6 of its name, two numbers of 20 digits, 6
+// bytes between them and the frame, 292 bytes in hex and an LF.
+const LONGEST_LINE: usize = 637;
+
+// Appends `NAME N at S HEX` and an LF: the bytes of a frame, its number, and the tick of its first
+// byte. There must be room for 637 bytes.
+fn write_numbered_line<const CAP: usize>(
+    text: &mut ArrayVec<u8, CAP>,
+    name: &[u8],
+    head: Numbered,
+    bytes: &[u8],
+)
+    requires room { length text.old.items + 637 ≤ CAP }
     requires name { length name.now ≤ 6 }
     requires frame { length bytes.now ≤ 292 }
-    ensures { line.new.items ≡ numbered_line name.now
+    ensures { text.new.items ≡ text.old.items ++ numbered_line name.now
         (record { number = head.number; start = head.start; frame = bytes.now }) }
 {
-    line.try_extend_from_slice(name).unwrap();
-    line.push(b' ');
-    push_decimal(line, head.number);
-    line.try_extend_from_slice(b" at ").unwrap();
-    push_decimal(line, head.start);
-    line.push(b' ');
-    push_digits(line, bytes);
-    line.push(b'\n');
+    text.try_extend_from_slice(name).unwrap();
+    text.push(b' ');
+    push_decimal(text, head.number);
+    text.try_extend_from_slice(b" at ").unwrap();
+    push_decimal(text, head.start);
+    text.push(b' ');
+    push_digits(text, bytes);
+    text.push(b'\n');
+}
+
+/// Adds the line `NAME N at S HEX` to a text on its way to a sink. It is written where it waits.
+pub(crate) fn push_numbered_line<O: Sink>(
+    text: &mut TextBuffer,
+    out: &mut O,
+    name: &[u8],
+    head: Numbered,
+    bytes: &[u8],
+) -> Result<(), Failed>
+    requires name { length name.now ≤ 6 }
+    requires frame { length bytes.now ≤ 292 }
+    ensures ok { OnOk result (AddsText (on_the_way (O.held out.old) (waiting_bytes text.old))
+        (on_the_way (O.held out.new) (waiting_bytes text.new)) (numbered_line name.now
+        (record { number = head.number; start = head.start; frame = bytes.now }))) }
+    ensures err { OnErr result (BreaksOff (on_the_way (O.held out.old) (waiting_bytes text.old))
+        (O.held out.new) (numbered_line name.now
+        (record { number = head.number; start = head.start; frame = bytes.now }))) }
+    ensures cause { HasCause (O.faults out.old) (O.faults out.new) result }
+    ensures flushes { O.flushes out.new ≡ O.flushes out.old }
+{
+    match text.make_room(out, LONGEST_LINE) {
+        Ok(()) => {
+            write_numbered_line(&mut text.text, name, head, bytes);
+            Ok(())
+        }
+        Err(Failed) => Err(Failed),
+    }
 }

@@ -31,7 +31,6 @@ mod tells;
 #[cfg(test)]
 mod tests;
 mod text_buffer;
-mod text_room;
 
 pub use calls::{NoMemory, Plan};
 pub use disk::{OLD_SLOT_LEN, OldSlotBytes, SLOT_LEN, Slot, SlotBytes, SlotDisk};

@@ -1,18 +1,20 @@
 //! A text on its way to a sink, which waits so that short pieces cost no call.
-use crate::text_room::TextRoom;
 use crate::{Failed, Sink, write_all};
+use arrayvec::ArrayVec;
 
 /// A text on its way to a sink: up to 65,536 bytes wait here, so that a short piece costs no call
 /// of the sink.
 ///
-/// After an error the sink has got a front of the text, and the buffer isn't to be used again.
+/// After an error the sink has got a front of the text, and the buffer must not be used again.
 #[derive(Drop)]
 pub struct TextBuffer {
-    text: TextRoom<65536>,
+    /// The bytes that wait. A line is written right behind them, once `make_room` has made room for
+    /// it.
+    pub text: ArrayVec<u8, 65536>,
 }
 
 impl TextBuffer {
-    ghost use Rattle.std.specs.Prelude.{◌≡◌, ℕ, ◌+◌, ◌≤◌, List, [], ◌++◌, length, true, false};
+    ghost use Rattle.std.specs.Prelude.{◌≡◌, ℕ, ◌+◌, ◌≤◌, List, [], ◌++◌, length};
     ghost use Rattle.std.specs.Prelude.{Option, OnOk, OnErr};
     ghost use Rattle.yasir_io.specs.Causes.{HasCause};
     ghost use Rattle.yasir_io.specs.Output.{Buffered, GotPrefix};
@@ -25,20 +27,8 @@ impl TextBuffer {
             → Buffered start start (waiting_bytes result) [] }
     {
         TextBuffer {
-            text: TextRoom::new(),
+            text: ArrayVec::new(),
         }
-    }
-
-    /// Adds a piece where the room left takes it, and returns whether it did; where it did not,
-    /// nothing changes. No sink is called.
-    #[inline]
-    pub fn extend(&mut self, piece: &[u8]) -> bool
-        ensures added { result ≡ true
-            → waiting_bytes self.new ≡ waiting_bytes self.old ++ piece.now }
-        ensures left { result ≡ false → self.new ≡ self.old }
-        ensures fits { length (waiting_bytes self.old) + length piece.now ≤ 65536 → result ≡ true }
-    {
-        self.text.extend(piece)
     }
 
     /// Adds a piece to the text, of any length.
@@ -53,10 +43,10 @@ impl TextBuffer {
         ensures cause { HasCause (S.faults sink.old) (S.faults sink.new) result }
         ensures flushes { S.flushes sink.new ≡ S.flushes sink.old }
     {
-        if self.text.extend(piece) {
-            return Ok(());
+        match self.text.try_extend_from_slice(piece) {
+            Ok(()) => Ok(()),
+            Err(_) => self.push_full(sink, piece),
         }
-        self.push_full(sink, piece)
     }
 
     // A piece that the room left doesn't take: what waits goes to the sink first.
@@ -72,10 +62,32 @@ impl TextBuffer {
         ensures flushes { S.flushes sink.new ≡ S.flushes sink.old }
     {
         self.drain(sink)?;
-        if self.text.extend(piece) {
+        match self.text.try_extend_from_slice(piece) {
+            Ok(()) => Ok(()),
+            Err(_) => write_all(sink, piece),
+        }
+    }
+
+    /// Makes room for this many bytes: where they don't fit, what waits goes to the sink first.
+    #[inline]
+    pub fn make_room<S: Sink>(&mut self, sink: &mut S, count: usize) -> Result<(), Failed>
+        requires { count ≤ 65536 }
+        ensures ok { OnOk result ((start : Option (List ℕ)) (text : List ℕ)
+            → Buffered start (S.held sink.old) (waiting_bytes self.old) text
+            → Buffered start (S.held sink.new) (waiting_bytes self.new) text) }
+        ensures room { OnOk result (length (waiting_bytes self.new) + count ≤ 65536) }
+        ensures fits { length (waiting_bytes self.old) + count ≤ 65536
+            → (self.new ≡ self.old) × (sink.new ≡ sink.old) }
+        ensures err { OnErr result ((start : Option (List ℕ)) (text : List ℕ)
+            → Buffered start (S.held sink.old) (waiting_bytes self.old) text
+            → GotPrefix start (S.held sink.new) text) }
+        ensures cause { HasCause (S.faults sink.old) (S.faults sink.new) result }
+        ensures flushes { S.flushes sink.new ≡ S.flushes sink.old }
+    {
+        if count <= self.text.remaining_capacity() {
             return Ok(());
         }
-        write_all(sink, piece)
+        self.drain(sink)
     }
 
     /// Writes what waits to the sink. A flush is the caller's.
@@ -91,7 +103,7 @@ impl TextBuffer {
         ensures flushes { S.flushes sink.new ≡ S.flushes sink.old }
     {
         write_all(sink, self.text.as_slice())?;
-        self.text.empty();
+        self.text.clear();
         Ok(())
     }
 }

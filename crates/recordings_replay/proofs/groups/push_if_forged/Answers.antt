@@ -4,7 +4,6 @@ use Rattle.yasir_io.specs.TextBuffer.{waiting_bytes}
 use Rattle.link_format.specs.NumberedFrame.{NumberedFrame}
 use Rattle.receiver_laws.specs.Accounted.{is_among}
 use Rattle.receiver_laws.proofs.InTurn.{among-in-place}
-use Rattle.recordings_replay.specs.Listing.{numbered_line}
 use Rattle.recordings_replay.specs.Printing.{AddsText, BreaksOff, on_the_way}
 use Rattle.recordings_replay.proofs.Pushing.{adds-nothing}
 use Rattle.recordings_replay.proofs.groups.push_if_forged.Goals as goal
@@ -32,11 +31,9 @@ returns-in-Ok-clause-ok g c = λ sealed_ones holds turn.
     let none : is_among sealed_ones f ≡ false =
     sym (c.is_at_its_number.ensures sealed_ones f holds refl refl
     ∙ among-in-place 0 sealed_ones f turn) ∙ c.if-is_at_its_number.false in
-    let line : c.as_slice.result.now ≡ numbered_line (codes "forged") f =
-    c.as_slice.ensures.value ∙ c.write_numbered_line.ensures ∙ (search) in
     let a = on_the_way (g.O.Sink.held c.args.out.now) (waiting_bytes c.args.text.now) in
-    let b = on_the_way (g.O.Sink.held c.push.new.sink) (waiting_bytes c.push.new.self) in
-    subst (λ l. AddsText a b l) (line ∙ sym (cond-false _ _ _ none)) c.in-Ok.ensures.ok
+    let b = on_the_way (g.O.Sink.held c.push_numbered_line.new.out) (waiting_bytes c.push_numbered_line.new.text) in
+    subst (λ l. AddsText a b l) (sym (cond-false _ _ _ none)) c.in-Ok.ensures.ok
 
 pub returns-in-Err-clause-err : goal.returns-in-Err-clause-err
 returns-in-Err-clause-err g c = λ sealed_ones holds turn.
@@ -48,8 +45,6 @@ returns-in-Err-clause-err g c = λ sealed_ones holds turn.
     let none : is_among sealed_ones f ≡ false =
     sym (c.is_at_its_number.ensures sealed_ones f holds refl refl
     ∙ among-in-place 0 sealed_ones f turn) ∙ c.if-is_at_its_number.false in
-    let line : c.as_slice.result.now ≡ numbered_line (codes "forged") f =
-    c.as_slice.ensures.value ∙ c.write_numbered_line.ensures ∙ (search) in
     let a = on_the_way (g.O.Sink.held c.args.out.now) (waiting_bytes c.args.text.now) in
-    subst (λ l. BreaksOff a (g.O.Sink.held c.push.new.sink) l)
-    (line ∙ sym (cond-false _ _ _ none)) c.in-Err.ensures.err
+    subst (λ l. BreaksOff a (g.O.Sink.held c.push_numbered_line.new.out) l)
+    (sym (cond-false _ _ _ none)) c.in-Err.ensures.err

@@ -1,4 +1,4 @@
-use Rattle.std.proofs.Common.{◌∙◌, subst, arith}
+use Rattle.std.proofs.Common.{◌∙◌, subst, refl, arith}
 use Rattle.replay_lists.specs.ReplayLists.{kept_reads}
 use Rattle.recordings_replay.specs.Printing.{AddsText, BreaksOff, on_the_way}
 use Rattle.recordings_replay.proofs.Pushing.{kept_read_line, kept-read-lines, item-added}
@@ -9,7 +9,7 @@ use Rattle.recordings_replay.proofs.groups.push_reads.Goals as goal
 pub returns-in_default-clause-err : goal.returns-in_default-clause-err
 returns-in_default-clause-err g c = λ listed holds.
     let first = on_the_way (g.O.Sink.held c.args.out.now) c.args.text.now.text.items in
-    let last = g.O.Sink.held c.push.new.sink in
+    let last = g.O.Sink.held c.push_read_line.new.out in
     subst (BreaksOff first last) (kept-read-lines listed)
     (item-breaks kept_read_line c.args.frames.now c.loop-index.index
     c.len-index-end.result c.head.result c.bytes.result.now c.loop-index-test.true
@@ -17,7 +17,7 @@ returns-in_default-clause-err g c = λ listed holds.
     (λ frames other. c.bytes.ensures.frame frames other) first
     (on_the_way (g.O.Sink.held c.loop-index.out) c.loop-index.text.text.items)
     (kept_reads listed) holds (c.loop-index.invariant.adds (kept_reads listed) holds)
-    c.as_slice.result.now (c.as_slice.ensures.value ∙ c.write_read_line.ensures) last
+    _ refl last
     (λ start text. c.in_default.ensures.err start text))
 
 pub loop-index-preserved : goal.loop-index-preserved
@@ -30,9 +30,8 @@ loop-index-preserved g c = record {
       (λ frames other. c.bytes.ensures.frame frames other)
       (on_the_way (g.O.Sink.held c.args.out.now) c.args.text.now.text.items)
       (on_the_way (g.O.Sink.held c.loop-index.out) c.loop-index.text.text.items)
-      kept holds (c.loop-index.invariant.adds kept holds) c.as_slice.result.now
-      (c.as_slice.ensures.value ∙ c.write_read_line.ensures)
-      (on_the_way (g.O.Sink.held c.push.new.sink) c.push.new.self.text.items)
+      kept holds (c.loop-index.invariant.adds kept holds) _ refl
+      (on_the_way (g.O.Sink.held c.push_read_line.new.out) c.push_read_line.new.text.text.items)
       (λ start text. c.in-Ok.ensures.ok start text);
 }
 

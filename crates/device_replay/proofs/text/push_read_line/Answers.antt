@@ -1,0 +1,16 @@
+use Rattle.std.proofs.Common.{◌++◌, sym, subst}
+use Rattle.yasir_io.specs.Output.{Buffered}
+use Rattle.yasir_io.proofs.OutputLemmas.{more_waits, prefix_of_more}
+use Rattle.device_replay.specs.Lines.{frame_line}
+use Rattle.device_replay.proofs.text.push_read_line.Goals as goal
+
+pub returns-in-Ok-clause-ok : goal.returns-in-Ok-clause-ok
+returns-in-Ok-clause-ok g c = λ held before waits.
+    let line = frame_line (record { start = c.args.start; frame = c.args.bytes.now }) in
+    subst (λ w. Buffered held (g.O.Sink.held c.make_room.new.sink) w (before ++ line))
+    (sym c.write_frame_line.ensures)
+    (more_waits held _ _ before line (c.in-Ok.ensures.ok held before waits))
+
+pub returns-in-Err-clause-err : goal.returns-in-Err-clause-err
+returns-in-Err-clause-err g c = λ held before waits.
+    prefix_of_more held _ before _ (c.in-Err.ensures.err held before waits)
