@@ -61,24 +61,6 @@ impl Intake {
         ensures cause { IsReadCause (S.faults source.old) (S.faults source.new)
             (is_read_answer result) }
     {
-        if !self.pieces.kept().is_empty() {
-            return self.feed_kept();
-        }
-        self.feed_read(source)
-    }
-
-    // Reads from the source, and feeds what was read. It is a function of its own, since few lines
-    // need a read.
-    #[inline(never)]
-    fn feed_read<S: Source>(&mut self, source: &mut S) -> Result<Option<Content>, End>
-        ensures answer { (marks : ℕ) (before : Option (List ℕ)) (text : List ℕ)
-            → HasMet self.old marks before (S.left source.old) text
-            → StepAnswer self.new marks before (S.left source.new) text result }
-        ensures counted { IfOk result (λ next. IfSome next
-            (λ content. self.old.bytes < self.new.bytes)) }
-        ensures cause { IsReadCause (S.faults source.old) (S.faults source.new)
-            (is_read_answer result) }
-    {
         match self.pieces.fill(source) {
             Ok(true) => self.feed_kept(),
             Ok(false) => Ok(None),

@@ -125,6 +125,7 @@ impl Pieces {
 
     /// Reads where nothing is kept. Returns whether a byte is kept then; none is once a read has
     /// returned 0, and from then on always.
+    #[inline(always)]
     pub fn fill<S: Source>(&mut self, source: &mut S) -> Result<bool, Failed>
         // No byte is lost.
         ensures same { to_come self.new (S.left source.new) ≡ to_come self.old (S.left source.old) }
@@ -153,6 +154,28 @@ impl Pieces {
         if !self.kept().is_empty() {
             return Ok(true);
         }
+        match self.read_piece(source) {
+            Ok(some) => Ok(some),
+            Err(Failed) => Err(Failed),
+        }
+    }
+
+    // Reads the next piece. It is a function of its own, since few bytes need a read.
+    #[inline(never)]
+    fn read_piece<S: Source>(&mut self, source: &mut S) -> Result<bool, Failed>
+        requires { length (kept_bytes self.old) ≡ 0 }
+        ensures same { to_come self.new (S.left source.new) ≡ to_come self.old (S.left source.old) }
+        ensures some { result ≡ Ok true → 0 < length (kept_bytes self.new) }
+        ensures still_open { result ≡ Ok true → has_ended self.new ≡ has_ended self.old }
+        ensures err_open { OnErr result (has_ended self.new ≡ has_ended self.old) }
+        ensures err_kept { OnErr result (kept_bytes self.new ≡ []) }
+        ensures end { result ≡ Ok false → (has_ended self.new ≡ true) × (kept_bytes self.new ≡ []) }
+        ensures nothing_left { result ≡ Ok false → has_ended self.old ≡ false
+            → IsAtEnd (S.left source.new) }
+        ensures for_good { has_ended self.old ≡ true
+            → (result ≡ Ok false) × (self.new ≡ self.old) × (source.new ≡ source.old) }
+        ensures cause { HasCause (S.faults source.old) (S.faults source.new) result }
+    {
         if self.ended {
             return Ok(false);
         }

@@ -320,6 +320,8 @@ impl TickReader {
                 return fed;
             }
         }
-        self.feed_rest(bytes)
+        // This answer is taken apart and built anew, so that one of a usual line stays in registers.
+        let FedLine { taken, line } = self.feed_rest(bytes);
+        FedLine { taken, line }
     }
 }
