@@ -7,7 +7,6 @@
  * and hands on what leaves for `playout` later. So a sync of the disk stops no byte that was handed
  * on before it. See docs/LIVE.md for how hold and playout are chosen. */
 #define _GNU_SOURCE
-#include "guard.h"
 #include "journal.h"
 #include <errno.h>
 #include <fcntl.h>
@@ -26,6 +25,9 @@
 typedef int64_t nanos;
 enum { MS = 1000000, ROOM = 1 << 14 };
 
+/* how many frames may wait in the guard */
+enum { WAITING = 4 };
+
 /* Bytes on their way, each with a time: when it came, or when it is to leave. */
 typedef struct { uint8_t byte[ROOM]; nanos at[ROOM]; size_t first, count; uint64_t lost; } queue;
 
@@ -43,7 +45,7 @@ typedef struct {
     int silents;      /* silent ticks behind the last byte taken, 0 where none is */
     nanos last_came;  /* when that byte came */
     int snaps;        /* a gap of about three ticks is taken as three: a trailer follows */
-    guard *spacer;
+    yasir_handle guard; /* a spacer, or none */
     tape took, gave;  /* the line that is taken, and what the box answers */
 } way;
 
@@ -221,9 +223,15 @@ static void note_line(const yasir_answer *a)
 
 static void leave(way *w, int is_byte, uint8_t byte, nanos at)
 {
-    if (w->spacer) {
-        uint16_t spaced = guard_step(w->spacer, is_byte ? byte : YASIR_SILENT);
-        is_byte = spaced != YASIR_SILENT, byte = (uint8_t)spaced;
+    if (w->guard.box) {
+        yasir_spaced spaced;
+        if (yasir_spacer_step(&w->guard, is_byte ? byte : YASIR_SILENT, &spaced) != YASIR_OK) {
+            fprintf(stderr, "bridge: the guard takes no more ticks\n");
+            failed = 1, stopping = 1;
+            return;
+        }
+        if (spaced.is_lost && !opt.quiet) printf("lost at %" PRIu64 "\n", spaced.lost_start), fflush(stdout);
+        is_byte = spaced.is_byte, byte = spaced.byte;
     }
     if (!is_byte) return;
     pthread_mutex_lock(&lock);
@@ -426,7 +434,7 @@ int main(int argc, char **argv)
     device = open_port(opt.device), link = open_port(opt.link);
     outgoing.from = incoming.to = device;
     outgoing.to = incoming.from = link;
-    if (opt.guarded && !(incoming.spacer = guard_new(opt.kind.protocol == YASIR_DNP3, opt.kind.profile == YASIR_Y24 ? 27 : 21))) {
+    if (opt.guarded && yasir_spacer_new(&incoming.guard, opt.kind.protocol, opt.kind.profile, WAITING) != YASIR_OK) {
         fprintf(stderr, "bridge: no memory\n");
         return 4;
     }
@@ -444,6 +452,7 @@ int main(int argc, char **argv)
     fprintf(stderr, "bridge: sealed to number %" PRIu64 ", received to number %" PRIu64 ", slowest sync %.1f ms, "
             "bytes lost for want of room %" PRIu64 "\n", yasir_floor(&outgoing.box), yasir_floor(&incoming.box),
             slowest_sync / 1e6, outgoing.in.lost + outgoing.out.lost + incoming.in.lost + incoming.out.lost);
-    yasir_free(&outgoing.box), yasir_free(&incoming.box), guard_free(incoming.spacer);
+    yasir_free(&outgoing.box), yasir_free(&incoming.box);
+    if (incoming.guard.box) yasir_free(&incoming.guard);
     return failed ? 4 : 0;
 }

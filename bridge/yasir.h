@@ -1,14 +1,16 @@
 /* The boxes of a link for C: transmitter or receiver, of Modbus RTU or DNP3, with either profile,
- * behind one handle. The code behind these functions is written in Rattle and proved (crates
- * yasir_c and any_box); what C owes it is said here and checked by nothing.
+ * behind one handle; and the spacer that stands behind a receiver as a guard. The code behind these
+ * functions is written in Rattle and proved (crates yasir_c, any_box and any_spacer); what C owes it
+ * is said here and checked by nothing.
  *
  * A tick is one byte time of a line: it carries silence or a byte. A box takes one line tick by
  * tick and answers the other one, tick by tick.
  *
  * What the caller owes
- *  - A handle is {0} before yasir_new and after yasir_free; between them it holds a box. yasir_new
- *    takes a handle that holds none, every other function one that holds a box.
- *  - A handle is never copied while it holds a box, and is given to one call at a time.
+ *  - A handle is {0} before yasir_new or yasir_spacer_new and after yasir_free; between them it
+ *    holds a box, or a spacer. These two take a handle that holds nothing, yasir_spacer_step one that
+ *    holds a spacer, yasir_free one that holds either, every other function one that holds a box.
+ *  - A handle is never copied while it holds something, and is given to one call at a time.
  *  - Each pointer points to as many bytes as the length beside it says, which nothing else uses
  *    during the call.
  *  - malloc and free are the C library's. No call is made from a signal handler, or in the forked
@@ -28,7 +30,7 @@
 extern "C" {
 #endif
 
-/* A box, or none. */
+/* A box, a spacer, or neither. */
 typedef struct { void *box; } yasir_handle;
 
 enum { YASIR_SLOT_LEN = 24, YASIR_RUN_LEN = 64 };
@@ -104,12 +106,32 @@ size_t yasir_take_silence(yasir_handle *handle, uint32_t ticks, uint8_t *left, s
 /* The last number that the box used. */
 uint64_t yasir_floor(yasir_handle *handle);
 
-/* Lets the box go. The handle then holds none. */
+/* Lets the box go, or the spacer. The handle then holds nothing. */
 void yasir_free(yasir_handle *handle);
 
 /* The bytes of slot A of a new journal of this box, which stands at 0: 24 bytes into `slot`. Write
  * and sync them before the first yasir_new, and only where neither slot holds a number. */
 uint8_t yasir_init(const yasir_kind *kind, uint8_t *slot, size_t slot_len);
+
+/* What a step of a spacer answers. */
+typedef struct {
+    uint64_t lost_start; /* the tick of the first byte of the frame that is lost in this step, else 0 */
+    uint8_t is_byte;     /* 1: the tick carries a byte; 0: silence */
+    uint8_t byte;        /* that byte, else 0 */
+    uint8_t is_lost;     /* 1: a frame was read, too many wait, and it is lost */
+    uint8_t unused;      /* 0 */
+} yasir_spaced;
+
+/* Makes a spacer that has taken no tick, with room for `room` frames to wait. It reads a line as a
+ * device of the protocol does, and sends each frame again, whole and at least 21 silent ticks behind
+ * the one before (27 with YASIR_Y24). In DNP3 it is a device to which 18 silent ticks together end a
+ * frame that was begun. It takes all its memory here, 304 bytes for each frame that may wait. The
+ * handle must hold nothing. Unless YASIR_OK is returned it still holds nothing. */
+uint8_t yasir_spacer_new(yasir_handle *handle, uint8_t protocol, uint8_t profile, uint32_t room);
+
+/* Takes the next tick of the line, and answers that of the other line. With any result but YASIR_OK
+ * nothing has changed. */
+uint8_t yasir_spacer_step(yasir_handle *handle, uint16_t tick, yasir_spaced *answer);
 
 #ifdef __cplusplus
 }

@@ -16,7 +16,7 @@ LIBRARY = os.path.join(CRATE, "out", "libyasir_c.a")
 FLAGS = ["-std=gnu11", "-O2", "-Wall", "-Wextra"]
 PROGRAMS = {
     "filter": (["filter.c", "journal.c"], []),
-    "bridge": (["bridge.c", "guard.c", "journal.c"], ["-pthread"]),
+    "bridge": (["bridge.c", "journal.c"], ["-pthread"]),
 }
 
 

@@ -15,7 +15,7 @@ use denote.Struct.Struct.{within}
 use denote.Struct.Owning.{shape}
 use Rattle.std.specs.Prelude.{Option}
 use Rattle.yasir_c.specs.Owning.{handle_owns}
-use Rattle.any_box.specs.declared.held_box.HeldBox.{HeldBox}
+use Rattle.yasir_c.specs.declared.held.Held.{Held}
 use Rattle.yasir_c.specs.contracts.handle.Handle as held
 
 abbrev pub word : Ptr → Val
@@ -37,7 +37,7 @@ module _ {M : Type 1} {𝓤 : Ura M} {𝓛 : Logic 𝓤} {K : Type 0} {Γ : List
       fsplit t $ fpick t (λ vss. fsplit t $ feq_l t (λ ev. fsplit t $ feq_l t (λ ep. drop t $ k
       (subst (λ (ps : List Val). vs ≡ vstruct (of_list (ps ++ [])) ∷ []) ep ev))))
 
-  pub handle_in : K → (p : Ptr) (x : Option HeldBox)
+  pub handle_in : K → (p : Ptr) (x : Option Held)
       → Step K 𝓛 (‵ (held.the_row.own_val (record { at = p; value = x }) (word p ∷ [])) ∷ Γ) G (‵ (handle_owns p x) ∷ Γ) G
   handle_in t p x = step (λ s. nothing t $ feq_i t (List Val) (ptr_val p ∷ []) (ptr_val p ∷ []) refl $ fjoin t $
       feq_i t (List Val) (word p ∷ []) (word p ∷ []) refl $ fjoin t $

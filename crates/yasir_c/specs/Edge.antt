@@ -24,29 +24,36 @@ use Rattle.any_box.specs.declared.kind.Kind.{Kind}
 use Rattle.yasir_c.specs.Answers.{answer_of, commit_bytes, tick_in}
 use Rattle.yasir_c.specs.Kinds.{IsKind, IsNoKind}
 use Rattle.yasir_c.specs.declared.answer.Answer.{Answer}
+use Rattle.yasir_c.specs.declared.held.Held.{Held}
+use Rattle.yasir_c.specs.declared.held.Held.TheVariants.{LineBox}
 use Rattle.yasir_c.specs.declared.kind.KindNumbers.{KindNumbers}
 use Rattle.yasir_c.specs.declared.status.Status.{Status}
 use Rattle.yasir_c.specs.declared.status.Status.TheVariants as Is
 
+-- a handle holds a box or a spacer
+abbrev pub HoldsOne : Option Held → Type 0
+HoldsOne value = (held : Held) × (value ≡ Some held)
+
 -- a handle holds a box
-abbrev pub HoldsBox : Option HeldBox → Type 0
-HoldsBox value = (held : HeldBox) × (value ≡ Some held)
+abbrev pub HoldsBox : Option Held → Type 0
+HoldsBox value = (held : HeldBox) × (value ≡ Some (LineBox held))
 
 -- a handle holds a box that has taken as many ticks as one can take
-abbrev pub HoldsFull : Option HeldBox → Type 0
-HoldsFull value = (held : HeldBox) × (value ≡ Some held) × (ticks_held held ≡ MAX_TICKS)
+abbrev pub HoldsFull : Option Held → Type 0
+HoldsFull value =
+    (held : HeldBox) × (value ≡ Some (LineBox held)) × (ticks_held held ≡ MAX_TICKS)
 
 -- nothing has changed: the box in a handle, and what was to be filled
-pub record IsAsItWas (old new : Option HeldBox) (answer_old answer_new : Answer)
+pub record IsAsItWas (old new : Option Held) (answer_old answer_new : Answer)
     (slot_old slot_new : List ℕ) : Type 0 where
   pub box_is : new ≡ old
   pub answer_is : answer_new ≡ answer_old
   pub slot_is : slot_new ≡ slot_old
 
 -- a box tells the last number that it used, and is as it was
-abbrev pub TellsFloor : Option HeldBox → Option HeldBox → ℕ → Type 0
-TellsFloor old new result =
-    (held : HeldBox) × (old ≡ Some held) × (new ≡ Some held) × (result ≡ floor_held held)
+abbrev pub TellsFloor : Option Held → Option Held → ℕ → Type 0
+TellsFloor old new result = (held : HeldBox) × (old ≡ Some (LineBox held)) × (new ≡ old)
+    × (result ≡ floor_held held)
 
 -- the two slots of a journal that C hands over, the one behind the other
 abbrev pub first_slot : List ℕ → List ℕ
@@ -96,16 +103,16 @@ InitsBy numbers old new Is.Full = ⊥
 module _ (rtu : LineRules Rtu) (dnp : LineRules Dnp) (short : Mac (Hmac Sha1Hasher 20))
     (long : Mac (Hmac Sha256 32)) where
   -- A box begins from both slots of its journal, and the handle holds it.
-  pub record Makes (numbers : KindNumbers) (key slots : List ℕ) (new : Option HeldBox) : Type 0 where
+  pub record Makes (numbers : KindNumbers) (key slots : List ℕ) (new : Option Held) : Type 0 where
     pub held : HeldBox
     pub kind : Kind
     pub dir : Dir
-    pub new_is : new ≡ Some held
+    pub new_is : new ≡ Some (LineBox held)
     pub kind_is : IsKind numbers kind dir
     pub begins : Begins rtu dnp short long kind dir key (first_slot slots) (second_slot slots) held
 
   -- or there is a cause, and the handle holds none
-  abbrev pub MakesBy : KindNumbers → List ℕ → List ℕ → Option HeldBox → Status → Type 0
+  abbrev pub MakesBy : KindNumbers → List ℕ → List ℕ → Option Held → Status → Type 0
   MakesBy numbers key slots new Is.Done = Makes numbers key slots new
   MakesBy numbers key slots new Is.BadArgument =
       (new ≡ None) × (IsNoKind numbers ⊎ (length slots ≢ 2 * SLOT_LEN))
@@ -115,21 +122,21 @@ module _ (rtu : LineRules Rtu) (dnp : LineRules Dnp) (short : Mac (Hmac Sha1Hash
   MakesBy numbers key slots new Is.Full = ⊥
 
   -- The box in a handle has taken a tick, and what C reads is what its step answers.
-  pub record StepsOnce (old new : Option HeldBox) (number : ℕ) (answer : Answer) (slot : List ℕ)
+  pub record StepsOnce (old new : Option Held) (number : ℕ) (answer : Answer) (slot : List ℕ)
       : Type 0 where
     pub before : HeldBox
     pub after : HeldBox
     pub t : Tick
     pub step : HeldStep
-    pub old_is : old ≡ Some before
-    pub new_is : new ≡ Some after
+    pub old_is : old ≡ Some (LineBox before)
+    pub new_is : new ≡ Some (LineBox after)
     pub tick_is : tick_in number ≡ Some t
     pub steps : StepsHeld rtu dnp short long before after t step
     pub answer_is : answer ≡ answer_of step
     pub slot_is : slot ≡ commit_bytes step.commit
 
   -- or there is a cause, and nothing has changed
-  abbrev pub StepsBy : Option HeldBox → Option HeldBox → ℕ → Answer → Answer → List ℕ → List ℕ
+  abbrev pub StepsBy : Option Held → Option Held → ℕ → Answer → Answer → List ℕ → List ℕ
       → Status → Type 0
   StepsBy old new number answer_old answer_new slot_old slot_new Is.Done =
       StepsOnce old new number answer_new slot_new
@@ -143,12 +150,12 @@ module _ (rtu : LineRules Rtu) (dnp : LineRules Dnp) (short : Mac (Hmac Sha1Hash
       IsAsItWas old new answer_old answer_new slot_old slot_new × HoldsFull old
 
   -- The box in a handle has taken the first ticks of a run, and `left` begins with what leaves.
-  pub record TakesAt (old new : Option HeldBox) (run : List Tick) (left : List ℕ)
+  pub record TakesAt (old new : Option Held) (run : List Tick) (left : List ℕ)
       (left_count result : ℕ) : Type 0 where
     pub before : HeldBox
     pub after : HeldBox
-    pub old_is : old ≡ Some before
-    pub new_is : new ≡ Some after
+    pub old_is : old ≡ Some (LineBox before)
+    pub new_is : new ≡ Some (LineBox after)
     pub within : result ≤ length run
     pub room : left_count ≤ length left
     pub takes : TakesHeld rtu dnp short long before after (take result run)

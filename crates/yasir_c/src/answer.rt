@@ -125,7 +125,8 @@ fn commit_number(commit: &Option<Commit>) -> u8
     }
 }
 
-fn tick_bytes(tick: Tick) -> (u8, u8)
+// Whether a tick carries a byte, and that byte.
+pub(crate) fn tick_bytes(tick: Tick) -> (u8, u8)
     ensures { result ≡ tick_bytes tick }
 {
     match tick {

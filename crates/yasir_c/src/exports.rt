@@ -1,16 +1,16 @@
-//! The functions that C calls.
+//! The functions that C calls of a box.
 ghost use Rattle.std.specs.Prelude.{◌≡◌, ◌+◌, ◌≤◌, length, take, drop, Some, None, map};
-ghost use Rattle.any_box.specs.declared.held_box.HeldBox.{HeldBox};
 ghost use Rattle.yasir_ticks.specs.Ticks.{silent};
 ghost use Rattle.yasir_ticks.specs.TickRun.{run_ticks};
 ghost use Rattle.yasir_ticks.specs.declared.tick.Tick.TheVariants.{Byte};
 ghost use Rattle.yasir_c.specs.Answers.{tick_in, commit_bytes};
-ghost use Rattle.yasir_c.specs.Edge.{HoldsBox, MakesBy, StepsBy, TakesAt, TellsFloor, InitsBy};
+ghost use Rattle.yasir_c.specs.Edge.{HoldsOne, HoldsBox, MakesBy, StepsBy, TakesAt, TellsFloor, InitsBy};
 ghost use Rattle.yasir_c.specs.Edge.{why_refused};
 ghost use Rattle.yasir_c.specs.Statuses.{Returns};
 
 use crate::answer::Answer;
-use crate::handle::Handle;
+use crate::handle::{Handle, put_in, taken_out};
+use crate::held::Held;
 use crate::kind::KindNumbers;
 use crate::loose::Loose;
 use crate::status::Status;
@@ -22,7 +22,6 @@ use line_rules::LineRules;
 use rtu_frame::Rtu;
 use sequence_journal::{LoadError, slot_of};
 use std::alloc::Global;
-use std::mem;
 use yasir_io::{SLOT_LEN, SlotBytes};
 use yasir_ticks::{Tick, TickRun};
 
@@ -31,40 +30,6 @@ const SILENT: u16 = 256;
 
 /// How many bytes a run leaves at most.
 const MAX_LEFT: usize = 64;
-
-// Takes what a handle holds, so that it holds none.
-fn handed_out(handle: &mut Handle) -> Handle
-    ensures out { result.value ≡ handle.old.value }
-    ensures none { handle.new.value ≡ None }
-{
-    mem::replace(handle, Handle::empty())
-}
-
-// The box that a handle holds.
-fn opened(alloc: Global, handle: Handle) -> Box<HeldBox, Global>
-    requires { HoldsBox handle.value }
-    ensures { handle.value ≡ Some result.value }
-{
-    handle.into_loose(alloc).into_box()
-}
-
-// Takes the box out of a handle, which then holds none.
-fn taken_out(alloc: Global, handle: &mut Handle) -> Box<HeldBox, Global>
-    requires { HoldsBox handle.old.value }
-    ensures out { handle.old.value ≡ Some result.value }
-    ensures none { handle.new.value ≡ None }
-{
-    opened(alloc, handed_out(handle))
-}
-
-// Puts a box into a handle that holds none.
-fn put_in(handle: &mut Handle, held: Box<HeldBox, Global>)
-    requires { handle.old.value ≡ None }
-    ensures { handle.new.value ≡ Some held.value }
-{
-    let held = Handle::of(Loose::of(held));
-    *handle = held;
-}
 
 fn slot_in(slots: &[u8], first: usize) -> SlotBytes
     requires { first + 24 ≤ length slots.now }
@@ -110,7 +75,7 @@ pub(crate) fn make(
         Ok(held) => held,
         Err(error) => return why_not(&error),
     };
-    let Ok(held) = Box::new(alloc, held) else {
+    let Ok(held) = Box::new(alloc, Held::LineBox(held)) else {
         return Status::NoMemory;
     };
     put_in(handle, held);
@@ -134,7 +99,7 @@ pub extern "C" fn yasir_new(
 }
 
 // A tick by its number.
-fn tick_in(number: u16) -> Option<Tick>
+pub(crate) fn tick_in(number: u16) -> Option<Tick>
     ensures { result ≡ tick_in number }
 {
     if number < SILENT {
@@ -295,10 +260,10 @@ pub extern "C" fn yasir_floor(alloc: Global, handle: &mut Handle) -> u64
     floor
 }
 
-/// Lets the box go.
+/// Lets the box go, or the spacer.
 #[unsafe(no_mangle)]
 pub extern "C" fn yasir_free(alloc: Global, handle: &mut Handle)
-    requires { HoldsBox handle.old.value }
+    requires { HoldsOne handle.old.value }
     ensures { handle.new.value ≡ None }
 {
     let _held = taken_out(alloc, handle);

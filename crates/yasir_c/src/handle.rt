@@ -1,20 +1,21 @@
 //! The handle that C holds.
 ghost use Rattle.std.specs.Prelude.{◌≡◌, Option, Some, None};
-ghost use Rattle.any_box.specs.declared.held_box.HeldBox.{HeldBox};
+ghost use Rattle.yasir_c.specs.declared.held.Held.{Held};
+ghost use Rattle.yasir_c.specs.Edge.{HoldsOne};
 ghost use Rattle.yasir_c.specs.Owning.{handle_owns};
 
+use crate::held::Held;
 use crate::loose::Loose;
-use any_box::HeldBox;
 use std::alloc::Global;
 use std::marker::Model;
-use std::ptr;
+use std::{mem, ptr};
 
-/// A pointer to a box, or to none. C sees no more than the pointer.
+/// A pointer to a box or a spacer, or to none. C sees no more than the pointer.
 #[repr(C)]
 #[derive(Drop)]
 pub struct Handle {
     at: *mut u8,
-    pub ghost value: { Option HeldBox },
+    pub ghost value: { Option Held },
 }
 
 impl Model for Handle {
@@ -22,7 +23,7 @@ impl Model for Handle {
 }
 
 impl Handle {
-    /// A handle that holds no box, whose pointer is null.
+    /// A handle that holds nothing, whose pointer is null.
     pub(crate) fn empty() -> Handle
         ensures { result.value ≡ None }
     {
@@ -31,23 +32,57 @@ impl Handle {
         }
     }
 
-    /// A handle that holds this box.
-    pub(crate) fn of(loose: Loose<HeldBox, Global>) -> Handle
+    /// A handle that holds this.
+    pub(crate) fn of(loose: Loose<Held, Global>) -> Handle
         ensures { result.value ≡ Some loose.value }
     {
         let Loose { at, alloc: _ } = loose;
         Handle { at: at as *mut u8 }
     }
 
-    /// The box that a handle holds.
-    pub(crate) fn into_loose(self, alloc: Global) -> Loose<HeldBox, Global>
-        requires { (held : HeldBox) × (self.value ≡ Some held) }
+    /// What a handle holds.
+    pub(crate) fn into_loose(self, alloc: Global) -> Loose<Held, Global>
+        requires { (held : Held) × (self.value ≡ Some held) }
         ensures { self.value ≡ Some result.value }
     {
         let Handle { at } = self;
         Loose {
-            at: at as *mut HeldBox,
+            at: at as *mut Held,
             alloc,
         }
     }
+}
+
+// Takes what a handle holds, so that it holds none.
+fn handed_out(handle: &mut Handle) -> Handle
+    ensures out { result.value ≡ handle.old.value }
+    ensures none { handle.new.value ≡ None }
+{
+    mem::replace(handle, Handle::empty())
+}
+
+// What a handle holds.
+fn opened(alloc: Global, handle: Handle) -> Box<Held, Global>
+    requires { HoldsOne handle.value }
+    ensures { handle.value ≡ Some result.value }
+{
+    handle.into_loose(alloc).into_box()
+}
+
+/// Takes out what a handle holds, which then holds nothing.
+pub(crate) fn taken_out(alloc: Global, handle: &mut Handle) -> Box<Held, Global>
+    requires { HoldsOne handle.old.value }
+    ensures out { handle.old.value ≡ Some result.value }
+    ensures none { handle.new.value ≡ None }
+{
+    opened(alloc, handed_out(handle))
+}
+
+/// Puts a box or a spacer into a handle that holds nothing.
+pub(crate) fn put_in(handle: &mut Handle, held: Box<Held, Global>)
+    requires { handle.old.value ≡ None }
+    ensures { handle.new.value ≡ Some held.value }
+{
+    let held = Handle::of(Loose::of(held));
+    *handle = held;
 }

@@ -25,7 +25,7 @@ use Rattle.std.specs.declared.alloc.Global.{Global}
 use Rattle.std.specs.Box.Ownership.{box_owns}
 use Rattle.std.specs.contracts.impls.GlobalAllocator.TheImpl.{ghosts}
 use Rattle.yasir_c.proofs.Values.{both, loose_good, loose_out, Loose}
-use Rattle.any_box.specs.contracts.held_box.HeldBox as state
+use Rattle.yasir_c.specs.contracts.held.Held as state
 use Rattle.yasir_c.specs.contracts.handle.Handle.of.{ended, clauses}
 use Rattle.yasir_c.specs.contracts.handle.Handle.of.Key.{name as #self}
 use Rattle.yasir_c.proofs.handle.Handle.of.Statement.{statement}

@@ -1,0 +1,2 @@
+pub mod Spacers
+pub mod Held

@@ -1,0 +1,98 @@
+-- What the functions do that C calls of a spacer.
+use Rattle.std.specs.Prelude.{◌≡◌, ◌≢◌, ℕ, Option, Some, None}
+use Rattle.yasir_ticks.specs.declared.TheConstants.{MAX_TICKS}
+use Rattle.yasir_ticks.specs.declared.tick.Tick.{Tick}
+use Rattle.device_model.specs.declared.device.Device.{Ghosts as Device}
+use Rattle.device_model.specs.declared.rtu.RtuDevice.{RtuDevice}
+use Rattle.line_spacer.specs.declared.spacer.SpaceStep.{SpaceStep}
+use Rattle.dnp_link_frame.specs.declared.dnp.Dnp.{Dnp}
+use Rattle.any_spacer.specs.Held.{spacer_ticks, BeginsSpacer, StepsSpacer}
+use Rattle.any_spacer.specs.declared.any_spacer.SpacerKind.{SpacerKind}
+use Rattle.any_spacer.specs.declared.any_spacer.SpacerKind.TheVariants.{Rtu, RtuWide, Dnp3, Dnp3Wide}
+use Rattle.any_spacer.specs.declared.forgetful.ForgetfulDevice.{ForgetfulDevice}
+use Rattle.any_spacer.specs.declared.held_spacer.HeldSpacer.{HeldSpacer}
+use Rattle.yasir_c.specs.Answers.{tick_bytes, tick_in}
+use Rattle.yasir_c.specs.declared.held.Held.{Held}
+use Rattle.yasir_c.specs.declared.held.Held.TheVariants.{Spacer}
+use Rattle.yasir_c.specs.declared.spaced.Spaced.{Spaced}
+use Rattle.yasir_c.specs.declared.status.Status.{Status}
+use Rattle.yasir_c.specs.declared.status.Status.TheVariants as Is
+
+-- a handle holds a spacer
+abbrev pub HoldsSpacer : Option Held → Type 0
+HoldsSpacer value = (held : HeldSpacer) × (value ≡ Some (Spacer held))
+
+-- a handle holds a spacer that has taken as many ticks as one can take
+abbrev pub HoldsFullSpacer : Option Held → Type 0
+HoldsFullSpacer value =
+    (held : HeldSpacer) × (value ≡ Some (Spacer held)) × (spacer_ticks held ≡ MAX_TICKS)
+
+-- the numbers of a protocol and a profile by which C names a spacer
+abbrev pub spacer_numbers : SpacerKind → ℕ × ℕ
+spacer_numbers Rtu = (1, 18)
+spacer_numbers RtuWide = (1, 24)
+spacer_numbers Dnp3 = (2, 18)
+spacer_numbers Dnp3Wide = (2, 24)
+
+-- these numbers name no spacer
+abbrev pub NamesNoSpacer : ℕ → ℕ → Type 0
+NamesNoSpacer protocol profile = (kind : SpacerKind) → (protocol, profile) ≢ spacer_numbers kind
+
+-- the spacer that these numbers name, or none
+abbrev pub NamesSpacer : ℕ → ℕ → Option SpacerKind → Type 0
+NamesSpacer protocol profile None = NamesNoSpacer protocol profile
+NamesSpacer protocol profile (Some kind) = (protocol, profile) ≡ spacer_numbers kind
+
+-- whether a frame is lost, and the tick of its first byte
+abbrev pub lost_numbers : Option ℕ → ℕ × ℕ
+lost_numbers None = (0, 0)
+lost_numbers (Some start) = (1, start)
+
+-- what C reads of a step
+abbrev pub spaced_of : SpaceStep → Spaced
+spaced_of step = record {
+  lost_start = (lost_numbers step.lost).1;
+  is_byte = (tick_bytes step.tick).0;
+  byte = (tick_bytes step.tick).1;
+  is_lost = (lost_numbers step.lost).0;
+  unused = 0;
+}
+
+-- The devices as which a spacer hears.
+module _ (rtu : Device RtuDevice) (dnp : Device (ForgetfulDevice Dnp)) where
+  -- A spacer begins, and the handle holds it.
+  pub record MakesSpacer (protocol profile room : ℕ) (new : Option Held) : Type 0 where
+    pub held : HeldSpacer
+    pub kind : SpacerKind
+    pub new_is : new ≡ Some (Spacer held)
+    pub kind_is : (protocol, profile) ≡ spacer_numbers kind
+    pub begins : BeginsSpacer rtu dnp kind room held
+
+  -- or there is a cause, and the handle holds none
+  abbrev pub MakesSpacerBy : ℕ → ℕ → ℕ → Option Held → Status → Type 0
+  MakesSpacerBy protocol profile room new Is.Done = MakesSpacer protocol profile room new
+  MakesSpacerBy protocol profile room new Is.BadArgument =
+      (new ≡ None) × NamesNoSpacer protocol profile
+  MakesSpacerBy protocol profile room new Is.NoMemory = new ≡ None
+  MakesSpacerBy protocol profile room new status = ⊥
+
+  -- The spacer in a handle has taken a tick, and what C reads is what its step returns.
+  pub record SpacesOnce (old new : Option Held) (number : ℕ) (answer : Spaced) : Type 0 where
+    pub before : HeldSpacer
+    pub after : HeldSpacer
+    pub t : Tick
+    pub step : SpaceStep
+    pub old_is : old ≡ Some (Spacer before)
+    pub new_is : new ≡ Some (Spacer after)
+    pub tick_is : tick_in number ≡ Some t
+    pub steps : StepsSpacer rtu dnp before after t step
+    pub answer_is : answer ≡ spaced_of step
+
+  -- or there is a cause, and nothing has changed
+  abbrev pub SpacesBy : Option Held → Option Held → ℕ → Spaced → Spaced → Status → Type 0
+  SpacesBy old new number answer_old answer_new Is.Done = SpacesOnce old new number answer_new
+  SpacesBy old new number answer_old answer_new Is.BadArgument =
+      (new ≡ old) × (answer_new ≡ answer_old) × (tick_in number ≡ None)
+  SpacesBy old new number answer_old answer_new Is.Full =
+      (new ≡ old) × (answer_new ≡ answer_old) × HoldsFullSpacer old
+  SpacesBy old new number answer_old answer_new status = ⊥

@@ -1,0 +1,103 @@
+//! The functions that C calls of a spacer.
+ghost use Rattle.std.specs.Prelude.{◌≡◌, None};
+ghost use Rattle.yasir_c.specs.SpacerEdge.{HoldsSpacer, NamesSpacer, MakesSpacerBy, SpacesBy};
+ghost use Rattle.yasir_c.specs.Statuses.{Returns};
+
+use crate::exports::tick_in;
+use crate::handle::{Handle, put_in, taken_out};
+use crate::held::Held;
+use crate::spaced::Spaced;
+use crate::status::Status;
+use any_spacer::{ForgetfulDnp, HeldSpacer, SpacerKind};
+use device_model::{Device, RtuDevice};
+use std::alloc::Global;
+
+// The spacer of a protocol and a profile, by their numbers.
+fn kind_in(protocol: u8, profile: u8) -> Option<SpacerKind>
+    ensures { NamesSpacer protocol profile result }
+{
+    match (protocol, profile) {
+        (1, 18) => Some(SpacerKind::Rtu),
+        (1, 24) => Some(SpacerKind::RtuWide),
+        (2, 18) => Some(SpacerKind::Dnp3),
+        (2, 24) => Some(SpacerKind::Dnp3Wide),
+        _ => None,
+    }
+}
+
+// Makes a spacer, and puts it into a handle that holds nothing.
+pub(crate) fn make_spacer(
+    alloc: Global,
+    handle: &mut Handle,
+    protocol: u8,
+    profile: u8,
+    room: u32,
+) -> Status
+    requires { handle.old.value ≡ None }
+    ensures { MakesSpacerBy ⟦<RtuDevice as Device>⟧ ⟦<ForgetfulDnp as Device>⟧ protocol profile room
+        handle.new.value result }
+{
+    let Some(kind) = kind_in(protocol, profile) else {
+        return Status::BadArgument;
+    };
+    let Ok(spacer) = HeldSpacer::new(alloc, kind, room as usize) else {
+        return Status::NoMemory;
+    };
+    let Ok(held) = Box::new(alloc, Held::Spacer(spacer)) else {
+        return Status::NoMemory;
+    };
+    put_in(handle, held);
+    Status::Done
+}
+
+/// Makes a spacer that has taken no tick, with room for `room` frames to wait.
+#[unsafe(no_mangle)]
+pub extern "C" fn yasir_spacer_new(
+    alloc: Global,
+    handle: &mut Handle,
+    protocol: u8,
+    profile: u8,
+    room: u32,
+) -> u8
+    requires { handle.old.value ≡ None }
+    ensures { Returns (MakesSpacerBy ⟦<RtuDevice as Device>⟧ ⟦<ForgetfulDnp as Device>⟧ protocol
+        profile room handle.new.value) result }
+{
+    make_spacer(alloc, handle, protocol, profile, room).number()
+}
+
+// Takes the next tick by the spacer in a handle.
+pub(crate) fn space(alloc: Global, handle: &mut Handle, tick: u16, answer: &mut Spaced) -> Status
+    requires { HoldsSpacer handle.old.value }
+    ensures holds { HoldsSpacer handle.new.value }
+    ensures steps { SpacesBy ⟦<RtuDevice as Device>⟧ ⟦<ForgetfulDnp as Device>⟧ handle.old.value
+        handle.new.value tick answer.old answer.new result }
+{
+    let Some(tick) = tick_in(tick) else {
+        return Status::BadArgument;
+    };
+    let mut held = taken_out(alloc, handle);
+    let step = held.space(tick);
+    put_in(handle, held);
+    let Some(step) = step else {
+        return Status::Full;
+    };
+    *answer = Spaced::of(&step);
+    Status::Done
+}
+
+/// Takes the next tick by a spacer.
+#[unsafe(no_mangle)]
+pub extern "C" fn yasir_spacer_step(
+    alloc: Global,
+    handle: &mut Handle,
+    tick: u16,
+    answer: &mut Spaced,
+) -> u8
+    requires { HoldsSpacer handle.old.value }
+    ensures holds { HoldsSpacer handle.new.value }
+    ensures steps { Returns (SpacesBy ⟦<RtuDevice as Device>⟧ ⟦<ForgetfulDnp as Device>⟧
+        handle.old.value handle.new.value tick answer.old answer.new) result }
+{
+    space(alloc, handle, tick, answer).number()
+}
