@@ -52,6 +52,7 @@ CHECKS = [
     Check("refused_memory", ("program", "cc"), None, ["PROGRAM"], ["PROGRAM"]),
     Check("guard", ("program", "libmodbus"), None, ["PROGRAM"], ["PROGRAM", "2000", "2"]),
     Check("clib_check", ("program", "library", "cc"), None, ["PROGRAM", "10000"], ["PROGRAM"]),
+    Check("clib_spacer", ("library", "cc"), None, ["2000"], ["20000", "2"]),
     Check("live", ("library", "libmodbus", "mbpoll"), None, None, []),
     Check("live_kinds", ("library", "cc"), None, None, []),
     Check("captures", ("capture", "tshark"), None, [], []),
