@@ -1,5 +1,8 @@
-use Rattle.std.proofs.Common.{arith}
+use Rattle.std.proofs.Common.{◌∙◌, ap, arith}
+use Rattle.std.specs.Prelude.{Some}
 use Rattle.yasir_ticks.specs.TickRun.{run_ticks}
+use Rattle.yasir_c.specs.declared.held.Held.TheVariants.{LineBox}
+use Rattle.yasir_c.proofs.Holding.{taken-is, held-is}
 use Rattle.yasir_c.proofs.NoneTaken.{takes-none}
 use Rattle.yasir_c.proofs.exports.take_run.Goals as goal
 
@@ -14,13 +17,25 @@ returns-then-left-lt-MAX_LEFT-clause-takes c = record {
   takes = takes-none _ _ _ _ c.requires.0 (run_ticks c.args.run) c.args.left.now;
 }
 
+pub take_alike-taken-requires : goal.take_alike-taken-requires
+take_alike-taken-requires c = taken-is LineBox _ _ _ c.taken_out-held.ensures.out
+    c.deref_mut.ensures.value c.requires
+
+pub returns-clause-holds : goal.returns-clause-holds
+returns-clause-holds c =
+    let made = c.take_alike-taken.ensures.takes in
+    (made.after, c.put_in.ensures ∙ ap Some made.new_is)
+
 pub returns-clause-takes : goal.returns-clause-takes
-returns-clause-takes c = record {
-  before = c.taken_out-held.result.value;
-  after = c.take_alike-taken.new.self;
-  old_is = c.taken_out-held.ensures.out;
-  new_is = c.put_in.ensures;
-  within = c.take_alike-taken.ensures.within;
-  room = c.put_left.ensures.within;
-  takes = rw c.put_left.ensures.front (rw c.deref_mut.ensures.value at c.take_alike-taken.ensures.takes);
-}
+returns-clause-takes c =
+    let made = c.take_alike-taken.ensures.takes in
+    record {
+      before = made.before;
+      after = made.after;
+      old_is = held-is LineBox _ _ _ made.before c.taken_out-held.ensures.out
+          c.deref_mut.ensures.value made.old_is;
+      new_is = c.put_in.ensures ∙ ap Some made.new_is;
+      within = c.take_alike-taken.ensures.within;
+      room = c.put_left.ensures.within;
+      takes = rw c.put_left.ensures.front made.takes;
+    }
