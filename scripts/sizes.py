@@ -7,7 +7,7 @@ Counted are lines that are neither blank nor a comment alone:
 
     code          of src/, less the three below
     contracts     clauses (requires, ensures), ghost members and fields, and the imports that these need
-    tests         modules under #[cfg(test)], and the crate replay_tests
+    tests         modules under #[cfg(test)], and the crates of tests
     definitions   of specs/
     proofs        of proofs/
     edits         wrong bodies in must-fail/ (files)
@@ -20,7 +20,7 @@ import collections, glob, os, re, sys
 ROOT = os.path.dirname(os.path.dirname(os.path.abspath(__file__)))
 COLUMNS = ("code", "contracts", "tests", "definitions", "proofs", "edits")
 CLAUSE = re.compile(r"(pub )?(requires|ensures|ghost)\b")
-TESTS = ("replay_tests",)
+TESTS = ("base_tests", "edge_tests", "capture_tests", "box_tests", "replay_tests")
 HEADLINE = os.path.join("link_replay", "specs", "ReplayCommand.antt")
 
 

@@ -28,5 +28,3 @@ pub use kind::{Kind, Part, Profile, Proto};
 pub use laws::writes_keep_the_floor;
 pub use owed::Commit;
 
-#[cfg(test)]
-mod tests;

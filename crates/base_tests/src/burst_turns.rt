@@ -1,5 +1,5 @@
 //! A run of ticks is taken at once, and not tick by tick. No clause says so.
-use crate::BurstCut;
+use frame_ending::BurstCut;
 use line_rules::{FourBytes, Head, LineRules};
 use yasir_ticks::Tick;
 

@@ -2,7 +2,7 @@
 ghost use Rattle.std.specs.Prelude.{◌≡◌, ◌+◌, ◌<◌, ◌≤◌, length};
 ghost use Rattle.frame_ending.specs.Stands.{ticks_taken};
 
-use super::*;
+use frame_ending::{BurstCut, Cut};
 use line_rules::{FourBytes, LineRules};
 use std::alloc::{AllocError, Global};
 use std::test::Fail;

@@ -1,7 +1,9 @@
 //! Tests of DNP3 frames: CRCs, sizes, wrong endings, building and parsing.
 ghost use Rattle.std.specs.Prelude.{◌≤◌, length};
 
-use crate::{Dnp, Header, NotAFrame, TooMuchData, UserBytes, build, dnp_crc, size_of, user_data};
+use dnp_link_frame::{
+    Dnp, Header, NotAFrame, TooMuchData, UserBytes, build, dnp_crc, size_of, user_data,
+};
 use line_rules::{Head, LineRules};
 use std::mem;
 use std::test::Fail;

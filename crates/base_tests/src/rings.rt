@@ -1,6 +1,6 @@
 //! Tests of the delay ring: ticks leave late by its length, and runs give what single ticks give.
-use super::mark_runs::silence_in_front;
-use super::*;
+use delay_ring::DelayRing;
+use delay_ring::mark_runs::silence_in_front;
 use yasir_ticks::Tick;
 
 #[test]

@@ -1,5 +1,5 @@
 //! Tests of HMAC against known answers, over texts that come in pieces.
-use crate::{Digest, Dir, HmacSha1, HmacSha256, Mac, Sha1Hasher, TagBytes};
+use hmac_tag::{Digest, Dir, HmacSha1, HmacSha256, Mac, Sha1Hasher, TagBytes};
 use sha1::Sha1;
 
 // HMAC-SHA-1 by Python's `hmac`: of the text whose byte i is 5 i + 1 (modulo 256), whole with 150

@@ -3,7 +3,7 @@ ghost use Rattle.std.specs.Prelude.{◌≤◌, length, IfOk};
 ghost use Rattle.sequence_journal.specs.declared.numbers.TheConstants.{LIMIT};
 ghost use Rattle.session_audit.specs.Sessions.{IsSession, max_recorded};
 
-use crate::{Dir, Session, Verdict, audit};
+use session_audit::{Dir, Session, Verdict, audit};
 use std::alloc::Global;
 use std::process::Abort;
 use std::test::Fail;

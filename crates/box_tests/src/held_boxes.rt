@@ -1,6 +1,6 @@
 //! Tests of the eight boxes: a packet of each link through its transmitter and its receiver, what
 //! the caller has to write, and slots that hold no journal.
-use super::*;
+use any_box::{AnyNote, Commit, HeldBox, HeldStep, Kind, Part, Profile, Proto};
 use burst_walk::RunBytes;
 use check_receiver::{CheckNote, RefusedWhy};
 use hmac_tag::Dir;

@@ -3,10 +3,10 @@ ghost use Rattle.std.specs.Prelude.{◌≡◌, ◌+◌, ◌≤◌, OnOk};
 ghost use Rattle.sequence_journal.specs.Journal.{journal_link, Fits};
 ghost use Rattle.seal_transmitter.specs.Stands.{direction_of, ticks_taken};
 
-use super::*;
 use hmac_tag::HmacSha1;
 use line_rules::FourBytes;
 use link_box::LinkBox;
+use seal_transmitter::{Dir, RunBytes, Sealer};
 use sequence_journal::{Journal, slot_of};
 use std::alloc::{AllocError, Global};
 use std::test::Fail;

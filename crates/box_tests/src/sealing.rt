@@ -4,12 +4,12 @@ ghost use Rattle.link_box.specs.Links.{link_by};
 ghost use Rattle.sequence_journal.specs.Journal.{journal_link, Fits};
 ghost use Rattle.seal_transmitter.specs.Stands.{direction_of, ticks_taken};
 
-use super::*;
 use dnp_link_frame::Dnp;
 use hmac_tag::{HmacSha1, HmacSha256, Mac};
 use line_rules::{FourBytes, LineRules};
 use link_box::LinkBox;
 use rtu_frame::Rtu;
+use seal_transmitter::{BoxStep, Dir, RoomTelling, SealNote, Sealer, UnsealedWhy};
 use sequence_journal::{Journal, slot_of};
 use std::alloc::Global;
 use std::test::Fail;

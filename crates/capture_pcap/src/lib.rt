@@ -17,8 +17,6 @@ mod body;
 mod fault;
 mod reader;
 mod stage;
-#[cfg(test)]
-mod tests;
 mod words;
 mod writer;
 

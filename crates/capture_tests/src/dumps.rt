@@ -1,6 +1,6 @@
 //! Dumps of bytes, by the frame of a UART.
 
-use super::*;
+use capture_vcd::{Change, DumpWriter, MAX_TICKS, Wires, change_text, dump};
 use line_stamps::Rate;
 use std::alloc::Global;
 use std::process::Abort;

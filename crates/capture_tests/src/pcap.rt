@@ -1,6 +1,8 @@
 //! Files that text2pcap of Wireshark made, and files that are broken.
 
-use super::*;
+use capture_pcap::{
+    BadPcap, FILE_HEADER, LineEvent, MAX_BYTES, PcapFault, PcapReader, Seen, packet_header,
+};
 use line_stamps::{CaptureByte, Way};
 use std::alloc::Global;
 use std::process::Abort;

@@ -1,6 +1,6 @@
 //! Texts that tshark and mbpoll's gateway gave, and texts that are broken.
 
-use super::*;
+use capture_text::{BadText, MAX_BYTES, TextFault, TextReader, line_front};
 use line_stamps::{CaptureByte, Way};
 use std::alloc::Global;
 use std::process::Abort;

@@ -15,8 +15,6 @@ mod digits;
 mod fault;
 mod place;
 mod reader;
-#[cfg(test)]
-mod tests;
 mod writer;
 
 pub use digits::{hex_value, is_digit};

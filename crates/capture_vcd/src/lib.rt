@@ -16,8 +16,6 @@ mod changes;
 mod laws;
 mod levels;
 mod lines;
-#[cfg(test)]
-mod tests;
 mod text;
 mod writer;
 

@@ -10,7 +10,5 @@
 mod delay_ring;
 mod lanes;
 pub mod mark_runs;
-#[cfg(test)]
-mod tests;
 
 pub use delay_ring::{DelayRing, MAX_DELAY, MAX_RUN};

@@ -31,5 +31,3 @@ pub use header::Header;
 pub use parsing::{NotAFrame, UserBytes, user_data};
 pub use size::size_of;
 
-#[cfg(test)]
-mod tests;

@@ -2,7 +2,6 @@
 //! sync.
 ghost use Rattle.std.specs.Io.{ReadsAtMost, WritesAtMost};
 
-use crate::{Failed, FileSlots, FileSource, Lock, Slot, SlotBytes, SlotDisk, SlotFile, Source};
 use std::alloc::{Allocator, Global};
 use std::cell::Cell;
 use std::fs::{Metadata, OpenFile, OpenOptions};
@@ -10,6 +9,7 @@ use std::io::{self, ErrorKind, Read, Seek, SeekFrom, Write};
 use std::process::Abort;
 use std::rt::Files;
 use std::test::Fail;
+use yasir_io::{Failed, FileSlots, FileSource, Lock, Slot, SlotBytes, SlotDisk, SlotFile, Source};
 
 const ROOM: usize = 88;
 

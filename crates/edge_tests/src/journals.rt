@@ -5,11 +5,13 @@ ghost use Rattle.sequence_journal.specs.Links.{IsLink};
 ghost use Rattle.sequence_journal.specs.Slots.{floor_of};
 ghost use Rattle.sequence_journal.specs.Uptimes.{Step, answered, EndsInside, IsIdle, AreUptimes};
 
-use crate::laws::{failed_calls_keep_images, numbers_rise, uptime_ends_at_any_moment};
-use crate::{
+use sequence_journal::laws::{failed_calls_keep_images, numbers_rise, uptime_ends_at_any_moment};
+use sequence_journal::{
     InitError, Journal, LIMIT, LinkId, LoadError, full_number, full_number_wide, link_in,
     number_in, number_in_old, slot_of,
 };
+use std::alloc::Global;
+use std::process::Abort;
 use std::test::Fail;
 use yasir_io::{MemSlots, Plan, Slot, SlotDisk};
 
@@ -148,16 +150,16 @@ fn a_word_stands_for_the_next_number_that_has_it(rt: HostRuntime) {
 type AllBytes = ([u8; 16], [u8; 16], [u8; 24], [u8; 24]);
 
 // A disk with these slots, whose call `fail` fails.
-fn disk_of(rt: &HostRuntime, slots: &AllBytes, fail: u32) -> Result<MemSlots, Fail> {
+fn disk_of(alloc: Global, slots: &AllBytes, fail: u32) -> Result<MemSlots, Fail> {
     let (old_a, old_b, a, b) = *slots;
     let mut plan = Plan::new();
     plan.push(fail);
-    Ok(MemSlots::with_room(rt.alloc(), old_a, old_b, a, b, 16, plan)?)
+    Ok(MemSlots::with_room(alloc, old_a, old_b, a, b, 16, plan)?)
 }
 
 // A disk whose old slots are blank.
-fn new_disk_of(rt: &HostRuntime, a: [u8; 24], b: [u8; 24], fail: u32) -> Result<MemSlots, Fail> {
-    disk_of(rt, &(OLD_BLANK, OLD_BLANK, a, b), fail)
+fn new_disk_of(alloc: Global, a: [u8; 24], b: [u8; 24], fail: u32) -> Result<MemSlots, Fail> {
+    disk_of(alloc, &(OLD_BLANK, OLD_BLANK, a, b), fail)
 }
 
 const OLD_BLANK: [u8; 16] = [0; 16];
@@ -214,7 +216,7 @@ fn the_greater_number_is_the_floor(rt: HostRuntime) -> Result<(), Fail> {
     ];
     for row in &rows {
         let (slots, floor, a, written) = row;
-        let mut disk = disk_of(&rt, slots, 0)?;
+        let mut disk = disk_of(rt.alloc(), slots, 0)?;
         let mut journal = Journal::load(&mut disk, &RTU_AB)?;
         assert_eq!(rt; journal.floor(), *floor);
         assert!(rt; !journal.broken());
@@ -246,84 +248,122 @@ fn other_disks_are_refused(rt: HostRuntime) -> Result<(), Fail> {
     ];
     for row in &rows {
         let (slots, why) = row;
-        let mut disk = disk_of(&rt, slots, 0)?;
+        let mut disk = disk_of(rt.alloc(), slots, 0)?;
         assert!(rt; Journal::load(&mut disk, &RTU_AB).err() == Some(*why));
         assert!(rt; slots_of(&disk) == *slots);
     }
     Ok(())
 }
 
+// Which call fails, whether the commit is done, slot B then, and the floor that a later run loads.
+type CommitRow = (u32, bool, [u8; 24], u64);
+
+// Number 6 is committed behind 5.
+fn commit_keeps_the_floor(rt: &impl Abort, alloc: Global, row: &CommitRow) -> Result<(), Fail> {
+    let (fail, done, b, later) = row;
+    let mut disk = new_disk_of(alloc, own(5), ONES, *fail)?;
+    let mut journal = Journal::load(&mut disk, &RTU_AB)?;
+    assert!(rt; journal.floor() < 6);
+    assert_eq!(rt; journal.commit(&mut disk, 6).is_ok(), *done);
+    assert_eq!(rt; journal.broken(), !*done);
+    assert_eq!(rt; journal.floor(), if *done { 6 } else { 5 });
+    assert_eq!(rt; disk.slot(Slot::A), own(5));
+    assert_eq!(rt; disk.slot(Slot::B), *b);
+    let mut again = new_disk_of(alloc, disk.slot(Slot::A), disk.slot(Slot::B), 0)?;
+    assert_eq!(rt; Journal::load(&mut again, &RTU_AB)?.floor(), *later);
+    Ok(())
+}
+
+// Nothing is loaded where call `fail` fails.
+fn load_fails(rt: &impl Abort, alloc: Global, fail: u32) -> Result<(), Fail> {
+    let mut disk = new_disk_of(alloc, own(5), ONES, fail)?;
+    assert!(rt; matches!(Journal::load(&mut disk, &RTU_AB), Err(LoadError::Fault)));
+    Ok(())
+}
+
 #[test]
 fn a_fault_of_a_commit_keeps_the_floor(rt: HostRuntime) -> Result<(), Fail> {
-    // Call 5 is the write and call 6 the sync; slot B then, and the floor that a later run loads.
-    let rows: [(u32, bool, [u8; 24], u64); 3] = [
+    // Call 5 is the write and call 6 the sync.
+    let rows: [CommitRow; 3] = [
         (5, false, ONES, 5),
         (6, false, own(6), 6),
         (7, true, own(6), 6),
     ];
-    for (fail, done, b, later) in rows {
-        let mut disk = new_disk_of(&rt, own(5), ONES, fail)?;
-        let mut journal = Journal::load(&mut disk, &RTU_AB)?;
-        assert!(rt; journal.floor() < 6);
-        assert_eq!(rt; journal.commit(&mut disk, 6).is_ok(), done);
-        assert_eq!(rt; journal.broken(), !done);
-        assert_eq!(rt; journal.floor(), if done { 6 } else { 5 });
-        assert_eq!(rt; disk.slot(Slot::A), own(5));
-        assert_eq!(rt; disk.slot(Slot::B), b);
-        let mut again = new_disk_of(&rt, disk.slot(Slot::A), disk.slot(Slot::B), 0)?;
-        assert_eq!(rt; Journal::load(&mut again, &RTU_AB)?.floor(), later);
+    for row in &rows {
+        commit_keeps_the_floor(&rt, rt.alloc(), row)?;
     }
     for fail in 1..5 {
-        let mut disk = new_disk_of(&rt, own(5), ONES, fail)?;
-        assert!(rt; matches!(Journal::load(&mut disk, &RTU_AB), Err(LoadError::Fault)));
+        load_fails(&rt, rt.alloc(), fail)?;
     }
+    Ok(())
+}
+
+// Call `fail` fails while number 5 of an old slot is taken over, and slot A is this one then.
+fn taking_over_keeps_the_floor(
+    rt: &impl Abort,
+    alloc: Global,
+    fail: u32,
+    a: &[u8; 24],
+) -> Result<(), Fail> {
+    let mut disk = disk_of(alloc, &(old(5), OLD_ONES, BLANK, BLANK), fail)?;
+    assert!(rt; matches!(Journal::load(&mut disk, &RTU_AB), Err(LoadError::Fault)));
+    assert!(rt; slots_of(&disk) == (old(5), OLD_ONES, *a, BLANK));
+    assert_eq!(rt; Journal::load(&mut disk, &RTU_AB)?.floor(), 5);
     Ok(())
 }
 
 #[test]
 fn a_fault_of_a_taking_over_keeps_the_floor(rt: HostRuntime) -> Result<(), Fail> {
-    // Call 5 is the write and call 6 the sync; slot A then.
-    for (fail, a) in [(5, BLANK), (6, own(5))] {
-        let mut disk = disk_of(&rt, &(old(5), OLD_ONES, BLANK, BLANK), fail)?;
-        assert!(rt; matches!(Journal::load(&mut disk, &RTU_AB), Err(LoadError::Fault)));
-        assert!(rt; slots_of(&disk) == (old(5), OLD_ONES, a, BLANK));
-        assert_eq!(rt; Journal::load(&mut disk, &RTU_AB)?.floor(), 5);
-    }
+    // Call 5 is the write and call 6 the sync.
+    taking_over_keeps_the_floor(&rt, rt.alloc(), 5, &BLANK)?;
+    taking_over_keeps_the_floor(&rt, rt.alloc(), 6, &own(5))?;
     // A slot that a crash tore: it holds nothing, or reads as another link's.
-    let mut torn = disk_of(&rt, &(old(5), OLD_ONES, ONES, BLANK), 0)?;
+    let mut torn = disk_of(rt.alloc(), &(old(5), OLD_ONES, ONES, BLANK), 0)?;
     assert_eq!(rt; Journal::load(&mut torn, &RTU_AB)?.floor(), 5);
-    let mut torn = disk_of(&rt, &(old(5), OLD_ONES, another(9), BLANK), 0)?;
+    let mut torn = disk_of(rt.alloc(), &(old(5), OLD_ONES, another(9), BLANK), 0)?;
     let why = LoadError::WrongLink { slot: another(9) };
     assert!(rt; Journal::load(&mut torn, &RTU_AB).err() == Some(why));
     Ok(())
 }
 
+// Slots with a number for whatever link are no new disk, and stay.
+fn numbers_stay(rt: &impl Abort, alloc: Global, slots: &AllBytes, floor: u64) -> Result<(), Fail> {
+    let mut disk = disk_of(alloc, slots, 0)?;
+    let stands = InitError::Stands { floor };
+    assert!(rt; Journal::init(&mut disk, &RTU_AB).err() == Some(stands));
+    assert!(rt; slots_of(&disk) == *slots);
+    Ok(())
+}
+
+// Call `fail` fails, and slot A is this one then.
+fn init_fails(rt: &impl Abort, alloc: Global, fail: u32, a: &[u8; 24]) -> Result<(), Fail> {
+    let mut disk = new_disk_of(alloc, BLANK, BLANK, fail)?;
+    assert!(rt; matches!(Journal::init(&mut disk, &RTU_AB), Err(InitError::Fault)));
+    assert_eq!(rt; disk.slot(Slot::A), *a);
+    assert_eq!(rt; disk.slot(Slot::B), BLANK);
+    Ok(())
+}
+
 #[test]
 fn a_new_journal_stands_at_zero(rt: HostRuntime) -> Result<(), Fail> {
-    let mut disk = disk_of(&rt, &(OLD_ONES, OLD_BLANK, ONES, ONES), 0)?;
+    let mut disk = disk_of(rt.alloc(), &(OLD_ONES, OLD_BLANK, ONES, ONES), 0)?;
     assert_eq!(rt; Journal::init(&mut disk, &RTU_AB)?.floor(), 0);
     assert!(rt; slots_of(&disk) == (OLD_ONES, OLD_BLANK, own(0), ONES));
-    // The greatest number is there, for whatever link.
-    let rows: [(AllBytes, u64); 4] = [
-        (slots_of(&disk), 0),
-        ((OLD_BLANK, OLD_BLANK, own(5), another(6)), 6),
-        ((OLD_BLANK, old(4), BLANK, BLANK), 4),
-        ((old(7), OLD_BLANK, BLANK, own(5)), 7),
-    ];
-    for row in &rows {
-        let (slots, floor) = row;
-        let mut disk = disk_of(&rt, slots, 0)?;
-        let stands = InitError::Stands { floor: *floor };
-        assert!(rt; Journal::init(&mut disk, &RTU_AB).err() == Some(stands));
-        assert!(rt; slots_of(&disk) == *slots);
-    }
-    // Calls 1 to 4 are the reads, 5 the write, 6 the sync; slot A then.
-    for (fail, a) in [(1, BLANK), (4, BLANK), (5, BLANK), (6, own(0))] {
-        let mut disk = new_disk_of(&rt, BLANK, BLANK, fail)?;
-        assert!(rt; matches!(Journal::init(&mut disk, &RTU_AB), Err(InitError::Fault)));
-        assert_eq!(rt; disk.slot(Slot::A), a);
-        assert_eq!(rt; disk.slot(Slot::B), BLANK);
-    }
+    numbers_stay(&rt, rt.alloc(), &slots_of(&disk), 0)?;
+    // The greatest number is there.
+    numbers_stay(
+        &rt,
+        rt.alloc(),
+        &(OLD_BLANK, OLD_BLANK, own(5), another(6)),
+        6,
+    )?;
+    numbers_stay(&rt, rt.alloc(), &(OLD_BLANK, old(4), BLANK, BLANK), 4)?;
+    numbers_stay(&rt, rt.alloc(), &(old(7), OLD_BLANK, BLANK, own(5)), 7)?;
+    // Calls 1 to 4 are the reads, 5 the write, 6 the sync.
+    init_fails(&rt, rt.alloc(), 1, &BLANK)?;
+    init_fails(&rt, rt.alloc(), 4, &BLANK)?;
+    init_fails(&rt, rt.alloc(), 5, &BLANK)?;
+    init_fails(&rt, rt.alloc(), 6, &own(0))?;
     Ok(())
 }
 
@@ -383,8 +423,8 @@ fn answer_twice<D: SlotDisk>(first: &mut D, second: &mut D, link: &LinkId) -> Op
 fn an_uptime_ends_inside_a_commit(rt: HostRuntime) -> Result<(), Fail> {
     // Call 7 is the write of 2 into slot A, where a crash may then leave anything, as this.
     let torn = bytes_of(&[2, 0x01001202_ffffffff, 0xffffffff_feffedfd]);
-    let mut first = new_disk_of(&rt, own(0), BLANK, 7)?;
-    let mut second = new_disk_of(&rt, torn, own(1), 0)?;
+    let mut first = new_disk_of(rt.alloc(), own(0), BLANK, 7)?;
+    let mut second = new_disk_of(rt.alloc(), torn, own(1), 0)?;
     assert_eq!(rt;
         answer_twice(&mut first, &mut second, &RTU_AB),
         Some((1, 2))
@@ -397,9 +437,9 @@ fn an_uptime_ends_inside_a_commit(rt: HostRuntime) -> Result<(), Fail> {
 #[test]
 fn an_uptime_ends_inside_its_load(rt: HostRuntime) -> Result<(), Fail> {
     // Call 5 is the write of 5 into slot A, where a crash may then leave anything.
-    let mut first = disk_of(&rt, &(old(5), OLD_ONES, BLANK, BLANK), 5)?;
+    let mut first = disk_of(rt.alloc(), &(old(5), OLD_ONES, BLANK, BLANK), 5)?;
     answer_none(&mut first, &RTU_AB);
-    let mut second = disk_of(&rt, &(old(5), OLD_ONES, ONES, BLANK), 0)?;
+    let mut second = disk_of(rt.alloc(), &(old(5), OLD_ONES, ONES, BLANK), 0)?;
     assert_eq!(rt; answer_one(&mut second, &RTU_AB), Some(6));
     assert_eq!(rt; second.slot(Slot::B), own(6));
     Ok(())

@@ -1,5 +1,5 @@
 //! Tests of the key's text: right texts, refused texts, and a read that fails.
-use crate::{Key, KeyError, read_key};
+use key_text::{Key, KeyError, read_key};
 use std::alloc::Global;
 use std::process::Abort;
 use std::test::Fail;

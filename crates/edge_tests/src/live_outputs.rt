@@ -1,5 +1,5 @@
 //! What two sinks have got of a note and a text, where a call fails too.
-use crate::{Streams, hand_on};
+use live_port::{Streams, hand_on};
 use std::alloc::Global;
 use std::test::Fail;
 use yasir_io::{MemSink, MemSource, Plan};

@@ -2,16 +2,16 @@
 ghost use Rattle.std.specs.Io.{ReadsAtMost, WritesAtMost};
 ghost use Rattle.std.specs.Prelude.{◌≡◌, take, IfOk};
 
-use crate::{
-    Failed, FileSlots, FileSource, MemSink, MemSlots, MemSource, NoMemory, Pieces, Plan, Sink,
-    Slot, SlotDisk, SlotFile, Source, StdinSource, StdoutSink, SteadySlots, SteadySource,
-    TellsHeld, TellsLeft, TextBuffer, write_all,
-};
 use std::alloc::Global;
 use std::io::{self, Read, Write};
 use std::process::Abort;
 use std::test::Fail;
 use std::{env, fs};
+use yasir_io::{
+    Failed, FileSlots, FileSource, MemSink, MemSlots, MemSource, NoMemory, Pieces, Plan, Sink,
+    Slot, SlotDisk, SlotFile, Source, StdinSource, StdoutSink, SteadySlots, SteadySource,
+    TellsHeld, TellsLeft, TextBuffer, write_all,
+};
 
 // These calls fail; no call is the one of number 0.
 fn plan(calls: [u32; 2]) -> Plan {
@@ -156,16 +156,20 @@ fn a_buffer_writes_a_text_in_order(rt: HostRuntime) -> Result<(), Fail> {
     Ok(())
 }
 
+// The slot has these bytes, beside an old one of zeros.
+fn steady_slot_is(rt: &impl Abort, disk: &mut SteadySlots, slot: Slot, want: &[u8; 24]) {
+    assert_eq!(rt; disk.read_old(slot), Ok([0; 16]));
+    assert_eq!(rt; disk.read_slot(slot), Ok(*want));
+    assert_eq!(rt; disk.slot(slot), *want);
+}
+
 #[test]
 fn steady_slots_hold_what_is_written(rt: HostRuntime) {
     let mut disk = SteadySlots::new([1; 24], [2; 24]);
     assert_eq!(rt; disk.write_slot(Slot::B, &[3; 24]), Ok(()));
     assert_eq!(rt; disk.sync(), Ok(()));
-    for (slot, want) in [(Slot::A, [1; 24]), (Slot::B, [3; 24])] {
-        assert_eq!(rt; disk.read_old(slot), Ok([0; 16]));
-        assert_eq!(rt; disk.read_slot(slot), Ok(want));
-        assert_eq!(rt; disk.slot(slot), want);
-    }
+    steady_slot_is(&rt, &mut disk, Slot::A, &[1; 24]);
+    steady_slot_is(&rt, &mut disk, Slot::B, &[3; 24]);
 }
 
 // What stands outside: it moves a byte or two a call, its second call fails, and it takes six
@@ -328,14 +332,18 @@ fn slots_of(alloc: Global, calls: usize, fail: Plan) -> Result<MemSlots, NoMemor
     MemSlots::with_room(alloc, [5; 16], [6; 16], [1; 24], [2; 24], calls, fail)
 }
 
+// The slot has these bytes, beside these old ones.
+fn slot_is(rt: &impl Abort, disk: &mut MemSlots, slot: Slot, old: &[u8; 16], new: &[u8; 24]) {
+    assert!(rt; disk.read_old(slot) == Ok(*old));
+    assert!(rt; disk.old_slot(slot) == *old);
+    assert!(rt; disk.read_slot(slot) == Ok(*new));
+}
+
 #[test]
 fn slots_in_memory_are_read(rt: HostRuntime) -> Result<(), Fail> {
     let mut disk = slots_of(rt.alloc(), 8, Plan::new())?;
-    for (slot, old, new) in [(Slot::A, [5; 16], [1; 24]), (Slot::B, [6; 16], [2; 24])] {
-        assert!(rt; disk.read_old(slot) == Ok(old));
-        assert!(rt; disk.old_slot(slot) == old);
-        assert!(rt; disk.read_slot(slot) == Ok(new));
-    }
+    slot_is(&rt, &mut disk, Slot::A, &[5; 16], &[1; 24]);
+    slot_is(&rt, &mut disk, Slot::B, &[6; 16], &[2; 24]);
     Ok(())
 }
 

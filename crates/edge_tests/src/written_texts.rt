@@ -1,5 +1,5 @@
 //! Known texts, and how often a sink is written to.
-use crate::{Texts, answer_run, push_run};
+use line_texts::{Texts, answer_run, push_run};
 use std::alloc::Global;
 use std::test::Fail;
 use yasir_io::{Failed, MemSink, Plan, Sink};

@@ -16,7 +16,3 @@ mod cut;
 pub use burst_cut::BurstCut;
 pub use cut::Cut;
 
-#[cfg(test)]
-mod tests;
-#[cfg(test)]
-mod turn_tests;

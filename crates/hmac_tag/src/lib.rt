@@ -16,8 +16,6 @@ mod keyed_hash;
 mod sha1_block;
 mod sha1_hasher;
 mod tag;
-#[cfg(test)]
-mod tests;
 
 pub use dir::Dir;
 pub use hash::Digest;

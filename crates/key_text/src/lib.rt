@@ -6,7 +6,5 @@
 #![tactic(auto)]
 
 mod key_text;
-#[cfg(test)]
-mod tests;
 
 pub use key_text::{Key, KeyError, read_key};

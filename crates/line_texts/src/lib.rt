@@ -14,8 +14,6 @@
 mod line_room;
 mod line_writer;
 mod runs;
-#[cfg(test)]
-mod tests;
 mod texts;
 
 pub use runs::{answer_run, push_run};

@@ -8,8 +8,6 @@ mod receiving;
 mod rooms;
 mod sending;
 mod streams;
-#[cfg(test)]
-mod tests;
 
 pub use lines::{LineReader, ReadBytes};
 pub use port::{Output, Port};

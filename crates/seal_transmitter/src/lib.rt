@@ -22,7 +22,3 @@ pub use rooms::RoomTelling;
 pub use seal_judgements::{SealNote, UnsealedWhy};
 pub use sealer::Sealer;
 
-#[cfg(test)]
-mod run_tests;
-#[cfg(test)]
-mod tests;

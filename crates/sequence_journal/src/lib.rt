@@ -24,5 +24,3 @@ pub use numbers::{
     LIMIT, full_number, full_number_wide, full_with, link_in, number_in, number_in_old, slot_of,
 };
 
-#[cfg(test)]
-mod tests;

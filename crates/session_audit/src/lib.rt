@@ -45,5 +45,3 @@ pub use shown_frames::ShownFrames;
 pub use steady_disk::SteadyDisk;
 pub use verdict::Verdict;
 
-#[cfg(test)]
-mod tests;

@@ -15,8 +15,6 @@ mod calls;
 mod disk;
 mod edge;
 mod faults;
-#[cfg(test)]
-mod file_tests;
 mod files;
 mod flushes;
 mod lock;
@@ -28,8 +26,6 @@ mod sink;
 mod source;
 mod steady;
 mod tells;
-#[cfg(test)]
-mod tests;
 mod text_buffer;
 
 pub use calls::{NoMemory, Plan};

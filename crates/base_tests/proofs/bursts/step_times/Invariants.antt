@@ -1,6 +1,6 @@
 use Rattle.std.proofs.Common.{◌≡◌, ◌+◌}
 use Rattle.frame_ending.specs.Stands.{ticks_taken}
-use Rattle.frame_ending.proofs.tests.step_times.Given as goal
+use Rattle.base_tests.proofs.bursts.step_times.Given as goal
 
 abbrev pub invariant-loop-taken : goal.invariant-loop-taken
 invariant-loop-taken l = ticks_taken l.cut ≡ ticks_taken l.fn.cut + l.taken

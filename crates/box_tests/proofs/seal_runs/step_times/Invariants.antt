@@ -1,7 +1,7 @@
 use Rattle.std.proofs.Common.{◌≡◌, ◌+◌}
 use Rattle.sequence_journal.specs.Journal.{journal_link, Fits}
 use Rattle.seal_transmitter.specs.Stands.{direction_of, ticks_taken}
-use Rattle.seal_transmitter.proofs.run_tests.step_times.Given as goal
+use Rattle.box_tests.proofs.seal_runs.step_times.Given as goal
 
 abbrev pub invariant-loop-taken : goal.invariant-loop-taken
 invariant-loop-taken g l = (ticks_taken l.sealer ≡ ticks_taken l.initial.sealer + l.taken)

@@ -2,7 +2,7 @@ use Rattle.std.proofs.Common.{◌≡◌}
 use Rattle.link_box.specs.Links.{link_by}
 use Rattle.sequence_journal.specs.Journal.{journal_link, Fits}
 use Rattle.seal_transmitter.specs.Stands.{direction_of, ticks_taken}
-use Rattle.seal_transmitter.proofs.tests.steps.Given as goal
+use Rattle.box_tests.proofs.sealing.steps.Given as goal
 
 abbrev pub invariant-loop-letter : goal.invariant-loop-letter
 invariant-loop-letter g l = (ticks_taken l.sealer ≡ l.letter-index)

@@ -4,7 +4,7 @@ use Rattle.sequence_journal.specs.Journal.{journal_link, journal_floor}
 use Rattle.sequence_journal.specs.Slots.{floor_of}
 use Rattle.sequence_journal.specs.Uptimes.{Step, IsStep, numbers_answered}
 use Rattle.sequence_journal.proofs.SlotLemmas.{at_some}
-use Rattle.sequence_journal.proofs.tests.answer_one.Goals as goal
+use Rattle.edge_tests.proofs.journals.answer_one.Goals as goal
 
 pub returns-clause-ends : goal.returns-clause-ends
 returns-clause-ends g c begins floor told is synced =

@@ -5,7 +5,7 @@ use Rattle.sequence_journal.specs.declared.link.LinkId.{LinkId}
 use Rattle.sequence_journal.specs.Slots.{floor_of}
 use Rattle.sequence_journal.specs.Uptimes.{Step, answered, EndsInside, IsUptime, last_from}
 use Rattle.sequence_journal.proofs.UptimeLaws.{ends-inside, next_floor}
-use Rattle.sequence_journal.proofs.tests.answer_twice.Goals as goal
+use Rattle.edge_tests.proofs.journals.answer_twice.Goals as goal
 
 answered-one : {D : Type 0} (d : SlotDisk D) (link : LinkId) (begins : Slots) (floor n : ℕ)
     (loaded : D) (done : List (Step D)) (image : Slots) → floor_of link begins ≡ Some floor
