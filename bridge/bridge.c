@@ -45,6 +45,7 @@ typedef struct {
     int silents;      /* silent ticks behind the last byte taken, 0 where none is */
     nanos last_came;  /* when that byte came */
     int snaps;        /* a gap of about three ticks is taken as three: a trailer follows */
+    int snapped;      /* one of this burst was: a packet has no other, so a further one is jitter */
     yasir_handle guard; /* a spacer, or none */
     tape took, gave;  /* the line that is taken, and what the box answers */
 } way;
@@ -189,12 +190,13 @@ static uint16_t next_tick(way *w, nanos at)
     pthread_mutex_lock(&lock);
     if (w->in.count > 0) {
         nanos came = w->in.at[w->in.first], gap = came - w->last_came;
-        int take;
-        if (w->silents <= 1 && gap <= tick_len + tick_len * 3 / 4) take = 1;
-        else if (w->snaps && gap > tick_len + tick_len * 3 / 4 && gap <= tick_len * 13 / 2)
-            take = w->silents >= 3;
+        int take, late = gap > tick_len + tick_len * 3 / 4;
+        int pause = w->snaps && late && gap <= tick_len * 13 / 2;
+        if (w->silents <= 1 && (!late || (pause && w->snapped))) take = 1;
+        else if (pause && !w->snapped) take = w->silents >= 3;
         else take = at >= came;
         if (take) {
+            if (pause) w->snapped = 1;
             tick = w->in.byte[w->in.first];
             w->last_came = came;
             drop_first(&w->in);
@@ -202,6 +204,7 @@ static uint16_t next_tick(way *w, nanos at)
     }
     pthread_mutex_unlock(&lock);
     w->silents = tick == YASIR_SILENT ? w->silents + (w->silents < 1000000) : 0;
+    if (w->silents > 3) w->snapped = 0;
     return tick;
 }
 

@@ -8,7 +8,7 @@ bridge, an attacker, a bridge, a device, over pseudo-terminals, with the guard o
 a request has, and acts on them at once. In a first session nobody attacks, and in a second one over the same journals ten sorts of
 things are done to the requests.
 
-The exit status is 0 only if each poll without an attack was answered (it may be tried ten times: a byte that this machine hands on too
+The exit status is 0 only if each poll without an attack was answered (it may be tried 25 times: a byte that this machine hands on too
 late breaks its frame), each sort of attack was done, all bytes that the device got are requests of the master, whole, in order and each
 at most once, and the journals' numbers are those of what was sealed and passed; 2 where something isn't installed. It is no part of the gate.
 """
@@ -19,7 +19,7 @@ from live_line import SORTS, Bridges, link_of, make_key
 from model import Dnp3, Rtu
 
 KINDS, RATES = ("rtu", "dnp3", "rtu24", "dnp24"), (9600, 115200)
-POLLS, TRIES, PATIENCE = 8, 10, 1.0
+POLLS, TRIES, PATIENCE = 8, 25, 0.8
 TARGET, EVIL = 5, 666
 
 
@@ -91,8 +91,9 @@ def tried(program, kind, baud):
         session = Session(program, folder, link, [], True, 1)
         begun, tries = time.monotonic(), [session.surely(1000 + number) for number in range(POLLS)]
         seconds = time.monotonic() - begun
-        old = list(session.attacker.seen["ab"])
-        see(session.end() == [0, 0], "a bridge ended with another status than 0")
+        old, statuses = list(session.attacker.seen["ab"]), session.end()
+        stood = {kept: number for kept, number, _, _ in session.numbers()}
+        see(statuses == [0, 0], "a bridge ended with another status than 0")
         see(None not in tries, "of the polls without an attack some were never answered: %s" % tries)
         see(session.device_got_requests_alone(), "the device got other bytes than requests: %s" % session.given.hex())
         if not old:
@@ -110,6 +111,7 @@ def tried(program, kind, baud):
         see(len(done) == len(SORTS), "some attack wasn't done: %s" % dict(done))
         see(session.device_got_requests_alone(), "the device got other bytes than requests: %s" % session.given.hex())
         for kept, number, word, noted in session.numbers():
+            noted = stood[kept] if noted is None else noted
             see(number == noted, "journal %s stands at %s, the last number that was %s is %s" % (kept, number, word, noted))
         counted = sum(each or TRIES for each in tries)
         print("%-5s %6d baud: %d polls without an attack took %d tries and %.0f ms each; under attack %d of %d were answered%s"

@@ -174,7 +174,8 @@ class Bridges:
         return statuses
 
     def numbers(self):
-        """Of each of the four journals its name, its number, what was done with that, and the last number that the notes have."""
+        """Of each of the four journals its name, its number, what was done with that, and the last number that the notes have; None
+        where they have none."""
         found = []
         for end, word, kept in (("a", "sealed", "a.sent"), ("b", "passed", "b.got"), ("b", "sealed", "b.sent"), ("a", "passed", "a.got")):
             found.append((kept, number_in(os.path.join(self.folder, kept)), word, last_number(self.text(end), word)))
