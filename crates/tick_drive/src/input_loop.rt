@@ -72,9 +72,10 @@ fn give<C: Consumer>(content: Content, bytes: &[u8], consumer: &mut C) -> Result
     }
 }
 
-// Hands one line to the consumer, unless its ticks with those before are too many. Returns the sum.
+// Hands a line of this content to the consumer, unless its ticks with those before are too many.
+// Returns the sum.
 #[inline(always)]
-fn hand_over<C: Consumer>(
+fn hand_content<C: Consumer>(
     ticks: u32,
     content: Content,
     bytes: &[u8],
@@ -97,6 +98,30 @@ fn hand_over<C: Consumer>(
     match give(content, bytes, consumer) {
         Ok(()) => Ok(sum as u32),
         Err(stop) => Err(End::Stopped(stop)),
+    }
+}
+
+// Hands one line to the consumer, unless its ticks with those before are too many. Returns the sum.
+// Each kind of line is compiled for itself, so that it is looked at once.
+#[inline(always)]
+fn hand_over<C: Consumer>(
+    ticks: u32,
+    content: Content,
+    bytes: &[u8],
+    consumer: &mut C,
+) -> Result<u32, End>
+    requires within { ticks ≤ max_ticks }
+    requires short { length bytes.now ≤ 32 }
+    requires room { C.meaning.taken consumer.old + max_ticks ≤ MAX_TICKS + ticks }
+    requires able { C.meaning.able consumer.old }
+    ensures { HandAnswer C.meaning consumer.old consumer.new ticks
+        (items_of_content content bytes.now) result }
+{
+    match content {
+        Content::NoTick => hand_content(ticks, Content::NoTick, bytes, consumer),
+        Content::KeptBytes => hand_content(ticks, Content::KeptBytes, bytes, consumer),
+        Content::SilentTicks(n) => hand_content(ticks, Content::SilentTicks(n), bytes, consumer),
+        Content::OneMark => hand_content(ticks, Content::OneMark, bytes, consumer),
     }
 }
 
