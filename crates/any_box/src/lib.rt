@@ -27,4 +27,3 @@ pub use held_box::{Full, HeldBox, HeldStep};
 pub use kind::{Kind, Part, Profile, Proto};
 pub use laws::writes_keep_the_floor;
 pub use owed::Commit;
-

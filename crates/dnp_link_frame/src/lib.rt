@@ -30,4 +30,3 @@ pub use dnp::Dnp;
 pub use header::Header;
 pub use parsing::{NotAFrame, UserBytes, user_data};
 pub use size::size_of;
-

@@ -15,4 +15,3 @@ mod cut;
 
 pub use burst_cut::BurstCut;
 pub use cut::Cut;
-

@@ -21,4 +21,3 @@ pub use laws::{longer_lines, steps_are_of_an_uptime};
 pub use rooms::RoomTelling;
 pub use seal_judgements::{SealNote, UnsealedWhy};
 pub use sealer::Sealer;
-

@@ -23,4 +23,3 @@ pub use link::LinkId;
 pub use numbers::{
     LIMIT, full_number, full_number_wide, full_with, link_in, number_in, number_in_old, slot_of,
 };
-

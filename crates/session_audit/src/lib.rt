@@ -44,4 +44,3 @@ pub use session::Session;
 pub use shown_frames::ShownFrames;
 pub use steady_disk::SteadyDisk;
 pub use verdict::Verdict;
-

@@ -104,7 +104,11 @@ impl<R: LineRules> Outlet<R> {
         if self.owed > 0 {
             return Some(0);
         }
-        if self.refused.ends_right() { Some(1) } else { Some(0) }
+        if self.refused.ends_right() {
+            Some(1)
+        } else {
+            Some(0)
+        }
     }
 
     /// Whether bytes of a fill are still to leave.

@@ -69,7 +69,7 @@ returns-clause-run g c = λ last setup line stands waits keeps.
     (subst Len size
     (follow-taken g.R.LineRules g.M.Mac old last setup line stands c.go_on_some-taken.new.self
     c.pass_bytes.new.self count items g.row.D E (omega arith)
-    c.alike_along-count.ensures.alike 
+    c.alike_along-count.ensures.alike
     entering c.update.new.self waits (omega arith) (omega arith) along
     keeps-entering
     (c.go_on_some-taken.ensures.stands line stands.cuts)

@@ -23,7 +23,7 @@ returns-clause-run g c = λ last setup line stands.
     let some = c.requires.some in
     flow-counted g.R.LineRules g.M.Mac old last setup line stands c.wait_some.new.self
     c.pass_silence.new.self n c.lend.new.left.items (old.until - n)
-    (omega arith) c.front_alike-count.ensures.alike 
+    (omega arith) c.front_alike-count.ensures.alike
     (silent n) n (length-replicate n Silent) c.requires.rests c.requires.unowed (omega arith)
     (omega arith) (c.wait_some.ensures.stands line stands.cuts)
     (silence-begin_none g.R.LineRules.rules n line) c.lend.ensures c.pass_silence.ensures
