@@ -32,7 +32,7 @@ seen_data start None first bytes = []
 abbrev pub seen_event : ℕ → ℕ → ℕ → Option Way → Option Seen
 seen_event start event bytes (Some way) = None
 seen_event start event bytes None =
-    Some (Event (record { start = start; event = event; bytes = bytes }))
+    Some (Event (record { way = None; start = start; event = event; bytes = bytes }))
 
 -- what a record of this time is: the bytes of the line, or an event
 abbrev pub seen_of : ℕ → ℕ → List ℕ → List Seen

@@ -50,6 +50,7 @@ fn behind_event(start: u64, left: u32, event: u8) -> Next
         Some(_) => (data, None),
         None => {
             let seen = LineEvent {
+                way: None,
                 start,
                 event,
                 bytes: left,

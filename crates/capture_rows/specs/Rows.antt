@@ -47,7 +47,8 @@ without_return line =
 abbrev pub seen_at : ℕ → Way → What → Seen
 seen_at time on_way (Byte value) =
     SeenByte (record { way = on_way; start = time; first = true; byte = value })
-seen_at time on_way (Event number) = SeenEvent (record { start = time; event = number; bytes = 0 })
+seen_at time on_way (Event number) =
+    SeenEvent (record { way = Some on_way; start = time; event = number; bytes = 0 })
 
 abbrev pub seen_of : Way → RowItem → Seen
 seen_of on_way item = seen_at item.start on_way item.what

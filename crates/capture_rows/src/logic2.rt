@@ -1,5 +1,5 @@
 //! The table that Saleae Logic 2 exports of its Async Serial analyzers.
-ghost use Rattle.std.specs.Prelude.{◌≡◌};
+ghost use Rattle.std.specs.Prelude.{◌≡◌, false};
 ghost use Rattle.capture_rows.specs.Logic2.{logic2_field, is_heading, byte_in, what_in, data_row, timed_row};
 ghost use Rattle.capture_rows.specs.Logic2.{row_time, data_text, row_what, logic2_row, logic2_name};
 
@@ -148,6 +148,8 @@ impl RowForm for Logic2 {
 
     ghost name_of = { logic2_name };
 
+    ghost error_follows = { false };
+
     fn form() -> Logic2 {
         Logic2 {}
     }
@@ -170,5 +172,9 @@ impl RowForm for Logic2 {
 
     fn name<'t>(&self, line: &'t [u8]) -> &'t [u8] {
         field(line)
+    }
+
+    fn errors_follow() -> bool {
+        false
     }
 }

@@ -46,7 +46,7 @@ pub struct Row {
 
 /// A form of exports that have a row a line.
 pub trait RowForm: Drop {
-    ghost use Rattle.std.specs.Prelude.{◌≡◌, ℕ, List, Result};
+    ghost use Rattle.std.specs.Prelude.{◌≡◌, ℕ, List, Result, Bool};
     ghost use Rattle.capture_rows.specs.declared.fault.RowFault.{RowFault};
     ghost use Rattle.capture_rows.specs.declared.row.Row.{Row};
     ghost use Rattle.capture_rows.specs.declared.row.Stage.{Stage};
@@ -57,6 +57,10 @@ pub trait RowForm: Drop {
     // The name of a row's channel.
     ghost name_of: { List ℕ → List ℕ };
 
+    // Whether the row of an error follows the row of the byte that it tells of. Else it is in the
+    // place of that row.
+    ghost error_follows: { Bool };
+
     fn form() -> Self;
 
     /// What a line is at this stage, or why it is refused.
@@ -66,4 +70,9 @@ pub trait RowForm: Drop {
     /// The name of a row's channel.
     fn name<'t>(&self, line: &'t [u8]) -> &'t [u8]
         ensures { result.now ≡ name_of line.now };
+
+    /// Whether the row of an error follows the row of the byte that it tells of. Else it is in the
+    /// place of that row.
+    fn errors_follow() -> bool
+        ensures { result ≡ error_follows };
 }

@@ -40,6 +40,7 @@ fn seen_on(way: Way, item: RowItem) -> Seen
             byte,
         }),
         What::Event(event) => Seen::Event(LineEvent {
+            way: Some(way),
             start: item.start,
             event,
             bytes: 0,

@@ -1,5 +1,5 @@
 //! The trace that sigrok-cli writes of its UART decoder, as Google Trace Events, one a line.
-ghost use Rattle.std.specs.Prelude.{◌≡◌};
+ghost use Rattle.std.specs.Prelude.{◌≡◌, true};
 ghost use Rattle.capture_rows.specs.Sigrok.{phase_text, time_text, row_text, name_text, byte_named};
 ghost use Rattle.capture_rows.specs.Sigrok.{what_named, event_phase, event_time, event_what};
 ghost use Rattle.capture_rows.specs.Sigrok.{trace_row, trace_name};
@@ -181,6 +181,8 @@ impl RowForm for Sigrok {
 
     ghost name_of = { trace_name };
 
+    ghost error_follows = { true };
+
     fn form() -> Sigrok {
         Sigrok {}
     }
@@ -212,5 +214,9 @@ impl RowForm for Sigrok {
 
     fn name<'t>(&self, line: &'t [u8]) -> &'t [u8] {
         front(b' ', front(b'"', row_text(line)))
+    }
+
+    fn errors_follow() -> bool {
+        true
     }
 }

@@ -63,6 +63,7 @@ fn byte(way: Way, start: u64, byte: u8) -> Seen {
 
 fn event(start: u64, event: u8) -> Seen {
     Seen::Event(LineEvent {
+        way: Some(Way::A),
         start,
         event,
         bytes: 0,

@@ -84,6 +84,7 @@ const ERRORS_SEEN: [Seen; 11] = [
         byte: 0x00,
     }),
     Seen::Event(LineEvent {
+        way: None,
         start: 1690000000003437000,
         event: 8,
         bytes: 0,
@@ -119,11 +120,13 @@ const ERRORS_SEEN: [Seen; 11] = [
         byte: 0xCD,
     }),
     Seen::Event(LineEvent {
+        way: None,
         start: 1690000000032083000,
         event: 7,
         bytes: 0,
     }),
     Seen::Event(LineEvent {
+        way: None,
         start: 1690000000040000000,
         event: 9,
         bytes: 0,

@@ -1,10 +1,12 @@
 //! What a capture has in it: bytes of the line, and events.
 
-use crate::capture::CaptureByte;
+use crate::capture::{CaptureByte, Way};
 
 /// What a capture has besides the bytes of the line: an error, a break, a change of a control line.
 #[derive(Clone, Copy, Debug, PartialEq, Eq)]
 pub struct LineEvent {
+    /// The way that it was seen on, where the capture tells: an RTAC capture doesn't.
+    pub way: Option<Way>,
     /// When it was, in nanoseconds since the epoch of the capture.
     pub start: u64,
     /// The number of the event, as RTAC serial captures have it: 0 is a change of a control line,
