@@ -17,6 +17,7 @@ use Rattle.line_stamps.specs.declared.capture.CaptureByte.{CaptureByte}
 use Rattle.line_stamps.specs.declared.capture.Way.TheVariants as way
 use Rattle.line_stamps.specs.declared.rate.Rate.{Rate}
 use Rattle.line_stamps.specs.declared.seen.Seen.{Seen}
+use Rattle.line_stamps.specs.declared.seen.Seen.TheVariants.{Event}
 use Rattle.line_stamps.specs.declared.timing.Timing.{Timing}
 use Rattle.line_capture.specs.Able.{IsTakeable, IsGivable, IsPlacedWhole, timing_of_items, EndsWell}
 use Rattle.line_capture.specs.Captures.{NoError, is_error, HoldsItems, Collects, way_bytes, IsRefused}
@@ -83,20 +84,20 @@ no_error_inside (item ∷ x) error y right wrong = no_error_inside x error y rig
 module _ (format : Format) (sound : IsSound format) (taking : Taking) (file : List ℕ)
     (items : List Seen) (is : format.is file items) (right : NoError items) where
   never_refused : (kept : Kept) (bad : BadCapture)
-      → IsRefused format taking.ways true file kept bad → ⊥
+      → IsRefused format taking true file kept bad → ⊥
   never_refused kept bad (at_byte r) =
       sound.refused r.front r.items r.byte bad r.more items r.refused
       (subst (λ l. format.is l items) r.is is)
   never_refused kept bad (at_error e) =
       let file_is : file ≡ (e.front ++ e.byte ∷ []) ++ e.more =
       e.is ∙ sym (append_assoc e.front (e.byte ∷ []) e.more) in
-      let first = sound.first (e.front ++ e.byte ∷ []) (e.items ++ e.error ∷ []) e.more items e.begins
+      let first = sound.first (e.front ++ e.byte ∷ []) (e.items ++ Event e.error ∷ []) e.more items e.begins
       (subst (λ l. format.is l items) file_is is) in
-      no_error_inside e.items e.error first.0 (subst NoError first.1 right) e.wrong
+      no_error_inside e.items (Event e.error) first.0 (subst NoError first.1 right) e.wrong
   never_refused kept bad (at_end all e) = sound.lacking file e.taken.items bad items e.lacks is
 
   -- all of it is kept
-  all_kept : (kept : Kept) (end : CaptureEnd) → Collects format taking.ways true file kept end
+  all_kept : (kept : Kept) (end : CaptureEnd) → Collects format taking true file kept end
       → (end ≡ ends.Whole) × HoldsItems taking.ways kept items
   all_kept kept ends.Whole collects =
       let taken = collects.1 in (
@@ -119,7 +120,7 @@ module _ (format : Format) (sound : IsSound format) (taking : Taking) (file : Li
       (b_whole : IsPlacedWhole (timing_of_items taking items) (way_bytes taking.ways way.B items))
       (before now : Held) (outcome : Outcome) where
     -- and all of it is placed
-    capture_done : (kept : Kept) (end : CaptureEnd) → Collects format taking.ways true file kept end
+    capture_done : (kept : Kept) (end : CaptureEnd) → Collects format taking true file kept end
         → WritesTaken taking kept Whole end before now outcome → EndsFree outcome
     capture_done kept end collects (failed fault part) = not_written fault
     capture_done kept end collects (written all) =

@@ -4,8 +4,10 @@ use Rattle.std.proofs.Common.{get_or, suc, sym, ap, subst, append-nil, arith}
 use Rattle.std.proofs.Common.{append_assoc}
 use Rattle.std.proofs.Math.Seq.{drop-cons}
 use Rattle.std.proofs.lemmas.List.{take-append-drop, take_more, length-take}
+use Rattle.line_stamps.specs.declared.seen.LineEvent.{LineEvent}
 use Rattle.line_stamps.specs.declared.seen.Seen.{Seen}
-use Rattle.line_capture.specs.Captures.{HoldsItems, TakesItem}
+use Rattle.line_stamps.specs.declared.seen.Seen.TheVariants.{Event}
+use Rattle.line_capture.specs.Captures.{HoldsBefore, TakesItem}
 use Rattle.line_capture.specs.Captures.{IsRefused, Collects, EndsSo, TakesItems, is_error}
 use Rattle.line_capture.specs.Captures.IsRefused.{at_byte, at_error, at_end}
 use Rattle.line_capture.specs.Collecting.{Collecting, StopsNext}
@@ -16,7 +18,7 @@ use Rattle.line_capture.specs.declared.collect.CaptureEnd.{CaptureEnd}
 use Rattle.line_capture.specs.declared.collect.CaptureEnd.TheVariants.{Whole, Open, Bad}
 use Rattle.line_capture.specs.declared.collect.Kept.{Kept}
 use Rattle.line_capture.specs.declared.reader.FormReader.{Ghosts as FormReader}
-use Rattle.line_capture.specs.declared.words.Ways.{Ways}
+use Rattle.line_capture.specs.declared.take.Taking.{Taking}
 use Rattle.line_capture.proofs.Keeping.{right_more}
 
 -- a list, around one of its items
@@ -34,10 +36,10 @@ pub length-front : {X : Type 0} (xs : List X) (i n : ℕ) → i < length xs → 
     → n ≡ length (take i xs)
 length-front xs i n within is = let h = length-take i xs in omega (arith, h, is, within)
 
-module _ {F : Type 0} (f : FormReader F) (chosen : Ways) where
+module _ {F : Type 0} (f : FormReader F) (taking : Taking) where
   pub collects_none : (reader new : F) (kept : Kept) (file next : List ℕ)
-      (so_far : Collecting f chosen reader kept file) → f.stands new next (so_far.items ++ [])
-      → f.format.begins next (so_far.items ++ []) → Collecting f chosen new kept next
+      (so_far : Collecting f taking reader kept file) → f.stands new next (so_far.items ++ [])
+      → f.format.begins next (so_far.items ++ []) → Collecting f taking new kept next
   collects_none reader new kept file next so_far stands begins = record {
     items = so_far.items;
     stands = subst (f.stands new next) (append-nil so_far.items) stands;
@@ -47,10 +49,10 @@ module _ {F : Type 0} (f : FormReader F) (chosen : Ways) where
   }
 
   pub collects_one : (reader new : F) (kept more : Kept) (item : Seen) (file next : List ℕ)
-      (so_far : Collecting f chosen reader kept file)
+      (so_far : Collecting f taking reader kept file)
       → f.stands new next (so_far.items ++ item ∷ [])
-      → f.format.begins next (so_far.items ++ item ∷ []) → TakesItem chosen kept more item
-      → is_error item ≡ false → Collecting f chosen new more next
+      → f.format.begins next (so_far.items ++ item ∷ []) → TakesItem taking.ways kept more item
+      → is_error item ≡ false → Collecting f taking new more next
   collects_one reader new kept more item file next so_far stands begins takes right = record {
     items = so_far.items ++ item ∷ [];
     stands = stands;
@@ -59,24 +61,9 @@ module _ {F : Type 0} (f : FormReader F) (chosen : Ways) where
     right = right_more so_far.items item so_far.right right;
   }
 
-  pub collects_error : (reader : F) (kept more : Kept) (item : Seen) (file : List ℕ) (b place : ℕ)
-      (so_far : Collecting f chosen reader kept file)
-      → f.format.begins (file ++ b ∷ []) (so_far.items ++ item ∷ []) → more ≡ kept
-      → is_error item ≡ true → place ≡ length file
-      → StopsNext f chosen more file b (ByteError place)
-  collects_error reader kept more item file b place so_far begins same wrong at = in_error (record {
-    items = so_far.items;
-    error = item;
-    begins = begins;
-    holds = subst (λ k. HoldsItems chosen k so_far.items) (sym same) so_far.holds;
-    right = so_far.right;
-    wrong = wrong;
-    bad_is = ap ByteError at;
-  })
-
   pub collects_refused : (reader : F) (kept : Kept) (file : List ℕ) (b : ℕ) (bad : BadCapture)
-      (so_far : Collecting f chosen reader kept file)
-      → f.format.refuses file so_far.items b bad → StopsNext f chosen kept file b bad
+      (so_far : Collecting f taking reader kept file)
+      → f.format.refuses file so_far.items b bad → StopsNext f taking kept file b bad
   collects_refused reader kept file b bad so_far refuses = refused (record {
     items = so_far.items;
     begins = so_far.begins;
@@ -88,14 +75,14 @@ module _ {F : Type 0} (f : FormReader F) (chosen : Ways) where
   -- ---- over a whole file
 
   pub collects_more : (reader : F) (kept : Kept) (file : List ℕ) (i d : ℕ) → i < length file
-      → Collecting f chosen reader kept (take i file ++ get_or file i d ∷ [])
-      → Collecting f chosen reader kept (take (i + 1) file)
+      → Collecting f taking reader kept (take i file ++ get_or file i d ∷ [])
+      → Collecting f taking reader kept (take (i + 1) file)
   collects_more reader kept file i d within so_far =
-      subst (Collecting f chosen reader kept) (sym (take_more file i d within)) so_far
+      subst (Collecting f taking reader kept) (sym (take_more file i d within)) so_far
 
   pub stops_at : (whole : Bool) (kept : Kept) (file : List ℕ) (i d : ℕ) (bad : BadCapture)
-      → i < length file → StopsNext f chosen kept (take i file) (get_or file i d) bad
-      → IsRefused f.format chosen whole file kept bad
+      → i < length file → StopsNext f taking kept (take i file) (get_or file i d) bad
+      → IsRefused f.format taking whole file kept bad
   stops_at whole kept file i d bad within (refused at) = at_byte (record {
     front = take i file;
     byte = get_or file i d;
@@ -122,7 +109,7 @@ module _ {F : Type 0} (f : FormReader F) (chosen : Ways) where
   })
 
   pub taken_items : (reader : F) (kept : Kept) (front file : List ℕ) → front ≡ file
-      → Collecting f chosen reader kept front → TakesItems f.format chosen file kept
+      → Collecting f taking reader kept front → TakesItems f.format taking.ways file kept
   taken_items reader kept front file is so_far = record {
     items = so_far.items;
     begins = subst (λ l. f.format.begins l so_far.items) is so_far.begins;
@@ -131,8 +118,8 @@ module _ {F : Type 0} (f : FormReader F) (chosen : Ways) where
   }
 
   pub ends_whole : (reader : F) (kept : Kept) (front file : List ℕ) (whole : Bool) (end : CaptureEnd)
-      → front ≡ file → whole ≡ true → (so_far : Collecting f chosen reader kept front)
-      → EndsSo f.format front so_far.items end → Collects f.format chosen whole file kept end
+      → front ≡ file → whole ≡ true → (so_far : Collecting f taking reader kept front)
+      → EndsSo f.format front so_far.items end → Collects f.format taking whole file kept end
   ends_whole reader kept front file whole Whole is all so_far ends = (
     all,
     record {

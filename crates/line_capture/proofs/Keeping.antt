@@ -1,6 +1,7 @@
 -- What is kept of items, with one item more.
 use Rattle.std.proofs.Common.{◌≡◌, ◌∙◌, ℕ, ◌+◌, ◌-◌, ◌^◌, min, Bool, true, false, cond, List, []}
 use Rattle.std.proofs.Common.{◌∷◌, ◌++◌, Some, None, refl, sym, ap, arith, append-nil}
+use Rattle.std.proofs.Common.{zero, suc, length, take, get_or}
 use Rattle.std.proofs.lemmas.List.Elements.{filter_map-append}
 use Rattle.line_stamps.specs.declared.capture.CaptureByte.{CaptureByte}
 use Rattle.line_stamps.specs.declared.capture.Way.TheVariants as way
@@ -8,7 +9,7 @@ use Rattle.line_stamps.specs.declared.seen.LineEvent.{LineEvent}
 use Rattle.line_stamps.specs.declared.seen.Seen.{Seen}
 use Rattle.line_stamps.specs.declared.seen.Seen.TheVariants.{Byte, Event}
 use Rattle.line_capture.specs.Captures.{takes, byte_of, way_bytes, is_error, is_break}
-use Rattle.line_capture.specs.Captures.{is_control_line, count_of, NoError, TakesItem}
+use Rattle.line_capture.specs.Captures.{is_control_line, count_of, NoError, TakesItem, without_wrong}
 use Rattle.line_capture.specs.declared.collect.Kept.{Kept}
 use Rattle.line_capture.specs.declared.words.Ways.{Ways}
 
@@ -125,3 +126,25 @@ pub right_more : (items : List Seen) (item : Seen) → NoError items → is_erro
     → NoError (items ++ item ∷ [])
 right_more [] item right is = (is, tt)
 right_more (x ∷ items) item right is = (right.0, right_more items item right.1 is)
+
+-- these bytes without the last one, where it is wrong
+pub last_wrong : (wrong : CaptureByte → Bool) (bytes : List CaptureByte) (i : ℕ) (d : CaptureByte)
+    → length bytes ≡ suc i → wrong (get_or bytes i d) ≡ true
+    → take i bytes ≡ without_wrong wrong bytes
+last_wrong wrong [] i d long is = cc
+last_wrong wrong (x ∷ []) zero d long is = rw is refl
+last_wrong wrong (x ∷ []) (suc i) d long is = absurd (omega arith)
+last_wrong wrong (x ∷ y ∷ bytes) zero d long is = absurd (omega arith)
+last_wrong wrong (x ∷ y ∷ bytes) (suc i) d long is =
+    ap (λ l. x ∷ l) (last_wrong wrong (y ∷ bytes) i d (omega arith) is)
+
+-- and where it isn't
+pub last_right : (wrong : CaptureByte → Bool) (bytes : List CaptureByte) (i : ℕ) (d : CaptureByte)
+    → length bytes ≡ suc i → wrong (get_or bytes i d) ≡ false
+    → bytes ≡ without_wrong wrong bytes
+last_right wrong [] i d long is = cc
+last_right wrong (x ∷ []) zero d long is = rw is refl
+last_right wrong (x ∷ []) (suc i) d long is = absurd (omega arith)
+last_right wrong (x ∷ y ∷ bytes) zero d long is = absurd (omega arith)
+last_right wrong (x ∷ y ∷ bytes) (suc i) d long is =
+    ap (λ l. x ∷ l) (last_right wrong (y ∷ bytes) i d (omega arith) is)

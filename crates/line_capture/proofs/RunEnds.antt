@@ -204,15 +204,15 @@ module _ (taking : Taking) (k : Kept) (read : ReadEnd) (end : CaptureEnd) (befor
 -- what was read was taken
 pub takes_kept : (format : Format) (taking : Taking) (read : ReadEnd) (file xs : List ℕ)
     (whole : Bool) (k : Kept) (end : CaptureEnd) (before now : Held) (outcome : Outcome)
-    → whole ≡ is_whole read → xs ≡ file → Collects format taking.ways whole xs k end
+    → whole ≡ is_whole read → xs ≡ file → Collects format taking whole xs k end
     → WritesTaken taking k read end before now outcome
     → TakesRead format taking read file before now outcome
 takes_kept format taking read file xs whole k end before now outcome all is collects writes =
     kept (record {
       kept = k;
       end = end;
-      collects = subst (λ w. Collects format taking.ways w file k end) all
-          (subst (λ l. Collects format taking.ways whole l k end) is collects);
+      collects = subst (λ w. Collects format taking w file k end) all
+          (subst (λ l. Collects format taking whole l k end) is collects);
       writes = writes;
     })
 

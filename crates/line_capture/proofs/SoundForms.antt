@@ -1,6 +1,6 @@
 -- What is refused is no capture, and a capture has no other items than its own.
 use Rattle.std.proofs.Common.{◌≡◌, ◌∙◌, ℕ, List, [], ◌∷◌, ◌++◌, Result, Ok, Err, sym, ap, subst}
-use Rattle.std.proofs.Common.{append_assoc, map}
+use Rattle.std.proofs.Common.{append_assoc, map, Bool, true, false}
 use Rattle.byte_walk.specs.Walks.{walk}
 use Rattle.byte_walk.specs.Fields.{before_field}
 use Rattle.capture_pcap.specs.Pcap.{IsCapture}
@@ -128,8 +128,8 @@ module _ (row_at : Stage → List ℕ → Result Row RowFault) (name_of : List �
   rows_lacking file items (Pcap bad) all lacks is = absurd lacks
   rows_lacking file items (ByteError offset) all lacks is = absurd lacks
 
-  sound_rows : IsSound (rows_format row_at name_of)
-  sound_rows = record {
+  sound_rows : (follows : Bool) → IsSound (rows_format row_at name_of follows)
+  sound_rows follows = record {
     refused = rows_refused;
     lacking = rows_lacking;
     first = λ file items more all begins is. begins more all is;
@@ -156,5 +156,5 @@ sound_pcap = record {
 pub sound_form : (form : TakeForm) → IsSound (format_of form)
 sound_form take_forms.Pcap = sound_pcap
 sound_form take_forms.Text = sound_text
-sound_form take_forms.Logic2 = sound_rows logic2_row logic2_name
-sound_form take_forms.Sigrok = sound_rows trace_row trace_name
+sound_form take_forms.Logic2 = sound_rows logic2_row logic2_name false
+sound_form take_forms.Sigrok = sound_rows trace_row trace_name true

@@ -202,7 +202,7 @@ module _ (format : Format) (sound : IsSound format) (rate : Rate) (a b : List Ti
   items = map Byte (bytes_of_records rate records)
 
   -- what a whole capture leaves
-  kept-items : (held : Kept) (end : CaptureEnd) → Collects format Both true file held end
+  kept-items : (held : Kept) (end : CaptureEnd) → Collects format (both_ways rate) true file held end
       → ((bad : BadCaptureOf) → end ≡ ends.Bad bad → ⊥) → HoldsItems Both held items
   kept-items held ends.Whole collects right =
       let taken = collects.1 in
@@ -292,12 +292,12 @@ module _ (format : Format) (sound : IsSound format) (rate : Rate) (a b : List Ti
 
   module _ (before now : Held) where
     all-again : (held : Kept) (end : CaptureEnd) (read : ReadEnd) (outcome : Outcome)
-        → outcome ≡ Ended statuses.Done → Collects format Both (is_whole read) file held end
+        → outcome ≡ Ended statuses.Done → Collects format (both_ways rate) (is_whole read) file held end
         → WritesAll (both_ways rate) held read end before now outcome → TakesAgain a b before now
     all-again held end read outcome done collects all =
         let full = all-done read end all.a_end all.b_end (sym all.outcome_is ∙ done) in
         let holds = kept-items held end
-        (subst (λ r. Collects format Both (is_whole r) file held end) full.whole collects)
+        (subst (λ r. Collects format (both_ways rate) (is_whole r) file held end) full.whole collects)
         full.no_refusal in
         let places = all.lines.places in
         let t : Timing = timing_for (both_ways rate) held in
@@ -320,7 +320,7 @@ module _ (format : Format) (sound : IsSound format) (rate : Rate) (a b : List Ti
     file-again read outcome done (was_kept takes) =
         part takes.kept takes.end takes.collects takes.writes
       where
-        part : (held : Kept) (end : CaptureEnd) → Collects format Both (is_whole read) file held end
+        part : (held : Kept) (end : CaptureEnd) → Collects format (both_ways rate) (is_whole read) file held end
             → WritesTaken (both_ways rate) held read end before now outcome → TakesAgain a b before now
         part held end collects (written all) = all-again held end read outcome done collects all
         part held end collects (failed fault some) = cc

@@ -1,10 +1,13 @@
 -- What is kept of a capture.
-use Rattle.std.specs.Prelude.{◌≡◌, ℕ, ◌+◌, ◌-◌, ◌^◌, min, ◌==◌, ◌&&◌, ◌||◌, Bool, true, false}
+use Rattle.std.specs.Prelude.{◌≡◌, ℕ, ◌+◌, ◌-◌, ◌*◌, ◌^◌, min, nat_lt, ◌==◌, ◌&&◌, ◌||◌, Bool, true, false}
 use Rattle.std.specs.Prelude.{if◌then◌else◌, List, [], ◌∷◌, ◌++◌, length, Option, Some, None}
 use Rattle.std.specs.List.{filter_map}
+use Rattle.line_stamps.specs.Parts.{character}
 use Rattle.line_stamps.specs.declared.capture.CaptureByte.{CaptureByte}
 use Rattle.line_stamps.specs.declared.capture.Way.{Way}
 use Rattle.line_stamps.specs.declared.capture.Way.TheVariants as way
+use Rattle.line_stamps.specs.declared.rate.Rate.{Rate}
+use Rattle.line_stamps.specs.declared.seen.LineEvent.{LineEvent}
 use Rattle.line_stamps.specs.declared.seen.Seen.{Seen}
 use Rattle.line_stamps.specs.declared.seen.Seen.TheVariants.{Byte, Event}
 use Rattle.line_capture.specs.Formats.{Format}
@@ -13,6 +16,7 @@ use Rattle.line_capture.specs.declared.bad_capture.BadCapture.TheVariants.{ByteE
 use Rattle.line_capture.specs.declared.collect.CaptureEnd.{CaptureEnd}
 use Rattle.line_capture.specs.declared.collect.CaptureEnd.TheVariants.{Whole, Open, Bad}
 use Rattle.line_capture.specs.declared.collect.Kept.{Kept}
+use Rattle.line_capture.specs.declared.take.Taking.{Taking}
 use Rattle.line_capture.specs.declared.words.Ways.{Ways}
 use Rattle.line_capture.specs.declared.words.Ways.TheVariants as ways
 
@@ -69,6 +73,39 @@ pub record HoldsItems (chosen : Ways) (kept : Kept) (items : List Seen) : Type 0
   pub breaks_are : kept.breaks ≡ min (count_of is_break items) (2 ^ 64 - 1)
   pub lines_are : kept.control_lines ≡ min (count_of is_control_line items) (2 ^ 64 - 1)
 
+-- an event on this way
+abbrev pub is_on : Option Way → Way → Bool
+is_on (Some v) w = is_way v w
+is_on None w = false
+
+-- whether an error that comes behind a byte tells of this byte: it is on the way of the byte, and
+-- less than one character after the start of the byte
+abbrev pub tells_of : Rate → LineEvent → CaptureByte → Bool
+tells_of rate error c =
+    is_on error.way c.way && nat_lt ((error.start - c.start) * rate.baud) (character rate)
+
+-- these bytes without the last one, if that is wrong
+abbrev pub without_wrong : (CaptureByte → Bool) → List CaptureByte → List CaptureByte
+without_wrong wrong [] = []
+without_wrong wrong (c ∷ []) = if wrong c then [] else c ∷ []
+without_wrong wrong (c ∷ d ∷ cs) = c ∷ without_wrong wrong (d ∷ cs)
+
+-- the bytes of a way that are kept before an error: where errors come behind their bytes, the last
+-- one isn't kept if the error tells of it
+abbrev pub before_error : Bool → Rate → LineEvent → List CaptureByte → List CaptureByte
+before_error true rate error cs = without_wrong (tells_of rate error) cs
+before_error false rate error cs = cs
+
+-- What is kept of these items where an error comes behind them.
+pub record HoldsBefore (follows : Bool) (taking : Taking) (kept : Kept) (items : List Seen)
+    (error : LineEvent) : Type 0 where
+  pub a_is : kept.a.items
+      ≡ before_error follows taking.rate error (way_bytes taking.ways way.A items)
+  pub b_is : kept.b.items
+      ≡ before_error follows taking.rate error (way_bytes taking.ways way.B items)
+  pub breaks_are : kept.breaks ≡ min (count_of is_break items) (2 ^ 64 - 1)
+  pub lines_are : kept.control_lines ≡ min (count_of is_control_line items) (2 ^ 64 - 1)
+
 -- an item more
 abbrev pub TakesItem : Ways → Kept → Kept → Seen → Type 0
 TakesItem chosen old new item = (items : List Seen) → HoldsItems chosen old items
@@ -94,19 +131,20 @@ pub record RefusesByte (format : Format) (chosen : Ways) (file : List ℕ) (kept
   pub right : NoError items
   pub refused : format.refuses front items byte bad
 
--- The byte behind a front of the file ends an event that tells of an error.
-pub record EndsInError (format : Format) (chosen : Ways) (file : List ℕ) (kept : Kept)
+-- The byte behind a front of the file ends an event that tells of an error: where errors come behind
+-- their bytes, the byte that it tells of isn't kept.
+pub record EndsInError (format : Format) (taking : Taking) (file : List ℕ) (kept : Kept)
     (bad : BadCapture) : Type 0 where
   pub front : List ℕ
   pub byte : ℕ
   pub more : List ℕ
   pub is : file ≡ front ++ byte ∷ more
   pub items : List Seen
-  pub error : Seen
-  pub holds : HoldsItems chosen kept items
+  pub error : LineEvent
+  pub holds : HoldsBefore format.error_follows taking kept items error
   pub right : NoError items
-  pub begins : format.begins (front ++ byte ∷ []) (items ++ error ∷ [])
-  pub wrong : is_error error ≡ true
+  pub begins : format.begins (front ++ byte ∷ []) (items ++ Event error ∷ [])
+  pub wrong : is_error (Event error) ≡ true
   pub bad_is : bad ≡ ByteError (length front)
 
 -- The file ends too early.
@@ -122,19 +160,21 @@ pub record IsTaken (format : Format) (chosen : Ways) (file : List ℕ) (kept : K
   pub holds : HoldsItems chosen kept items
   pub right : NoError items
 
-pub data IsRefused (format : Format) (chosen : Ways) (whole : Bool) (file : List ℕ) (kept : Kept)
+pub data IsRefused (format : Format) (taking : Taking) (whole : Bool) (file : List ℕ) (kept : Kept)
     (bad : BadCapture) : Type 0 where
-  at_byte : RefusesByte format chosen file kept bad → IsRefused format chosen whole file kept bad
-  at_error : EndsInError format chosen file kept bad → IsRefused format chosen whole file kept bad
-  at_end : whole ≡ true → EndsEarly format chosen file kept bad
-      → IsRefused format chosen whole file kept bad
+  at_byte : RefusesByte format taking.ways file kept bad
+      → IsRefused format taking whole file kept bad
+  at_error : EndsInError format taking file kept bad → IsRefused format taking whole file kept bad
+  at_end : whole ≡ true → EndsEarly format taking.ways file kept bad
+      → IsRefused format taking whole file kept bad
 
 -- What is kept of a file, and how it ends; where it isn't whole, more was to come.
-abbrev pub Collects : Format → Ways → Bool → List ℕ → Kept → CaptureEnd → Type 0
-Collects format chosen whole file kept Whole = (whole ≡ true) × IsTaken format chosen file kept
-Collects format chosen whole file kept Open =
-    (whole ≡ false) × TakesItems format chosen file kept
-Collects format chosen whole file kept (Bad bad) = IsRefused format chosen whole file kept bad
+abbrev pub Collects : Format → Taking → Bool → List ℕ → Kept → CaptureEnd → Type 0
+Collects format taking whole file kept Whole =
+    (whole ≡ true) × IsTaken format taking.ways file kept
+Collects format taking whole file kept Open =
+    (whole ≡ false) × TakesItems format taking.ways file kept
+Collects format taking whole file kept (Bad bad) = IsRefused format taking whole file kept bad
 
 -- what is said of a file that ended so
 abbrev pub EndsSo : Format → List ℕ → List Seen → CaptureEnd → Type 0

@@ -1,38 +1,40 @@
 -- A capture, collected byte by byte.
 use Rattle.std.specs.Prelude.{◌≡◌, ℕ, true, List, [], ◌∷◌, ◌++◌, length, Option, Some, None}
+use Rattle.line_stamps.specs.declared.seen.LineEvent.{LineEvent}
 use Rattle.line_stamps.specs.declared.seen.Seen.{Seen}
-use Rattle.line_capture.specs.Captures.{HoldsItems, NoError, is_error}
+use Rattle.line_stamps.specs.declared.seen.Seen.TheVariants.{Event}
+use Rattle.line_capture.specs.Captures.{HoldsItems, HoldsBefore, NoError, is_error}
 use Rattle.line_capture.specs.declared.bad_capture.BadCapture.{BadCapture}
 use Rattle.line_capture.specs.declared.bad_capture.BadCapture.TheVariants.{ByteError}
 use Rattle.line_capture.specs.declared.collect.Kept.{Kept}
 use Rattle.line_capture.specs.declared.reader.FormReader.{Ghosts as FormReader}
-use Rattle.line_capture.specs.declared.words.Ways.{Ways}
+use Rattle.line_capture.specs.declared.take.Taking.{Taking}
 
-module _ {F : Type 0} (f : FormReader F) (chosen : Ways) where
+module _ {F : Type 0} (f : FormReader F) (taking : Taking) where
   -- The reader has taken this much of a file, and what it returned is kept.
   pub record Collecting (reader : F) (kept : Kept) (file : List ℕ) : Type 0 where
     pub items : List Seen
     pub stands : f.stands reader file items
     pub begins : f.format.begins file items
-    pub holds : HoldsItems chosen kept items
+    pub holds : HoldsItems taking.ways kept items
     pub right : NoError items
 
   -- The byte behind the file is refused by the reader.
   pub record RefusesNext (kept : Kept) (file : List ℕ) (b : ℕ) (bad : BadCapture) : Type 0 where
     pub items : List Seen
     pub begins : f.format.begins file items
-    pub holds : HoldsItems chosen kept items
+    pub holds : HoldsItems taking.ways kept items
     pub right : NoError items
     pub refused : f.format.refuses file items b bad
 
   -- The byte behind the file ends an event that tells of an error.
   pub record ErrorNext (kept : Kept) (file : List ℕ) (b : ℕ) (bad : BadCapture) : Type 0 where
     pub items : List Seen
-    pub error : Seen
-    pub begins : f.format.begins (file ++ b ∷ []) (items ++ error ∷ [])
-    pub holds : HoldsItems chosen kept items
+    pub error : LineEvent
+    pub begins : f.format.begins (file ++ b ∷ []) (items ++ Event error ∷ [])
+    pub holds : HoldsBefore f.format.error_follows taking kept items error
     pub right : NoError items
-    pub wrong : is_error error ≡ true
+    pub wrong : is_error (Event error) ≡ true
     pub bad_is : bad ≡ ByteError (length file)
 
   pub data StopsNext (kept : Kept) (file : List ℕ) (b : ℕ) (bad : BadCapture) : Type 0 where

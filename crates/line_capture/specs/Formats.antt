@@ -1,6 +1,6 @@
 -- The forms of captures: which files are captures, with which bytes of the line and events, and why
 -- others are refused.
-use Rattle.std.specs.Prelude.{◌≡◌, ℕ, List, [], ◌∷◌, ◌++◌, Some, None, Result}
+use Rattle.std.specs.Prelude.{◌≡◌, ℕ, Bool, true, false, List, [], ◌∷◌, ◌++◌, Some, None, Result}
 use Rattle.byte_walk.specs.Walks.{BeginsNone}
 use Rattle.capture_pcap.specs.Pcap.{IsCapture}
 use Rattle.capture_pcap.specs.Reader.{Refuses as RefusesPacket}
@@ -28,6 +28,8 @@ pub record Format : Type 1 where
   pub lacks : List ℕ → List Seen → BadCapture → Type 0
   -- each capture that begins so has these items first
   pub begins : List ℕ → List Seen → Type 0
+  -- an error of a byte comes behind the byte; else it is in its place
+  pub error_follows : Bool
 
 -- Each capture that begins with these bytes has these items first.
 abbrev pub HaveFirst : (List ℕ → List Seen → Type 0) → List ℕ → List Seen → Type 0
@@ -59,6 +61,7 @@ text_format = record {
   refuses = RefusesText;
   lacks = LacksText;
   begins = HaveFirst IsSeenText;
+  error_follows = false;
 }
 
 -- Behind this much of a file a byte ends a field with which no pcap or pcapng file begins.
@@ -82,6 +85,7 @@ pcap_format = record {
   refuses = RefusesPcap;
   lacks = LacksPcap;
   begins = HaveFirst IsCapture;
+  error_follows = false;
 }
 
 module _ (row_at : Stage → List ℕ → Result Row RowFault) (name_of : List ℕ → List ℕ) where
@@ -101,16 +105,17 @@ module _ (row_at : Stage → List ℕ → Result Row RowFault) (name_of : List �
   LacksRows file items (Pcap bad) = ⊥
   LacksRows file items (ByteError offset) = ⊥
 
-  abbrev pub rows_format : Format
-  rows_format = record {
+  abbrev pub rows_format : Bool → Format
+  rows_format follows = record {
     is = IsExport row_at name_of;
     refuses = RefusesRows;
     lacks = LacksRows;
     begins = HaveFirst (IsExport row_at name_of);
+    error_follows = follows;
   }
 
 abbrev pub format_of : TakeForm → Format
 format_of take_forms.Pcap = pcap_format
 format_of take_forms.Text = text_format
-format_of take_forms.Logic2 = rows_format logic2_row logic2_name
-format_of take_forms.Sigrok = rows_format trace_row trace_name
+format_of take_forms.Logic2 = rows_format logic2_row logic2_name false
+format_of take_forms.Sigrok = rows_format trace_row trace_name true

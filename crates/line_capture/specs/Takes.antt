@@ -198,7 +198,7 @@ pub record TakesFile (format : Format) (taking : Taking) (read : ReadEnd) (file 
     (before now : Held) (outcome : Outcome) : Type 0 where
   pub kept : Kept
   pub end : CaptureEnd
-  pub collects : Collects format taking.ways (is_whole read) file kept end
+  pub collects : Collects format taking (is_whole read) file kept end
   pub writes : WritesTaken taking kept read end before now outcome
 
 -- There was no memory, and nothing was written.

@@ -1,16 +1,17 @@
 //! The bytes of the ways that are taken of a capture, kept in memory.
 ghost use Rattle.std.specs.Prelude.{◌≡◌, ℕ, ◌+◌, ◌<◌, ◌≤◌, [], ◌∷◌, ◌++◌, List, length, OnOk, IfOk};
-ghost use Rattle.std.specs.Prelude.{true, false, Ok, None};
+ghost use Rattle.std.specs.Prelude.{true, false, Ok, None, IfSome, take};
 ghost use Rattle.line_stamps.specs.declared.TheConstants.{MAX_BYTES};
 ghost use Rattle.line_stamps.specs.declared.seen.Seen.{Seen};
 ghost use Rattle.line_capture.specs.Captures.{HoldsItems, TakesItem, Collects, takes, is_error};
-ghost use Rattle.line_capture.specs.Captures.{EndsSo};
+ghost use Rattle.line_capture.specs.Captures.{EndsSo, HoldsBefore, is_on, tells_of, without_wrong};
 ghost use Rattle.line_capture.specs.Collecting.{Collecting, CollectsByte};
 
 use crate::bad_capture::BadCapture;
 use crate::reader::FormReader;
+use crate::take::Taking;
 use crate::words::Ways;
-use line_stamps::{CaptureByte, LineEvent, Seen, Way};
+use line_stamps::{CaptureByte, LineEvent, Rate, Seen, Way};
 use std::alloc::Global;
 use yasir_io::NoMemory;
 
@@ -74,6 +75,49 @@ fn push(list: &mut Vec<CaptureByte>, byte: CaptureByte) -> Result<(), NoMemory>
     }
 }
 
+// Whether an event is on this way.
+fn is_on(event: Option<Way>, way: Way) -> bool
+    ensures { result ≡ is_on event way }
+{
+    match (event, way) {
+        (Some(Way::A), Way::A) | (Some(Way::B), Way::B) => true,
+        _ => false,
+    }
+}
+
+// Whether an error that comes behind a byte tells of this byte: it is on the way of the byte, and
+// less than one character after the start of the byte.
+fn tells_of(rate: Rate, error: LineEvent, byte: CaptureByte) -> bool
+    ensures { result ≡ tells_of rate error byte }
+{
+    let gap = error.start.saturating_sub(byte.start);
+    let parts = gap.saturating_mul(u64::from(rate.baud));
+    is_on(error.way, byte.way) && parts < rate.character()
+}
+
+// How many bytes are left without the last one, if an error tells of it.
+fn right_len(bytes: &[CaptureByte], rate: Rate, error: LineEvent) -> usize
+    ensures { take result bytes.now ≡ without_wrong (tells_of rate error) bytes.now }
+{
+    let len = bytes.len();
+    if len == 0 {
+        return 0;
+    }
+    if tells_of(rate, error, bytes[len - 1]) {
+        len - 1
+    } else {
+        len
+    }
+}
+
+// Lets go of the last byte, if an error tells of it.
+fn drop_wrong(list: &mut Vec<CaptureByte>, rate: Rate, error: LineEvent)
+    ensures { list.new.items ≡ without_wrong (tells_of rate error) list.old.items }
+{
+    let len = right_len(list.as_slice(), rate, error);
+    list.truncate(len);
+}
+
 impl Kept {
     /// Nothing yet.
     fn new(alloc: Global) -> Kept
@@ -111,29 +155,41 @@ impl Kept {
         }
     }
 
-    /// Takes an item of the capture. Returns whether it is right: an error of a byte isn't.
-    fn take(&mut self, ways: Ways, seen: Seen) -> Result<bool, NoMemory>
-        ensures taken { IfOk result (λ right. right ≡ true
+    /// Takes an item of the capture. An error of a byte isn't taken: it is returned.
+    fn take(&mut self, ways: Ways, seen: Seen) -> Result<Option<LineEvent>, NoMemory>
+        ensures taken { IfOk result (λ error. error ≡ None
             → TakesItem ways self.old self.new seen) }
-        ensures error { IfOk result (λ right. right ≡ false → self.new ≡ self.old) }
-        ensures right { IfOk result (λ right. right ≡ false → is_error seen ≡ true) }
-        ensures wrong { IfOk result (λ right. right ≡ true → is_error seen ≡ false) }
+        ensures right { IfOk result (λ error. error ≡ None → is_error seen ≡ false) }
+        ensures error { IfOk result (λ error. IfSome error (λ e. seen ≡ Seen.Event e)) }
+        ensures wrong { IfOk result (λ error. IfSome error (λ e. is_error seen ≡ true)) }
+        ensures same { IfOk result (λ error. IfSome error (λ e. self.new ≡ self.old)) }
     {
         match seen {
             Seen::Byte(byte) => {
                 self.keep(ways, byte)?;
-                Ok(true)
+                Ok(None)
             }
             Seen::Event(event) => {
                 if event.event == FRAMING_ERROR {
-                    return Ok(false);
+                    return Ok(Some(event));
                 }
                 if event.event == PARITY_ERROR {
-                    return Ok(false);
+                    return Ok(Some(event));
                 }
                 self.count(event);
-                Ok(true)
+                Ok(None)
             }
+        }
+    }
+
+    // Lets go of the byte that an error tells of, where errors come behind their bytes.
+    fn stop_at(&mut self, follows: bool, taking: Taking, error: LineEvent)
+        ensures { (items : List Seen) → HoldsItems taking.ways self.old items
+            → HoldsBefore follows taking self.new items error }
+    {
+        if follows {
+            drop_wrong(&mut self.a, taking.rate, error);
+            drop_wrong(&mut self.b, taking.rate, error);
         }
     }
 }
@@ -142,14 +198,14 @@ impl Kept {
 fn collect_byte<F: FormReader>(
     reader: &mut F,
     kept: &mut Kept,
-    ways: Ways,
+    taking: Taking,
     place: u64,
     b: u8,
 ) -> Result<Option<BadCapture>, NoMemory>
     requires { F.taken reader.old < MAX_BYTES }
     ensures collects { IfOk result (λ refusal. (file : List ℕ) → place ≡ length file
-        → Collecting F.FormReader ways reader.old kept.old file
-        → CollectsByte F.FormReader ways reader.new kept.new file b refusal) }
+        → Collecting F.FormReader taking reader.old kept.old file
+        → CollectsByte F.FormReader taking reader.new kept.new file b refusal) }
     ensures taken { result ≡ Ok None → F.taken reader.new ≡ F.taken reader.old + 1 }
 {
     let seen = match reader.feed(b) {
@@ -157,9 +213,12 @@ fn collect_byte<F: FormReader>(
         Ok(None) => return Ok(None),
         Err(bad) => return Ok(Some(bad)),
     };
-    match kept.take(ways, seen) {
-        Ok(true) => Ok(None),
-        Ok(false) => Ok(Some(BadCapture::ByteError { offset: place })),
+    match kept.take(taking.ways, seen) {
+        Ok(None) => Ok(None),
+        Ok(Some(error)) => {
+            kept.stop_at(F::errors_follow(), taking, error);
+            Ok(Some(BadCapture::ByteError { offset: place }))
+        }
         Err(NoMemory) => Err(NoMemory),
     }
 }
@@ -175,23 +234,23 @@ fn end_of<F: FormReader>(reader: F) -> CaptureEnd
     }
 }
 
-/// The bytes of these ways of a capture, up to the first one that is refused. `whole` tells that
-/// the file ends here.
+/// The bytes of the ways of a capture that are taken, up to the first one that is refused. `whole`
+/// tells that the file ends here.
 pub fn collect<F: FormReader>(
     alloc: Global,
-    ways: Ways,
+    taking: Taking,
     whole: bool,
     file: &[u8],
 ) -> Result<Collected, NoMemory>
     requires { length file.now ≤ 268435456 }
-    ensures { IfOk result (λ collected. Collects F.format ways whole file.now collected.kept
+    ensures { IfOk result (λ collected. Collects F.format taking whole file.now collected.kept
         collected.end) }
 {
     let mut kept = Kept::new(alloc);
     let mut reader = F::begin();
     let mut place: u64 = 0;
     for b in file {
-        match collect_byte(&mut reader, &mut kept, ways, place, *b) {
+        match collect_byte(&mut reader, &mut kept, taking, place, *b) {
             Ok(None) => place += 1,
             Ok(Some(bad)) => {
                 let end = CaptureEnd::Bad(bad);

@@ -48,6 +48,10 @@ pub trait FormReader: Drop {
             → OnOk result (format.is file items) }
         ensures refused { (file : List ℕ) (items : List Seen) → stands self file items
             → IfErr result (λ bad. format.lacks file items bad) };
+
+    /// Whether an error of a byte comes behind the byte. Else it is in its place.
+    fn errors_follow() -> bool
+        ensures { result ≡ format.error_follows };
 }
 
 impl FormReader for TextReader {
@@ -77,6 +81,10 @@ impl FormReader for TextReader {
             Ok(()) => Ok(()),
             Err(bad) => Err(BadCapture::Text(bad)),
         }
+    }
+
+    fn errors_follow() -> bool {
+        false
     }
 }
 
@@ -108,13 +116,17 @@ impl FormReader for PcapReader {
             Err(bad) => Err(BadCapture::Pcap(bad)),
         }
     }
+
+    fn errors_follow() -> bool {
+        false
+    }
 }
 
 impl<F: RowForm> FormReader for RowReader<F> {
     ghost use Rattle.line_capture.specs.Formats.{rows_format};
     ghost use Rattle.capture_rows.specs.Reader.{StandsFor, bytes_taken};
 
-    ghost format = { rows_format F.row_at F.name_of };
+    ghost format = { rows_format F.row_at F.name_of F.error_follows };
 
     ghost stands = { StandsFor F.row_at F.name_of };
 
@@ -137,5 +149,9 @@ impl<F: RowForm> FormReader for RowReader<F> {
             Ok(()) => Ok(()),
             Err(bad) => Err(BadCapture::Rows(bad)),
         }
+    }
+
+    fn errors_follow() -> bool {
+        F::errors_follow()
     }
 }

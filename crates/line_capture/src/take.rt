@@ -254,7 +254,7 @@ fn take_read<F: FormReader, O: Sink, L: Sink>(
 {
     let whole = is_whole(read.end);
     let file = read.bytes.as_slice();
-    let collected = match collect::<F>(alloc, taking.ways, whole, file) {
+    let collected = match collect::<F>(alloc, taking, whole, file) {
         Ok(collected) => collected,
         Err(NoMemory) => return Outcome::Ended(Status::NoMemory),
     };

@@ -88,6 +88,31 @@ const TRACE: &[u8] = b"{\"traceEvents\": [
 ]}
 ";
 
+/// `examples/captures/framing.sigrok.json`, which sigrok-cli wrote: a byte of the other wire comes
+/// between a byte without a stop bit and its error.
+const FRAMING: &[u8] = b"{\"traceEvents\": [
+{\"ph\": \"B\", \"ts\": 1250.000000, \"pid\": \"uart-1\", \"tid\": \"RX\", \"name\": \"01\"},
+{\"ph\": \"E\", \"ts\": 2083.300000, \"pid\": \"uart-1\", \"tid\": \"RX\", \"name\": \"01\"},
+{\"ph\": \"B\", \"ts\": 2395.800000, \"pid\": \"uart-1\", \"tid\": \"RX\", \"name\": \"03\"},
+{\"ph\": \"E\", \"ts\": 3229.100000, \"pid\": \"uart-1\", \"tid\": \"RX\", \"name\": \"03\"},
+{\"ph\": \"B\", \"ts\": 2500.000000, \"pid\": \"uart-1\", \"tid\": \"TX\", \"name\": \"5A\"},
+{\"ph\": \"E\", \"ts\": 3333.300000, \"pid\": \"uart-1\", \"tid\": \"TX\", \"name\": \"5A\"},
+{\"ph\": \"B\", \"ts\": 3333.300000, \"pid\": \"uart-1\", \"tid\": \"RX warnings\", \"name\": \"Frame error\"},
+{\"ph\": \"E\", \"ts\": 3437.400000, \"pid\": \"uart-1\", \"tid\": \"RX warnings\", \"name\": \"Frame error\"}
+]}
+";
+
+/// `examples/captures/spurious.sigrok.json`, which sigrok-cli wrote: the error is of no byte.
+const SPURIOUS: &[u8] = b"{\"traceEvents\": [
+{\"ph\": \"B\", \"ts\": 1250.000000, \"pid\": \"uart-1\", \"tid\": \"RX\", \"name\": \"01\"},
+{\"ph\": \"E\", \"ts\": 2083.300000, \"pid\": \"uart-1\", \"tid\": \"RX\", \"name\": \"01\"},
+{\"ph\": \"B\", \"ts\": 2395.800000, \"pid\": \"uart-1\", \"tid\": \"RX\", \"name\": \"03\"},
+{\"ph\": \"E\", \"ts\": 3229.100000, \"pid\": \"uart-1\", \"tid\": \"RX\", \"name\": \"03\"},
+{\"ph\": \"B\", \"ts\": 10416.700000, \"pid\": \"uart-1\", \"tid\": \"RX warnings\", \"name\": \"Frame error\"},
+{\"ph\": \"E\", \"ts\": 10520.800000, \"pid\": \"uart-1\", \"tid\": \"RX warnings\", \"name\": \"Frame error\"}
+]}
+";
+
 /// The ticks of both ways in them: the second one begins 28 characters behind the first.
 const EXPORT_TICKS: &[u8] = b"+0103\n%\n-28\n+83\n";
 
@@ -177,6 +202,21 @@ fn exports_are_taken(rt: HostRuntime) -> Result<(), Fail> {
     let end = b"counted: overlaps 0, errors 0, breaks 0, control lines 0\nfault: line 8 end\n";
     assert_eq!(rt; ran.out.held(), b"+0103\n".as_slice());
     assert_eq!(rt; ran.log.held(), end.as_slice());
+    Ok(())
+}
+
+#[test]
+fn errors_behind_their_bytes(rt: HostRuntime) -> Result<(), Fail> {
+    let alloc = rt.alloc();
+    let ran = run_words(alloc, "take sigrok 9600x11 both", FRAMING, 0, 0)?;
+    assert_eq!(rt; ran.out.held(), b"+01\n%\n-1\n+5a\n".as_slice());
+    let ran = run_words(alloc, "take sigrok 9600x11 b", FRAMING, 0, 0)?;
+    assert_eq!(rt; ran.out.held(), b"+5a\n".as_slice());
+    let ran = run_words(alloc, "take sigrok 9600x11 a", SPURIOUS, 0, 0)?;
+    assert_eq!(rt; ran.out.held(), b"+0103\n".as_slice());
+    let error =
+        b"counted: overlaps 0, errors 1, breaks 0, control lines 0\nfault: byte 416 error\n";
+    assert_eq!(rt; ran.log.held(), error.as_slice());
     Ok(())
 }
 

@@ -7,5 +7,5 @@ abbrev pub invariant-loop-b : goal.invariant-loop-b
 invariant-loop-b g l = record {
   count : l.place ≡ l.b-index;
   taken : g.F.FormReader.taken l.reader ≡ l.b-index;
-  so_far : Collecting g.F.FormReader l.fn.ways l.reader l.kept (take l.b-index l.file);
+  so_far : Collecting g.F.FormReader l.fn.taking l.reader l.kept (take l.b-index l.file);
 }
