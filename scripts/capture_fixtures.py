@@ -12,7 +12,8 @@ so. The exit status is 0 where all files were made.
 """
 import os, re, shutil, subprocess, sys, tempfile
 
-from capture_model import RTAC_SERIAL, SECOND, Record, character_of, give_vcd, given_records
+from capture_model import RTAC_SERIAL, SECOND, Record, bits_of, character_of, give_vcd
+from capture_model import given_records
 from capture_model import lines_of, nearest, rtac_packet
 from swap_capture import swapped_file
 
@@ -21,6 +22,10 @@ CAPTURES = os.path.join(ROOT, "examples", "captures")
 
 # A line of a .records file without its blanks, as text2pcap is to read it.
 PACKET = r"^(?<time>\d+\.\d+) (?<data>[0-9a-f]+)$"
+
+# What stands in front of the changes of a VCD file of two wires that are quiet.
+VCD_HEAD = ("$timescale 1 ns $end\n$scope module line $end\n$var wire 1 ! a $end\n"
+            "$var wire 1 \" b $end\n$upscope $end\n$enddefinitions $end\n#0\n1!\n1\"\n")
 
 # What sigrok-cli is to show of a wire for each way: bytes, and what is wrong with them.
 BOTH_WIRES = "uart:rx=a:tx=b:baudrate=%d:parity=%s"
@@ -94,6 +99,34 @@ def logic2_table(records, character):
     return "\n".join(rows) + "\n"
 
 
+def wire_changes(mark, bit, start, levels):
+    """The changes of a wire in a VCD file: levels of one bit each, the first at this bit."""
+    return [(nearest((start + place) * bit), "%d%s" % (level, mark))
+            for place, level in enumerate(levels + [1])]
+
+
+def vcd_of(changes, end):
+    """A VCD file of these changes of two wires."""
+    rows = sorted(changes, key=lambda change: change[0])
+    return (VCD_HEAD + "".join("#%d\n%s\n" % row for row in rows) + "#%d\n" % end).encode()
+
+
+def broken_wires(character):
+    """A wire with the bytes 01 and 03, of which the second has no stop bit, and a wire with the
+    byte 5A, which comes between the second one and its error."""
+    bit, broken = character / 11, bits_of(3, 11)[:-1] + [0]
+    changes = wire_changes("!", bit, 11, bits_of(1, 11)) + wire_changes("!", bit, 22, broken)
+    return vcd_of(changes + wire_changes('"', bit, 23, bits_of(0x5A, 11)), nearest(60 * bit))
+
+
+def spurious_wires(character):
+    """A wire with the bytes 01 and 03, and long behind them a pulse too short for a start bit."""
+    bit = character / 11
+    changes = wire_changes("!", bit, 11, bits_of(1, 11)) + wire_changes("!", bit, 22, bits_of(3, 11))
+    pulse = [(nearest(100 * bit), "0!"), (nearest(100 * bit + bit / 4), "1!")]
+    return vcd_of(changes + pulse, nearest(140 * bit))
+
+
 class Maker:
     def __init__(self, out):
         self.out, self.skipped = out, 0
@@ -153,6 +186,12 @@ class Maker:
         self.write("modbus.sigrok.json", sigrok(vcd, [BOTH_WIRES % (9600, "even")], ALL_CLASSES))
         wrong = "uart:rx=a:baudrate=9600:parity=odd"
         self.write("errors.sigrok.json", sigrok(vcd, [wrong], ALL_CLASSES))
+        for name, wires in (("framing", broken_wires), ("spurious", spurious_wires)):
+            with tempfile.NamedTemporaryFile(suffix=".vcd") as file:
+                file.write(wires(character_of("9600x11")))
+                file.flush()
+                trace = sigrok(file.name, [BOTH_WIRES % (9600, "even")], ALL_CLASSES)
+            self.write(name + ".sigrok.json", trace)
         one_each = ["uart:rx=%s:baudrate=9600:parity=even" % wire for wire in "ab"]
         self.write("modbus.sigrok.txt", sigrok(vcd, one_each, "uart=rx-data", "samplenum"))
 

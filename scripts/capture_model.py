@@ -33,6 +33,14 @@ class Refused(Exception):
     """Why a capture or a text is refused: status 4."""
 
 
+class ErrorBehind(Refused):
+    """An error of a byte, in a form in which errors come behind their bytes."""
+
+    def __init__(self, way, start):
+        super().__init__("a byte with an error")
+        self.way, self.start = way, start
+
+
 class Usage(Exception):
     """The words are no command: status 2."""
 
@@ -192,23 +200,18 @@ def logic2_records(data):
 
 
 def sigrok_records(data):
-    """The trace that sigrok-cli writes of its UART decoder; its rows are the ways. What is wrong
-    with a byte stands behind it."""
-    names, records, why = [], [], None
+    """The trace that sigrok-cli writes of its UART decoder; its rows are the ways. An error comes
+    behind its byte."""
+    names = []
     for event in json.loads(data, parse_float=Fraction)["traceEvents"]:
         name = event["pid"], event["tid"].split()[0]
         if name not in names:
             names.append(name)
-        way = "ab"[names.index(name)]
+        way, start = "ab"[names.index(name)], int(event["ts"] * 1000)
         if event["name"] in ("Parity error", "Frame error"):
-            del records[max(at for at, record in enumerate(records) if record.way == way)]
-            why = Refused("a byte with an error")
-            break
+            raise ErrorBehind(way, start)
         if event["ph"] == "B":
-            records.append(Record(way, int(event["ts"] * 1000), bytes([int(event["name"], 16)])))
-    yield from records
-    if why:
-        raise why
+            yield Record(way, start, bytes([int(event["name"], 16)]))
 
 
 READERS = {"pcap": pcap_records, "text": text_records, "logic2": logic2_records,
@@ -228,10 +231,21 @@ def read_until_refused(form, data):
     return records, None
 
 
+def without_wrong(records, error, character):
+    """The records without the byte that an error tells of: the last one of its way, if it began
+    less than a character before the error."""
+    last = max((at for at, record in enumerate(records) if record.way == error.way), default=None)
+    if last is not None and error.start - records[last].start < character:
+        return records[:last] + records[last + 1:]
+    return records
+
+
 def take(form, rate, way, frames, data):
     """The tick text of a capture, and why it is refused, if it is."""
     character = character_of(rate)
     records, why = read_until_refused(form, data)
+    if isinstance(why, ErrorBehind):
+        records = without_wrong(records, why, character)
     ways = "ab" if way == "both" else way
     chosen = [[each for each in records if each.way == one] for one in ways]
     origin = min((record.start for each in chosen for record in each), default=0)

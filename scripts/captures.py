@@ -52,6 +52,14 @@ REFUSED = [("errors.pcap", "pcap", "a"), ("ethernet.pcap", "pcap", "a"),
            ("errors.sigrok.json", "sigrok", "a"), ("modbus.vcd", "pcap", "a"),
            ("modbus.pcap", "text", "a"), ("modbus.pcap", "logic2", "a")]
 
+# Traces that are refused for an error of a byte, the ways that are taken, and the ticks before it.
+# In the second one the error is of a pulse too short for a start bit, and of no byte.
+TRACES_WITH_ERRORS = [("framing.sigrok.json", "both", b"+01\n%\n-1\n+5a\n"),
+                      ("framing.sigrok.json", "a", b"+01\n"),
+                      ("framing.sigrok.json", "b", b"+5a\n"),
+                      ("spurious.sigrok.json", "a", b"+0103\n"),
+                      ("errors.sigrok.json", "a", b"")]
+
 # Tick texts that aren't given: a line without its sign, and a mark too many.
 REFUSED_TICKS = [("pcap", b"+01\n01\n"), ("pcap", b"+01\n%\n+02\n%\n"), ("text", b"+01\n%\n+02\n")]
 
@@ -86,6 +94,8 @@ WRONG_MODELS = [
     ("kinds = {0xA1B2C3D4: 1000, 0xA1B23C4D: 1}", "kinds = {0xA1B2C3D4: 1000, 0xA1B23C4D: 1000}"),
     ("options.get(9, b\"\\x06\")", "options.get(9, b\"\\x09\")"),
     ("data[8] in (7, 8)", "data[8] in (7,)"),
+    ("error.start - records[last].start < character", "False"),
+    ("error.start - records[last].start < character", "True"),
     ("if kept != had or len(data) < at + 16 + kept:", "if kept != had:"),
     ("record.start - origin) if count == 0", "record.start - origin) if True"),
     ("levels = [0] + [byte >> place & 1 for place in range(8)]",
@@ -270,6 +280,9 @@ def bytes_in(text):
 def refusals(trial):
     for name, form, way in [row for row in REFUSED if trial.has("take", row[1])]:
         refused(trial, name, [form, "9600x11", way], content_of(name))
+    for name, way, ticks in [row for row in TRACES_WITH_ERRORS if trial.has("take", "sigrok")]:
+        ran = trial.run(["take", "sigrok", "9600x11", way], content_of(name))
+        trial.same("%s: take %s" % (name, way), ran, (4, ticks))
     for words in WRONG_WORDS:
         trial.same("words `%s`" % words, trial.run(words.split(), b"")[0], 2)
     for form, text in [row for row in REFUSED_TICKS if trial.has("give", row[0])]:
