@@ -91,7 +91,7 @@ module _ {R M : Type 0} (proto : LineRules R) (macs : Mac M) {B D : ℕ} (setup 
       let goes = rest-drops proto profile (timely proto macs B setup wide) setup.floor line t state
       emissions base.passed left [] (owed_by base.outlet) base.outlet new.outlet step.tick flows
       rests
-      (λ some. absurd (omega arith)) d NoHead is come now in
+      d NoHead is come now in
       let whose = ap (λ x. last_of x) come.is ∙ last_of-more come.settled d in
       assembled proto macs setup line t gone new Silent step clear.turned word_is wide delay_is
       direction_is cuts last flows.after [] None (Some (Dropped d.start NoHead)) goes

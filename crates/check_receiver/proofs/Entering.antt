@@ -56,9 +56,6 @@ module _ {R M : Type 0} (proto : LineRules R) (macs : Mac M) {B D : ℕ} (old : 
       let it = open-walks between.walks between.wide d is in
       let e : Burst = going_on d m b in
       let next = joined-last it b in
-      let F : Option Burst → Type 0 = λ o. length (live_bytes_in rules o)
-      ≤ rules.room (live_bytes_in rules o) in
-      let fits : F (Some e) = subst F next (proto.within _ _ between.cuts.bytes) in
       let N : Option Burst → Type 0 = λ o. head_of rules (live_bytes_in rules o) ≡ Bad → ⊥ in
       let never : N (Some e) = subst N next not_bad in
       let size = macs.tag_size in
@@ -74,7 +71,7 @@ module _ {R M : Type 0} (proto : LineRules R) (macs : Mac M) {B D : ℕ} (old : 
       (λ header. ⊎_elim (λ good. good)
       (λ bad. absurd (never (head-bad rules (live_bytes rules e) header bad)))
       (cases_Bool (rules.is_good_header (take rules.header_len (live_bytes rules e)))))
-      fits in
+      in
       let gap : ℕ = m - end_of d in
       let gap_is = live-gap it b between.is_cut in
       let sum_is = long-of it in

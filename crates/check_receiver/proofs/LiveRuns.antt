@@ -22,14 +22,11 @@ use Rattle.check_receiver.specs.Runs.{KeepsHeader}
 use Rattle.check_receiver.proofs.RunTicks.{RunsTo, runs-none, runs-first, entered-next, left-next}
 use Rattle.check_receiver.proofs.RunTicks.{bytes-next}
 use Rattle.link_verdicts.proofs.Opened.{IsOpen, opens-of, long-of, more-of, live-goes, live-ends}
-use Rattle.link_verdicts.proofs.Opened.{live-adds, live-fits, live-gap, live-before}
+use Rattle.link_verdicts.proofs.Opened.{live-adds, live-gap, live-before}
 
 module _ {R : Type 0} (proto : LineRules R) (profile : Profile) (floor : ℕ) (s : CheckState) where
   abbrev rules : Rules
   rules = proto.rules
-
-  abbrev Fits : List ℕ → Type 0
-  Fits x = length x ≤ rules.room x
 
   -- The burst has gone on by these bytes: what leaves of a ring, and what is left in it.
   pub record LiveRun (line : List Tick) (left : List ℕ) (live Q : List Tick) (d : Burst)
@@ -52,10 +49,9 @@ module _ {R : Type 0} (proto : LineRules R) (profile : Profile) (floor : ℕ) (s
       → Q ≡ live ++ silent (delay profile - length live) → length live ≤ delay profile
       → IsOpen proto profile floor s line false left live 0 d
       → KeepsHeader rules (live_bytes rules d) x
-      → Fits (live_bytes rules d)
       → cuts_after rules line (map (λ b. Byte b) x) ≡ map (λ b. Live b) x
       → 0 < length Q → LiveRun line left live Q d x
-  live-run [] line left live Q d is few it headed fits cuts within =
+  live-run [] line left live Q d is few it headed cuts within =
       let P : List ℕ → Type 0 = λ y. RunsTo profile rules floor line [] s false y live 0 (Some d) []
       in
       record {
@@ -71,7 +67,7 @@ module _ {R : Type 0} (proto : LineRules R) (profile : Profile) (floor : ℕ) (s
             (λ any. absurd (omega arith)) which;
         none = λ any. absurd (omega arith);
       }
-  live-run (b ∷ x) line left live Q d is few it headed fits cuts within =
+  live-run (b ∷ x) line left live Q d is few it headed cuts within =
       let first : cut_of rules line (Byte b) ≡ Live b = ap (λ l. get_or l 0 Quiet) cuts in
       let later : cuts_after rules (line ++ Byte b ∷ []) (map (λ c. Byte c) x)
       ≡ map (λ c. Live c) x = ap (λ l. drop 1 l) cuts in
@@ -79,8 +75,7 @@ module _ {R : Type 0} (proto : LineRules R) (profile : Profile) (floor : ℕ) (s
       let N : List ℕ → Type 0 = λ y. rules.header_len ≤ length y
       → rules.is_good_header (take rules.header_len y) ≡ true in
       let adds : live_bytes rules e ≡ live_bytes rules d ++ b ∷ [] = live-adds it b first in
-      let fits_next : Fits (live_bytes rules e) = live-fits it b first fits in
-      let goes = live-goes it b first (subst N (sym adds) (headed 1 (omega arith))) fits_next in
+      let goes = live-goes it b first (subst N (sym adds) (headed 1 (omega arith))) in
       let gap : ℕ = length line - end_of d in
       let gap_is = live-gap it b first in
       let sum_is = long-of it in
@@ -111,8 +106,7 @@ module _ {R : Type 0} (proto : LineRules R) (profile : Profile) (floor : ℕ) (s
       ∙ ap (λ y. y ++ take n x) (sym adds)) (headed (suc n) (omega arith)) in
       let rest : LiveRun (line ++ Byte b ∷ []) left' next shifted e x =
       live-run x (line ++ Byte b ∷ []) left' next shifted e shifted_is (omega arith)
-      (record { timely = it.timely; some = it.some; walked = goes.walked }) headed' fits_next later
-      (omega arith) in
+      (record { timely = it.timely; some = it.some; walked = goes.walked }) headed' later (omega arith) in
       let front : take 1 live ≡ take 1 Q =
       sym (ap (λ l. take 1 l) is
       ∙ take-append-le 1 live (silent (delay profile - length live)) (omega arith)) in

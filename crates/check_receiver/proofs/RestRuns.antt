@@ -96,7 +96,6 @@ module _ {R : Type 0} (proto : LineRules R) (profile : Profile)
       (record {
         emissions = walked.emissions;
         come = still-come proto profile timely floor line t s walked.emissions None come tt;
-        room = λ some. absurd (omega arith);
         unowed = λ some. refl;
         opens = tt;
         rests = record {
@@ -134,18 +133,11 @@ module _ {R : Type 0} (proto : LineRules R) (profile : Profile)
       leaves rules passes (left ++ bytes_in (take 1 live)) (drop 1 live) 0 in
       let step : old ≡ a ∷ new = leaves-more rules passes left live more in
       let none : m - m ≡ 0 = omega arith in
-      let Fits : List ℕ → Type 0 = λ x. length x ≤ rules.room x in
-      let same : (left ++ bytes_in (take 1 live)) ++ bytes_in (drop 1 live)
-      ≡ left ++ bytes_in live =
-      append_assoc left (bytes_in (take 1 live)) (bytes_in (drop 1 live))
-      ∙ ap (λ l. left ++ l) (sym (bytes_in-append (take 1 live) (drop 1 live))
-      ∙ ap (λ l. bytes_in l) (take-append-drop 1 live)) in
       goes-at proto profile timely floor line t s passes (left ++ bytes_in (take 1 live))
       (drop 1 live) 0 None a None
       (record {
         emissions = walked.emissions;
         come = still-come proto profile timely floor line t s walked.emissions None come tt;
-        room = λ some. subst Fits (sym same) (walked.room (omega arith));
         unowed = λ some. refl;
         opens = tt;
         rests = record {

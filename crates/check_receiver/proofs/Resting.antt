@@ -105,7 +105,7 @@ rest-taken proto macs {B} {D} old last setup line t cut between new step turned 
     (drop 1 between.walks.live) None None
     (rest-goes proto profile time setup.floor line t state walked.emissions old.passed
     between.walks.left between.walks.live (owed_by old.outlet) old.outlet new.outlet step.tick flows
-    walked.rests walked.room
+    walked.rests
     (comes proto profile time setup.floor state line t walked.emissions walked.come begins))
     noted flows.stands
     (ring-waits proto macs old new step.tick turned between.walks.live between.walks.ring_is

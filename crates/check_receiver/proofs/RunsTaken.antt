@@ -392,12 +392,6 @@ module _ {R M : Type 0} (proto : LineRules R) (macs : Mac M) {B D : ℕ} (old : 
           let K : Option Burst → Type 0 = λ o. KeepsHeader rules (live_bytes_in rules o) bytes in
           subst K (last-of it) keeps
 
-      fits : length (live_bytes rules d) ≤ rules.room (live_bytes rules d)
-      fits =
-          let F : Option Burst → Type 0 = λ o. length (live_bytes_in rules o)
-          ≤ rules.room (live_bytes_in rules o) in
-          subst F (last-of it) (proto.within _ _ stands.cuts.bytes)
-
       delay-is : D ≡ delay profile
       delay-is = let is = stands.delay_is in omega arith
 
@@ -409,7 +403,7 @@ module _ {R M : Type 0} (proto : LineRules R) (macs : Mac M) {B D : ℕ} (old : 
           let delay_is = stands.delay_is in
           live-run proto profile setup.floor state bytes line left live Q d
           (stands.walks.ring_is ∙ ap (λ n. live ++ silent (n - length live)) delay-is)
-          (omega arith) (open-bare waits) headed fits are_live (omega arith)
+          (omega arith) (open-bare waits) headed are_live (omega arith)
 
       none-after : trailer_so_far rules live-runs.burst ≡ []
       none-after =

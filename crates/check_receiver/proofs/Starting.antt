@@ -162,8 +162,7 @@ module _ {R M : Type 0} (proto : LineRules R) (macs : Mac M) {B D : ℕ} (old : 
         between.wide between.delay_is between.direction_is between.cuts last flows.after
         (drop 1 live) None (Some (Dropped e.start Busy))
         (rest-drops proto profile time setup.floor line (Byte b) state resting.emissions old.passed
-        left live (owed_by old.outlet) old.outlet new.outlet step.tick flows resting.rests
-        resting.room e Busy
+        left live (owed_by old.outlet) old.outlet new.outlet step.tick flows resting.rests e Busy
         (checked-busy profile rules state e early) begins refl)
         (noted ∙ ap (λ o. Some (Dropped (start_in o) Busy)) last-is) flows.stands
         (ring-waits proto macs old new step.tick turned live between.walks.ring_is (omega arith)
@@ -284,16 +283,7 @@ module _ {R M : Type 0} (proto : LineRules R) (macs : Mac M) {B D : ℕ} (old : 
           → MacHolds proto macs setup mac arriving e
           → HasTaken proto macs new last setup line (Byte b) step
       start-open until noted not_bad mac_holds =
-          let F : Option Burst → Type 0 = λ o. length (live_bytes_in rules o)
-          ≤ rules.room (live_bytes_in rules o) in
-          let fits : F (Some e) = subst F last-is (proto.within _ _ between.cuts.bytes) in
           let open' = opens not_bad in
-          let all : [] ++ bytes_in entered ≡ live_bytes rules e =
-          ap (λ x. [] ++ bytes_in x) open'.live_is
-          ∙ (ap (λ x. x ++ bytes_in (drop (m + 1 - e.start) (as_it_came profile rules e)))
-          open'.left_is
-          ∙ whole-bytes profile rules e (m + 1 - e.start)) in
-          let Fits : List ℕ → Type 0 = λ x. length x ≤ rules.room x in
           let tag = macs.tag_size in
           let delay_is = between.delay_is in
           let few = between.word_is.1 in
@@ -310,7 +300,7 @@ module _ {R M : Type 0} (proto : LineRules R) (macs : Mac M) {B D : ℕ} (old : 
           let goes = open-goes proto profile time setup.floor line (Byte b) state
           resting.emissions e begins (one b) (omega arith) (omega arith) step.tick
           (quiet.0 ∙ sym (begun-seen profile rules proto.lawful m b bytes)) [] entered open'
-          (owed_by new.outlet) quiet.2 (λ there. subst Fits (sym all) fits) in
+          (owed_by new.outlet) quiet.2 in
           assembled proto macs setup line (Byte b) (with_until n base) new (Byte b) step turned
           between.word_is between.wide between.delay_is between.direction_is between.cuts last []
           entered (Some e) None goes noted quiet.1 ring (omega arith) (omega arith) refl

@@ -25,7 +25,6 @@ walked-begun profile rules floor =
     record {
       emissions = [];
       come = subst P (sym bursts-none) (come-begun (checker profile rules) (at_floor floor));
-      room = λ some. absurd (omega arith);
       unowed = λ some. absurd (omega arith);
       opens = tt;
       rests = record {

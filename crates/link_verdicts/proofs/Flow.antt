@@ -19,26 +19,6 @@ use Rattle.link_verdicts.specs.Turns.{HasTurned, tick_or_silence}
 use Rattle.link_verdicts.proofs.Leavings.{leaves-none, leaves-silent, leaves-byte, fill_out-zero}
 use Rattle.link_verdicts.proofs.Leavings.{fill_out-suc}
 
--- a room that is full stays as it is
-room-stays : (rules : Rules) → IsLawful rules → (x y : List ℕ) → rules.room x ≤ length x
-    → rules.room (x ++ y) ≡ rules.room x
-room-stays rules lawful x [] full = ap rules.room (append-nil x)
-room-stays rules lawful x (b ∷ y) full =
-    let same = lawful.stays x b full in
-    let long = length-append x (b ∷ []) in
-    let still : rules.room (x ++ b ∷ []) ≤ length (x ++ b ∷ []) = omega arith in
-    ap rules.room (sym (append_assoc x (b ∷ []) y))
-    ∙ (room-stays rules lawful (x ++ b ∷ []) y still ∙ same)
-
--- there is room for a byte of bytes that have room
-pub room-before : (rules : Rules) → IsLawful rules → (x : List ℕ) (b : ℕ) (y : List ℕ)
-    → length (x ++ b ∷ y) ≤ rules.room (x ++ b ∷ y) → fills_room rules x ≡ false
-room-before rules lawful x b y room =
-    ne_eqb (length x) (rules.room x) (λ full.
-    let long = length-append x (b ∷ y) in
-    let same = room-stays rules lawful x (b ∷ y) (omega arith) in
-    omega arith)
-
 module _ {R : Type 0} (proto : LineRules R) (passes : Bool) where
   -- What has left, where a turn has answered so: what is still to leave is all but the first tick.
   -- While live ticks are to leave, the outlet keeps what it knows of the burst.

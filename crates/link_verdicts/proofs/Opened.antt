@@ -146,9 +146,6 @@ module _ {R : Type 0} {proto : LineRules R} {profile : Profile} {floor : ℕ} {s
       ∙ (ap (λ x. x ++ bytes_in (drop (m - d.start) (as_it_came profile rules d))) opens-of.left_is
       ∙ whole-bytes profile rules d (m - d.start))
 
-  pub room-of : length (left ++ bytes_in live) ≤ rules.room (left ++ bytes_in live)
-  room-of = let many = more-of in it.walked.room (omega arith)
-
   -- the same, told of the walk alone
   pub bare-of : HasWalked profile rules floor m (bursts line) s false left live 0 (Some d)
   bare-of =
@@ -180,12 +177,6 @@ module _ {R : Type 0} {proto : LineRules R} {profile : Profile} {floor : ℕ} {s
       ∙ ap (λ l. left ++ l) (sym (bytes_in-append (take 1 live) (drop 1 live))
       ∙ ap (λ l. bytes_in l) (take-append-drop 1 live))
 
-  room-next : length (after ++ bytes_in (drop 1 live))
-      ≤ rules.room (after ++ bytes_in (drop 1 live))
-  room-next =
-      let Fits : List ℕ → Type 0 = λ x. length x ≤ rules.room x in
-      subst Fits (sym bytes-next) room-of
-
   -- ---- silence
 
   pub silently : HasCome w (at_floor floor) m (bursts (line ++ Silent ∷ [])) s it.walked.emissions
@@ -201,7 +192,7 @@ module _ {R : Type 0} {proto : LineRules R} {profile : Profile} {floor : ℕ} {s
       open-goes proto profile it.timely floor line Silent s it.walked.emissions d silently
       may-of.contiguous (omega arith) opens-of.near first seen after (drop 1 live)
       (opens-silent proto.headed it.some may-of.after opens-of few header)
-      0 refl (λ there. room-next)
+      0 refl
 
   -- and behind it
   pub silent-breaks : live_end rules d + 3 ≤ m
@@ -221,7 +212,7 @@ module _ {R : Type 0} {proto : LineRules R} {profile : Profile} {floor : ℕ} {s
       may-of.contiguous (omega arith) opens-of.near first seen after (drop 1 live)
       (next-live proto.headed it.some may-of.after opens-of)
       (next-left proto.headed it.some may-of.after opens-of)
-      (λ there. room-next) Trailer broken.0 broken.1
+      Trailer broken.0 broken.1
 
   -- as many bytes of the trailer have come as ticks behind the pause
   pub trailer-long : length (trailer_so_far rules d) ≡ m - (live_end rules d + pause_len)
@@ -285,20 +276,6 @@ module _ {R : Type 0} {proto : LineRules R} {profile : Profile} {floor : ℕ} {s
       pub live-adds : live_bytes rules e ≡ live_bytes rules d ++ b ∷ []
       live-adds = open-bytes profile rules proto.lawful proto.headed d m b may-of still
 
-      pub live-fits : length (live_bytes rules d) ≤ rules.room (live_bytes rules d)
-          → length (live_bytes rules e) ≤ rules.room (live_bytes rules e)
-      live-fits fits =
-          let parts = or_parts (has_pause d.body || nat_le 2 (m - end_of d))
-          (fills_room rules (live_bytes rules d)) still in
-          let other : length (live_bytes rules d) ≡ rules.room (live_bytes rules d) → ⊥ =
-          eqb-false _ _ parts.1 in
-          let roomy : length (live_bytes rules d) < rules.room (live_bytes rules d) = omega arith in
-          let fit = proto.lawful.fits (live_bytes rules d) b roomy in
-          let longer = length-append (live_bytes rules d) (b ∷ []) in
-          let Fits : List ℕ → Type 0 = λ x. length x ≤ rules.room x in
-          let fits_more : Fits (live_bytes rules d ++ b ∷ []) = omega arith in
-          subst Fits (sym live-adds) fits_more
-
       -- this many silent ticks came before it
       pub live-gap : m - end_of d ≡ m - live_end rules d
       live-gap =
@@ -336,23 +313,16 @@ module _ {R : Type 0} {proto : LineRules R} {profile : Profile} {floor : ℕ} {s
 
       pub live-goes : (rules.header_len ≤ length (live_bytes rules e)
           → rules.is_good_header (take rules.header_len (live_bytes rules e)) ≡ true)
-          → length (live_bytes rules e) ≤ rules.room (live_bytes rules e)
           → Goes profile rules floor line (Byte b) s false after entered 0 (Some e) first None
-      live-goes header fits =
+      live-goes header =
           let near = open-near profile rules proto.lawful proto.headed d m b may-of still in
           let end = live-ends in
           let from = opens-of.from in
           let next = opens-live proto.lawful proto.headed it.some b may-of opens-of still header in
-          let all : after ++ bytes_in entered ≡ live_bytes rules e =
-          ap (λ x. after ++ bytes_in x) next.live_is
-          ∙ (ap (λ x. x ++ bytes_in (drop (m + 1 - e.start) (as_it_came profile rules e)))
-          next.left_is
-          ∙ whole-bytes profile rules e (m + 1 - e.start)) in
-          let Fits : List ℕ → Type 0 = λ x. length x ≤ rules.room x in
           open-goes proto profile it.timely floor line (Byte b) s it.walked.emissions e joined
           contiguous (omega arith) (omega arith) first
           (seen ∙ sym (open-seen proto.lawful proto.headed it.some b may-of opens-of still))
-          after entered next 0 refl (λ there. subst Fits (sym all) fits)
+          after entered next 0 refl
 
     -- ---- one that isn't live
 
@@ -408,7 +378,7 @@ module _ {R : Type 0} {proto : LineRules R} {profile : Profile} {floor : ℕ} {s
           open-goes proto profile it.timely floor line (Byte b) s it.walked.emissions e joined
           contiguous from near first sees after (drop 1 live)
           (opens-over proto.lawful proto.headed it.some b may-of opens-of over behind before)
-          0 refl (λ there. room-next)
+          0 refl
 
       refuses : (why' : RefusedWhy) → checked profile rules s e ≡ refused why'
           → trailer_tick profile rules e ≡ m
@@ -423,7 +393,7 @@ module _ {R : Type 0} {proto : LineRules R} {profile : Profile} {floor : ℕ} {s
           contiguous from near first sees after (drop 1 live)
           (over-live proto.lawful proto.headed it.some b may-of opens-of over)
           (over-left proto.lawful proto.headed it.some b may-of opens-of over)
-          (λ there. room-next) why' is' now
+          why' is' now
 
       -- inside the pause
       pub extra-breaks : m < live_end rules d + 3
@@ -481,4 +451,4 @@ module _ {R : Type 0} {proto : LineRules R} {profile : Profile} {floor : ℕ} {s
             contiguous from near first sees after (drop 1 live)
             (over-live proto.lawful proto.headed it.some b may-of opens-of over)
             (over-left proto.lawful proto.headed it.some b may-of opens-of over)
-            (λ there. room-next) number (whole-checked ∙ verdict) whole-tick
+            number (whole-checked ∙ verdict) whole-tick

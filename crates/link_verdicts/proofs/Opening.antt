@@ -243,14 +243,12 @@ module _ {R : Type 0} (proto : LineRules R) (profile : Profile)
         (cases_lt (length (live_bytes rules e)) rules.header_len)
 
     pub open-goes : (owed : ℕ) → owed ≡ 0
-        → (0 < length live → length (left ++ bytes_in live) ≤ rules.room (left ++ bytes_in live))
         → Goes profile rules floor line t s false left live owed (Some e) answer None
-    open-goes owed none room =
+    open-goes owed none =
         goes-at proto profile timely floor line t s false left live owed (Some e) answer None
         (record {
           emissions = emissions;
           come = still-come proto profile timely floor line t s emissions (Some e) come waits;
-          room = room;
           unowed = λ some. none;
           opens = (opens, refl);
           rests = tt;
@@ -262,9 +260,7 @@ module _ {R : Type 0} (proto : LineRules R) (profile : Profile)
 
   module _ (left : List ℕ) (live : List Tick)
       (live_is : live ≡ drop (m + 1 - e.start) (as_it_came profile rules e))
-      (left_is : left ≡ bytes_in (take (m + 1 - e.start) (as_it_came profile rules e)))
-      (room : 0 < length live
-      → length (left ++ bytes_in live) ≤ rules.room (left ++ bytes_in live)) where
+      (left_is : left ≡ bytes_in (take (m + 1 - e.start) (as_it_came profile rules e))) where
     abbrev whole : List Tick
     whole = as_it_came profile rules e
 
@@ -317,7 +313,6 @@ module _ {R : Type 0} (proto : LineRules R) (profile : Profile)
           emissions = emissions ++ (delayed profile e x ∷ []);
           come = noted-come proto profile timely floor line t s emissions e (passed_with number) is
               come now;
-          room = room;
           unowed = λ some. refl;
           opens = tt;
           rests = subst P end (judged-rests true x late (leaves-passed rules [] whole));
@@ -363,7 +358,6 @@ module _ {R : Type 0} (proto : LineRules R) (profile : Profile)
           emissions = emissions ++ (delayed profile e x ∷ []);
           come = noted-come proto profile timely floor line t s emissions e (refused why) is come
               now;
-          room = room;
           unowed = λ some. refl;
           opens = tt;
           rests = subst P end (judged-rests false x late

@@ -68,17 +68,6 @@ module _ {R : Type 0} (proto : LineRules R) (m earliest : ℕ) (emissions : List
       before.shows m (omega arith)
       ∙ (ap (λ k. get_or to_leave k Silent) none ∙ sym flow.answer_is)
 
-  pub room-more : (0 < length live
-      → length (left ++ bytes_in live) ≤ rules.room (left ++ bytes_in live))
-      → 0 < length (drop 1 live)
-      → length (flow.after ++ bytes_in (drop 1 live))
-      ≤ rules.room (flow.after ++ bytes_in (drop 1 live))
-  room-more room some =
-      let less = length-drop 1 live in
-      let there : 0 < length live = omega arith in
-      let P : List ℕ → Type 0 = λ x. length x ≤ rules.room x in
-      subst P (sym (flow.bytes there)) (room there)
-
   -- what the outlet knows of a refused burst it keeps
   pub knows-more : (passes ≡ false → 0 < length live → Refuses proto old (left ++ bytes_in live))
       → passes ≡ false → 0 < length (drop 1 live)
@@ -169,9 +158,7 @@ module _ {R : Type 0} (proto : LineRules R) (profile : Profile)
 
     module _ (passes : Bool) (left : List ℕ) (live : List Tick) (owed : ℕ) (old new : Outlet R)
         (answer : Tick) (flow : Flows proto passes left live owed old new answer)
-        (rests : Rests proto.rules passes m s.earliest_start left live owed emissions)
-        (room : 0 < length live
-        → length (left ++ bytes_in live) ≤ proto.rules.room (left ++ bytes_in live)) where
+        (rests : Rests proto.rules passes m s.earliest_start left live owed emissions) where
       abbrev Then : Option CheckNote → Type 0
       Then told = Goes profile proto.rules floor line t s passes flow.after (drop 1 live)
           (owed_by new) None answer told
@@ -182,8 +169,6 @@ module _ {R : Type 0} (proto : LineRules R) (profile : Profile)
       rest-walked come = record {
         emissions = emissions;
         come = come;
-        room = room-more proto m s.earliest_start emissions passes left live owed old new answer
-            flow room;
         unowed = unowed-more proto m s.earliest_start emissions passes left live owed old new
             answer flow;
         opens = tt;

@@ -54,8 +54,6 @@ pub record HasWalked (profile : Profile) (rules : Rules) (floor m : ℕ) (ds : L
     (waiting : Option Burst) : Type 0 where
   pub emissions : List Burst
   pub come : HasCome (checker profile rules) (at_floor floor) m ds s emissions waiting
-  pub room : 0 < length live
-      → length (left ++ bytes_in live) ≤ rules.room (left ++ bytes_in live)
   pub unowed : 0 < length live → owed ≡ 0
   pub opens : IfSome waiting
       (λ d. Opens profile rules m s.earliest_start d left live × (passes ≡ false))
