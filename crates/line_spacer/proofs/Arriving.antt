@@ -15,7 +15,6 @@ use Rattle.line_spacer.specs.Arrivals.{Arrival, arriving, gained, arrivals_behin
 use Rattle.line_spacer.specs.Spacing.{Spaced, count_from, free_from, sent_from, take_in}
 use Rattle.line_spacer.specs.Spacing.{spaced, accepted_of}
 use Rattle.line_spacer.specs.Stands.{HasSent, TakesIn, taken_in, AnswersSpaced}
-use Rattle.line_spacer.specs.Stands.{Frame, frames_in}
 use Rattle.line_spacer.proofs.Sending.{waiting-count, frame-waits}
 
 -- ---- the frames of a line
@@ -150,45 +149,6 @@ module _ (gap cap step : ℕ) (s : Spaced) (frame : FrameRead) where
           stays = λ i within. ap (λ x. tick_at x.accepted i) same;
         }
 
--- the same where the queue is one of buffers
-module _ (gap cap step : ℕ) (s : Spaced) (left : List ℕ) (rest : ℕ) (queue : List Frame)
-    (read : FrameRead) (has : HasSent gap (step + 1) s.accepted left rest (frames_in queue)) where
-  count : length (frames_in queue) ≡ length queue
-  count = length-map queue (λ x. x.items)
-
-  -- this buffer has its bytes
-  pub queued-sent : (bytes : Frame) → bytes.items ≡ read.frame → length queue < cap
-      → HasSent gap (step + 1) (taken_in gap cap step s (read ∷ [])).accepted left rest
-      (frames_in (queue ++ bytes ∷ []))
-  queued-sent bytes is few =
-      let same = count in
-      let P : List (List ℕ) → Type 0 = λ x.
-      HasSent gap (step + 1) (taken_in gap cap step s (read ∷ [])).accepted left rest x in
-      subst P (ap (λ x. frames_in queue ++ x ∷ []) (sym is)
-      ∙ sym (map-append (λ x. x.items) queue (bytes ∷ [])))
-      (kept-sent gap cap step s read left rest (frames_in queue) has (omega arith))
-
-  pub queued-takes : length queue < cap → TakesIn gap cap step s (read ∷ []) []
-  queued-takes few =
-      let same = count in
-      kept-takes gap cap step s read left rest (frames_in queue) has (omega arith)
-
-  pub full-sent : cap ≤ length queue
-      → HasSent gap (step + 1) (taken_in gap cap step s (read ∷ [])).accepted left rest
-      (frames_in queue)
-  full-sent many =
-      let same = count in
-      lost-sent gap cap step s read left rest (frames_in queue) has (omega arith)
-
-  pub full-takes : cap ≤ length queue → TakesIn gap cap step s (read ∷ []) (read ∷ [])
-  full-takes many =
-      let same = count in
-      lost-takes gap cap step s read left rest (frames_in queue) has (omega arith)
-
-pub is-full : (n cap : ℕ) → (n < cap → false ≡ true) → cap ≤ n
-is-full n cap not =
-    ⊎_elim (λ few. absurd (false≢true (not few))) (λ many. many) (cases_lt n cap)
-
 -- none is read
 pub none-taken : (gap cap step : ℕ) (s : Spaced) → TakesIn gap cap step s [] []
 none-taken gap cap step s = record {
@@ -211,41 +171,8 @@ nothing-begun gap wide = record {
   queue = refl;
 }
 
-pub begins-empty : (reads : List Tick → List FrameRead) (gap cap : ℕ) (items : List ℕ)
-    (queue : List Frame) → 0 < gap → items ≡ [] → queue ≡ []
-    → HasSent gap 0 (accepted_of reads gap cap []) items 0 (frames_in queue)
+pub begins-empty : (reads : List Tick → List FrameRead) (gap cap : ℕ) (queue : List (List ℕ))
+    → 0 < gap → queue ≡ [] → HasSent gap 0 (accepted_of reads gap cap []) [] 0 queue
 unfolding arrivals_behind
-begins-empty reads gap cap items queue wide none empty =
-    let P : List ℕ → Type 0 = λ x. HasSent gap 0 [] x 0 (frames_in queue) in
-    let Q : List Frame → Type 0 = λ q. HasSent gap 0 [] [] 0 (frames_in q) in
-    subst P (sym none) (subst Q (sym empty) (nothing-begun gap wide))
-
--- ---- a step
-
-module _ (reads : List Tick → List FrameRead) (gap cap room : ℕ) (line : List Tick) (t : Tick)
-    (frames : List FrameRead) (is : reads (line ++ t ∷ []) ≡ reads line ++ frames)
-    (fits : room ≡ cap) where
-  -- what has been sent, with the frames of the step
-  pub step-sent : (left : List ℕ) (rest : ℕ) (queued : List (List ℕ))
-      → HasSent gap (length line + 1)
-      (taken_in gap room (length line) (spaced reads gap cap line) frames).accepted left rest queued
-      → HasSent gap (length (line ++ t ∷ [])) (accepted_of reads gap cap (line ++ t ∷ [])) left rest
-      queued
-  step-sent left rest queued has =
-      let one : length (line ++ t ∷ []) ≡ length line + 1 = length-append line (t ∷ []) in
-      let next = spaced-one reads gap cap line t frames is in
-      let P : ℕ → Type 0 = λ c. HasSent gap (length line + 1)
-      (taken_in gap c (length line) (spaced reads gap cap line) frames).accepted left rest queued in
-      let Q : Spaced → Type 0 = λ s. HasSent gap (length line + 1) s.accepted left rest queued in
-      let R : ℕ → Type 0 = λ m.
-      HasSent gap m (accepted_of reads gap cap (line ++ t ∷ [])) left rest queued in
-      subst R (sym one) (subst Q (sym next) (subst P fits has))
-
-  pub step-answers : (u : Tick) (lost : List FrameRead)
-      → tick_at (accepted_of reads gap cap line) (length line) ≡ u
-      → TakesIn gap room (length line) (spaced reads gap cap line) frames lost
-      → AnswersSpaced reads gap cap line (t ∷ []) (u ∷ []) (length line) lost
-  step-answers u lost leaves takes =
-      let P : ℕ → Type 0 = λ c.
-      TakesIn gap c (length line) (spaced reads gap cap line) frames lost in
-      line-one reads gap cap line t u frames lost is leaves (subst P fits takes)
+begins-empty reads gap cap queue wide empty =
+    subst (λ q. HasSent gap 0 [] [] 0 q) (sym empty) (nothing-begun gap wide)

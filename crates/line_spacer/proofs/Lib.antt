@@ -1,5 +1,8 @@
+mod CutBytes
 pub mod Sending
 pub mod Arriving
 pub mod DnpRows
 pub mod RtuRows
 pub mod Runs
+pub mod RunSteps
+pub mod Keeping

@@ -1,10 +1,9 @@
 -- A run of ticks: what leaves in it, and what is read at its end.
 use Rattle.std.proofs.Common.{◌≡◌, ◌∙◌, ℕ, zero, suc, ◌+◌, ◌-◌, ◌<◌, ◌≤◌, List, [], ◌∷◌, ◌++◌}
 use Rattle.std.proofs.Common.{length}
-use Rattle.std.proofs.Common.{map, take, drop, fold, refl, sym, ap, subst, arith, append_assoc}
+use Rattle.std.proofs.Common.{map, take, drop, fold, max, refl, sym, ap, subst, arith, append_assoc}
 use Rattle.std.proofs.Common.{length-append}
 use Rattle.std.proofs.Common.{length-drop, ⊎_elim}
-use Rattle.std.specs.Prelude.{Result, Ok, Err, IsOk, OnOk}
 use Rattle.std.proofs.lemmas.Bool.{cases_lt}
 use Rattle.std.proofs.lemmas.List.{append-nil, drop_all, length-replicate, length-map, drop-drop}
 use Rattle.std.proofs.lemmas.List.{length-take-le, take-take, take-map}
@@ -20,10 +19,9 @@ use Rattle.device_model.specs.Frames.{FrameRead}
 use Rattle.line_spacer.specs.Arrivals.{arriving, gained, arrivals_behind, arrivals}
 use Rattle.line_spacer.specs.Runs.{SendsRun}
 use Rattle.line_spacer.specs.Spacing.{Spaced, take_in, spaced, accepted_of}
-use Rattle.line_spacer.specs.Stands.{Frame, frames_in}
-use Rattle.line_spacer.specs.Stands.{HasSent, TakesIn, taken_in, AnswersSpaced}
+use Rattle.line_spacer.specs.Stands.{HasSent, rest_behind, TakesIn, taken_in, AnswersSpaced}
 use Rattle.line_spacer.proofs.Arriving.{arrivals-append, drop-front}
-use Rattle.line_spacer.proofs.Sending.{on_line, byte-sent, rest-passes, nothing-sent}
+use Rattle.line_spacer.proofs.Sending.{on_line, byte-sent, rest-passes, nothing-sent, frame-begins}
 
 -- ---- what leaves
 
@@ -177,62 +175,52 @@ module _ (reads : List Tick → List FrameRead) where
 
 -- ---- what a spacer sends
 
--- a fact on the value of an `Ok` holds where it is one
-pub of-ok : {T E : Type 0} (r : Result T E) (P : Type 0) → IsOk r → OnOk r P → P
-of-ok (Ok x) P is fact = fact
-of-ok (Err e) P is fact = cc
-
 answered-bytes : (n : ℕ) (x : List ℕ) → 0 < length x → answered n x ≡ on_line x
 answered-bytes n [] some = absurd (omega arith)
 answered-bytes n (b ∷ x) some = refl
 
-module _ (gap m : ℕ) (accepted : List Burst) (items : List ℕ) (sent rest : ℕ) (queue : List Frame)
-    (has : HasSent gap m accepted (drop sent items) rest (frames_in queue)) where
-  pub bytes-leave : (n : ℕ) (new : List ℕ) → 0 < n → sent + n ≤ length items
-      → new ≡ take n (drop sent items)
-      → SendsRun gap m accepted (drop (sent + n) items) rest (frames_in queue) (answered n new)
-  bytes-leave n new some within is =
-      let left : List ℕ = drop sent items in
-      let long = length-drop sent items in
-      let few : length (take n left) ≡ n = length-take-le n left (omega arith) in
-      let count = ap length is in
-      let same : answered n new ≡ on_line (take n left) =
-      answered-bytes n new (omega arith) ∙ ap (λ x. on_line x) is in
-      subst (λ x. SendsRun gap m accepted (drop (sent + n) items) rest (frames_in queue) x)
-      (sym same)
-      (subst (λ x. SendsRun gap m accepted x rest (frames_in queue) (on_line (take n left)))
-      (drop-drop n sent items)
-      (bytes-run gap accepted n m left rest (frames_in queue) (omega arith) has))
+module _ (gap m : ℕ) (accepted : List Burst) where
+  -- bytes of the frame that has begun
+  pub bytes-leave : (n : ℕ) (left : List ℕ) (rest : ℕ) (queued : List (List ℕ)) → 0 < n
+      → n ≤ length left → HasSent gap m accepted left rest queued
+      → SendsRun gap m accepted (drop n left) rest queued (answered n (take n left))
+  bytes-leave n left rest queued some within has =
+      let few : length (take n left) ≡ n = length-take-le n left within in
+      subst (λ x. SendsRun gap m accepted (drop n left) rest queued x)
+      (sym (answered-bytes n (take n left) (omega arith)))
+      (bytes-run gap accepted n m left rest queued within has)
 
-  pub silence-leaves : (n : ℕ) (new : List ℕ) → 0 < n → length items ≤ sent
-      → (0 < rest → n ≤ rest) → (rest ≤ 0 → 0 < n → queue ≡ []) → new ≡ []
-      → SendsRun gap m accepted (drop sent items) (rest - n) (frames_in queue) (answered n new)
-  silence-leaves n new some over quiet idle empty =
-      let none : drop sent items ≡ [] = drop_all sent items over in
-      let bare : HasSent gap m accepted [] rest (frames_in queue) =
-      subst (λ x. HasSent gap m accepted x rest (frames_in queue)) none has in
-      subst (λ y. SendsRun gap m accepted (drop sent items) (rest - n) (frames_in queue)
-      (answered n y))
-      (sym empty)
-      (subst (λ x. SendsRun gap m accepted x (rest - n) (frames_in queue) (silent n)) (sym none)
-      (⊎_elim
-      (λ some_rest. rest-run gap accepted n m rest (frames_in queue) (quiet some_rest) bare)
+  -- silence behind a frame, or where no frame waits
+  pub silence-leaves : (n rest : ℕ) (queued : List (List ℕ)) → 0 < n → (0 < rest → n ≤ rest)
+      → (rest ≤ 0 → queued ≡ []) → HasSent gap m accepted [] rest queued
+      → SendsRun gap m accepted [] (rest - n) queued (silent n)
+  silence-leaves n rest queued some quiet idle has =
+      ⊎_elim
+      (λ some_rest. rest-run gap accepted n m rest queued (quiet some_rest) has)
       (λ no_rest.
-      let nothing : queue ≡ [] = idle no_rest some in
+      let nothing : queued ≡ [] = idle no_rest in
       let zero_rest : rest ≡ 0 = omega arith in
       let less : 0 ≡ rest - n = omega arith in
-      let P : ℕ → Type 0 = λ k. HasSent gap m accepted [] k (frames_in queue) in
-      let Q : List Frame → Type 0 = λ q. HasSent gap m accepted [] 0 (frames_in q) in
-      subst (λ q. SendsRun gap m accepted [] (rest - n) (frames_in q) (silent n)) (sym nothing)
+      let P : ℕ → Type 0 = λ k. HasSent gap m accepted [] k queued in
+      let Q : List (List ℕ) → Type 0 = λ q. HasSent gap m accepted [] 0 q in
+      subst (λ q. SendsRun gap m accepted [] (rest - n) q (silent n)) (sym nothing)
       (subst (λ k. SendsRun gap m accepted [] k [] (silent n)) less
-      (idle-run gap accepted n m (subst Q nothing (subst P zero_rest bare)))))
-      (cases_lt 0 rest)))
+      (idle-run gap accepted n m (subst Q nothing (subst P zero_rest has)))))
+      (cases_lt 0 rest)
 
--- ---- as many ticks as were taken
-
-pub answered-long : (n : ℕ) (x : List ℕ) → 0 < n → length x ≡ n → length (answered n x) ≡ n
-answered-long n [] some long = absurd (omega arith)
-answered-long n (b ∷ x) some long = length-map (b ∷ x) (λ c. Byte c) ∙ long
-
-pub answered-silent : (n : ℕ) (x : List ℕ) → x ≡ [] → length (answered n x) ≡ n
-answered-silent n x none = ap (λ y. length (answered n y)) none ∙ length-replicate n Silent
+  -- the first bytes of the next frame
+  pub frame-leaves : (n : ℕ) (frame : List ℕ) (queued : List (List ℕ)) → 0 < n
+      → n ≤ max (length frame) 1 → HasSent gap m accepted [] 0 (frame ∷ queued)
+      → SendsRun gap m accepted (drop n frame) (rest_behind gap frame) queued
+      (answered n (take n frame))
+  frame-leaves zero frame queued some within has = absurd (omega arith)
+  frame-leaves (suc n) [] queued some within has =
+      let last : 0 ≡ n = grind arith in
+      let one = frame-begins gap m accepted [] queued has in
+      subst (λ k. SendsRun gap m accepted [] (gap - 1) queued (silent (suc k))) last
+      (run-more gap accepted m [] (gap - 1) queued Silent [] one.leaves
+      (run-none gap accepted (m + 1) [] (gap - 1) queued one.sent))
+  frame-leaves (suc n) (b ∷ frame) queued some within has =
+      let one = frame-begins gap m accepted (b ∷ frame) queued has in
+      run-more gap accepted m (drop n frame) gap queued (Byte b) (on_line (take n frame)) one.leaves
+      (bytes-run gap accepted n (m + 1) frame gap queued (grind arith) one.sent)

@@ -3,7 +3,6 @@
 use Rattle.std.proofs.Common.{◌≡◌, ◌∙◌, ℕ, suc, ◌+◌, ◌-◌, ◌<◌, ◌≤◌, List, []}
 use Rattle.std.proofs.Common.{◌∷◌, ◌++◌, length, map, drop, max, refl, sym, ap, subst, arith}
 use Rattle.std.proofs.Common.{append_assoc, get_or, drop-cons, nat_le, nat_lt, ◌&&◌, true, false}
-use Rattle.std.specs.Prelude.{Some, None, slice_get}
 use Rattle.std.specs.List.{filter}
 use Rattle.std.proofs.lemmas.List.{append-nil, map-append, length-map, drop_all}
 use Rattle.std.proofs.lemmas.List.Elements.{filter-append}
@@ -13,7 +12,6 @@ use Rattle.yasir_ticks.specs.declared.tick.Tick.TheVariants.{Silent, Byte}
 use Rattle.burst_walk.specs.Laid.{tick_at}
 use Rattle.burst_walk.proofs.Emissions.{tick_at-none, tick_at-front, tick_at-before, tick_at-from}
 use Rattle.line_spacer.specs.Spacing.{count_from, free_from, sent_from}
-use Rattle.line_spacer.specs.Stands.{Frame, frames_in}
 use Rattle.line_spacer.specs.Stands.{tick_of, HaveBegun, AreDue, HasSent, Sends, rest_behind}
 
 abbrev pub on_line : List ℕ → List Tick
@@ -353,69 +351,3 @@ module _ (gap m : ℕ) (accepted : List Burst) (left : List ℕ) (rest : ℕ)
       ∙ (ap length (all-from (m + length left + rest) has.waiting from has.due)
       ∙ (sym (length-map has.waiting (λ d. d.body))
       ∙ (ap length has.queue ∙ length-map queued on_line)))))
-
--- ---- the same of what a spacer holds
-
-module _ (gap m : ℕ) (accepted : List Burst) (items : List ℕ) (sent rest : ℕ) (queue : List Frame)
-    (has : HasSent gap m accepted (drop sent items) rest (frames_in queue)) where
-  pub goes-on : sent < length items → (b : ℕ) → b ≡ get_or items sent b
-      → Sends gap m accepted (drop (sent + 1) items) rest (frames_in queue) (Byte b)
-  goes-on within b is =
-      let next : suc sent ≡ sent + 1 = omega arith in
-      let same : drop sent items ≡ b ∷ drop (sent + 1) items =
-      drop-cons items sent b within ∙ (ap (λ x. x ∷ drop (suc sent) items) (sym is)
-      ∙ ap (λ n. b ∷ drop n items) next) in
-      let P : List ℕ → Type 0 = λ x. HasSent gap m accepted x rest (frames_in queue) in
-      byte-sent gap m accepted b (drop (sent + 1) items) rest (frames_in queue) (subst P same has)
-
-  pub rests : length items ≤ sent → 0 < rest
-      → Sends gap m accepted (drop sent items) (rest - 1) (frames_in queue) Silent
-  rests over some =
-      let none : drop sent items ≡ [] = drop_all sent items over in
-      let more : rest ≡ suc (rest - 1) = omega arith in
-      let P : List ℕ → Type 0 = λ x. HasSent gap m accepted x rest (frames_in queue) in
-      let Q : ℕ → Type 0 = λ n. HasSent gap m accepted [] n (frames_in queue) in
-      let R : List ℕ → Type 0 = λ x.
-      Sends gap m accepted x (rest - 1) (frames_in queue) Silent in
-      subst R (sym none)
-      (rest-passes gap m accepted (rest - 1) (frames_in queue) (subst Q more (subst P none has)))
-
-  -- nothing is left of a frame, nor of the silence behind it
-  over : length items ≤ sent → rest ≤ 0 → HasSent gap m accepted [] 0 (frames_in queue)
-  over past done =
-      let none : drop sent items ≡ [] = drop_all sent items past in
-      let zero-rest : rest ≡ 0 = omega arith in
-      let P : List ℕ → Type 0 = λ x. HasSent gap m accepted x rest (frames_in queue) in
-      let Q : ℕ → Type 0 = λ n. HasSent gap m accepted [] n (frames_in queue) in
-      subst Q zero-rest (subst P none has)
-
-  pub idles : length items ≤ sent → rest ≤ 0 → None ≡ slice_get queue 0
-      → Sends gap m accepted (drop sent items) rest (frames_in (drop 1 queue)) Silent
-  idles past done empty =
-      let none : drop sent items ≡ [] = drop_all sent items past in
-      let zero-rest : rest ≡ 0 = omega arith in
-      let bare : queue ≡ [] = none-queued queue empty in
-      let R : List ℕ → Type 0 = λ x.
-      Sends gap m accepted x rest (frames_in (drop 1 queue)) Silent in
-      let S : ℕ → Type 0 = λ n. Sends gap m accepted [] n (frames_in (drop 1 queue)) Silent in
-      let T : List Frame → Type 0 = λ q. Sends gap m accepted [] 0 (frames_in (drop 1 q)) Silent in
-      let U : List Frame → Type 0 = λ q. HasSent gap m accepted [] 0 (frames_in q) in
-      subst R (sym none) (subst S (sym zero-rest) (subst T (sym bare)
-      (nothing-sent gap m accepted (subst U bare (over past done)))))
-    where
-      none-queued : (q : List Frame) → None ≡ slice_get q 0 → q ≡ []
-      none-queued [] is = refl
-      none-queued (f ∷ q) is = cc
-
-  pub begins-next : length items ≤ sent → rest ≤ 0 → (frame : Frame)
-      → Some frame ≡ slice_get queue 0
-      → Sends gap m accepted (drop 1 frame.items) (rest_behind gap frame.items)
-      (frames_in (drop 1 queue)) (tick_of 0 frame.items 0)
-  begins-next past done frame first =
-      let U : List Frame → Type 0 = λ q. HasSent gap m accepted [] 0 (frames_in q) in
-      frame-begins gap m accepted frame.items (frames_in (drop 1 queue))
-      (subst U (some-queued queue first) (over past done))
-    where
-      some-queued : (q : List Frame) → Some frame ≡ slice_get q 0 → q ≡ frame ∷ drop 1 q
-      some-queued [] is = cc
-      some-queued (f ∷ q) is = let same : frame ≡ f = cc in ap (λ x. x ∷ q) (sym same)

@@ -1,4 +1,5 @@
 pub mod Arrivals
+pub mod FrameQueue
 pub mod Spacing
 pub mod Stands
 pub mod Runs

@@ -1,9 +1,9 @@
 -- What a spacer sends in a run of ticks in which the other line stays alike.
-use Rattle.std.specs.Prelude.{◌≡◌, ℕ, ◌+◌, ◌<◌, ◌≤◌, List, [], ◌++◌, length, drop}
+use Rattle.std.specs.Prelude.{◌≡◌, ℕ, ◌+◌, ◌<◌, ◌≤◌, List, [], ◌++◌, length, max, true, false}
 use Rattle.yasir_ticks.specs.Bursts.{Burst}
 use Rattle.yasir_ticks.specs.declared.tick.Tick.{Tick}
 use Rattle.burst_walk.specs.Laid.{laid}
-use Rattle.line_spacer.specs.Stands.{HasSent, frames_in}
+use Rattle.line_spacer.specs.Stands.{HasSent, left_of, frame_at, frames_waiting}
 use Rattle.line_spacer.specs.declared.spacer.Spacer.{Spacer}
 
 -- It has sent so before tick m. In the ticks from m on these leave, and it has sent so behind them.
@@ -14,14 +14,21 @@ pub record SendsRun (gap m : ℕ) (accepted : List Burst) (left : List ℕ) (res
 
 abbrev pub SendsRunBy : {V : Type 0} {GAP : ℕ} → Spacer V GAP → ℕ → List Burst → List Tick → Type 0
 SendsRunBy {V} {GAP} value m accepted answer =
-    SendsRun GAP m accepted (drop value.sent value.sending.items) value.rest
-    (frames_in value.queue.items) answer
+    SendsRun GAP m accepted (left_of value.ready value.sent (frame_at value)) value.rest
+    (frames_waiting value) answer
 
--- In this many ticks only bytes of the frame that has begun leave, 64 at most, or only silence:
--- that behind it, or any where no frame waits.
+-- Where nothing is left of a frame and of the silence behind it, the next frame is ready to begin,
+-- or none waits.
+abbrev pub IsMade : {V : Type 0} {GAP : ℕ} → Spacer V GAP → Type 0
+IsMade value = value.rest ≤ 0 → value.ready ≡ false → value.size ≤ value.sent
+    → value.queue.frames ≡ []
+
+-- In this many ticks only bytes of a frame leave, of the one that is ready to begin or of the one
+-- that has begun, or only silence: that behind a frame, or any where no frame waits.
 pub record StaysAlike {V : Type 0} {GAP : ℕ} (value : Spacer V GAP) (n : ℕ) : Type 0 where
-  pub bytes : value.sent < length value.sending.items
-      → (value.sent + n ≤ length value.sending.items) × (n ≤ 64)
-  pub quiet : length value.sending.items ≤ value.sent → 0 < value.rest → n ≤ value.rest
-  pub idle : length value.sending.items ≤ value.sent → value.rest ≤ 0 → 0 < n
-      → value.queue.items ≡ []
+  pub begins : value.ready ≡ true → value.rest ≤ 0 → n ≤ max value.size 1
+  pub waits : value.ready ≡ true → 0 < value.rest → n ≤ value.rest
+  pub bytes : value.ready ≡ false → value.sent < value.size → value.sent + n ≤ value.size
+  pub quiet : value.ready ≡ false → value.size ≤ value.sent → 0 < value.rest → n ≤ value.rest
+  pub idle : value.ready ≡ false → value.size ≤ value.sent → value.rest ≤ 0
+      → value.queue.frames ≡ []

@@ -1,7 +1,6 @@
 -- What a spacer stands for, and what its steps answer.
 use Rattle.std.specs.Prelude.{◌≡◌, ℕ, ◌+◌, ◌-◌, ◌<◌, ◌≤◌, List, [], ◌∷◌, ◌++◌, length, map, drop}
-use Rattle.std.specs.Prelude.{slice_index_or, fold}
-use Rattle.arrayvec.specs.declared.array_vec.ArrayVec.{ArrayVec}
+use Rattle.std.specs.Prelude.{slice_index_or, fold, take, Bool, true, false}
 use Rattle.yasir_ticks.specs.Bursts.{Burst, end_of}
 use Rattle.yasir_ticks.specs.declared.tick.Tick.{Tick}
 use Rattle.yasir_ticks.specs.declared.tick.Tick.TheVariants.{Silent, Byte}
@@ -52,25 +51,33 @@ pub record Sends (gap m : ℕ) (accepted : List Burst) (left : List ℕ) (rest :
   pub leaves : tick_at accepted m ≡ t
   pub sent : HasSent gap (m + 1) accepted left rest queued
 
--- room for a frame
-abbrev pub Frame : Type 0
-Frame = ArrayVec ℕ 292 (Unit {0})
+-- of a frame of which so many bytes were sent: those that are still to be sent, if it has begun
+abbrev pub left_of : Bool → ℕ → List ℕ → List ℕ
+left_of true sent frame = []
+left_of false sent frame = drop sent frame
+
+-- the frames that wait: this one, if it is still to begin, and those of the queue
+abbrev pub with_next : Bool → List ℕ → List (List ℕ) → List (List ℕ)
+with_next true frame queue = frame ∷ queue
+with_next false frame queue = queue
+
+-- the frame that was begun last, or is the next to begin
+abbrev pub frame_at : {V : Type 0} {GAP : ℕ} → Spacer V GAP → List ℕ
+frame_at value = take value.size value.room
 
 -- the frames that wait
-abbrev pub frames_in : List Frame → List (List ℕ)
-frames_in queue = map (λ x. x.items) queue
+abbrev pub frames_waiting : {V : Type 0} {GAP : ℕ} → Spacer V GAP → List (List ℕ)
+frames_waiting value = with_next value.ready (frame_at value) value.queue.frames
+
+-- the bytes that left in the last ticks that were taken
+abbrev pub bytes_left : {V : Type 0} {GAP : ℕ} → Spacer V GAP → List ℕ
+bytes_left value = take (value.sent - value.before) (drop value.before value.room)
 
 -- Before tick m the spacer has sent so.
 abbrev pub SentBy : {V : Type 0} {GAP : ℕ} → Spacer V GAP → ℕ → List Burst → Type 0
 SentBy {V} {GAP} value m accepted =
-    HasSent GAP m accepted (drop value.sent value.sending.items) value.rest
-    (frames_in value.queue.items)
-
--- In tick m this leaves, and the spacer has sent so before the tick behind it.
-abbrev pub SendsBy : {V : Type 0} {GAP : ℕ} → Spacer V GAP → ℕ → List Burst → Tick → Type 0
-SendsBy {V} {GAP} value m accepted t =
-    Sends GAP m accepted (drop value.sent value.sending.items) value.rest
-    (frames_in value.queue.items) t
+    HasSent GAP m accepted (left_of value.ready value.sent (frame_at value)) value.rest
+    (frames_waiting value)
 
 module _ {V : Type 0} (device : Device V) where
   -- The spacer, with room for this many frames to wait, has taken this line.

@@ -8,6 +8,7 @@
 //!     send(step.tick);
 #![tactic(auto)]
 
+mod frame_queue;
 mod spacer;
 
 pub use spacer::{SpaceRun, SpaceStep, Spacer};

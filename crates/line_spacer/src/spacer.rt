@@ -1,7 +1,7 @@
 //! The spacer: its queue of frames, and its answer to a tick and to a run of ticks.
-use arrayvec::ArrayVec;
-use burst_walk::RunBytes;
-use circular_buffer::HeapCircularBuffer;
+ghost use Rattle.std.specs.Prelude.{◌≡◌, ◌≤◌};
+
+use crate::frame_queue::{FrameQueue, LONGEST, fill_front};
 use device_model::{Device, Met, hear_run};
 use std::alloc::Global;
 use yasir_io::NoMemory;
@@ -17,10 +17,7 @@ pub struct SpaceStep {
     pub lost: Option<u64>,
 }
 
-/// How many bytes leave in a run at most.
-const MAX_RUN: usize = 64;
-
-/// What a spacer returns for some ticks.
+/// What a spacer returns for some ticks. It lends the bytes that left.
 #[derive(Clone, Copy)]
 pub struct SpaceRun {
     /// How many of the ticks it has taken.
@@ -36,28 +33,35 @@ pub struct SpaceRun {
 #[derive(Drop)]
 pub struct Spacer<V, const GAP: usize> {
     device: V,
-    queue: HeapCircularBuffer<ArrayVec<u8, 292>>,
-    // the frame that was begun last, and how many of its bytes were sent
-    sending: ArrayVec<u8, 292>,
+    queue: FrameQueue,
+    // a room, at whose front the frame stands that was begun last, or is the next to begin
+    room: [u8; LONGEST],
+    size: usize,
+    // whether that frame is still to begin, and so waits
+    ready: bool,
+    // how many of its bytes were sent before the last ticks that were taken, and how many with them
+    before: usize,
     sent: usize,
-    // the silent ticks behind it that are still to pass
+    // the silent ticks that are still to pass behind the frame that was begun last
     rest: usize,
+    ghost grows: { before ≤ sent },
+    ghost within: { sent ≤ size },
+    ghost fits: { size ≤ 292 },
 }
 
 impl<V: Device, const GAP: usize> Spacer<V, GAP> {
-    ghost use Rattle.std.specs.Prelude.{◌≡◌, ℕ, ◌+◌, ◌<◌, ◌≤◌, List, [], ◌∷◌, ◌++◌, length, drop};
-    ghost use Rattle.std.specs.Prelude.{IfOk, ◌-◌, take, Some};
+    ghost use Rattle.std.specs.Prelude.{ℕ, ◌+◌, ◌<◌, List, [], ◌∷◌, ◌++◌, length};
+    ghost use Rattle.std.specs.Prelude.{IfOk, ◌-◌, take, Some, true, false};
     ghost use Rattle.yasir_ticks.specs.TickRun.{run_ticks};
     ghost use Rattle.burst_walk.specs.Answered.{answered};
-    ghost use Rattle.line_spacer.specs.Runs.{StaysAlike, SendsRunBy};
+    ghost use Rattle.line_spacer.specs.Runs.{IsMade, StaysAlike, SendsRunBy};
     ghost use Rattle.yasir_ticks.specs.Bursts.{Burst};
     ghost use Rattle.yasir_ticks.specs.declared.tick.Tick.{Tick};
-    ghost use Rattle.burst_walk.specs.Laid.{tick_at};
     ghost use Rattle.device_model.specs.Frames.{frames_lent};
     ghost use Rattle.line_spacer.specs.Spacing.{Spaced, waiting_of};
     ghost use Rattle.line_spacer.specs.Stands.{StandsFor, AnswersSpaced, ticks_taken, bytes_lent};
-    ghost use Rattle.line_spacer.specs.Stands.{SentBy, SendsBy, TakesIn, taken_in, tick_of};
-    ghost use Rattle.line_spacer.specs.Stands.{rest_behind};
+    ghost use Rattle.line_spacer.specs.Stands.{SentBy, TakesIn, taken_in, bytes_left};
+    ghost use Rattle.line_spacer.specs.Stands.{frames_waiting, tick_of};
 
     /// A spacer that has taken no tick, with room for `cap` frames to wait. It takes its memory
     /// here, and none later.
@@ -66,68 +70,177 @@ impl<V: Device, const GAP: usize> Spacer<V, GAP> {
         ensures taken { IfOk result (λ spacer. ticks_taken V.Device spacer ≡ 0) }
         ensures stands { IfOk result (λ spacer. StandsFor V.Device cap spacer []) }
     {
-        let Ok(queue) = HeapCircularBuffer::with_capacity(alloc, cap) else {
-            return Err(NoMemory);
-        };
+        let queue = FrameQueue::with_capacity(alloc, cap)?;
         Ok(Spacer {
             device: V::fresh(),
             queue,
-            sending: ArrayVec::new(),
+            room: [0; LONGEST],
+            size: 0,
+            ready: false,
+            before: 0,
             sent: 0,
             rest: 0,
         })
     }
 
-    // A frame begins, and its first byte is sent.
-    #[inline]
-    fn begin(&mut self, frame: ArrayVec<u8, 292>) -> Tick
+    // Makes the first frame of the queue the next to begin. It is kept separate, since few runs
+    // begin a frame.
+    #[inline(never)]
+    fn make_next(&mut self)
+        requires begun { self.old.ready ≡ false }
+        requires sent { self.old.size ≤ self.old.sent }
+        requires some { 0 < length self.old.queue.frames }
         ensures device { self.new.device ≡ self.old.device }
-        ensures queue { self.new.queue ≡ self.old.queue }
-        ensures left { drop self.new.sent self.new.sending.items ≡ drop 1 frame.items }
-        ensures rest { self.new.rest ≡ rest_behind GAP frame.items }
-        ensures first { result ≡ tick_of 0 frame.items 0 }
+        ensures room { self.new.queue.capacity ≡ self.old.queue.capacity }
+        ensures ready { self.new.ready ≡ true }
+        ensures sent { (m : ℕ) (accepted : List Burst) → SentBy self.old m accepted
+            → SentBy self.new m accepted }
     {
-        self.sending = frame;
-        let Some(byte) = self.sending.as_slice().first() else {
-            self.sent = 0;
-            self.rest = GAP.saturating_sub(1);
-            return Tick::Silent;
-        };
-        let first = Tick::Byte(*byte);
-        self.sent = 1;
-        self.rest = GAP;
-        first
+        self.before = 0;
+        self.sent = 0;
+        self.size = 0;
+        self.size = self.queue.pop_front(&mut self.room);
+        self.ready = true;
     }
 
-    // The next tick of the other line.
+    // Makes a frame that waits the next to begin, if nothing is left of the one before and of the
+    // silence behind it.
     #[inline(always)]
-    fn send(&mut self) -> Tick
+    fn make_ready(&mut self)
+        ensures device { self.new.device ≡ self.old.device }
+        ensures room { self.new.queue.capacity ≡ self.old.queue.capacity }
+        ensures made { IsMade self.new }
+        ensures sent { (m : ℕ) (accepted : List Burst) → SentBy self.old m accepted
+            → SentBy self.new m accepted }
+    {
+        if self.rest > 0 {
+            return;
+        }
+        if self.ready {
+            return;
+        }
+        if self.sent < self.size {
+            return;
+        }
+        if self.queue.is_empty() {
+            return;
+        }
+        self.make_next();
+    }
+
+    // For how many ticks the other line stays alike at least.
+    #[inline(always)]
+    fn alike(&self) -> usize
+        requires { IsMade self.now }
+        ensures some { 0 < result }
+        ensures alike { StaysAlike self.now result }
+    {
+        if self.ready {
+            if self.rest > 0 {
+                return self.rest;
+            }
+            return self.size.max(1);
+        }
+        if self.sent < self.size {
+            return self.size - self.sent;
+        }
+        if self.rest > 0 {
+            return self.rest;
+        }
+        usize::MAX
+    }
+
+    // The next ticks of the other line, in which it stays alike, where a frame is ready: silence
+    // before it, or its first bytes. It is kept separate, since few runs begin a frame.
+    #[inline(never)]
+    fn send_next(&mut self, ticks: usize)
+        requires some { 0 < ticks }
+        requires ready { self.old.ready ≡ true }
+        requires alike { StaysAlike self.old ticks }
         ensures device { self.new.device ≡ self.old.device }
         ensures room { self.new.queue.capacity ≡ self.old.queue.capacity }
         ensures sends { (m : ℕ) (accepted : List Burst) → SentBy self.old m accepted
-            → SendsBy self.new m accepted result }
+            → SendsRunBy self.new m accepted (answered ticks (bytes_left self.new)) }
+        ensures long { length (answered ticks (bytes_left self.new)) ≡ ticks }
     {
-        if let Some(byte) = self.sending.as_slice().get(self.sent) {
-            let byte = *byte;
-            self.sent += 1;
-            return Tick::Byte(byte);
-        }
         if self.rest > 0 {
-            self.rest -= 1;
-            return Tick::Silent;
+            self.before = self.sent;
+            self.rest = self.rest.saturating_sub(ticks);
+            return;
         }
-        let Some(frame) = self.queue.pop_front() else {
-            return Tick::Silent;
-        };
-        self.begin(frame)
+        self.ready = false;
+        self.before = 0;
+        self.sent = ticks.min(self.size);
+        if self.size == 0 {
+            self.rest = GAP.saturating_sub(1);
+            return;
+        }
+        self.rest = GAP;
+    }
+
+    // The next ticks of the other line, in which it stays alike.
+    #[inline(always)]
+    fn send_some(&mut self, ticks: usize)
+        requires some { 0 < ticks }
+        requires alike { StaysAlike self.old ticks }
+        ensures device { self.new.device ≡ self.old.device }
+        ensures room { self.new.queue.capacity ≡ self.old.queue.capacity }
+        ensures sends { (m : ℕ) (accepted : List Burst) → SentBy self.old m accepted
+            → SendsRunBy self.new m accepted (answered ticks (bytes_left self.new)) }
+        ensures long { length (answered ticks (bytes_left self.new)) ≡ ticks }
+    {
+        if self.ready {
+            return self.send_next(ticks);
+        }
+        if self.sent < self.size {
+            self.before = self.sent;
+            self.sent += ticks;
+            return;
+        }
+        self.before = self.sent;
+        self.rest = self.rest.saturating_sub(ticks);
+    }
+
+    // Adds the frame that the device lends to the queue.
+    fn queue_frame(&mut self)
+        requires few { length (frames_waiting self.old) < self.old.queue.capacity }
+        ensures device { self.new.device ≡ self.old.device }
+        ensures room { self.new.queue.capacity ≡ self.old.queue.capacity }
+        ensures left { bytes_left self.new ≡ bytes_left self.old }
+        ensures sent { (start step : ℕ) (s : Spaced) → SentBy self.old (step + 1) s.accepted
+            → SentBy self.new (step + 1) (taken_in GAP self.old.queue.capacity step s
+            (frames_lent (Some start) (bytes_lent V.lent self.old))).accepted }
+    {
+        self.queue.push_back(self.device.frame_bytes());
+    }
+
+    // Makes the frame that the device lends the next to begin.
+    fn hold_frame(&mut self)
+        requires few { length (frames_waiting self.old) < self.old.queue.capacity }
+        requires none { length (frames_waiting self.old) ≤ 0 }
+        requires free { self.old.size ≤ self.old.before }
+        ensures device { self.new.device ≡ self.old.device }
+        ensures room { self.new.queue.capacity ≡ self.old.queue.capacity }
+        ensures left { bytes_left self.new ≡ bytes_left self.old }
+        ensures sent { (start step : ℕ) (s : Spaced) → SentBy self.old (step + 1) s.accepted
+            → SentBy self.new (step + 1) (taken_in GAP self.old.queue.capacity step s
+            (frames_lent (Some start) (bytes_lent V.lent self.old))).accepted }
+    {
+        self.before = 0;
+        self.sent = 0;
+        self.size = 0;
+        self.size = fill_front(&mut self.room, self.device.frame_bytes());
+        self.ready = true;
     }
 
     // Queues the frame that begins here, which the device lends, and says so again where too many
-    // wait. It is kept separate, since few ticks end a frame.
+    // wait. Where none waits, and nothing of the frame before is sent or lent, it is the next one.
+    // It is kept separate, since few ticks end a frame.
     #[inline(never)]
     fn keep_frame(&mut self, start: u64) -> Option<u64>
         ensures device { self.new.device ≡ self.old.device }
         ensures room { self.new.queue.capacity ≡ self.old.queue.capacity }
+        ensures left { bytes_left self.new ≡ bytes_left self.old }
         ensures sent { (step : ℕ) (s : Spaced) → SentBy self.old (step + 1) s.accepted
             → SentBy self.new (step + 1) (taken_in GAP self.old.queue.capacity step s
             (frames_lent (Some start) (bytes_lent V.lent self.old))).accepted }
@@ -136,14 +249,16 @@ impl<V: Device, const GAP: usize> Spacer<V, GAP> {
             (frames_lent (Some start) (bytes_lent V.lent self.old))
             (frames_lent result (bytes_lent V.lent self.new)) }
     {
-        let mut frame = ArrayVec::new();
-        frame
-            .try_extend_from_slice(self.device.frame_bytes())
-            .unwrap();
-        match self.queue.try_push_back(frame) {
-            Ok(()) => None,
-            Err(_) => Some(start),
+        let waiting = self.waiting();
+        if waiting >= self.queue.capacity() {
+            return Some(start);
         }
+        if waiting > 0 || self.before < self.size {
+            self.queue_frame();
+            return None;
+        }
+        self.hold_frame();
+        None
     }
 
     // Queues the frame that is read, if one is, and says so again where too many wait.
@@ -151,6 +266,7 @@ impl<V: Device, const GAP: usize> Spacer<V, GAP> {
     fn keep(&mut self, read: Option<u64>) -> Option<u64>
         ensures device { self.new.device ≡ self.old.device }
         ensures room { self.new.queue.capacity ≡ self.old.queue.capacity }
+        ensures left { bytes_left self.new ≡ bytes_left self.old }
         ensures sent { (step : ℕ) (s : Spaced) → SentBy self.old (step + 1) s.accepted
             → SentBy self.new (step + 1)
             (taken_in GAP self.old.queue.capacity step s
@@ -166,9 +282,63 @@ impl<V: Device, const GAP: usize> Spacer<V, GAP> {
         self.keep_frame(start)
     }
 
+    /// Takes the first ticks of this run, at least one of them, and no further than the other line
+    /// stays alike, all bytes or all silence, and no frame is read before the last of them. Lends
+    /// the bytes that leave, one in each tick, or none where silence leaves.
+    #[inline(always)]
+    pub fn take_some(&mut self, run: TickRun<'_>) -> SpaceRun
+        requires room { ticks_taken V.Device self.old + length (run_ticks run) ≤ MAX_TICKS }
+        requires some { 0 < length (run_ticks run) }
+        ensures some { 0 < result.taken }
+        ensures within { result.taken ≤ length (run_ticks run.entry) }
+        ensures taken { ticks_taken V.Device self.new
+            ≡ ticks_taken V.Device self.old + result.taken }
+        ensures long { length (answered result.taken (bytes_left self.new)) ≡ result.taken }
+        ensures stands { (cap : ℕ) (line : List Tick) → StandsFor V.Device cap self.old line
+            → StandsFor V.Device cap self.new
+            (line ++ take result.taken (run_ticks run.entry)) }
+        ensures answer { (cap : ℕ) (line : List Tick) → StandsFor V.Device cap self.old line
+            → AnswersSpaced V.reads GAP cap line (take result.taken (run_ticks run.entry))
+            (answered result.taken (bytes_left self.new)) (length line + (result.taken - 1))
+            (frames_lent result.lost (bytes_lent V.lent self.new)) }
+    {
+        self.make_ready();
+        let most = self.alike().min(run.len());
+        let front = run.front(most);
+        let Met { taken, start } = hear_run(&mut self.device, front);
+        self.send_some(taken);
+        let lost = self.keep(start);
+        SpaceRun { taken, lost }
+    }
+
+    // The first tick in which bytes left, or none.
+    fn tick_left(&self) -> Tick
+        ensures { result ≡ tick_of 0 (bytes_left self.now) 0 }
+    {
+        match self.left_bytes().first() {
+            Some(byte) => Tick::Byte(*byte),
+            None => Tick::Silent,
+        }
+    }
+
+    // Takes the one tick of this run.
+    fn take_one(&mut self, run: TickRun<'_>) -> SpaceStep
+        requires room { ticks_taken V.Device self.old < MAX_TICKS }
+        requires one { length (run_ticks run) ≡ 1 }
+        ensures taken { ticks_taken V.Device self.new ≡ ticks_taken V.Device self.old + 1 }
+        ensures stands { (cap : ℕ) (line : List Tick) → StandsFor V.Device cap self.old line
+            → StandsFor V.Device cap self.new (line ++ run_ticks run.entry) }
+        ensures answer { (cap : ℕ) (line : List Tick) → StandsFor V.Device cap self.old line
+            → AnswersSpaced V.reads GAP cap line (run_ticks run.entry) (result.tick ∷ [])
+            (length line) (frames_lent result.lost (bytes_lent V.lent self.new)) }
+    {
+        let SpaceRun { taken: _, lost } = self.take_some(run);
+        let tick = self.tick_left();
+        SpaceStep { tick, lost }
+    }
+
     /// Takes the next tick of the line, and returns the tick of the other line at the same place,
     /// and the frame that is lost in this step. Fewer than `MAX_TICKS` ticks were taken before.
-    #[inline(always)]
     pub fn step(&mut self, t: Tick) -> SpaceStep
         requires { ticks_taken V.Device self.old < MAX_TICKS }
         ensures taken { ticks_taken V.Device self.new ≡ ticks_taken V.Device self.old + 1 }
@@ -178,101 +348,18 @@ impl<V: Device, const GAP: usize> Spacer<V, GAP> {
             → AnswersSpaced V.reads GAP cap line (t ∷ []) (result.tick ∷ []) (length line)
             (frames_lent result.lost (bytes_lent V.lent self.new)) }
     {
-        let tick = self.send();
-        let read = self.device.step(t);
-        let lost = self.keep(read);
-        SpaceStep { tick, lost }
+        match t {
+            Tick::Silent => self.take_one(TickRun::Silence(1)),
+            Tick::Byte(byte) => self.take_one(TickRun::Bytes(&[byte])),
+        }
     }
 
-    // For how many ticks the other line stays alike at least; 0 where a frame begins in the next.
-    #[inline]
-    fn alike(&self) -> usize
-        ensures { StaysAlike self.now result }
-    {
-        if self.sent < self.sending.len() {
-            return MAX_RUN.min(self.sending.len() - self.sent);
-        }
-        if self.rest > 0 {
-            return self.rest;
-        }
-        if self.queue.is_empty() {
-            return usize::MAX;
-        }
-        0
-    }
-
-    // The next ticks of the other line, in which it stays alike.
-    #[inline]
-    fn send_some(&mut self, ticks: usize, left: &mut RunBytes)
-        requires some { 0 < ticks }
-        requires alike { StaysAlike self.old ticks }
-        requires empty { left.old.items ≡ [] }
-        ensures device { self.new.device ≡ self.old.device }
-        ensures room { self.new.queue.capacity ≡ self.old.queue.capacity }
-        ensures sends { (m : ℕ) (accepted : List Burst) → SentBy self.old m accepted
-            → SendsRunBy self.new m accepted (answered ticks left.new.items) }
-        ensures long { length (answered ticks left.new.items) ≡ ticks }
-    {
-        if self.sent < self.sending.len() {
-            let part = &self.sending.as_slice()[self.sent..self.sent + ticks];
-            let _ = left.try_extend_from_slice(part);
-            self.sent += ticks;
-            return;
-        }
-        self.rest = self.rest.saturating_sub(ticks);
-    }
-
-    /// Takes the first ticks of this run, at least one of them, and no further than the other line
-    /// stays alike, all bytes or all silence, and no frame is read before the last of them. `left`
-    /// gets the bytes that leave, one in each tick, or none where silence leaves.
+    /// The bytes that left in the last ticks taken, one in each; none where silence left.
     #[inline(always)]
-    pub fn take_some(&mut self, run: TickRun<'_>, left: &mut RunBytes) -> SpaceRun
-        requires room { ticks_taken V.Device self.old + length (run_ticks run) ≤ MAX_TICKS }
-        requires some { 0 < length (run_ticks run) }
-        ensures some { 0 < result.taken }
-        ensures within { result.taken ≤ length (run_ticks run.entry) }
-        ensures taken { ticks_taken V.Device self.new
-            ≡ ticks_taken V.Device self.old + result.taken }
-        ensures stands { (cap : ℕ) (line : List Tick) → StandsFor V.Device cap self.old line
-            → StandsFor V.Device cap self.new
-            (line ++ take result.taken (run_ticks run.entry)) }
-        ensures answer { (cap : ℕ) (line : List Tick) → StandsFor V.Device cap self.old line
-            → AnswersSpaced V.reads GAP cap line (take result.taken (run_ticks run.entry))
-            (answered result.taken left.new.items) (length line + (result.taken - 1))
-            (frames_lent result.lost (bytes_lent V.lent self.new)) }
+    pub fn left_bytes(&self) -> &[u8]
+        ensures { result.now ≡ bytes_left self.now }
     {
-        left.clear();
-        let most = self.alike().min(run.len());
-        if most == 0 {
-            let first = run.first();
-            return self.take_one(first, left);
-        }
-        let front = run.front(most);
-        let Met { taken, start } = hear_run(&mut self.device, front);
-        self.send_some(taken, left);
-        let lost = self.keep(start);
-        SpaceRun { taken, lost }
-    }
-
-    // Takes one tick, and tells what leaves as of a run. It is kept separate, since few ticks go
-    // alone.
-    #[inline(never)]
-    fn take_one(&mut self, t: Tick, left: &mut RunBytes) -> SpaceRun
-        requires room { ticks_taken V.Device self.old < MAX_TICKS }
-        requires empty { left.old.items ≡ [] }
-        ensures one { result.taken ≡ 1 }
-        ensures taken { ticks_taken V.Device self.new ≡ ticks_taken V.Device self.old + 1 }
-        ensures stands { (cap : ℕ) (line : List Tick) → StandsFor V.Device cap self.old line
-            → StandsFor V.Device cap self.new (line ++ t ∷ []) }
-        ensures answer { (cap : ℕ) (line : List Tick) → StandsFor V.Device cap self.old line
-            → AnswersSpaced V.reads GAP cap line (t ∷ []) (answered 1 left.new.items)
-            (length line) (frames_lent result.lost (bytes_lent V.lent self.new)) }
-    {
-        let SpaceStep { tick, lost } = self.step(t);
-        if let Tick::Byte(byte) = tick {
-            left.push(byte);
-        }
-        SpaceRun { taken: 1, lost }
+        &self.room[self.before..self.sent]
     }
 
     /// The bytes of the frame that was read in the last tick taken, which the device lends.
@@ -286,9 +373,14 @@ impl<V: Device, const GAP: usize> Spacer<V, GAP> {
 
     /// How many frames wait: they are accepted, and not begun.
     pub fn waiting(&self) -> usize
-        ensures { (cap : ℕ) (line : List Tick) → StandsFor V.Device cap self.now line
+        ensures queued { result ≡ length (frames_waiting self.now) }
+        ensures count { (cap : ℕ) (line : List Tick) → StandsFor V.Device cap self.now line
             → result ≡ waiting_of V.reads GAP cap line }
     {
-        self.queue.len()
+        let queued = self.queue.len();
+        if self.ready {
+            return queued + 1;
+        }
+        queued
     }
 }

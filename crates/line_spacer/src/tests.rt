@@ -4,7 +4,6 @@ ghost use Rattle.yasir_ticks.specs.TickRun.{run_ticks};
 ghost use Rattle.yasir_ticks.specs.declared.TheConstants.{MAX_TICKS};
 
 use super::*;
-use burst_walk::RunBytes;
 use device_model::{Device, DnpDevice, Hunted, HuntingFamily, Met, RtuDevice};
 use dnp_link_frame::Dnp;
 use std::alloc::{AllocError, Global};
@@ -102,12 +101,14 @@ trait Spaces {
         requires { taken self.old < MAX_TICKS }
         ensures { taken self.new ≡ taken self.old + 1 };
 
-    fn take_some(&mut self, run: TickRun<'_>, left: &mut RunBytes) -> SpaceRun
+    fn take_some(&mut self, run: TickRun<'_>) -> SpaceRun
         requires room { taken self.old + length (run_ticks run) ≤ MAX_TICKS }
         requires some { 0 < length (run_ticks run) }
         ensures some { 0 < result.taken }
         ensures within { result.taken ≤ length (run_ticks run.entry) }
         ensures taken { taken self.new ≡ taken self.old + result.taken };
+
+    fn left_bytes(&self) -> &[u8];
 }
 
 impl<V: Device, const GAP: usize> Spaces for Spacer<V, GAP> {
@@ -119,8 +120,12 @@ impl<V: Device, const GAP: usize> Spaces for Spacer<V, GAP> {
         self.step(t)
     }
 
-    fn take_some(&mut self, run: TickRun<'_>, left: &mut RunBytes) -> SpaceRun {
-        Spacer::take_some(self, run, left)
+    fn take_some(&mut self, run: TickRun<'_>) -> SpaceRun {
+        Spacer::take_some(self, run)
+    }
+
+    fn left_bytes(&self) -> &[u8] {
+        Spacer::left_bytes(self)
     }
 }
 
@@ -295,11 +300,11 @@ fn frames_wait(rt: HostRuntime) -> Result<(), Fail> {
 }
 
 // What leaves in a run is added to the other line.
-fn add_run(line: &mut Vec<Tick>, run: &SpaceRun, left: &RunBytes) -> Result<(), AllocError> {
+fn add_run(line: &mut Vec<Tick>, run: &SpaceRun, left: &[u8]) -> Result<(), AllocError> {
     if left.is_empty() {
         return add_part(line, &Silence(run.taken));
     }
-    for byte in left.as_slice() {
+    for byte in left {
         line.push(Tick::Byte(*byte))?;
     }
     Ok(())
@@ -315,12 +320,11 @@ fn take_all<B: Spaces>(
     ensures { OnOk result (B.taken spacer.new
         ≡ B.taken spacer.old + length (run_ticks run.entry)) }
 {
-    let mut left = RunBytes::new();
     let mut rest = run;
     let mut runs: u32 = 0;
     while !rest.is_empty() {
-        let some = spacer.take_some(rest, &mut left);
-        add_run(line, &some, &left)?;
+        let some = spacer.take_some(rest);
+        add_run(line, &some, spacer.left_bytes())?;
         rest = rest.behind(some.taken);
         runs = runs.saturating_add(1);
     }
@@ -331,17 +335,16 @@ fn take_all<B: Spaces>(
 const RESETS: &[u8] =
     b"\x05\x64\x05\xC0\x01\x00\x00\x04\xE9\x21\x05\x64\x05\xC0\x01\x00\x00\x04\xE9\x21";
 
-// The first reset is heard in one run, whose last byte ends it. The next tick begins to send it;
-// then comes a run of its other nine bytes, at whose end the second one is read. Of the silence 21
-// ticks pass in a run; in the next tick the second one begins, its nine bytes follow, and then what
-// is left of the silence.
+// The first reset is heard in one run, whose last byte ends it. Then it leaves in one run, at whose
+// end the second one is read. Of the silence 21 ticks pass in a run; then the second one leaves in
+// one, and what is left of the silence passes in one.
 fn take_resets<B: Spaces>(rt: &impl Abort, alloc: Global, spacer: &mut B) -> Result<(), Fail>
     requires { B.taken spacer.old ≡ 0 }
 {
     let mut line = Vec::new(alloc);
     let heard = take_all(spacer, TickRun::Bytes(RESETS), &mut line)?;
     let waited = take_all(spacer, TickRun::Silence(40), &mut line)?;
-    assert_eq!(rt; (heard, waited), (3, 4));
+    assert_eq!(rt; (heard, waited), (2, 3));
     let row = &TWO_RESETS;
     assert_eq!(rt; line, line_of(alloc, row.leaves)?);
     Ok(())
@@ -372,9 +375,8 @@ fn silence_is_one_run(rt: HostRuntime) -> Result<(), Fail> {
 #[test]
 fn a_run_is_one_call_of_the_device(rt: HostRuntime) -> Result<(), Fail> {
     let mut spacer = Spacer::<Deaf, 21>::new(rt.alloc(), 1)?;
-    let mut left = RunBytes::new();
-    let waited = spacer.take_some(TickRun::Silence(900), &mut left).taken;
-    let heard = spacer.take_some(TickRun::Bytes(RESETS), &mut left).taken;
+    let waited = spacer.take_some(TickRun::Silence(900)).taken;
+    let heard = spacer.take_some(TickRun::Bytes(RESETS)).taken;
     assert_eq!(rt; (waited, heard), (900, 20));
     assert_eq!(rt; spacer.frame_bytes(), [1, 1, 0].as_slice());
     Ok(())
@@ -384,8 +386,7 @@ fn a_run_is_one_call_of_the_device(rt: HostRuntime) -> Result<(), Fail> {
 #[test]
 fn a_lost_frame_is_lent(rt: HostRuntime) -> Result<(), Fail> {
     let mut spacer = Spacer::<DnpDevice, 21>::new(rt.alloc(), 0)?;
-    let mut left = RunBytes::new();
-    let run = spacer.take_some(TickRun::Bytes(RESETS), &mut left);
+    let run = spacer.take_some(TickRun::Bytes(RESETS));
     assert_eq!(rt; (run.taken, run.lost), (10, Some(0)));
     assert_eq!(rt; spacer.frame_bytes(), RESET_LINK);
     Ok(())

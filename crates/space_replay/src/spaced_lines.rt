@@ -1,7 +1,8 @@
 //! The consumer that drives a spacer, and writes the spaced line and the lost frames as text.
-ghost use Rattle.std.specs.Prelude.{◌≡◌, ◌<◌, ◌≤◌, length};
+ghost use Rattle.std.specs.Prelude.{◌≡◌, ◌<◌, ◌≤◌, ◌^◌, length};
 ghost use Rattle.yasir_ticks.specs.TickRun.{run_ticks, run_items};
 ghost use Rattle.yasir_ticks.specs.declared.tick_run.TickRun.TheVariants.{Bytes, Silence};
+ghost use Rattle.burst_walk.specs.Answered.{answered};
 ghost use Rattle.device_model.specs.Frames.{frames_lent};
 ghost use Rattle.line_texts.specs.Texts.{writing, Pushes};
 ghost use Rattle.tick_drive.specs.Consumers.{MayTake, GivesSome};
@@ -9,7 +10,6 @@ ghost use Rattle.space_replay.specs.SpacedLines.{spacing};
 ghost use Rattle.space_replay.specs.SpacedTexts.{lost_line, lost_lines};
 
 use crate::spacers::LineSpacer;
-use burst_walk::RunBytes;
 use device_replay::write_frame_line;
 use line_spacer::SpaceRun;
 use line_texts::{Texts, answer_run, push_run};
@@ -52,24 +52,25 @@ fn push_lost<O: Sink, L: Sink>(
     texts.push_noted(out, log, line.as_slice(), answer)
 }
 
-// Adds the ticks of a run, and before them the line of the frame that is lost in it, if one is.
+// Adds what a spacer lends of a run: the ticks that left, and before them the line of the frame
+// that was lost in it, if one was.
 #[inline(always)]
-fn push_answer<O: Sink, L: Sink>(
+fn push_answer<B: LineSpacer, O: Sink, L: Sink>(
     texts: &mut Texts,
     out: &mut O,
     log: &mut L,
-    lost: Option<u64>,
-    frame: &[u8],
-    answer: TickRun<'_>,
+    spacer: &B,
+    run: SpaceRun,
 ) -> Result<(), Failed>
-    requires { length frame.now ≤ 292 }
+    requires { run.taken < 2 ^ 32 }
     ensures { Pushes O.Sink L.Sink (writing texts.old out.old log.old)
-        (writing texts.new out.new log.new) (run_ticks answer.entry)
-        (lost_lines (frames_lent lost frame.now)) result }
+        (writing texts.new out.new log.new) (answered run.taken (B.left spacer.now))
+        (lost_lines (frames_lent run.lost (B.lent spacer.now))) result }
 {
-    match lost {
+    let answer = answer_run(run.taken as u32, spacer.left_bytes());
+    match run.lost {
         None => push_run(texts, out, log, answer),
-        Some(start) => push_lost(texts, out, log, start, frame, answer),
+        Some(start) => push_lost(texts, out, log, start, spacer.frame_bytes(), answer),
     }
 }
 
@@ -104,14 +105,11 @@ impl<'a, B: LineSpacer, O: Sink, L: Sink> SpacedLines<'a, B, O, L> {
         ensures { GivesSome (spacing B.LineSpacer O.Sink L.Sink) self.old self.new
             (run_items run.entry) result }
     {
-        let mut left = RunBytes::new();
         let most = run.len().min(MAX_RUN);
         let front = run.front(most);
-        let SpaceRun { taken, lost } = self.spacer.take_front(front, &mut left);
-        let answer = answer_run(taken as u32, left.as_slice());
-        let frame = self.spacer.frame_bytes();
-        match push_answer(self.texts, self.out, self.log, lost, frame, answer) {
-            Ok(()) => Ok(taken),
+        let answer = self.spacer.take_front(front);
+        match push_answer(self.texts, self.out, self.log, &*self.spacer, answer) {
+            Ok(()) => Ok(answer.taken),
             Err(Failed) => Err(Stop::WriteFault),
         }
     }

@@ -8,7 +8,6 @@ ghost use Rattle.device_model.specs.Frames.{FrameRead, frames_lent};
 ghost use Rattle.line_spacer.specs.Stands.{AnswersSpaced};
 ghost use Rattle.space_replay.specs.SpacedTexts.{most_waiting};
 
-use burst_walk::RunBytes;
 use device_model::Device;
 use line_spacer::{SpaceRun, Spacer};
 use std::alloc::Global;
@@ -36,6 +35,9 @@ pub trait LineSpacer: Drop {
     /// How many ticks it has taken.
     ghost taken: { Self → ℕ };
 
+    /// The bytes that it lends of the other line: those that left in the last ticks taken.
+    ghost left: { Self → List ℕ };
+
     /// The bytes that it lends: those of a frame that is lost, where the last call says so.
     ghost lent: { Self → List ℕ };
 
@@ -46,9 +48,9 @@ pub trait LineSpacer: Drop {
         ensures stands { IfOk result (λ spacer. stands spacer []) };
 
     /// Takes the first ticks of this run, at least one of them, as far as the other line stays all
-    /// bytes or all silence, up to the first one in which a frame is read. `left` gets the bytes
-    /// that leave, one in each tick, or none where silence leaves.
-    fn take_front(&mut self, run: TickRun<'_>, left: &mut RunBytes) -> SpaceRun
+    /// bytes or all silence, up to the first one in which a frame is read. Lends the bytes that
+    /// leave, one in each tick, or none where silence leaves.
+    fn take_front(&mut self, run: TickRun<'_>) -> SpaceRun
         requires room { taken self.old + length (run_ticks run) ≤ MAX_TICKS }
         requires some { 0 < length (run_ticks run) }
         ensures some { 0 < result.taken }
@@ -58,8 +60,12 @@ pub trait LineSpacer: Drop {
             → stands self.new (line ++ take result.taken (run_ticks run.entry)) }
         ensures answer { (line : List Tick) → stands self.old line
             → AnswersSpaced reads gap most_waiting line (take result.taken (run_ticks run.entry))
-            (answered result.taken left.new.items) (length line + (result.taken - 1))
+            (answered result.taken (left self.new)) (length line + (result.taken - 1))
             (frames_lent result.lost (lent self.new)) };
+
+    /// The bytes that left in the last ticks taken, one in each; none where silence left.
+    fn left_bytes(&self) -> &[u8]
+        ensures { result.now ≡ left self.now };
 
     /// The bytes of the frame that was read in the last tick taken.
     fn frame_bytes(&self) -> &[u8]
@@ -68,7 +74,7 @@ pub trait LineSpacer: Drop {
 }
 
 impl<V: Device + Drop, const GAP: usize> LineSpacer for Spacer<V, GAP> {
-    ghost use Rattle.line_spacer.specs.Stands.{StandsFor, ticks_taken, bytes_lent};
+    ghost use Rattle.line_spacer.specs.Stands.{StandsFor, ticks_taken, bytes_left, bytes_lent};
 
     ghost reads = { V.reads };
 
@@ -80,6 +86,8 @@ impl<V: Device + Drop, const GAP: usize> LineSpacer for Spacer<V, GAP> {
 
     ghost taken = { ticks_taken V.Device };
 
+    ghost left = { bytes_left };
+
     ghost lent = { bytes_lent V.lent };
 
     fn new(alloc: Global) -> Result<Self, NoMemory> {
@@ -87,8 +95,13 @@ impl<V: Device + Drop, const GAP: usize> LineSpacer for Spacer<V, GAP> {
     }
 
     #[inline(always)]
-    fn take_front(&mut self, run: TickRun<'_>, left: &mut RunBytes) -> SpaceRun {
-        self.take_some(run, left)
+    fn take_front(&mut self, run: TickRun<'_>) -> SpaceRun {
+        self.take_some(run)
+    }
+
+    #[inline(always)]
+    fn left_bytes(&self) -> &[u8] {
+        Spacer::left_bytes(self)
     }
 
     #[inline(always)]

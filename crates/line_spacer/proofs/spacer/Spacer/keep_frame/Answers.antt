@@ -1,47 +1,68 @@
-use Rattle.std.proofs.Common.{◌≡◌, ◌∙◌, ℕ, List, ◌++◌, length, refl, ap, arith}
+use Rattle.std.proofs.Common.{◌≡◌, ◌≤◌, ◌<◌, length, arith}
 use Rattle.device_model.specs.Frames.{FrameRead}
-use Rattle.line_spacer.proofs.Arriving.{queued-sent, queued-takes, full-sent, full-takes}
-use Rattle.line_spacer.proofs.Arriving.{is-full}
-use Rattle.line_spacer.proofs.Runs.{of-ok}
+use Rattle.line_spacer.specs.Stands.{left_of, frame_at, frames_waiting}
+use Rattle.line_spacer.proofs.Arriving.{kept-takes, lost-sent, lost-takes}
 use Rattle.line_spacer.proofs.spacer.Spacer.keep_frame.Goals as goal
 
-pub returns-in-Ok-clause-sent : goal.returns-in-Ok-clause-sent
-returns-in-Ok-clause-sent g c = λ step s sent.
-    let spacer = c.args.self.now in
-    let lent : List ℕ = g.V.Device.lent spacer.device in
-    let read : FrameRead = record { start = c.args.start; frame = lent } in
-    let none = ap length c.new-frame.ensures in
-    let few = c.frame_bytes.ensures.few in
-    let copied : c.try_extend_from_slice.new.self.items ≡ lent =
-    of-ok c.try_extend_from_slice.result _
-    (c.try_extend_from_slice.ensures.variant.1 (omega arith)) c.try_extend_from_slice.ensures.ok
-    ∙ (ap (λ x. x ++ c.frame_bytes.result.now) c.new-frame.ensures ∙ c.frame_bytes.ensures.bytes) in
-    rw (ap (λ q. q.items) c.in-Ok.ensures.ok)
-    (queued-sent g.row.GAP spacer.queue.capacity step s
-    _ spacer.rest spacer.queue.items read sent c.try_extend_from_slice.new.self copied
-    (c.in-Ok.ensures.variant.0 refl))
+pub returns-then-waiting-capacity-clause-sent : goal.returns-then-waiting-capacity-clause-sent
+returns-then-waiting-capacity-clause-sent g c = λ step s has.
+    let old = c.args.self.now in
+    let read : FrameRead = record { start = c.args.start; frame = g.V.Device.lent old.device } in
+    let many : old.queue.capacity ≤ length (frames_waiting old) =
+    omega (
+      arith,
+      c.waiting-waiting.ensures.queued,
+      c.capacity.ensures,
+      c.if-waiting-capacity.true,
+    ) in
+    lost-sent g.row.GAP old.queue.capacity step s read
+    (left_of old.ready old.sent (frame_at old)) old.rest (frames_waiting old) has many
 
-pub returns-in-Ok-clause-takes : goal.returns-in-Ok-clause-takes
-returns-in-Ok-clause-takes g c = λ step s sent.
-    let spacer = c.args.self.now in
-    let lent : List ℕ = g.V.Device.lent spacer.device in
-    queued-takes g.row.GAP spacer.queue.capacity step s
-    _ spacer.rest spacer.queue.items (record { start = c.args.start; frame = lent }) sent
-    (c.in-Ok.ensures.variant.0 refl)
+pub returns-then-waiting-capacity-clause-takes : goal.returns-then-waiting-capacity-clause-takes
+returns-then-waiting-capacity-clause-takes g c = λ step s has.
+    let old = c.args.self.now in
+    let read : FrameRead = record { start = c.args.start; frame = g.V.Device.lent old.device } in
+    let many : old.queue.capacity ≤ length (frames_waiting old) =
+    omega (
+      arith,
+      c.waiting-waiting.ensures.queued,
+      c.capacity.ensures,
+      c.if-waiting-capacity.true,
+    ) in
+    lost-takes g.row.GAP old.queue.capacity step s read
+    (left_of old.ready old.sent (frame_at old)) old.rest (frames_waiting old) has many
 
-pub returns-in-Err-clause-sent : goal.returns-in-Err-clause-sent
-returns-in-Err-clause-sent g c = λ step s sent.
-    let spacer = c.args.self.now in
-    let lent : List ℕ = g.V.Device.lent spacer.device in
-    rw (ap (λ q. q.items) c.in-Err.ensures.err.1)
-    (full-sent g.row.GAP spacer.queue.capacity step s
-    _ spacer.rest spacer.queue.items (record { start = c.args.start; frame = lent }) sent
-    (is-full (length spacer.queue.items) spacer.queue.capacity c.in-Err.ensures.variant.1))
+pub returns-then-waiting-gt0-clause-sent : goal.returns-then-waiting-gt0-clause-sent
+returns-then-waiting-gt0-clause-sent g c = λ step s has.
+    c.queue_frame.ensures.sent c.args.start step s has
 
-pub returns-in-Err-clause-takes : goal.returns-in-Err-clause-takes
-returns-in-Err-clause-takes g c = λ step s sent.
-    let spacer = c.args.self.now in
-    let lent : List ℕ = g.V.Device.lent spacer.device in
-    full-takes g.row.GAP spacer.queue.capacity step s
-    _ spacer.rest spacer.queue.items (record { start = c.args.start; frame = lent }) sent
-    (is-full (length spacer.queue.items) spacer.queue.capacity c.in-Err.ensures.variant.1)
+pub returns-then-waiting-gt0-clause-takes : goal.returns-then-waiting-gt0-clause-takes
+returns-then-waiting-gt0-clause-takes g c = λ step s has.
+    let old = c.args.self.now in
+    let read : FrameRead = record { start = c.args.start; frame = g.V.Device.lent old.device } in
+    let few : length (frames_waiting old) < old.queue.capacity =
+    omega (
+      arith,
+      c.waiting-waiting.ensures.queued,
+      c.capacity.ensures,
+      c.if-waiting-capacity.false,
+    ) in
+    kept-takes g.row.GAP old.queue.capacity step s read
+    (left_of old.ready old.sent (frame_at old)) old.rest (frames_waiting old) has few
+
+pub returns-clause-sent : goal.returns-clause-sent
+returns-clause-sent g c = λ step s has. c.hold_frame.ensures.sent c.args.start step s has
+
+pub returns-clause-takes : goal.returns-clause-takes
+returns-clause-takes g c = λ step s has.
+    let old = c.args.self.now in
+    let read : FrameRead = record { start = c.args.start; frame = g.V.Device.lent old.device } in
+    let few : length (frames_waiting old) < old.queue.capacity =
+    omega (
+      arith,
+      c.waiting-waiting.ensures.queued,
+      c.capacity.ensures,
+      c.if-waiting-capacity.false,
+    ) in
+    kept-takes g.row.GAP old.queue.capacity step s read
+    (left_of old.ready old.sent (frame_at old)) old.rest (frames_waiting old) has few

@@ -6,9 +6,15 @@ use Rattle.yasir_ticks.specs.declared.tick.Tick.{Tick}
 use Rattle.burst_walk.specs.Answered.{answered}
 use Rattle.device_model.specs.Frames.{frames_lent}
 use Rattle.line_spacer.specs.Spacing.{spaced, accepted_of}
-use Rattle.line_spacer.specs.Stands.{StandsFor, AnswersSpaced, frames_in}
+use Rattle.line_spacer.specs.Stands.{StandsFor, AnswersSpaced, left_of, frame_at, frames_waiting}
+use Rattle.line_spacer.specs.Stands.{bytes_left}
 use Rattle.line_spacer.proofs.Runs.{IsQuiet, run-before, run-sent, run-answers}
 use Rattle.line_spacer.proofs.spacer.Spacer.take_some.Goals as goal
+
+pub returns-clause-long : goal.returns-clause-long
+returns-clause-long g c =
+    ap (λ b. length (answered c.hear_run-taken.result.taken b)) c.keep-lost.ensures.left
+    ∙ c.send_some.ensures.long
 
 pub returns-clause-stands : goal.returns-clause-stands
 returns-clause-stands g c = λ cap line stands.
@@ -22,39 +28,49 @@ returns-clause-stands g c = λ cap line stands.
     let part = run_ticks c.front-front.result in
     let size = ap length c.front-front.ensures in
     let cut = length-take most all in
-    let least = c.min-most.ensures in
     let few : n ≤ most = omega (arith, heard.ensures.within, size, cut) in
     let x = take n part in
     let long : length x ≡ n = length-take-le n part heard.ensures.within in
     let there : 0 < length part =
-    grind (arith, c.if-most-eq0.false, size, cut, c.requires.some, c.len.ensures) in
+    grind (
+      arith,
+      c.min-most.ensures,
+      c.alike.ensures.some,
+      size,
+      cut,
+      c.requires.some,
+      c.len.ensures,
+    ) in
     let one : 0 < n = heard.ensures.some there in
     let some : 0 < length x = omega (arith, long, one) in
+    let start = subst (λ d. g.V.Device.stands d line) (sym c.make_ready.ensures.device)
+    stands.heard in
     let quiet : IsQuiet reads line x = λ k early.
     let before_end : k < n = omega (arith, early, long) in
     let fewer : k ≤ n = omega (arith, before_end) in
     ap (λ y. reads (line ++ y)) (take-take k n part fewer)
-    ∙ heard.ensures.before k before_end line stands.heard in
+    ∙ heard.ensures.before k before_end line start in
     let same : x ≡ take n all = ap (take n) c.front-front.ensures ∙ take-take n most all few in
-    let is = heard.ensures.answer line stands.heard
+    let is = heard.ensures.answer line start
     ∙ ap (λ d. reads line ++ frames_lent heard.result.start (g.V.Device.lent d))
     (sym c.send_some.ensures.device) in
-    let answer : List Tick = answered n c.send_some.new.left.items in
+    let answer : List Tick = answered n (bytes_left sent) in
     let as_long : length answer ≡ length x = c.send_some.ensures.long ∙ sym long in
     let frames = frames_lent heard.result.start (g.V.Device.lent sent.device) in
-    let fits = c.send_some.ensures.room ∙ stands.room in
+    let fits = c.send_some.ensures.room ∙ (c.make_ready.ensures.room ∙ stands.room) in
     let accepted = accepted_of reads gap cap line in
-    let run = c.send_some.ensures.sends (length line) accepted stands.sent in
+    let run = c.send_some.ensures.sends (length line) accepted
+    (c.make_ready.ensures.sent (length line) accepted stands.sent) in
     let before = run-before reads gap cap sent.queue.capacity fits line x frames some quiet is
-    accepted (drop sent.sent sent.sending.items) sent.rest (frames_in sent.queue.items) answer
+    accepted (left_of sent.ready sent.sent (frame_at sent)) sent.rest (frames_waiting sent) answer
     as_long run.sent in
     let new = c.keep-lost.new.self in
     let stands_now : StandsFor g.V.Device cap new (line ++ x) = record {
       heard = rw (c.keep-lost.ensures.device, c.send_some.ensures.device)
-          (heard.ensures.stands line stands.heard);
+          (heard.ensures.stands line start);
       room = c.keep-lost.ensures.room ∙ fits;
       sent = run-sent reads gap cap sent.queue.capacity fits line x frames some quiet is
-          (drop new.sent new.sending.items) new.rest (frames_in new.queue.items)
+          (left_of new.ready new.sent (frame_at new)) new.rest (frames_waiting new)
           (c.keep-lost.ensures.sent (length line + (length x - 1))
           (spaced reads gap cap line) before);
     } in
@@ -72,31 +88,41 @@ returns-clause-answer g c = λ cap line stands.
     let part = run_ticks c.front-front.result in
     let size = ap length c.front-front.ensures in
     let cut = length-take most all in
-    let least = c.min-most.ensures in
     let few : n ≤ most = omega (arith, heard.ensures.within, size, cut) in
     let x = take n part in
     let long : length x ≡ n = length-take-le n part heard.ensures.within in
     let there : 0 < length part =
-    grind (arith, c.if-most-eq0.false, size, cut, c.requires.some, c.len.ensures) in
+    grind (
+      arith,
+      c.min-most.ensures,
+      c.alike.ensures.some,
+      size,
+      cut,
+      c.requires.some,
+      c.len.ensures,
+    ) in
     let one : 0 < n = heard.ensures.some there in
     let some : 0 < length x = omega (arith, long, one) in
+    let start = subst (λ d. g.V.Device.stands d line) (sym c.make_ready.ensures.device)
+    stands.heard in
     let quiet : IsQuiet reads line x = λ k early.
     let before_end : k < n = omega (arith, early, long) in
     let fewer : k ≤ n = omega (arith, before_end) in
     ap (λ y. reads (line ++ y)) (take-take k n part fewer)
-    ∙ heard.ensures.before k before_end line stands.heard in
+    ∙ heard.ensures.before k before_end line start in
     let same : x ≡ take n all = ap (take n) c.front-front.ensures ∙ take-take n most all few in
-    let is = heard.ensures.answer line stands.heard
+    let is = heard.ensures.answer line start
     ∙ ap (λ d. reads line ++ frames_lent heard.result.start (g.V.Device.lent d))
     (sym c.send_some.ensures.device) in
-    let answer : List Tick = answered n c.send_some.new.left.items in
+    let answer : List Tick = answered n (bytes_left sent) in
     let as_long : length answer ≡ length x = c.send_some.ensures.long ∙ sym long in
     let frames = frames_lent heard.result.start (g.V.Device.lent sent.device) in
-    let fits = c.send_some.ensures.room ∙ stands.room in
+    let fits = c.send_some.ensures.room ∙ (c.make_ready.ensures.room ∙ stands.room) in
     let accepted = accepted_of reads gap cap line in
-    let run = c.send_some.ensures.sends (length line) accepted stands.sent in
+    let run = c.send_some.ensures.sends (length line) accepted
+    (c.make_ready.ensures.sent (length line) accepted stands.sent) in
     let before = run-before reads gap cap sent.queue.capacity fits line x frames some quiet is
-    accepted (drop sent.sent sent.sending.items) sent.rest (frames_in sent.queue.items) answer
+    accepted (left_of sent.ready sent.sent (frame_at sent)) sent.rest (frames_waiting sent) answer
     as_long run.sent in
     let lost = frames_lent c.keep-lost.result (g.V.Device.lent c.keep-lost.new.self.device) in
     let answers = run-answers reads gap cap sent.queue.capacity fits line x frames some quiet is
@@ -104,5 +130,7 @@ returns-clause-answer g c = λ cap line stands.
     (c.keep-lost.ensures.takes (length line + (length x - 1)) (spaced reads gap cap line) before) in
     let last : length line + (length x - 1) ≡ length line + (n - 1) =
     ap (λ k. length line + (k - 1)) long in
-    subst (λ y. AnswersSpaced reads gap cap line y answer (length line + (n - 1)) lost) same
-    (subst (λ k. AnswersSpaced reads gap cap line x answer k lost) last answers)
+    subst (λ b. AnswersSpaced reads gap cap line (take n all) (answered n b)
+    (length line + (n - 1)) lost) (sym c.keep-lost.ensures.left)
+    (subst (λ y. AnswersSpaced reads gap cap line y answer (length line + (n - 1)) lost) same
+    (subst (λ k. AnswersSpaced reads gap cap line x answer k lost) last answers))

@@ -1,13 +1,34 @@
-use Rattle.std.proofs.Common.{◌∙◌, length, drop, sym}
-use Rattle.std.proofs.lemmas.List.{length-map}
+use Rattle.std.proofs.Common.{◌≡◌, ◌∙◌, length, sym}
 use Rattle.line_spacer.specs.Spacing.{accepted_of}
-use Rattle.line_spacer.specs.Stands.{frames_in}
+use Rattle.line_spacer.specs.Stands.{left_of, frame_at, frames_waiting}
 use Rattle.line_spacer.proofs.Sending.{waiting-count}
+use Rattle.line_spacer.proofs.Keeping.{one-more, no-more}
 use Rattle.line_spacer.proofs.spacer.Spacer.waiting.Goals as goal
 
-pub returns : goal.returns
-returns g c = λ cap line stands.
-    let spacer = c.args.self.now in
-    c.len.ensures.len ∙ (sym (length-map spacer.queue.items (λ x. x.items))
+pub returns-then-self-clause-queued : goal.returns-then-self-clause-queued
+returns-then-self-clause-queued g c =
+    let s = c.args.self.now in
+    one-more s.ready (frame_at s) s.queue.frames c.len-queued.result c.if-self.true
+    c.len-queued.ensures.count
+
+pub returns-clause-queued : goal.returns-clause-queued
+returns-clause-queued g c =
+    let s = c.args.self.now in
+    no-more s.ready (frame_at s) s.queue.frames c.len-queued.result c.if-self.false
+    c.len-queued.ensures.count
+
+pub returns-then-self-clause-count : goal.returns-then-self-clause-count
+returns-then-self-clause-count g c = λ cap line stands.
+    let s = c.args.self.now in
+    one-more s.ready (frame_at s) s.queue.frames c.len-queued.result c.if-self.true
+    c.len-queued.ensures.count
     ∙ sym (waiting-count g.row.GAP (length line) (accepted_of g.V.Device.reads g.row.GAP cap line)
-    (drop spacer.sent spacer.sending.items) spacer.rest (frames_in spacer.queue.items) stands.sent))
+    (left_of s.ready s.sent (frame_at s)) s.rest (frames_waiting s) stands.sent)
+
+pub returns-clause-count : goal.returns-clause-count
+returns-clause-count g c = λ cap line stands.
+    let s = c.args.self.now in
+    no-more s.ready (frame_at s) s.queue.frames c.len-queued.result c.if-self.false
+    c.len-queued.ensures.count
+    ∙ sym (waiting-count g.row.GAP (length line) (accepted_of g.V.Device.reads g.row.GAP cap line)
+    (left_of s.ready s.sent (frame_at s)) s.rest (frames_waiting s) stands.sent)

@@ -6,14 +6,12 @@ use Rattle.yasir_ticks.proofs.TickRuns.{ticks_in-run}
 use Rattle.burst_walk.specs.Answered.{answered}
 use Rattle.device_model.specs.Frames.{frames_lent}
 use Rattle.line_spacer.specs.Stands.{AnswersSpaced}
-use Rattle.line_texts.specs.Texts.{writing, Pushes}
-use Rattle.space_replay.specs.SpacedLines.{writing_behind}
 use Rattle.space_replay.specs.SpacedTexts.{most_waiting, lost_lines}
 use Rattle.space_replay.proofs.Spacing.{spacing_noted, spaced_given, spaced_stopped}
 use Rattle.space_replay.proofs.spaced_lines.SpacedLines.space_some.Goals as goal
 
-pub take_front-taken-requires-clause-room : goal.take_front-taken-requires-clause-room
-take_front-taken-requires-clause-room g c = omega (
+pub take_front-answer-requires-clause-room : goal.take_front-answer-requires-clause-room
+take_front-answer-requires-clause-room g c = omega (
   arith,
   c.requires.may.room,
   ap length (ticks_in-run c.args.run),
@@ -21,12 +19,21 @@ take_front-taken-requires-clause-room g c = omega (
   length-take c.min-most.result (run_ticks c.args.run),
 )
 
+pub push_answer-requires : goal.push_answer-requires
+push_answer-requires g c = grind (
+  arith,
+  c.take_front-answer.ensures.within,
+  ap length c.front-front.ensures,
+  length-take c.min-most.result (run_ticks c.args.run),
+  c.min-most.ensures,
+)
+
 pub returns-in-Ok : goal.returns-in-Ok
 returns-in-Ok g c =
-    let heard = c.take_front-taken in
+    let heard = c.take_front-answer in
     let n = heard.result.taken in
-    let left = heard.new.left.items in
-    let lost = frames_lent heard.result.lost c.frame_bytes-frame.result.now in
+    let left = g.B.LineSpacer.left heard.new.self in
+    let lost = frames_lent heard.result.lost (g.B.LineSpacer.lent heard.new.self) in
     let reads = g.B.LineSpacer.reads in
     let gap = g.B.LineSpacer.gap in
     let all = run_ticks c.args.run in
@@ -38,8 +45,6 @@ returns-in-Ok g c =
     let within : n ≤ length all = omega (arith, heard.ensures.within, size, cut) in
     let first : take n part ≡ take n all =
     ap (take n) c.front-front.ensures ∙ take-take n most all few in
-    let same : run_ticks c.answer_run-answer.result ≡ answered n left =
-    c.answer_run-answer.ensures ∙ ap (answered n) c.as_slice.ensures.value in
     let wrote = c.in-Ok.ensures.writes in
     spaced_given g.B.LineSpacer g.O.Sink g.L.Sink c.args.self.now _ c.args.run n (answered n left)
     (lost_lines lost) heard.ensures.some within heard.ensures.taken
@@ -48,13 +53,8 @@ returns-in-Ok g c =
     (λ line before. spacing_noted reads gap line (take n all) (answered n left)
     (length line + (n - 1)) lost
     (subst (λ x. AnswersSpaced reads gap most_waiting line x (answered n left)
-    (length line + (n - 1)) lost) first
-    (subst (λ x. AnswersSpaced reads gap most_waiting line (take n part) (answered n left)
-    (length line + (n - 1)) (frames_lent heard.result.lost x)) (sym c.frame_bytes-frame.ensures.bytes)
-    (heard.ensures.answer line before))))
-    (subst (λ x. Pushes g.O.Sink g.L.Sink (writing_behind c.args.self.now)
-    (writing c.push_answer.new.texts c.push_answer.new.out c.push_answer.new.log) x
-    (lost_lines lost) (Ok tt)) same c.in-Ok.ensures) (record {
+    (length line + (n - 1)) lost) first (heard.ensures.answer line before)))
+    c.in-Ok.ensures (record {
       spacer = refl;
       texts = refl;
       out = refl;
@@ -71,10 +71,10 @@ returns-in-Ok g c =
 
 pub returns-in-Err : goal.returns-in-Err
 returns-in-Err g c =
-    let heard = c.take_front-taken in
+    let heard = c.take_front-answer in
     let n = heard.result.taken in
-    let left = heard.new.left.items in
-    let lost = frames_lent heard.result.lost c.frame_bytes-frame.result.now in
+    let left = g.B.LineSpacer.left heard.new.self in
+    let lost = frames_lent heard.result.lost (g.B.LineSpacer.lent heard.new.self) in
     let reads = g.B.LineSpacer.reads in
     let gap = g.B.LineSpacer.gap in
     let all = run_ticks c.args.run in
@@ -86,8 +86,6 @@ returns-in-Err g c =
     let within : n ≤ length all = omega (arith, heard.ensures.within, size, cut) in
     let first : take n part ≡ take n all =
     ap (take n) c.front-front.ensures ∙ take-take n most all few in
-    let same : run_ticks c.answer_run-answer.result ≡ answered n left =
-    c.answer_run-answer.ensures ∙ ap (answered n) c.as_slice.ensures.value in
     let wrote = c.in-Err.ensures.writes in
     spaced_stopped g.B.LineSpacer g.O.Sink g.L.Sink c.args.self.now _ c.args.run n (answered n left)
     (lost_lines lost) heard.ensures.some within heard.ensures.taken
@@ -96,14 +94,9 @@ returns-in-Err g c =
     (λ line before. spacing_noted reads gap line (take n all) (answered n left)
     (length line + (n - 1)) lost
     (subst (λ x. AnswersSpaced reads gap most_waiting line x (answered n left)
-    (length line + (n - 1)) lost) first
-    (subst (λ x. AnswersSpaced reads gap most_waiting line (take n part) (answered n left)
-    (length line + (n - 1)) (frames_lent heard.result.lost x)) (sym c.frame_bytes-frame.ensures.bytes)
-    (heard.ensures.answer line before))))
+    (length line + (n - 1)) lost) first (heard.ensures.answer line before)))
     c.in-Err.field-0
-    (subst (λ x. Pushes g.O.Sink g.L.Sink (writing_behind c.args.self.now)
-    (writing c.push_answer.new.texts c.push_answer.new.out c.push_answer.new.log) x
-    (lost_lines lost) (Err c.in-Err.field-0)) same c.in-Err.ensures) (record {
+    c.in-Err.ensures (record {
       spacer = refl;
       texts = refl;
       out = refl;
