@@ -78,13 +78,14 @@ class Session(Bridges):
 
 
 def tried(program, kind, baud):
-    """What was wrong with one kind at one rate; prints what was seen."""
+    """What was wrong with one kind at one rate; prints it, and what was seen."""
     parity = "even" if kind.startswith("rtu") else "none"
     link, wrong = link_of(kind, baud, parity, request_of(kind, 0, EVIL)), []
 
     def see(holds, what):
         if not holds:
-            wrong.append("%s at %d baud: %s" % (kind, baud, what))
+            wrong.append(what)
+            print("WRONG  %s at %d baud: %s" % (kind, baud, what), flush=True)
 
     with tempfile.TemporaryDirectory() as folder:
         make_key(folder)
@@ -128,8 +129,6 @@ def main():
         return 1
     program = bridge_build.build("bridge")
     wrong = [what for kind in kinds for baud in rates for what in tried(program, kind, baud)]
-    for what in wrong:
-        print("WRONG  %s" % what)
     return 1 if wrong else 0
 
 
