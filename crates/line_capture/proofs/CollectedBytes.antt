@@ -4,16 +4,13 @@ use Rattle.std.proofs.Common.{get_or, suc, sym, ap, subst, append-nil, arith}
 use Rattle.std.proofs.Common.{append_assoc}
 use Rattle.std.proofs.Math.Seq.{drop-cons}
 use Rattle.std.proofs.lemmas.List.{take-append-drop, take_more, length-take}
-use Rattle.line_stamps.specs.declared.seen.LineEvent.{LineEvent}
 use Rattle.line_stamps.specs.declared.seen.Seen.{Seen}
-use Rattle.line_stamps.specs.declared.seen.Seen.TheVariants.{Event}
-use Rattle.line_capture.specs.Captures.{HoldsBefore, TakesItem}
+use Rattle.line_capture.specs.Captures.{TakesItem}
 use Rattle.line_capture.specs.Captures.{IsRefused, Collects, EndsSo, TakesItems, is_error}
 use Rattle.line_capture.specs.Captures.IsRefused.{at_byte, at_error, at_end}
 use Rattle.line_capture.specs.Collecting.{Collecting, StopsNext}
 use Rattle.line_capture.specs.Collecting.StopsNext.{refused, in_error}
 use Rattle.line_capture.specs.declared.bad_capture.BadCapture.{BadCapture}
-use Rattle.line_capture.specs.declared.bad_capture.BadCapture.TheVariants.{ByteError}
 use Rattle.line_capture.specs.declared.collect.CaptureEnd.{CaptureEnd}
 use Rattle.line_capture.specs.declared.collect.CaptureEnd.TheVariants.{Whole, Open, Bad}
 use Rattle.line_capture.specs.declared.collect.Kept.{Kept}
