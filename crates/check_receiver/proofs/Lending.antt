@@ -1,9 +1,9 @@
 -- The bytes that are lent for a run of ticks.
-use Rattle.std.proofs.Common.{◌≡◌, ◌∙◌, ℕ, zero, suc, ◌+◌, ◌<◌, ◌≤◌, true, false, List, [], ◌∷◌}
+use Rattle.std.proofs.Common.{◌≡◌, ◌∙◌, ℕ, zero, suc, ◌+◌, ◌<◌, ◌≤◌, false, List, [], ◌∷◌}
 use Rattle.std.proofs.Common.{◌++◌, length, take, map, refl, sym, ap, subst, arith, nat_lt, ⊎_elim}
 use Rattle.std.proofs.Common.{◌-◌, length-append, drop, get_or, min, inr}
 use Rattle.std.proofs.Math.Seq.{take-append-add}
-use Rattle.std.specs.Prelude.{Result, Ok, Err, IsOk, OnOk, not}
+use Rattle.std.specs.Prelude.{Result, Ok, Err, IsOk, OnOk}
 use Rattle.std.proofs.lemmas.Bool.{cases_lt, lt-ltb}
 use Rattle.std.proofs.lemmas.List.{append-nil, take_all, take-append-le, take-map, map-append}
 use Rattle.std.proofs.lemmas.List.{length-take-le, length-drop}

@@ -1,15 +1,15 @@
 -- The receiver after a run of ticks.
-use Rattle.std.proofs.Common.{◌≡◌, ◌∙◌, ℕ, zero, suc, ◌+◌, ◌-◌, ◌<◌, ◌≤◌, Bool, true, false, List}
+use Rattle.std.proofs.Common.{◌≡◌, ◌∙◌, ℕ, ◌+◌, ◌-◌, ◌<◌, ◌≤◌, Bool, true, false, List}
 use Rattle.std.proofs.Common.{[], ◌∷◌, ◌++◌, inr, length, take, drop, map, refl, sym, ap, subst}
 use Rattle.std.proofs.Common.{arith, append_assoc, Option, Some, None, IfSome, IfNone, ⊎_elim, is_some}
 use Rattle.std.proofs.lemmas.Bool.{cases_lt}
-use Rattle.std.proofs.lemmas.List.{append-nil, length-drop, take-append-le, drop-append-le}
+use Rattle.std.proofs.lemmas.List.{length-drop, take-append-le, drop-append-le}
 use Rattle.std.proofs.lemmas.List.{take-append-drop, replicate-append-replicate}
 use Rattle.yasir_ticks.specs.Ticks.{silent, bytes_in}
 use Rattle.yasir_ticks.specs.Bursts.{Burst, bursts}
 use Rattle.yasir_ticks.specs.declared.tick.Tick.{Tick}
 use Rattle.yasir_ticks.specs.declared.tick.Tick.TheVariants.{Silent, Byte}
-use Rattle.yasir_ticks.proofs.SilenceLaws.{bytes_in-append, bytes_in-silent}
+use Rattle.yasir_ticks.proofs.SilenceLaws.{bytes_in-append}
 use Rattle.line_rules.specs.Rules.{Rules, head_of}
 use Rattle.line_rules.specs.declared.head.Head.TheVariants.{Good, Short}
 use Rattle.line_rules.specs.declared.line_rules.LineRules.{Ghosts as LineRules}
@@ -41,7 +41,7 @@ use Rattle.check_receiver.proofs.LiveRuns.{LiveRun, live-run}
 use Rattle.check_receiver.proofs.Machine.{waiting-none, waiting-some}
 use Rattle.check_receiver.proofs.PauseRuns.{pause-run}
 use Rattle.check_receiver.proofs.RestRuns.{idle-run, flow-run}
-use Rattle.check_receiver.proofs.RunTicks.{RunsTo, front-answered, answered-bytes}
+use Rattle.check_receiver.proofs.RunTicks.{RunsTo, front-answered}
 use Rattle.check_receiver.proofs.OpenBursts.{timely, open-walks}
 use Rattle.check_receiver.proofs.TrailerRuns.{trailer-run}
 use Rattle.check_receiver.specs.declared.arriving.Arriving.{Arriving}

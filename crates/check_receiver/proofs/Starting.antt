@@ -35,7 +35,7 @@ use Rattle.sequence_journal.specs.declared.numbers.TheConstants.{LIMIT}
 use Rattle.link_verdicts.specs.Verdicts.{CheckState, after_live}
 use Rattle.link_verdicts.specs.Verdicts.Verdict.{dropped as dropped_for}
 use Rattle.link_verdicts.specs.Checking.{checker, at_floor, head_tick, note_tick}
-use Rattle.link_verdicts.specs.Holding.{HasWalked, Opens, as_it_came, trailer_so_far}
+use Rattle.link_verdicts.specs.Holding.{HasWalked, Opens, trailer_so_far}
 use Rattle.link_verdicts.specs.Timely.{IsTimely}
 use Rattle.link_verdicts.specs.Turns.{HasTurned, tick_or_silence}
 use Rattle.link_verdicts.specs.declared.note.CheckNote.TheVariants.{Dropped}
@@ -43,7 +43,7 @@ use Rattle.link_verdicts.specs.declared.note.DroppedWhy.TheVariants.{Busy, Head 
 use Rattle.link_verdicts.proofs.Beginning.{rests-none, live-none, begun-end, begun-seen}
 use Rattle.link_verdicts.proofs.Beginning.{opens-begun}
 use Rattle.link_verdicts.proofs.Judging.{head-bad, checked-busy, checked-bad}
-use Rattle.link_verdicts.proofs.Opened.{whole-bytes, nothing-after, last_of-more}
+use Rattle.link_verdicts.proofs.Opened.{nothing-after, last_of-more}
 use Rattle.link_verdicts.proofs.Opening.{open-goes, length-silent}
 use Rattle.link_verdicts.proofs.Resting.{causal, rest-drops, knows-more}
 use Rattle.link_verdicts.proofs.Rings.{ring-first, ring-begun}

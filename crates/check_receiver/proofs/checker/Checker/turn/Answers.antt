@@ -1,4 +1,4 @@
-use Rattle.std.proofs.Common.{◌≡◌, ◌∙◌, ℕ, ◌++◌, refl, sym, ap, subst, ◌==◌, Option}
+use Rattle.std.proofs.Common.{◌∙◌, ℕ, ◌++◌, refl, sym, ap, subst, ◌==◌, Option}
 use Rattle.yasir_ticks.specs.declared.tick.Tick.{Tick}
 use Rattle.yasir_ticks.specs.declared.tick.Tick.TheVariants.{Silent, Byte}
 use Rattle.spoiler.specs.Outlet.{StandsFor as OutletStandsFor, refused_by, filled_bytes}
