@@ -30,12 +30,3 @@ pub use laws::{forwarded_frames_are_read, hunts_by_cases, stated_devices_are_mem
 pub use rtu::RtuDevice;
 pub use rtu_family::RtuFamily;
 pub use run::hear_run;
-
-#[cfg(test)]
-mod family_tests;
-#[cfg(test)]
-mod lending_tests;
-#[cfg(test)]
-mod run_tests;
-#[cfg(test)]
-mod tests;

@@ -12,6 +12,3 @@ mod frame_queue;
 mod spacer;
 
 pub use spacer::{SpaceRun, SpaceStep, Spacer};
-
-#[cfg(test)]
-mod tests;

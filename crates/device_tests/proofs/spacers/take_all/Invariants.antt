@@ -1,6 +1,6 @@
 use Rattle.std.proofs.Common.{◌≡◌, ◌+◌, length}
 use Rattle.yasir_ticks.specs.TickRun.{run_ticks}
-use Rattle.line_spacer.proofs.tests.take_all.Given as goal
+use Rattle.device_tests.proofs.spacers.take_all.Given as goal
 
 abbrev pub invariant-loop-rest : goal.invariant-loop-rest
 invariant-loop-rest g l = g.B.Spaces.taken l.spacer + length (run_ticks l.rest)

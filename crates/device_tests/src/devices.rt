@@ -1,8 +1,8 @@
 //! Tests of the stated devices: which frames each of them reads of a line, and when.
 ghost use Rattle.std.specs.Prelude.{◌≡◌, ◌<◌, ◌≤◌, length};
 
-use super::*;
 use arrayvec::ArrayVec;
+use device_model::*;
 use dnp_link_frame::Dnp;
 use std::alloc::{AllocError, Global};
 use std::test::Fail;

@@ -3,9 +3,9 @@ ghost use Rattle.std.specs.Prelude.{◌≡◌, ◌<◌, ◌≤◌, ◌+◌, ℕ,
 ghost use Rattle.yasir_ticks.specs.TickRun.{run_ticks};
 ghost use Rattle.yasir_ticks.specs.declared.TheConstants.{MAX_TICKS};
 
-use super::*;
 use device_model::{Device, DnpDevice, Hunted, HuntingFamily, Met, RtuDevice};
 use dnp_link_frame::Dnp;
+use line_spacer::*;
 use std::alloc::{AllocError, Global};
 use std::process::Abort;
 use std::test::Fail;

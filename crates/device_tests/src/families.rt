@@ -3,9 +3,11 @@ ghost use Rattle.std.specs.Prelude.{◌≡◌, ◌<◌, length, IfOk};
 ghost use Rattle.device_model.specs.RtuFamily.{ticks_heard};
 ghost use Rattle.device_model.specs.HuntFamily.{family_ticks};
 
-use super::*;
-use crate::tests::Part::{Bytes, Silence};
-use crate::tests::{DAMAGED, FrameAt, LONGEST_HEADER, Part, QUERY, RESET_LINK, frame_at, line_of};
+use crate::devices::Part::{Bytes, Silence};
+use crate::devices::{
+    DAMAGED, FrameAt, LONGEST_HEADER, Part, QUERY, RESET_LINK, frame_at, line_of,
+};
+use device_model::*;
 use std::alloc::{AllocError, Global};
 use std::test::Fail;
 use yasir_ticks::Tick;

@@ -1,6 +1,6 @@
 use Rattle.std.proofs.Common.{◌≡◌}
 use Rattle.device_model.specs.HuntFamily.{family_ticks}
-use Rattle.device_model.proofs.family_tests.dnp_readings.Given as goal
+use Rattle.device_tests.proofs.families.dnp_readings.Given as goal
 
 abbrev pub invariant-loop-at : goal.invariant-loop-at
 invariant-loop-at l = family_ticks l.device ≡ l.at

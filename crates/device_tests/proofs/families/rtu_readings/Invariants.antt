@@ -1,6 +1,6 @@
 use Rattle.std.proofs.Common.{◌≡◌}
 use Rattle.device_model.specs.RtuFamily.{ticks_heard}
-use Rattle.device_model.proofs.family_tests.rtu_readings.Given as goal
+use Rattle.device_tests.proofs.families.rtu_readings.Given as goal
 
 abbrev pub invariant-loop-at : goal.invariant-loop-at
 invariant-loop-at l = ticks_heard l.device ≡ l.at

@@ -1,8 +1,8 @@
 //! Runs of bytes and of silence against single ticks, at each cut of lines of each length.
 ghost use Rattle.std.specs.Prelude.{◌+◌, ◌<◌, ◌≤◌, length};
 
-use super::*;
-use crate::tests::{Heard, copied};
+use crate::devices::{Heard, copied};
+use device_model::*;
 use dnp_link_frame::{DnpBytes, Header, UserBytes, build};
 use rtu_frame::{RtuBytes, close};
 use std::test::Fail;

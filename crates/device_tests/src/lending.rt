@@ -1,7 +1,7 @@
 //! Frames that are lent: a query of Modbus RTU and the reset of a DNP3 link, by runs and by ticks.
 ghost use Rattle.std.specs.Prelude.{◌+◌, ◌≤◌, length};
 
-use super::*;
+use device_model::*;
 use std::process::Abort;
 use yasir_ticks::Tick;
 

@@ -1,0 +1,16 @@
+//! Tests of the models of devices and of the spacer: rows of the standards, runs beside single ticks,
+//! members of the families, frames that wait or are lost, and how few calls a run takes.
+//!
+//! They are proved apart from the crates that they test, since a crate with tests is proved twice.
+#![tactic(auto)]
+
+#[cfg(test)]
+mod device_runs;
+#[cfg(test)]
+mod devices;
+#[cfg(test)]
+mod families;
+#[cfg(test)]
+mod lending;
+#[cfg(test)]
+mod spacers;
