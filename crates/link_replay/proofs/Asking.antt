@@ -11,6 +11,7 @@ use Rattle.link_words.proofs.Telling.{is_word, proto_by, profile_by, dir_by, pro
 use Rattle.link_replay.specs.Words.{IsCommand, Asks, AreFloors}
 use Rattle.link_words.specs.declared.words.Profile.{Profile}
 use Rattle.link_words.specs.declared.words.Proto.{Proto}
+use Rattle.link_words.specs.declared.words.Proto.TheVariants.{Rtu, Dnp3}
 use Rattle.link_replay.specs.declared.words.Command.{Command}
 use Rattle.link_replay.specs.declared.words.Command.TheVariants.{Init, Read, Vectors, Seal, Check}
 use Rattle.link_replay.specs.declared.words.Command.TheVariants.{Replay, Trial, Space}

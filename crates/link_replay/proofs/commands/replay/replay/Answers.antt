@@ -12,49 +12,49 @@ pub replay_recordings-requires-clause-in_turn :
 replay_recordings-requires-clause-in_turn g c = λ setup line.
     sealed-numbered _ rtu_rules rtu_lawful setup.floor line
 
-pub replay_recordings-requires-in-Dnp3-Y18-clause-in_turn :
-    goal.replay_recordings-requires-in-Dnp3-Y18-clause-in_turn
-replay_recordings-requires-in-Dnp3-Y18-clause-in_turn g c = λ setup line.
+pub replay_recordings-requires-3-clause-in_turn :
+    goal.replay_recordings-requires-3-clause-in_turn
+replay_recordings-requires-3-clause-in_turn g c = λ setup line.
     sealed-numbered _ dnp_rules dnp_lawful setup.floor line
 
-pub replay_recordings-requires-in-Rtu-Y24-clause-in_turn :
-    goal.replay_recordings-requires-in-Rtu-Y24-clause-in_turn
-replay_recordings-requires-in-Rtu-Y24-clause-in_turn g c = λ setup line.
+pub replay_recordings-requires-2-clause-in_turn :
+    goal.replay_recordings-requires-2-clause-in_turn
+replay_recordings-requires-2-clause-in_turn g c = λ setup line.
     sealed-numbered _ rtu_rules rtu_lawful setup.floor line
 
-pub replay_recordings-requires-in-Dnp3-Y24-clause-in_turn :
-    goal.replay_recordings-requires-in-Dnp3-Y24-clause-in_turn
-replay_recordings-requires-in-Dnp3-Y24-clause-in_turn g c = λ setup line.
+pub replay_recordings-requires-4-clause-in_turn :
+    goal.replay_recordings-requires-4-clause-in_turn
+replay_recordings-requires-4-clause-in_turn g c = λ setup line.
     sealed-numbered _ dnp_rules dnp_lawful setup.floor line
 
-pub returns-in-Rtu-Y18-clause-replays : goal.returns-in-Rtu-Y18-clause-replays
-returns-in-Rtu-Y18-clause-replays g c = rw (c.in-Rtu-Y18.is-0, c.in-Rtu-Y18.is-1) (record {
+pub returns-in-Rtu-Y18-with_link-clause-replays : goal.returns-in-Rtu-Y18-with_link-clause-replays
+returns-in-Rtu-Y18-with_link-clause-replays g c = rw (c.in-Rtu-Y18-with_link.is-0, c.in-Rtu-Y18-with_link.is-1) (record {
   lists = replays-so g.K.Source g.S.Source g.O.Sink Rtu Y18 c.args.dir _ _ _ _ _ _ _
       c.replay_recordings.result c.replay_recordings.ensures.lists;
   log = c.replay_recordings.ensures.log;
   disk = c.replay_recordings.ensures.disk;
 })
 
-pub returns-in-Dnp3-Y18-clause-replays : goal.returns-in-Dnp3-Y18-clause-replays
-returns-in-Dnp3-Y18-clause-replays g c = rw (c.in-Dnp3-Y18.is-0, c.in-Dnp3-Y18.is-1) (record {
+pub returns-in-Dnp3-Y18-with_link-clause-replays : goal.returns-in-Dnp3-Y18-with_link-clause-replays
+returns-in-Dnp3-Y18-with_link-clause-replays g c = rw (c.in-Dnp3-Y18-with_link.is-0, c.in-Dnp3-Y18-with_link.is-1) (record {
   lists = replays-so g.K.Source g.S.Source g.O.Sink Dnp3 Y18 c.args.dir _ _ _ _ _ _ _
-      c.replay_recordings-in-Dnp3-Y18.result c.replay_recordings-in-Dnp3-Y18.ensures.lists;
-  log = c.replay_recordings-in-Dnp3-Y18.ensures.log;
-  disk = c.replay_recordings-in-Dnp3-Y18.ensures.disk;
+      c.replay_recordings-3.result c.replay_recordings-3.ensures.lists;
+  log = c.replay_recordings-3.ensures.log;
+  disk = c.replay_recordings-3.ensures.disk;
 })
 
-pub returns-in-Rtu-Y24-clause-replays : goal.returns-in-Rtu-Y24-clause-replays
-returns-in-Rtu-Y24-clause-replays g c = rw (c.in-Rtu-Y24.is-0, c.in-Rtu-Y24.is-1) (record {
+pub returns-in-Rtu-Y24-with_link-clause-replays : goal.returns-in-Rtu-Y24-with_link-clause-replays
+returns-in-Rtu-Y24-with_link-clause-replays g c = rw (c.in-Rtu-Y24-with_link.is-0, c.in-Rtu-Y24-with_link.is-1) (record {
   lists = replays-so g.K.Source g.S.Source g.O.Sink Rtu Y24 c.args.dir _ _ _ _ _ _ _
-      c.replay_recordings-in-Rtu-Y24.result c.replay_recordings-in-Rtu-Y24.ensures.lists;
-  log = c.replay_recordings-in-Rtu-Y24.ensures.log;
-  disk = c.replay_recordings-in-Rtu-Y24.ensures.disk;
+      c.replay_recordings-2.result c.replay_recordings-2.ensures.lists;
+  log = c.replay_recordings-2.ensures.log;
+  disk = c.replay_recordings-2.ensures.disk;
 })
 
-pub returns-in-Dnp3-Y24-clause-replays : goal.returns-in-Dnp3-Y24-clause-replays
-returns-in-Dnp3-Y24-clause-replays g c = rw (c.in-Dnp3-Y24.is-0, c.in-Dnp3-Y24.is-1) (record {
+pub returns-in-Dnp3-Y24-with_link-clause-replays : goal.returns-in-Dnp3-Y24-with_link-clause-replays
+returns-in-Dnp3-Y24-with_link-clause-replays g c = rw (c.in-Dnp3-Y24-with_link.is-0, c.in-Dnp3-Y24-with_link.is-1) (record {
   lists = replays-so g.K.Source g.S.Source g.O.Sink Dnp3 Y24 c.args.dir _ _ _ _ _ _ _
-      c.replay_recordings-in-Dnp3-Y24.result c.replay_recordings-in-Dnp3-Y24.ensures.lists;
-  log = c.replay_recordings-in-Dnp3-Y24.ensures.log;
-  disk = c.replay_recordings-in-Dnp3-Y24.ensures.disk;
+      c.replay_recordings-4.result c.replay_recordings-4.ensures.lists;
+  log = c.replay_recordings-4.ensures.log;
+  disk = c.replay_recordings-4.ensures.disk;
 })
