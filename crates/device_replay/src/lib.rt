@@ -8,4 +8,4 @@ mod frame_lines;
 mod text;
 
 pub use command::read_frames;
-pub use text::{push_read_line, write_frame_line};
+pub use text::{LINE_ROOM, push_read_line, write_frame_line};

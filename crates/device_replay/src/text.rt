@@ -5,35 +5,33 @@ ghost use Rattle.yasir_io.specs.Output.{Buffered, GotPrefix};
 ghost use Rattle.yasir_io.specs.TextBuffer.{waiting_bytes};
 ghost use Rattle.device_replay.specs.Lines.{frame_line, frame_line_of};
 
-use arrayvec::ArrayVec;
-use replay_status::push_decimal;
-use yasir_io::{Failed, Sink, TextBuffer};
-use yasir_ticks::push_digits;
+use replay_status::{append_decimal, append_digits};
+use yasir_io::{Failed, Sink, TextBuffer, TextRoom};
 
-// The most bytes that the line of a frame has: 8 of words, a number of 20 digits, a blank, 292
-// bytes in hex and an LF.
-const LONGEST_LINE: usize = 614;
+/// The room that a line of a frame needs: 8 bytes of words, a number of 20 digits, a blank, 292
+/// bytes in hex, an LF, and 64 bytes that the last digits may be copied with.
+pub const LINE_ROOM: usize = 678;
 
 /// Appends these words, at most 8 bytes, and behind them `S HEX` and an LF: the tick of the first
-/// byte of a frame, and its bytes. There must be room for 614 bytes.
+/// byte of a frame, and its bytes. There must be room for 678 bytes.
 #[inline]
 pub fn write_frame_line<const CAP: usize>(
-    text: &mut ArrayVec<u8, CAP>,
+    text: &mut TextRoom<CAP>,
     words: &[u8],
     start: u64,
     bytes: &[u8],
 )
-    requires room { length text.old.items + 614 ≤ CAP }
+    requires room { length text.old.items + 678 ≤ CAP }
     requires words { length words.now ≤ 8 }
     requires frame { length bytes.now ≤ 292 }
     ensures { text.new.items ≡ text.old.items
         ++ frame_line_of words.now (record { start = start; frame = bytes.now }) }
 {
-    text.try_extend_from_slice(words).unwrap();
-    push_decimal(text, start);
-    text.push(b' ');
-    push_digits(text, bytes);
-    text.push(b'\n');
+    text.append(words);
+    append_decimal(text, start);
+    text.append(b" ");
+    append_digits(text, bytes);
+    text.append(b"\n");
 }
 
 /// Adds the line `read at S HEX` to a text on its way to a sink: the tick of the first byte of a
@@ -57,7 +55,7 @@ pub fn push_read_line<O: Sink>(
     ensures cause { HasCause (O.faults out.old) (O.faults out.new) result }
     ensures flushes { O.flushes out.new ≡ O.flushes out.old }
 {
-    match text.make_room(out, LONGEST_LINE) {
+    match text.make_room(out, LINE_ROOM) {
         Ok(()) => {
             write_frame_line(&mut text.text, b"read at ", start, bytes);
             Ok(())

@@ -5,38 +5,37 @@ ghost use Rattle.yasir_io.specs.TextBuffer.{waiting_bytes};
 ghost use Rattle.recordings_replay.specs.Listing.{numbered_line};
 ghost use Rattle.recordings_replay.specs.Printing.{AddsText, BreaksOff, on_the_way};
 
-use arrayvec::ArrayVec;
 use replay_lists::Numbered;
-use replay_status::push_decimal;
-use yasir_io::{Failed, Sink, TextBuffer};
-use yasir_ticks::push_digits;
+use replay_status::{append_decimal, append_digits};
+use yasir_io::{Failed, Sink, TextBuffer, TextRoom};
 
-// The most bytes that the line of a numbered frame has: 6 of its name, two numbers of 20 digits, 6
-// bytes between them and the frame, 292 bytes in hex and an LF.
-const LONGEST_LINE: usize = 637;
+// The room that the line of a numbered frame needs: 6 bytes of its name, two numbers of 20 digits,
+// 6 bytes between them and the frame, 292 bytes in hex, an LF, and 64 bytes that the last digits
+// may be copied with.
+const LINE_ROOM: usize = 701;
 
 // Appends `NAME N at S HEX` and an LF: the bytes of a frame, its number, and the tick of its first
-// byte. There must be room for 637 bytes.
+// byte. There must be room for 701 bytes.
 fn write_numbered_line<const CAP: usize>(
-    text: &mut ArrayVec<u8, CAP>,
+    text: &mut TextRoom<CAP>,
     name: &[u8],
     head: Numbered,
     bytes: &[u8],
 )
-    requires room { length text.old.items + 637 ≤ CAP }
+    requires room { length text.old.items + 701 ≤ CAP }
     requires name { length name.now ≤ 6 }
     requires frame { length bytes.now ≤ 292 }
     ensures { text.new.items ≡ text.old.items ++ numbered_line name.now
         (record { number = head.number; start = head.start; frame = bytes.now }) }
 {
-    text.try_extend_from_slice(name).unwrap();
-    text.push(b' ');
-    push_decimal(text, head.number);
-    text.try_extend_from_slice(b" at ").unwrap();
-    push_decimal(text, head.start);
-    text.push(b' ');
-    push_digits(text, bytes);
-    text.push(b'\n');
+    text.append(name);
+    text.append(b" ");
+    append_decimal(text, head.number);
+    text.append(b" at ");
+    append_decimal(text, head.start);
+    text.append(b" ");
+    append_digits(text, bytes);
+    text.append(b"\n");
 }
 
 /// Adds the line `NAME N at S HEX` to a text on its way to a sink. It is written where it waits.
@@ -58,7 +57,7 @@ pub(crate) fn push_numbered_line<O: Sink>(
     ensures cause { HasCause (O.faults out.old) (O.faults out.new) result }
     ensures flushes { O.flushes out.new ≡ O.flushes out.old }
 {
-    match text.make_room(out, LONGEST_LINE) {
+    match text.make_room(out, LINE_ROOM) {
         Ok(()) => {
             write_numbered_line(&mut text.text, name, head, bytes);
             Ok(())

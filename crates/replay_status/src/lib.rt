@@ -13,9 +13,11 @@ mod ends;
 mod fault_log;
 mod status;
 mod text;
+mod waiting;
 
 pub use ending::{flush_both, print_text, status_of};
 pub use ends::Ends;
 pub use fault_log::{fault_line, write_fault};
 pub use status::Status;
 pub use text::{Line, push_decimal};
+pub use waiting::{append_decimal, append_digits};

@@ -10,12 +10,11 @@ ghost use Rattle.space_replay.specs.SpacedLines.{spacing};
 ghost use Rattle.space_replay.specs.SpacedTexts.{lost_line, lost_lines};
 
 use crate::spacers::LineSpacer;
-use device_replay::write_frame_line;
+use device_replay::{LINE_ROOM, write_frame_line};
 use line_spacer::SpaceRun;
 use line_texts::{Texts, answer_run, push_run};
-use replay_status::Line;
 use tick_drive::{Consumer, Stop};
-use yasir_io::{Failed, Sink};
+use yasir_io::{Failed, Sink, TextRoom};
 use yasir_ticks::TickRun;
 
 // How many ticks a spacer is given at once at most.
@@ -47,7 +46,7 @@ fn push_lost<O: Sink, L: Sink>(
         (writing texts.new out.new log.new) (run_ticks answer.entry)
         (lost_line (record { start = start; frame = frame.now })) result }
 {
-    let mut line = Line::new();
+    let mut line = TextRoom::<LINE_ROOM>::new();
     write_frame_line(&mut line, b"lost at ", start, frame);
     texts.push_noted(out, log, line.as_slice(), answer)
 }

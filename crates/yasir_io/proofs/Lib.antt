@@ -4,3 +4,4 @@ pub mod Images
 pub mod Moments
 pub mod OutputLemmas
 pub mod Telling
+pub mod TextRooms

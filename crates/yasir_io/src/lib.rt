@@ -27,6 +27,7 @@ mod source;
 mod steady;
 mod tells;
 mod text_buffer;
+mod text_room;
 
 pub use calls::{NoMemory, Plan};
 pub use disk::{OLD_SLOT_LEN, OldSlotBytes, SLOT_LEN, Slot, SlotBytes, SlotDisk};
@@ -42,6 +43,7 @@ pub use source::Source;
 pub use steady::{SteadySlots, SteadySource};
 pub use tells::{TellsHeld, TellsLeft};
 pub use text_buffer::TextBuffer;
+pub use text_room::TextRoom;
 
 /// A read, a write, a flush or a call on a disk failed; the object's count of faults says so too.
 #[derive(Clone, Copy, Debug, PartialEq, Eq)]

@@ -1,6 +1,6 @@
 //! A text on its way to a sink, which waits so that short pieces cost no call.
+use crate::text_room::TextRoom;
 use crate::{Failed, Sink, write_all};
-use arrayvec::ArrayVec;
 
 /// A text on its way to a sink: up to 65,536 bytes wait here, so that a short piece costs no call
 /// of the sink.
@@ -10,7 +10,7 @@ use arrayvec::ArrayVec;
 pub struct TextBuffer {
     /// The bytes that wait. A line is written right behind them, once `make_room` has made room for
     /// it.
-    pub text: ArrayVec<u8, 65536>,
+    pub text: TextRoom<65536>,
 }
 
 impl TextBuffer {
@@ -27,7 +27,7 @@ impl TextBuffer {
             → Buffered start start (waiting_bytes result) [] }
     {
         TextBuffer {
-            text: ArrayVec::new(),
+            text: TextRoom::new(),
         }
     }
 
@@ -43,10 +43,11 @@ impl TextBuffer {
         ensures cause { HasCause (S.faults sink.old) (S.faults sink.new) result }
         ensures flushes { S.flushes sink.new ≡ S.flushes sink.old }
     {
-        match self.text.try_extend_from_slice(piece) {
-            Ok(()) => Ok(()),
-            Err(_) => self.push_full(sink, piece),
+        if self.text.has_room(piece.len()) {
+            self.text.append(piece);
+            return Ok(());
         }
+        self.push_full(sink, piece)
     }
 
     // A piece that the room left doesn't take: what waits goes to the sink first.
@@ -62,10 +63,11 @@ impl TextBuffer {
         ensures flushes { S.flushes sink.new ≡ S.flushes sink.old }
     {
         self.drain(sink)?;
-        match self.text.try_extend_from_slice(piece) {
-            Ok(()) => Ok(()),
-            Err(_) => write_all(sink, piece),
+        if self.text.has_room(piece.len()) {
+            self.text.append(piece);
+            return Ok(());
         }
+        write_all(sink, piece)
     }
 
     /// Makes room for this many bytes: where they don't fit, what waits goes to the sink first.
@@ -84,7 +86,7 @@ impl TextBuffer {
         ensures cause { HasCause (S.faults sink.old) (S.faults sink.new) result }
         ensures flushes { S.flushes sink.new ≡ S.flushes sink.old }
     {
-        if count <= self.text.remaining_capacity() {
+        if self.text.has_room(count) {
             return Ok(());
         }
         self.drain(sink)
@@ -103,7 +105,7 @@ impl TextBuffer {
         ensures flushes { S.flushes sink.new ≡ S.flushes sink.old }
     {
         write_all(sink, self.text.as_slice())?;
-        self.text.clear();
+        self.text.empty();
         Ok(())
     }
 }

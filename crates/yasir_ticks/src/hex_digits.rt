@@ -10,7 +10,7 @@ mod tests;
 
 use arrayvec::ArrayVec;
 pub(crate) use digit::hex_value;
-use digit_lanes::digits_of;
+pub use digit_lanes::digits_of;
 pub(crate) use pairs::{Decoded, decode_front};
 
 // How many bytes are written together.

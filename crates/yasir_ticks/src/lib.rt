@@ -25,7 +25,7 @@ mod tick_run;
 mod whole_lines;
 
 pub use fault::{BadTicks, TickFault};
-pub use hex_digits::push_digits;
+pub use hex_digits::{digits_of, push_digits};
 pub use laws::canonical_text_stands_for_its_ticks;
 pub use place::Content;
 pub use reader::TickReader;

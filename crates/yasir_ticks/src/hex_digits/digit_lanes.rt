@@ -24,9 +24,9 @@ fn seconds(bytes: u8x32) -> u8x32
     u8x32::from_array(DIGITS).swizzle_dyn_within::<16>(bytes & u8x32::splat(15))
 }
 
-/// The digits of 32 bytes.
+/// The lower-case hex digits of 32 bytes.
 #[inline(always)]
-pub(crate) fn digits_of(bytes: &[u8; 32]) -> [u8; 64]
+pub fn digits_of(bytes: &[u8; 32]) -> [u8; 64]
     ensures { result ≡ encode_lower bytes.now }
 {
     let bytes = u8x32::from_array(*bytes);

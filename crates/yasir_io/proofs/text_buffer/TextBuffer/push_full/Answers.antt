@@ -1,4 +1,3 @@
-use Rattle.std.proofs.Common.{ap, ◌∙◌}
 use Rattle.std.proofs.lemmas.Result.{on_ok_weaker, on_err_weaker}
 use Rattle.yasir_io.proofs.OutputLemmas.{always_on_err, prefix_of_more, piece_written, piece_prefix}
 use Rattle.yasir_io.proofs.text_buffer.TextBuffer.push_full.Goals as goal
@@ -8,15 +7,15 @@ returns-in_err-drain-clause-err g c = always_on_err c.from_residual.result
     (λ start text so_far. prefix_of_more start _ text
     _ (c.in_err-drain.ensures.err start text so_far))
 
-pub returns-in-Err-clause-ok : goal.returns-in-Err-clause-ok
-returns-in-Err-clause-ok g c = on_ok_weaker c.write_all.result
+pub returns-clause-ok : goal.returns-clause-ok
+returns-clause-ok g c = on_ok_weaker c.write_all.result
     (λ written start text so_far. piece_written start _ _ text
     _ _ (c.in_ok-drain.ensures.ok start text so_far) written
-    (ap (λ v. v.items) c.in-Err.ensures.err ∙ c.in_ok-drain.ensures.empty))
+    c.in_ok-drain.ensures.empty)
     c.write_all.ensures.ok
 
-pub returns-in-Err-clause-err : goal.returns-in-Err-clause-err
-returns-in-Err-clause-err g c = on_err_weaker c.write_all.result
+pub returns-clause-err : goal.returns-clause-err
+returns-clause-err g c = on_err_weaker c.write_all.result
     (λ got start text so_far. piece_prefix start _ _ text
     _ (c.in_ok-drain.ensures.ok start text so_far) got)
     c.write_all.ensures.err

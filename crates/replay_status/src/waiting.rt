@@ -1,0 +1,47 @@
+//! Numbers and digits in a text, written where they wait.
+ghost use Rattle.std.specs.Prelude.{◌≡◌, ◌+◌, ◌*◌, ◌<◌, ◌≤◌, ◌++◌, length, decimal};
+ghost use Rattle.hex.specs.Hex.{encode_lower};
+
+use yasir_io::TextRoom;
+use yasir_ticks::digits_of;
+
+// How many bytes are written together.
+const TOGETHER: usize = 32;
+
+/// Appends the decimal digits of a number. There must be room for 20 bytes.
+#[inline]
+pub fn append_decimal<const CAP: usize>(text: &mut TextRoom<CAP>, n: u64)
+    requires { length text.old.items + 20 ≤ CAP }
+    ensures digits { text.new.items ≡ text.old.items ++ decimal n }
+    ensures short { length text.new.items ≤ length text.old.items + 20 }
+{
+    let mut digits = itoa::Buffer::new();
+    text.append(digits.format(n).as_bytes());
+}
+
+// Appends the digits of fewer bytes than are written together.
+#[inline]
+fn append_last<const CAP: usize>(text: &mut TextRoom<CAP>, rest: &[u8])
+    requires few { length rest.now < 32 }
+    requires room { length text.old.items + 64 ≤ CAP }
+    ensures { text.new.items ≡ text.old.items ++ encode_lower rest.now }
+{
+    let mut last = [0; TOGETHER];
+    last[..rest.len()].copy_from_slice(rest);
+    text.append_front(&digits_of(&last), 2 * rest.len());
+}
+
+/// Appends bytes as lower-case hex digits. There must be room for them, and for 64 bytes more: what
+/// is left of 32 is copied with what comes after it.
+pub fn append_digits<const CAP: usize>(text: &mut TextRoom<CAP>, bytes: &[u8])
+    requires { length text.old.items + 2 * length bytes.now + 64 ≤ CAP }
+    ensures digits { text.new.items ≡ text.old.items ++ encode_lower bytes.now }
+    ensures long { length text.new.items ≡ length text.old.items + 2 * length bytes.now }
+{
+    let mut rest = bytes;
+    while let Some((front, more)) = rest.split_first_chunk::<TOGETHER>() {
+        text.append(&digits_of(front));
+        rest = more;
+    }
+    append_last(text, rest);
+}

@@ -1,0 +1,85 @@
+//! Bytes in a fixed room.
+ghost use Rattle.std.specs.Prelude.{◌≡◌, ◌+◌, ◌<◌, ◌≤◌, [], ◌++◌, length, take, true, false};
+
+use std::marker::Model;
+
+/// Up to `CAP` bytes of a text. Those that are let go stay where they lie, so that to empty it
+/// costs nothing.
+#[derive(Drop)]
+pub struct TextRoom<const CAP: usize> {
+    bytes: [u8; CAP],
+    len: usize,
+}
+
+impl<const CAP: usize> Model for TextRoom<CAP> {
+    ghost use Rattle.std.specs.Prelude.{◌≤◌, take};
+    ghost use Rattle.yasir_io.specs.TextRoom.{Held};
+
+    ghost Value = { Held };
+
+    ghost view = { λ v. record { items = take v.len v.bytes } };
+
+    ghost invariant = { λ v. v.len ≤ CAP };
+}
+
+impl<const CAP: usize> TextRoom<CAP> {
+    /// No bytes yet.
+    pub fn new() -> TextRoom<CAP>
+        ensures { result.items ≡ [] }
+    {
+        TextRoom {
+            bytes: Default::default(),
+            len: 0,
+        }
+    }
+
+    /// The bytes.
+    #[inline]
+    pub fn as_slice(&self) -> &[u8]
+        ensures { result.now ≡ self.now.items }
+    {
+        &self.bytes[..self.len]
+    }
+
+    /// Whether there is room for this many bytes more.
+    #[inline]
+    pub fn has_room(&self, count: usize) -> bool
+        ensures room { result ≡ true → length self.now.items + count ≤ CAP }
+        ensures full { result ≡ false → CAP < length self.now.items + count }
+    {
+        count <= CAP - self.len
+    }
+
+    /// Appends a piece, for which there must be room.
+    #[inline]
+    pub fn append(&mut self, piece: &[u8])
+        requires { length self.old.items + length piece.now ≤ CAP }
+        ensures { self.new.items ≡ self.old.items ++ piece.now }
+    {
+        let len = self.len;
+        let after = len + piece.len();
+        self.bytes[..after][len..].copy_from_slice(piece);
+        self.len = after;
+    }
+
+    /// Appends the first bytes of a piece, this many. There must be room for the whole piece: it is
+    /// copied whole, which takes no loop.
+    #[inline(always)]
+    pub fn append_front<const N: usize>(&mut self, piece: &[u8; N], count: usize)
+        requires within { count ≤ N }
+        requires room { length self.old.items + N ≤ CAP }
+        ensures { self.new.items ≡ self.old.items ++ take count piece.now }
+    {
+        let len = self.len;
+        self.bytes[..len + N][len..].copy_from_slice(piece);
+        self.len = len + count;
+    }
+
+    /// Lets all bytes go.
+    #[inline]
+    pub(crate) fn empty(&mut self)
+        ensures { self.new.items ≡ [] }
+    {
+        self.len = 0;
+    }
+}
