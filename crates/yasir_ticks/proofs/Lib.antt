@@ -19,4 +19,4 @@ pub mod Writing
 pub mod RightTicks
 pub mod CanonicalLaws
 pub mod TextTicks
-pub mod hex_digits
+pub mod DigitsAdded

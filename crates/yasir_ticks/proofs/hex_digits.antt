@@ -3,4 +3,3 @@ pub mod HexValues
 pub mod PairLanes
 pub mod DigitLookups
 pub mod DigitEncoding
-pub mod DigitsAdded

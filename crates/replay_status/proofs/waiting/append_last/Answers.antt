@@ -1,5 +1,5 @@
 use Rattle.std.proofs.Common.{◌∙◌, ◌++◌, ap}
-use Rattle.yasir_ticks.proofs.hex_digits.DigitsAdded.{front-digits}
+use Rattle.yasir_ticks.proofs.DigitsAdded.{front-digits}
 use Rattle.replay_status.proofs.waiting.append_last.Goals as goal
 
 pub returns : goal.returns

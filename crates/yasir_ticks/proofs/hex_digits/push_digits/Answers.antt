@@ -1,7 +1,7 @@
 use Rattle.std.proofs.Common.{◌∙◌, ◌++◌, ap, arith, length}
 use Rattle.hex.specs.Hex.{lower_digits}
 use Rattle.hex.proofs.HexLemmas.{length-encode_with}
-use Rattle.yasir_ticks.proofs.hex_digits.DigitsAdded.{of-ok, long, goes_on}
+use Rattle.yasir_ticks.proofs.DigitsAdded.{of-ok, long, goes_on}
 use Rattle.yasir_ticks.proofs.hex_digits.push_digits.Goals as goal
 
 pub loop-front-preserved : goal.loop-front-preserved
