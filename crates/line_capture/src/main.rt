@@ -1,4 +1,7 @@
 //! `line_capture`: turns captures of a serial line into tick text, and tick text into captures.
+//!
+//!     line_capture take pcap 9600x11 a < tap.pcap > line.ticks
+//!     line_capture give vcd 9600x11 < line.ticks > wires.vcd
 #![tactic(auto)]
 
 mod bad_capture;

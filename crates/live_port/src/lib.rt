@@ -1,5 +1,12 @@
 //! The outside of a live line: an input and two outputs with one history, what is handed on to
 //! them, and a reader of the lines that come.
+//!
+//! Each note is handed on before the ticks that it is about:
+//!
+//!     let mut port = Streams::new(&mut input, &mut out, &mut log);
+//!     let count = read_on(&mut port, &mut buffer)?;
+//!     let found = lines.feed(&buffer[..count])?;
+//!     hand_on(&mut port, note.as_slice(), text.as_slice())?;
 #![tactic(auto)]
 
 mod lines;
