@@ -9,7 +9,7 @@ use Rattle.device_model.specs.declared.rtu.RtuDevice.{RtuDevice}
 use Rattle.line_spacer.specs.Stands.{StandsFor, AnswersSpaced, ticks_taken}
 use Rattle.line_spacer.specs.declared.spacer.SpaceStep.{SpaceStep}
 use Rattle.any_spacer.specs.declared.any_spacer.AnySpacer.{AnySpacer}
-use Rattle.any_spacer.specs.declared.any_spacer.AnySpacer.TheVariants as Any
+use Rattle.any_spacer.specs.declared.any_spacer.AnySpacer.TheVariants as Which
 use Rattle.any_spacer.specs.declared.any_spacer.SpacerKind.{SpacerKind}
 use Rattle.any_spacer.specs.declared.any_spacer.SpacerKind.TheVariants.{Rtu, RtuWide, Dnp3, Dnp3Wide}
 use Rattle.dnp_link_frame.specs.declared.dnp.Dnp.{Dnp}
@@ -32,25 +32,25 @@ gap_of Dnp3Wide = 27
 
 -- which one a spacer is
 abbrev pub kind_of : AnySpacer → SpacerKind
-kind_of (Any.Rtu spacer) = Rtu
-kind_of (Any.RtuWide spacer) = RtuWide
-kind_of (Any.Dnp3 spacer) = Dnp3
-kind_of (Any.Dnp3Wide spacer) = Dnp3Wide
+kind_of (Which.Rtu spacer) = Rtu
+kind_of (Which.RtuWide spacer) = RtuWide
+kind_of (Which.Dnp3 spacer) = Dnp3
+kind_of (Which.Dnp3Wide spacer) = Dnp3Wide
 
 module _ (rtu : Device RtuDevice) (dnp : Device (ForgetfulDevice Dnp)) where
   -- how many ticks a spacer has taken
   abbrev pub ticks_in : AnySpacer → ℕ
-  ticks_in (Any.Rtu spacer) = ticks_taken rtu spacer
-  ticks_in (Any.RtuWide spacer) = ticks_taken rtu spacer
-  ticks_in (Any.Dnp3 spacer) = ticks_taken dnp spacer
-  ticks_in (Any.Dnp3Wide spacer) = ticks_taken dnp spacer
+  ticks_in (Which.Rtu spacer) = ticks_taken rtu spacer
+  ticks_in (Which.RtuWide spacer) = ticks_taken rtu spacer
+  ticks_in (Which.Dnp3 spacer) = ticks_taken dnp spacer
+  ticks_in (Which.Dnp3Wide spacer) = ticks_taken dnp spacer
 
   -- With room for this many frames to wait, a spacer has taken this line.
   abbrev pub StandsAt : ℕ → AnySpacer → List Tick → Type 0
-  StandsAt room (Any.Rtu spacer) line = StandsFor rtu room spacer line
-  StandsAt room (Any.RtuWide spacer) line = StandsFor rtu room spacer line
-  StandsAt room (Any.Dnp3 spacer) line = StandsFor dnp room spacer line
-  StandsAt room (Any.Dnp3Wide spacer) line = StandsFor dnp room spacer line
+  StandsAt room (Which.Rtu spacer) line = StandsFor rtu room spacer line
+  StandsAt room (Which.RtuWide spacer) line = StandsFor rtu room spacer line
+  StandsAt room (Which.Dnp3 spacer) line = StandsFor dnp room spacer line
+  StandsAt room (Which.Dnp3Wide spacer) line = StandsFor dnp room spacer line
 
   -- What a step adds behind this line: this tick of the spaced line, and the frame that is lost,
   -- which has these bytes.
