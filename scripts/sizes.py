@@ -20,7 +20,7 @@ import collections, glob, os, re, sys
 ROOT = os.path.dirname(os.path.dirname(os.path.abspath(__file__)))
 COLUMNS = ("code", "contracts", "tests", "definitions", "proofs", "edits")
 CLAUSE = re.compile(r"(pub )?(requires|ensures|ghost)\b")
-TESTS = ("base_tests", "edge_tests", "capture_tests", "box_tests", "replay_tests")
+TESTS = ("base_tests", "edge_tests", "device_tests", "capture_tests", "box_tests", "replay_tests")
 HEADLINE = os.path.join("link_replay", "specs", "ReplayCommand.antt")
 
 
