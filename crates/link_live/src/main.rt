@@ -15,6 +15,8 @@ mod filter;
 mod live_box;
 mod over_files;
 mod program;
+#[cfg(test)]
+mod tests;
 mod words;
 
 pub use boxes::{check, seal};
