@@ -125,7 +125,7 @@ typedef struct {
 /* Makes a spacer that has taken no tick, with room for `room` frames to wait. It reads a line as a
  * device of the protocol does, and sends each frame again, whole and at least 21 silent ticks behind
  * the one before (27 with YASIR_Y24). In DNP3 it is a device to which 18 silent ticks together end a
- * frame that was begun. It takes all its memory here, 304 bytes for each frame that may wait. The
+ * frame that was begun. It takes all its memory here, 300 bytes for each frame that may wait. The
  * handle must hold nothing. Unless YASIR_OK is returned it still holds nothing. */
 uint8_t yasir_spacer_new(yasir_handle *handle, uint8_t protocol, uint8_t profile, uint32_t room);
 
