@@ -1,6 +1,6 @@
 //! Tests of the delay ring: ticks leave late by its length, and runs give what single ticks give.
-use delay_ring::DelayRing;
 use delay_ring::mark_runs::silence_in_front;
+use delay_ring::{DelayRing, MAX_DELAY, MAX_RUN};
 use yasir_ticks::Tick;
 
 #[test]
